@@ -1,0 +1,7 @@
+pub mod Words
+pub mod Path
+pub mod Order
+pub mod Congruence
+pub mod Rewriting
+pub mod Overlap
+pub mod Relations

@@ -1,0 +1,18 @@
+//! Words over the generators of a presentation, and the mathematics that the crates above share.
+//!
+//! A word is seen by contracts as the list of its letters' numbers, a relation or a rule as a pair of
+//! words. The definitions of the shortlex order, of the congruence that relations generate, of rewriting,
+//! overlaps and confluence stand here, in `specs/`, since all crates above cite them. The crate's public
+//! contract: `less` decides the shortlex order, which is a reduction order, `factor_at` finds the first
+//! place of a factor, and `Presentation::relations` lists the defining relations.
+//!
+//! Nothing stands below; `kb_record`, `kb_rules` and `kb_overlap` stand on it.
+#![tactic(auto)]
+
+mod letter;
+mod memory;
+mod word;
+
+pub use letter::Letter;
+pub use memory::Memory;
+pub use word::Word;
