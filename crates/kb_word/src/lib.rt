@@ -11,8 +11,10 @@
 
 mod letter;
 mod memory;
+mod text;
 mod word;
 
 pub use letter::Letter;
 pub use memory::Memory;
+pub use text::Text;
 pub use word::Word;

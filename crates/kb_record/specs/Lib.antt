@@ -1,0 +1,9 @@
+pub mod Token
+pub mod Spelling
+pub mod Tree
+pub mod Grammar
+pub mod Meaning
+pub mod Nesting
+pub mod View
+pub mod Lexemes
+pub mod Faults

@@ -1,0 +1,12 @@
+//! Words and records as text.
+#![tactic(auto)]
+
+mod error;
+mod meaning;
+mod parser;
+mod token;
+mod tree;
+
+pub use parser::parse;
+pub use error::{RecordError, WordError};
+pub use tree::{Expr, Factor, Rec, Value};

@@ -1,0 +1,43 @@
+//! The trees of words and records. Names and strings borrow from the text.
+
+/// A factor of a word: a name or a group in brackets, each with its power where it has one.
+#[derive(Debug, Drop)]
+pub enum Factor<'a> {
+    /// A generator's name, or `IdWord`.
+    Name(&'a str, Option<i64>),
+    /// A word in round brackets.
+    Group(Vec<Factor<'a>>, Option<i64>),
+}
+
+/// The tree of a word: its factors from left to right, of which there is at least one.
+#[derive(Debug, Drop)]
+pub struct Expr<'a> {
+    /// The factors, from left to right.
+    pub factors: Vec<Factor<'a>>,
+}
+
+/// What a field or a place of a list may hold.
+#[derive(Debug, Drop)]
+pub enum Value<'a> {
+    /// `-3`
+    Number(i64),
+    /// `"shortlex"`
+    String(&'a str),
+    /// `rec( .. )`, its fields in the order of the text
+    Record(Vec<(&'a str, Value<'a>)>),
+    /// `[ .. ]`, its places in order, of which some may be empty
+    List(Vec<Option<Value<'a>>>),
+    /// `[m..n]`
+    Range(i64, i64),
+    /// a word; a bare name is a word of one factor
+    Word(Expr<'a>),
+}
+
+/// The tree of a text: its name and its fields, in the order of the text.
+#[derive(Debug, Drop)]
+pub struct Rec<'a> {
+    /// The text's own name.
+    pub name: &'a str,
+    /// The names and the values of the fields.
+    pub fields: Vec<(&'a str, Value<'a>)>,
+}
