@@ -1,0 +1,115 @@
+-- When each refusal of a presentation file comes: the fault that it names is there.
+use Rattle.std.specs.Prelude.{◌≡◌, ◌≢◌, ℕ, suc, ◌<◌, ◌≤◌, ◌⊎◌, List, [], ◌∷◌, length, codes, Contains, Option, Some, None, IsNone, slice_get, Result, Err}
+use Rattle.kb_word.specs.Relations.{inverse_letter}
+use Rattle.kb_record.specs.Tree.{Factors, Value, string_value, list_value, Fields, Places, TextTree, record_value}
+use Rattle.kb_record.specs.Grammar.{TextOf, IsText}
+use Rattle.kb_record.specs.Nesting.{deepest, text_nesting, IsTooDeep}
+use Rattle.kb_record.specs.Meaning.{WordFault, unknown_generator, no_inverse, too_long, letter_from, word_meaning}
+use Rattle.kb_presfile.specs.Fields.{value_of, bare_name, list_of_names, list_of_places, list_of_equations, HasFieldTwice, StandsTwice, place_count}
+use Rattle.kb_presfile.specs.Holds.{most_generators, most_equations, place_at, HoldsPlaces, GivesInverses}
+use Rattle.kb_presfile.specs.declared.error.Field.{Field}
+use Rattle.kb_presfile.specs.declared.error.Field.TheVariants as kinds
+use Rattle.kb_presfile.specs.declared.error.PresError.{PresError}
+use Rattle.kb_presfile.specs.declared.error.PresError.TheVariants as errors
+
+-- the field's name in a file
+abbrev pub name_of : Field → List ℕ
+name_of kinds.IsRws = codes "isRWS"
+name_of kinds.Ordering = codes "ordering"
+name_of kinds.GeneratorOrder = codes "generatorOrder"
+name_of kinds.Inverses = codes "inverses"
+name_of kinds.Equations = codes "equations"
+
+-- a presentation file lacks no such field
+abbrev pub IsNeeded : Field → Type 0
+IsNeeded kinds.IsRws = Unit {0}
+IsNeeded kinds.Ordering = ⊥
+IsNeeded kinds.GeneratorOrder = Unit {0}
+IsNeeded kinds.Inverses = ⊥
+IsNeeded kinds.Equations = Unit {0}
+
+-- the text's generators are these names
+abbrev pub HasNames : Fields → List (List ℕ) → Type 0
+HasNames fields names = value_of fields (codes "generatorOrder") ≡ Some (list_value (list_of_names names))
+
+-- The value is of the kind that the field holds: the name `true`; a string; a list of names; a list of names
+-- and empty places, of which those past the last generator are empty; a list of lists of two words.
+abbrev pub IsOfKind : Fields → Field → Value → Type 0
+IsOfKind given kinds.IsRws value = value ≡ bare_name (codes "true")
+IsOfKind given kinds.Ordering value = (text : List ℕ) × (value ≡ string_value text)
+IsOfKind given kinds.GeneratorOrder value = (names : List (List ℕ)) × (value ≡ list_value (list_of_names names))
+IsOfKind given kinds.Inverses value = (names : List (List ℕ)) → HasNames given names
+    → (places : List (Option (List ℕ))) × (value ≡ list_value (list_of_places places))
+      × ((k : ℕ) → length names ≤ k → place_at places k ≡ None)
+IsOfKind given kinds.Equations value = (sides : List (Factors × Factors)) × (value ≡ list_value (list_of_equations sides))
+
+-- the text's names, and the names at its places for inverses
+pub record HasPlaces (fields : Fields) (names : List (List ℕ)) (places : List (Option (List ℕ))) : Type 0 where
+  pub named : HasNames fields names
+  pub placed : HoldsPlaces (value_of fields (codes "inverses")) places
+
+-- a side of an equation has this fault
+pub record SideHasFault (fields : Fields) (fault : WordFault) : Type 0 where
+  pub names : List (List ℕ)
+  pub places : List (Option (List ℕ))
+  pub inverses : List (Option ℕ)
+  pub has_places : HasPlaces fields names places
+  pub gives : GivesInverses names places inverses
+  pub sides : List (Factors × Factors)
+  pub equations : value_of fields (codes "equations") ≡ Some (list_value (list_of_equations sides))
+  pub side : Factors
+  pub stands : (k : ℕ) × (pair : Factors × Factors) × (slice_get sides k ≡ Some pair) × ((side ≡ pair.0) ⊎ (side ≡ pair.1))
+  pub faulty : word_meaning names inverses side ≡ Err fault
+
+-- a place for an inverse has a name that is no generator's
+pub record PlaceIsUnknown (fields : Fields) (name : List ℕ) : Type 0 where
+  pub names : List (List ℕ)
+  pub places : List (Option (List ℕ))
+  pub has_places : HasPlaces fields names places
+  pub place : ℕ
+  pub stands : place_at places place ≡ Some name
+  pub unknown : letter_from 1 names name ≡ None
+
+-- the name at place k stands for y, and at y's place no name stands for k's generator
+pub record IsNotMutual (fields : Fields) (name : List ℕ) : Type 0 where
+  pub names : List (List ℕ)
+  pub places : List (Option (List ℕ))
+  pub has_places : HasPlaces fields names places
+  pub k : ℕ
+  pub is_name : slice_get names k ≡ Some name
+  pub inverse : List ℕ
+  pub y : ℕ
+  pub at_k : place_at places k ≡ Some inverse
+  pub is_y : letter_from 1 names inverse ≡ Some (suc y)
+  pub not_back : (back : List ℕ) → place_at places y ≡ Some back → letter_from 1 names back ≢ Some (suc k)
+
+-- the fields have the fault
+abbrev pub HasFieldFault : Fields → PresError → Type 0
+HasFieldFault given (errors.MissingField field) = IsNeeded field × (value_of given (name_of field) ≡ None)
+HasFieldFault given (errors.WrongKind field) = (value : Value) × (value_of given (name_of field) ≡ Some value) × ¬ IsOfKind given field value
+HasFieldFault given (errors.FieldTwice name) = HasFieldTwice (record_value given) name
+HasFieldFault given errors.OtherOrdering = (text : List ℕ) × (value_of given (codes "ordering") ≡ Some (string_value text)) × (text ≢ codes "shortlex")
+HasFieldFault given (errors.NameTaken name) =
+    (names : List (List ℕ)) × HasNames given names × Contains names name
+    × (StandsTwice names name ⊎ ((name ≡ codes "IdWord") ⊎ (name ≡ codes "_")))
+HasFieldFault given errors.TooManyGenerators = (names : List (List ℕ)) × HasNames given names × (most_generators < length names)
+HasFieldFault given (errors.UnknownGenerator name) = PlaceIsUnknown given name ⊎ SideHasFault given (unknown_generator name)
+HasFieldFault given (errors.NoInverse name) = SideHasFault given (no_inverse name)
+HasFieldFault given (errors.InverseNotMutual name) = IsNotMutual given name
+HasFieldFault given errors.WordTooLong = SideHasFault given too_long
+HasFieldFault given errors.TooManyEquations =
+    (places : Places) × (value_of given (codes "equations") ≡ Some (list_value places)) × (most_equations < place_count places)
+HasFieldFault given (errors.Syntax at) = ⊥
+HasFieldFault given (errors.TooDeep at) = ⊥
+HasFieldFault given errors.Memory = Unit {0}
+
+-- a text of the bytes has the fault
+abbrev pub SomeTextHasFault : List ℕ → PresError → Type 0
+SomeTextHasFault bytes error = (text : TextTree) × TextOf bytes text × (text_nesting text ≤ deepest) × HasFieldFault text.fields error
+
+-- The bytes have the fault that the refusal names.
+abbrev pub HasPresFault : List ℕ → PresError → Type 0
+HasPresFault bytes (errors.Syntax at) = (text : TextTree) → ¬ TextOf bytes text
+HasPresFault bytes (errors.TooDeep at) = IsTooDeep (λ tokens. (text : TextTree) × IsText tokens text) bytes
+HasPresFault bytes errors.Memory = Unit {0}
+HasPresFault bytes error = SomeTextHasFault bytes error

@@ -1,0 +1,67 @@
+-- Fields of records, and the kinds of values that a presentation's fields hold.
+use Rattle.std.specs.Prelude.{◌≡◌, ◌≢◌, ℕ, suc, ◌⊎◌, nat_eq, if◌then◌else◌, List, [], ◌∷◌, ◌++◌, codes, Option, Some, None, IsNone}
+use lib.Pointwise.{pointwise}
+use Rattle.kb_record.specs.Tree.{Factor, named, grouped, Factors, no_factors, factor, Value, number_value, string_value, record_value, list_value, range_value, word_value, Fields, no_fields, field, Places, no_places, place, empty_place, TextTree}
+
+-- the value of the first field with this name
+abbrev pub value_of : Fields → List ℕ → Option Value
+value_of no_fields name = None
+value_of (field text value others) name = if pointwise nat_eq text name then Some value else value_of others name
+
+-- the names of the fields, in order
+abbrev pub field_names : Fields → List (List ℕ)
+field_names no_fields = []
+field_names (field text value others) = text ∷ field_names others
+
+-- the name stands again after a place where it stands
+pub record StandsTwice (names : List (List ℕ)) (name : List ℕ) : Type 0 where
+  pub before : List (List ℕ)
+  pub between : List (List ℕ)
+  pub behind : List (List ℕ)
+  pub whole : names ≡ before ++ name ∷ between ++ name ∷ behind
+
+-- the name stands twice among the fields of some record in the value, nested ones too
+abbrev mutual
+  pub HasFieldTwice : Value → List ℕ → Type 0
+  HasFieldTwice (number_value z) name = ⊥
+  HasFieldTwice (string_value text) name = ⊥
+  HasFieldTwice (record_value fields) name = StandsTwice (field_names fields) name ⊎ SomeFieldHasTwice fields name
+  HasFieldTwice (list_value places) name = SomePlaceHasTwice places name
+  HasFieldTwice (range_value from to) name = ⊥
+  HasFieldTwice (word_value _) name = ⊥
+
+  pub SomeFieldHasTwice : Fields → List ℕ → Type 0
+  SomeFieldHasTwice no_fields name = ⊥
+  SomeFieldHasTwice (field text value others) name = HasFieldTwice value name ⊎ SomeFieldHasTwice others name
+
+  pub SomePlaceHasTwice : Places → List ℕ → Type 0
+  SomePlaceHasTwice no_places name = ⊥
+  SomePlaceHasTwice (place value others) name = HasFieldTwice value name ⊎ SomePlaceHasTwice others name
+  SomePlaceHasTwice (empty_place others) name = SomePlaceHasTwice others name
+
+-- the value is a Name: a word of one factor that is a bare name
+abbrev pub bare_name : List ℕ → Value
+bare_name text = word_value (factor (named text None) no_factors)
+
+-- a list of these names
+abbrev pub list_of_names : List (List ℕ) → Places
+list_of_names [] = no_places
+list_of_names (name ∷ names) = place (bare_name name) (list_of_names names)
+
+-- a list of names and empty places
+abbrev pub list_of_places : List (Option (List ℕ)) → Places
+list_of_places [] = no_places
+list_of_places (Some name ∷ names) = place (bare_name name) (list_of_places names)
+list_of_places (None ∷ names) = empty_place (list_of_places names)
+
+-- a list of lists of two words
+abbrev pub list_of_equations : List (Factors × Factors) → Places
+list_of_equations [] = no_places
+list_of_equations (sides ∷ others) =
+    place (list_value (place (word_value sides.0) (place (word_value sides.1) no_places))) (list_of_equations others)
+
+-- how many places there are
+abbrev pub place_count : Places → ℕ
+place_count no_places = 0
+place_count (place value others) = suc (place_count others)
+place_count (empty_place others) = suc (place_count others)
