@@ -1,0 +1,2 @@
+//! The program as one call over the outside.
+#![tactic(auto)]
