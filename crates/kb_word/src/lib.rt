@@ -11,8 +11,10 @@
 
 mod letter;
 mod memory;
+mod order;
 mod word;
 
 pub use letter::Letter;
 pub use memory::Memory;
+pub use order::{less, rank_falls_along_shortlex, shortlex_is_a_reduction_order};
 pub use word::Word;
