@@ -1,11 +1,9 @@
 -- Comparing words answers `Less` exactly along the shortlex order.
-use Rattle.std.proofs.Common.{◌≡◌, ℕ, ◌<◌, List, [], ◌∷◌, length, Bool, true, false, nat_eq, refl, sym, ap, ◌∙◌, subst, inl, inr, ◌⊎◌, ◌↔◌, IsTrue, arith, Ordering, Some}
+use Rattle.std.proofs.Common.{◌≡◌, ℕ, ◌<◌, List, [], ◌∷◌, length, Bool, nat_eq, refl, sym, ◌∙◌, inl, inr, ◌⊎◌, ◌↔◌, IsTrue, arith, Ordering}
 use Rattle.std.specs.declared.cmp.Ordering.TheVariants.{Less as Before, Equal, Greater}
-use Rattle.std.specs.Ordering.{MatchOrdering, nat_cmp, on, then_cmp, ordering_then, is_eq}
-use Rattle.std.specs.Cmp.{both_ways, IsTotalOrder, IsPartialOrder, Equal-is, tied_itself, po}
-use Rattle.std.specs.Cmp.Lexicographic.{slice_cmp, pointwise, texts_ties}
-use Rattle.std.proofs.lemmas.Cmp.{ranked, then_total, on_total, nat_cmp_total, nat_list_cmp_total}
-use Rattle.std.specs.FinMap.{slice_cmp-IsAntisymmetric, nat_cmp-IsAntisymmetric}
+use Rattle.std.specs.Ordering.{MatchOrdering, nat_cmp, ordering_then}
+use Rattle.std.specs.Cmp.Lexicographic.{slice_cmp, pointwise}
+use Rattle.std.proofs.lemmas.Cmp.{ranked}
 use Rattle.kb_word.specs.Comparison.{shortlex_cmp, same_from_pointwise, pointwise_from_same}
 use Rattle.kb_word.specs.Words.{Less, shorter, earlier, IsEarlier}
 

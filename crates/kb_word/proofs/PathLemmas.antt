@@ -1,9 +1,9 @@
 -- Lemmas on paths, on replacements in words, and on the congruence that pairs generate.
-use Rattle.std.proofs.Common.{◌≡◌, List, [], ◌∷◌, ◌++◌, ℕ, refl, sym, ap, ◌∙◌, subst, inl, inr, ⊎_elim, ◌⊎◌, append_assoc}
+use Rattle.std.proofs.Common.{◌≡◌, List, [], ◌∷◌, ◌++◌, ℕ, refl, sym, ap, ◌∙◌, subst, inl, inr, append_assoc}
 use Rattle.std.proofs.lemmas.List.{append-nil}
-use Rattle.kb_word.specs.Words.{Pair, OneOf}
+use Rattle.kb_word.specs.Words.{Pair}
 use Rattle.kb_word.specs.Path.{Linked, Path}
-use Rattle.kb_word.specs.Congruence.{Replaces, Touches, Congruent, SameCongruence}
+use Rattle.kb_word.specs.Congruence.{Replaces, Touches, Congruent}
 
 -- the path of no steps
 pub path_none : {X : Type 0} {related : X → X → Type 0} (x : X) → Path related x x

@@ -1,5 +1,5 @@
 -- What comparing words answers, and that it is a total order.
-use Rattle.std.specs.Prelude.{◌≡◌, ℕ, List, length, Some, Bool, true, nat_eq, refl}
+use Rattle.std.specs.Prelude.{◌≡◌, ℕ, List, length, Some, true, nat_eq}
 use Rattle.std.proofs.Common.{sym, ap, ◌∙◌, subst}
 use Rattle.std.proofs.lemmas.Bool.{true≢false}
 use Rattle.std.specs.declared.cmp.Ordering.{Ordering}
