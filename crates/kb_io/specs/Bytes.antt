@@ -1,0 +1,9 @@
+-- Streams of bytes, and what a call adds to one.
+use Rattle.std.specs.Prelude.{◌≡◌, ℕ, List, ◌++◌}
+
+-- what stands is what stood before, with a prefix of the bytes after it
+pub record AppendsPrefix (before now bytes : List ℕ) : Type 0 where
+  pub prefix : List ℕ
+  pub rest : List ℕ
+  pub splits : bytes ≡ prefix ++ rest
+  pub appends : now ≡ before ++ prefix
