@@ -7,3 +7,8 @@ pub record AppendsPrefix (before now bytes : List ℕ) : Type 0 where
   pub rest : List ℕ
   pub splits : bytes ≡ prefix ++ rest
   pub appends : now ≡ before ++ prefix
+
+-- a stream over memory: its bytes, still to be read or written so far, and how many calls failed
+pub record Stream : Type 0 where
+  pub bytes : List ℕ
+  pub faults : ℕ

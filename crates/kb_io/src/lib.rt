@@ -13,12 +13,14 @@
 
 mod failed;
 mod gate;
+mod memory;
 mod shelf;
 mod sink;
 mod source;
 
 pub use failed::Failed;
 pub use gate::{Gate, OpenGate, Point};
+pub use memory::{MemShelf, MemSink, MemSource, WholeShelf, WholeSink, WholeSource};
 pub use shelf::{Load, Shelf, ShelfFault};
 pub use sink::{Sink, write_all};
 pub use source::Source;
