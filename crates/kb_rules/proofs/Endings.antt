@@ -5,6 +5,7 @@ use Rattle.std.proofs.lemmas.List.Prefix.{end_rest}
 use Rattle.std.proofs.lemmas.Option.{same_Some, none-some}
 use Rattle.kb_word.specs.Words.{Pair, OneOf, EndsWith}
 use Rattle.kb_word.specs.Rewriting.{IsIrreducible, FirstRewrite}
+use Rattle.kb_rules.specs.Ending.{IsFirstEnding, NoneEnds}
 use Rattle.kb_rules.proofs.Lists.{cases_list, FromEnd, from_end}
 use Rattle.kb_rules.proofs.Lists.FromEnd.{empty, last}
 
@@ -17,47 +18,39 @@ cases_ends w v =
       | inr apart ↦ inr (λ ends. apart (end_rest w v ends.0 ends.1))
     ]
 
--- the first rule of a list whose left side ends the word
-pub record FirstEnding (rules : List Pair) (w : List ℕ) : Type 0 where
-  pub index : ℕ
-  pub rule : Pair
-  pub is_rule : slice_get rules index ≡ Some rule
-  pub ends : EndsWith w rule.0
-  pub first : (earlier : ℕ) (other : Pair) → earlier < index → slice_get rules earlier ≡ Some other → ¬ EndsWith w other.0
-
--- no rule's left side ends the word
-abbrev pub NoneEnds : List Pair → List ℕ → Type 0
-NoneEnds rules w = (pair : Pair) → OneOf rules pair → ¬ EndsWith w pair.0
-
 none_here : (rule : Pair) (rules : List Pair) (w : List ℕ) → (¬ EndsWith w rule.0) → NoneEnds rules w
     → (pair : Pair) (index : ℕ) → slice_get (rule ∷ rules) index ≡ Some pair → ¬ EndsWith w pair.0
 none_here rule rules w apart none pair zero is ends =
     let P : Pair → Type 0 = λ r. EndsWith w r.0 in apart (subst P (sym (same_Some rule pair is)) ends)
 none_here rule rules w apart none pair (suc index) is ends = none pair (index, is) ends
 
-first_later : (rule : Pair) (rules : List Pair) (w : List ℕ) → (¬ EndsWith w rule.0) → (f : FirstEnding rules w)
+first_later : (rule : Pair) (rules : List Pair) (w : List ℕ) → (¬ EndsWith w rule.0) → {first_rule : Pair} (f : IsFirstEnding rules w first_rule)
     → (earlier : ℕ) (other : Pair) → earlier < suc f.index → slice_get (rule ∷ rules) earlier ≡ Some other → ¬ EndsWith w other.0
 first_later rule rules w apart f zero other below is ends =
     let P : Pair → Type 0 = λ r. EndsWith w r.0 in apart (subst P (sym (same_Some rule other is)) ends)
 first_later rule rules w apart f (suc earlier) other below is ends = f.first earlier other (omega arith) is ends
 
-later : (rule : Pair) (rules : List Pair) (w : List ℕ) → (¬ EndsWith w rule.0) → FirstEnding rules w → FirstEnding (rule ∷ rules) w
+later : (rule : Pair) (rules : List Pair) (w : List ℕ) → (¬ EndsWith w rule.0) → {other : Pair} → IsFirstEnding rules w other → IsFirstEnding (rule ∷ rules) w other
 later rule rules w apart f =
-    record { index = suc f.index; rule = f.rule; is_rule = f.is_rule; ends = f.ends; first = first_later rule rules w apart f }
+    record { index = suc f.index; is_rule = f.is_rule; ends = f.ends; first = first_later rule rules w apart f }
 
-here : (rule : Pair) (rules : List Pair) (w : List ℕ) → EndsWith w rule.0 → FirstEnding (rule ∷ rules) w
+here : (rule : Pair) (rules : List Pair) (w : List ℕ) → EndsWith w rule.0 → IsFirstEnding (rule ∷ rules) w rule
 here rule rules w ends =
-    record { index = 0; rule = rule; is_rule = refl; ends = ends; first = λ earlier other below is _. absurd (omega arith) }
+    record { index = 0; is_rule = refl; ends = ends; first = λ earlier other below is _. absurd (omega arith) }
+
+-- some rule is the first whose left side ends the word
+abbrev pub SomeEnds : List Pair → List ℕ → Type 0
+SomeEnds rules w = (rule : Pair) × IsFirstEnding rules w rule
 
 -- some rule's left side ends the word, the first such one being known, or none does
-pub cases_ending : (rules : List Pair) (w : List ℕ) → FirstEnding rules w ⊎ NoneEnds rules w
+pub cases_ending : (rules : List Pair) (w : List ℕ) → SomeEnds rules w ⊎ NoneEnds rules w
 cases_ending [] w = inr (λ pair one ends. absurd (none-some pair one.1))
 cases_ending (rule ∷ rules) w =
     elim (cases_ends w rule.0) [
-      | inl ends ↦ inl (here rule rules w ends)
+      | inl ends ↦ inl (rule, here rule rules w ends)
       | inr apart ↦
           elim (cases_ending rules w) [
-            | inl f ↦ inl (later rule rules w apart f)
+            | inl f ↦ inl (f.0, later rule rules w apart f.1)
             | inr none ↦ inr (λ pair one. none_here rule rules w apart none pair one.0 one.1)
           ]
     ]
@@ -90,15 +83,15 @@ proper rules front x irreducible prefix rest whole (last part y) some =
     irreducible_front rules prefix part (subst P e irreducible)
 
 -- The first rewrite: an irreducible front with a letter more that ends with a left side.
-pub first_rewrite_at : (rules : List Pair) (front : List ℕ) (x : ℕ) (rest : List ℕ) → IsIrreducible (OneOf rules) front
-    → (f : FirstEnding rules (front ++ x ∷ [])) → FirstRewrite rules (front ++ x ∷ rest) (f.ends.0 ++ f.rule.1 ++ rest)
-first_rewrite_at rules front x rest irreducible f =
-    let whole : front ++ x ∷ [] ≡ f.ends.0 ++ f.rule.0 = f.ends.1 in
+pub first_rewrite_at : (rules : List Pair) (front : List ℕ) (x : ℕ) (rest : List ℕ) (rule : Pair) → IsIrreducible (OneOf rules) front
+    → (f : IsFirstEnding rules (front ++ x ∷ []) rule) → FirstRewrite rules (front ++ x ∷ rest) (f.ends.0 ++ rule.1 ++ rest)
+first_rewrite_at rules front x rest rule irreducible f =
+    let whole : front ++ x ∷ [] ≡ f.ends.0 ++ rule.0 = f.ends.1 in
     let P : List ℕ → Type 0 = λ w. (earlier : ℕ) (other : Pair) → earlier < f.index → slice_get rules earlier ≡ Some other → ¬ EndsWith w other.0 in
     record {
       before = f.ends.0;
       index = f.index;
-      rule = f.rule;
+      rule = rule;
       after = rest;
       is_rule = f.is_rule;
       from = sym (append_assoc front (x ∷ []) rest) ∙ ap (λ w. w ++ rest) whole;

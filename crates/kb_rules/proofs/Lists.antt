@@ -1,6 +1,6 @@
 -- Fronts and ends of lists, and the last element.
-use Rattle.std.proofs.Common.{◌≡◌, ◌≢◌, ℕ, ◌≤◌, ◌⊎◌, List, [], ◌∷◌, ◌++◌, length, take, drop, refl, sym, ap, ◌∙◌, inl, inr}
-use Rattle.std.proofs.lemmas.List.{take_at, take-append-le, take-append-drop, append_cancel_left}
+use Rattle.std.proofs.Common.{◌≡◌, All, subst, ◌+◌, ◌<◌, length-append, arith, ◌≢◌, ℕ, ◌≤◌, ◌⊎◌, List, [], ◌∷◌, ◌++◌, length, take, drop, refl, sym, ap, ◌∙◌, inl, inr}
+use Rattle.std.proofs.lemmas.List.{get_or-append-add, take_at, take-append-le, take-append-drop, append_cancel_left}
 use Rattle.std.proofs.lemmas.Bool.{cases_eq}
 
 -- of two fronts of one list the shorter is a front of the longer
@@ -43,3 +43,16 @@ pub empty_middle : (before w after : List ℕ) → [] ≡ before ++ w ++ after �
 empty_middle [] [] after whole = refl
 empty_middle [] (x ∷ w) after whole = absurd (cc whole)
 empty_middle (y ∷ before) w after whole = absurd (cc whole)
+
+-- what holds of each element holds of each element of an equal list
+pub All-same : (P : ℕ → Type 0) (xs ys : List ℕ) → xs ≡ ys → All P ys → All P xs
+All-same P xs ys same all = let Q : List ℕ → Type 0 = λ zs. All P zs in subst Q (sym same) all
+
+-- what holds of each element holds of those after a front
+pub All-rest : (P : ℕ → Type 0) (rest whole front : List ℕ) → whole ≡ front ++ rest → All P whole → All P rest
+All-rest P rest whole front same all k d within =
+    let Q : List ℕ → Type 0 = λ zs. All P zs in
+    let both : All P (front ++ rest) = subst Q same all in
+    let fits : length front + k < length (front ++ rest) = omega (arith, length-append front rest) in
+    let R : ℕ → Type 0 = P in
+    subst R (get_or-append-add front rest k d) (both (length front + k) d fits)

@@ -11,6 +11,9 @@
 
 mod laws;
 mod rule;
+mod rules;
+mod unread;
 
 pub use laws::{irreducible_words_are_normal, normal_forms_are_unique};
 pub use rule::Rule;
+pub use rules::Rules;
