@@ -7,17 +7,21 @@ use Rattle.kb_word.specs.Congruence.{Replaces, Touches, Congruent}
 use Rattle.kb_word.specs.Rewriting.{IsIrreducible, ReducesTo, NormalForm}
 use Rattle.kb_word.specs.Overlap.{IsConfluent}
 use Rattle.kb_word.proofs.PathLemmas.{path_step, path_keeps}
+use Rattle.kb_rules.proofs.Exists.{AreFalling, normal_form_exists}
+use Rattle.kb_rules.proofs.Reducts.{IsAtMost, normal_form_reduct, replaced_below, reduct_at_most}
 use Rattle.kb_confluence.proofs.Newman.{Ends, Meets, one_end}
 use Rattle.kb_confluence.proofs.Replacements.{common_reduct}
 
--- each right side is below its left side
-abbrev pub AreFalling : (List ℕ → List ℕ → Type 0) → List Pair → Type 0
-AreFalling below rules = (rule : Pair) → OneOf rules rule → below rule.1 rule.0
-
 module _ {below : List ℕ → List ℕ → Type 0} (order : IsReductionOrder below) (rules : List Pair)
-    (falling : AreFalling below rules) (confluent : IsConfluent rules)
-    (falls : (u v : List ℕ) → Replaces (OneOf rules) u v → below v u)
-    (ends : (w : List ℕ) → Ends (Replaces (OneOf rules)) (IsIrreducible (OneOf rules)) w) where
+    (falling : AreFalling below rules) (confluent : IsConfluent rules) where
+  ends : (w : List ℕ) → Ends (Replaces (OneOf rules)) (IsIrreducible (OneOf rules)) w
+  ends w =
+      let normal = normal_form_exists order rules falling w in
+      record { end = normal.0; path = normal_form_reduct normal.1; irreducible = normal.1.irreducible }
+
+  falls : (u v : List ℕ) → Replaces (OneOf rules) u v → below v u
+  falls u v step = replaced_below order falling step
+
   stuck : (u v : List ℕ) → IsIrreducible (OneOf rules) u → ¬ Replaces (OneOf rules) u v
   stuck u v irreducible r = irreducible r.before r.pair r.after r.is_allowed r.from
 
@@ -46,8 +50,13 @@ module _ {below : List ℕ → List ℕ → Type 0} (order : IsReductionOrder be
   congruent_reduces w v m congruent reduces irreducible =
       path_keeps (λ u. ReducesTo (OneOf rules) u m) (kept_by_touch m irreducible) congruent reduces
 
-  -- v is m or above it, where v reduces to m
-  pub not_below_end : (v m : List ℕ) → (v ≡ m) ⊎ below m v → ¬ below v m
-  not_below_end v m (inl same) lower =
-      let P : List ℕ → Type 0 = λ u. below u m in order.irreflexive m (subst P same lower)
+  -- what m is at most isn't below m
+  not_below_end : (v m : List ℕ) → IsAtMost below m v → ¬ below v m
+  not_below_end v m (inl same) lower = let P : List ℕ → Type 0 = λ u. below v u in order.irreflexive v (subst P same lower)
   not_below_end v m (inr above) lower = order.irreflexive v (order.transitive v m v lower above)
+
+  -- no congruent word is below a normal form
+  pub normal_form_least : (w m : List ℕ) → NormalForm rules w m → (v : List ℕ) → Congruent (OneOf rules) w v → ¬ below v m
+  normal_form_least w m normal v congruent =
+      let reduces : ReducesTo (OneOf rules) v m = congruent_reduces w v m congruent (normal_form_reduct normal) normal.irreducible in
+      not_below_end v m (reduct_at_most order falling reduces)

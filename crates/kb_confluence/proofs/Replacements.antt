@@ -9,6 +9,7 @@ use Rattle.kb_word.specs.Congruence.{Replaces}
 use Rattle.kb_word.specs.Rewriting.{ReducesTo, NormalForm, FirstRewrite}
 use Rattle.kb_word.specs.Overlap.{Overlaps, OverlapOf, Joins, IsConfluent, critical_pair}
 use Rattle.kb_word.proofs.PathLemmas.{path_equal, path_one, path_mapped, path_implied, Replaces-between}
+use Rattle.kb_rules.proofs.Reducts.{normal_form_reduct}
 use Rattle.kb_confluence.proofs.Occurrences.{Apart, Within, cases_occurrences}
 
 -- one word to which both reduce
@@ -20,14 +21,10 @@ pub record CommonReduct (allowed : Pair → Type 0) (u v : List ℕ) : Type 0 wh
 pub common_swapped : {allowed : Pair → Type 0} {u v : List ℕ} → CommonReduct allowed u v → CommonReduct allowed v u
 common_swapped common = record { joint = common.joint; left = common.right; right = common.left }
 
-first_rewrite_replaces : {rules : List Pair} (u v : List ℕ) → FirstRewrite rules u v → Replaces (OneOf rules) u v
-first_rewrite_replaces u v first =
-    record { before = first.before; pair = first.rule; after = first.after; is_allowed = (first.index, first.is_rule); from = first.from; to = first.to }
-
 normal_form_between : {rules : List Pair} {u m : List ℕ} (before after : List ℕ) → NormalForm rules u m
     → ReducesTo (OneOf rules) (before ++ u ++ after) (before ++ m ++ after)
 normal_form_between {rules = rules} before after normal =
-    path_mapped (λ w. before ++ w ++ after) (λ u v first. Replaces-between before after (first_rewrite_replaces {rules = rules} u v first)) normal.path
+    path_mapped (λ w. before ++ w ++ after) (λ u v step. Replaces-between before after step) (normal_form_reduct normal)
 
 -- a pair that joins has a common reduct between other words too
 joins_between : {rules : List Pair} {pair : Pair} (before after : List ℕ) → Joins rules pair
