@@ -1,4 +1,3 @@
-pub mod Paths
 pub mod Lists
 pub mod Unique
 pub mod Endings
