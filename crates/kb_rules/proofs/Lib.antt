@@ -4,3 +4,4 @@ pub mod Endings
 pub mod Exists
 pub mod Reducts
 pub mod Listed
+pub mod Scanning

@@ -32,10 +32,10 @@ NoneBefore-more P pairs n next within is before apart index pair below at holds 
     elim (cases_lt index n) [
       | inl earlier ↦ before index pair earlier at holds
       | inr late ↦
-        let same : index ≡ n = omega arith in
-        let there : slice_get pairs n ≡ Some next = slice_get_read pairs (length pairs) n next refl within is in
-        let both : next ≡ pair = same_Some next pair (sym there ∙ ap (slice_get pairs) (sym same) ∙ at) in
-        apart (subst P (sym both) holds)
+          let same : index ≡ n = omega arith in
+          let there : slice_get pairs n ≡ Some next = slice_get_read pairs (length pairs) n next refl within is in
+          let both : next ≡ pair = same_Some next pair (sym there ∙ ap (slice_get pairs) (sym same) ∙ at) in
+          apart (subst P (sym both) holds)
     ]
 
 pub NoneBefore-all : (P : Pair → Type 0) (pairs : List Pair) (n : ℕ) → length pairs ≤ n → NoneBefore P pairs n

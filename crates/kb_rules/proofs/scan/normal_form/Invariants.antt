@@ -1,4 +1,4 @@
-use Rattle.std.proofs.Common.{ℕ, List, ◌≡◌, ◌<◌, ◌≤◌, ◌^◌, ◌++◌, ◌+◌, ◌*◌, All, length}
+use Rattle.std.proofs.Common.{ℕ, List, ◌<◌, ◌≤◌, ◌^◌, ◌++◌, ◌+◌, ◌*◌, All, length}
 use Rattle.kb_word.specs.Words.{OneOf}
 use Rattle.kb_word.specs.Order.{rank}
 use Rattle.kb_word.specs.Rewriting.{IsIrreducible, NormalForm}
@@ -9,7 +9,7 @@ invariant-loop-letter l = record {
   irreducible : IsIrreducible (OneOf l.rules) l.front;
   leads : (m : List ℕ) → NormalForm l.rules (l.front ++ l.unread) m → NormalForm l.rules l.w m;
   range : All (λ x. x < 2 ^ 16) (l.front ++ l.unread);
-  fits : length (l.front ++ l.unread) ≤ length l.w
+  fits : length (l.front ++ l.unread) ≤ length l.w;
 }
 
 abbrev pub decreases-loop-letter : goal.decreases-loop-letter
