@@ -17,6 +17,7 @@ mod memory;
 mod shelf;
 mod sink;
 mod source;
+mod system;
 
 pub use failed::Failed;
 pub use gate::{Gate, OpenGate, Point};
@@ -24,3 +25,4 @@ pub use memory::{MemShelf, MemSink, MemSource, WholeShelf, WholeSink, WholeSourc
 pub use shelf::{Load, Shelf, ShelfFault};
 pub use sink::{Sink, write_all};
 pub use source::Source;
+pub use system::{FileShelf, StdErr, StdIn, StdOut};

@@ -3,10 +3,10 @@
 ghost use Rattle.std.specs.Prelude.{◌≡◌, ◌≢◌, ◌<◌, ◌≤◌, ℕ, List, Option, Some, Err, IfOk, OnOk};
 ghost use Rattle.kb_io.specs.Loading.{LoadGives};
 ghost use Rattle.kb_io.specs.declared.shelf.ShelfFault.{ShelfFault};
-ghost use Rattle.kb_io.specs.declared.shelf.ShelfFault.TheVariants.{Memory};
+ghost use Rattle.kb_io.specs.declared.shelf.ShelfFault.TheVariants.{Failed, Memory};
 
 use std::alloc::{AllocError, AllocFailed, Global};
-use std::fmt;
+use std::{fmt, io};
 
 /// What a shelf holds under a name.
 #[derive(Debug, Drop)]
@@ -52,6 +52,14 @@ impl<T: Drop> From<AllocFailed<T>> for ShelfFault {
 
     fn from(_: AllocFailed<T>) -> ShelfFault {
         ShelfFault::Memory
+    }
+}
+
+impl From<io::Error> for ShelfFault {
+    ghost from_gives = { λ _ fault. fault ≡ Failed };
+
+    fn from(_: io::Error) -> ShelfFault {
+        ShelfFault::Failed
     }
 }
 
