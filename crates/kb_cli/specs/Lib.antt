@@ -1,5 +1,8 @@
 pub mod Printed
 pub mod WordLines
 pub mod Progress
+pub mod PartsOf
+pub mod LineFaults
+pub mod Stops
 pub mod Exits
-pub mod Headline
+-- pub mod Headline

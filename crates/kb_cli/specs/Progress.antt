@@ -1,5 +1,5 @@
 -- How far the answers to word lines have come.
-use Rattle.std.specs.Prelude.{◌≡◌, ◌≢◌, ℕ, suc, ◌+◌, ◌≤◌, ◌⊎◌, List, [], ◌∷◌, ◌++◌, length, Some, slice_get}
+use Rattle.std.specs.Prelude.{◌≡◌, ◌≢◌, ℕ, suc, ◌+◌, ◌≤◌, ◌⊎◌, List, [], ◌∷◌, ◌++◌, length}
 use Rattle.std.specs.List.{AllByRecursion}
 use Rattle.kb_record.specs.declared.error.WordError.{WordError}
 use Rattle.kb_presfile.specs.Holds.{Parts}
@@ -10,7 +10,7 @@ use Rattle.kb_cli.specs.WordLines.{newline, IsOneLine, ended, Cuts, LineGives, L
 pub record Standing (parts : Parts) (before written taken line pending : List ℕ) (number : ℕ) : Type 0 where
   pub lines : List (List ℕ)
   pub cuts : Cuts taken lines line
-  pub counted : length lines ≡ number
+  pub counted : number ≡ length lines
   pub given : List ℕ
   pub answered : Answers parts lines given
   pub sent : List ℕ
@@ -18,10 +18,10 @@ pub record Standing (parts : Parts) (before written taken line pending : List �
   pub held : given ≡ sent ++ pending
 
 -- since `before` stood written, all the lines before the one that has begun were answered
-pub record AllSent (parts : Parts) (before written taken line : List ℕ) (number : ℕ) : Type 0 where
+pub record AllSent (parts : Parts) (before written taken : List ℕ) : Type 0 where
   pub lines : List (List ℕ)
+  pub line : List ℕ
   pub cuts : Cuts taken lines line
-  pub counted : length lines ≡ number
   pub sent : List ℕ
   pub answered : Answers parts lines sent
   pub appended : written ≡ before ++ sent
@@ -51,3 +51,19 @@ pub record RefusedAt (parts : Parts) (before written input : List ℕ) (number :
   pub sent : List ℕ
   pub answered : Answers parts lines sent
   pub appended : written ≡ before ++ sent
+
+-- the input was read to its end, and each line of it was answered
+pub record AllAnswered (parts : Parts) (before written input : List ℕ) : Type 0 where
+  pub lines : List (List ℕ)
+  pub last : List ℕ
+  pub cuts : Cuts input lines last
+  pub given : List ℕ
+  pub answered : Answers parts (lines ++ last ∷ []) given
+  pub appended : written ≡ before ++ given
+
+-- of the input, these bytes are left, `count` were taken, and they are answered so far
+pub record Reading (parts : Parts) (before written input left line pending : List ℕ) (number count : ℕ) : Type 0 where
+  pub taken : List ℕ
+  pub split : input ≡ taken ++ left
+  pub counted : count ≡ length taken
+  pub standing : Standing parts before written taken line pending number
