@@ -15,7 +15,7 @@ use std::alloc::Global;
 ///
 /// There is one name and one place for an inverse for each generator, inverses are mutual, and each letter of an equation
 /// is one of the generators.
-#[derive(Drop)]
+#[derive(Debug, Drop)]
 pub struct Presentation {
     /// How many generators there are: letters 1 to `n`.
     pub n: u16,
