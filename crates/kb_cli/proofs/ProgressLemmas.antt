@@ -1,6 +1,7 @@
 -- How the answers to word lines come on.
 use Rattle.std.proofs.Common.{◌≡◌, ◌≢◌, ℕ, suc, ◌+◌, ◌<◌, ◌≤◌, List, [], ◌∷◌, ◌++◌, length, refl, sym, ◌∙◌, ap, subst, append_assoc, append-nil, arith, length-append, take, drop, get_or, drop-cons, add-one}
-use Rattle.std.proofs.lemmas.List.{take-append-drop}
+use Rattle.std.proofs.lemmas.List.{take-append-drop, take-take}
+use Rattle.std.proofs.Math.Seq.{take-append_seam}
 use Rattle.std.specs.List.{AllByRecursion}
 use Rattle.kb_io.specs.Bytes.{AppendsPrefix}
 use Rattle.kb_record.specs.declared.error.WordError.{WordError}
@@ -8,6 +9,9 @@ use Rattle.kb_presfile.specs.Holds.{Parts}
 use Rattle.kb_cli.specs.WordLines.{newline, IsOneLine, ended, Cuts, LineGives, LineHasFault, Answers, BeginsWith, AnswersFront}
 use Rattle.kb_cli.specs.Progress.{Standing, AllSent, FrontSent, EndsLine, RefusedAt, AllAnswered, Reading}
 use Rattle.kb_cli.specs.LineFaults.{Gives}
+use Rattle.kb_cli.specs.Stops.{StopCounts, StopSays, StopsWith}
+use Rattle.kb_cli.specs.declared.word_lines.Stop.{Stop}
+use Rattle.kb_cli.specs.declared.word_lines.Stop.TheVariants.{Refused, TooLong, Input, Output, Memory}
 
 -- one more element of which the property holds
 pub all-snoc : {X : Type 0} (P : X → Type 0) (xs : List X) (x : X) → AllByRecursion P xs → P x → AllByRecursion P (xs ++ x ∷ [])
@@ -197,7 +201,7 @@ pub standing-most : {parts : Parts} {before written line pending : List ℕ} {nu
 standing-most {parts} {before} {written} taken last left most standing none full =
     subst (λ t. AllSent parts before written t)
     (sym (ap (λ n. take n (taken ++ (last ++ left))) (sym (length-append taken last ∙ full))
-        ∙ ap (λ b. take (length (taken ++ last)) b) (sym (append_assoc taken last left)) ∙ take-append (taken ++ last) left))
+        ∙ ap (λ b. take (length (taken ++ last)) b) (sym (append_assoc taken last left)) ∙ take-append_seam (taken ++ last) left))
     (standing-sent standing none)
 
 -- bytes were taken of what was left
@@ -213,3 +217,49 @@ reading-took read left' more reading moved size standing = record {
     counted = omega (arith, reading.counted, size, length-append reading.taken read);
     standing = standing;
 }
+
+-- what may be taken of what was read, the rest of it, and what is left
+pub whole-again : (taken buffer rest whole left : List ℕ) (most more : ℕ) → most ≤ more → left ≡ take more buffer ++ rest → whole ≡ taken ++ left
+    → taken ++ (take most buffer ++ (drop most (take more buffer) ++ rest)) ≡ whole
+whole-again taken buffer rest whole left most more less moved split =
+    ap (λ b. taken ++ b) (sym (append_assoc (take most buffer) (drop most (take more buffer)) rest)
+        ∙ ap (λ f. (f ++ drop most (take more buffer)) ++ rest) (sym (take-take most more buffer less))
+        ∙ ap (λ b. b ++ rest) (take-append-drop most (take more buffer)) ∙ sym moved)
+    ∙ sym split
+
+-- the input is what was taken and read, and what is left
+pub split-on : (taken read rest whole left : List ℕ) → left ≡ read ++ rest → whole ≡ taken ++ left → whole ≡ (taken ++ read) ++ rest
+split-on taken read rest whole left moved split = split ∙ ap (λ l. taken ++ l) moved ∙ sym (append_assoc taken read rest)
+
+-- where the input's count plays no part
+pub counts-widen : (input_before input_after output_before output_after : ℕ) (stop : Stop) → StopCounts 0 0 output_before output_after stop
+    → StopCounts input_before input_after output_before output_after stop
+counts-widen a b o p Input counts = absurd (omega arith)
+counts-widen a b o p Output counts = counts
+counts-widen a b o p TooLong counts = tt
+counts-widen a b o p (Refused number fault) counts = tt
+counts-widen a b o p Memory counts = tt
+
+-- a stop, where nothing more was taken than was
+pub reading-stopped : {parts : Parts} {before written input left line pending : List ℕ} {number count : ℕ} (now : List ℕ) (stop : Stop)
+    → (reading : Reading parts before written input left line pending number count)
+    → ((ever : List ℕ) → StopSays parts before now (reading.taken ++ left) ever stop)
+    → StopsWith parts before now input left stop
+reading-stopped {parts} {before} {input = input} {left = left} now stop reading says =
+    (reading.taken, reading.split, subst (λ i. StopSays parts before now i reading.taken stop) (sym reading.split) (says reading.taken))
+
+-- nothing of the input has come
+pub reading-start : (parts : Parts) (before input : List ℕ) → Reading parts before before input input [] [] 0 0
+reading-start parts before input = record { taken = []; split = refl; counted = refl; standing = standing-start parts before }
+
+-- where memory ran out before anything came
+pub start-stopped : (parts : Parts) (before input : List ℕ) → StopsWith parts before before input input Memory
+start-stopped parts before input = ([], refl, standing-stopped input (standing-start parts before))
+
+-- where the counts had risen before
+pub counts-further : (a b c o p q : ℕ) (stop : Stop) → a ≤ b → o ≤ p → StopCounts b c p q stop → StopCounts a c o q stop
+counts-further a b c o p q Input less fewer counts = omega arith
+counts-further a b c o p q Output less fewer counts = omega arith
+counts-further a b c o p q TooLong less fewer counts = tt
+counts-further a b c o p q (Refused number fault) less fewer counts = tt
+counts-further a b c o p q Memory less fewer counts = tt

@@ -52,3 +52,8 @@ TurnSays parts before written input left line pending number count Ended = AllAn
 abbrev pub TookAtMost : ℕ → ℕ → Turn → Type 0
 TookAtMost number count (Took more) = (0 < more) × (number ≤ count + more) × (count + more ≤ most_input)
 TookAtMost number count Ended = Unit {0}
+
+-- where bytes were taken, nothing is pending after the turn
+abbrev pub LeavesNone : List ℕ → Turn → Type 0
+LeavesNone pending (Took more) = pending ≡ []
+LeavesNone pending Ended = Unit {0}

@@ -12,7 +12,7 @@ ghost use Rattle.kb_cli.specs.PartsOf.{parts_of};
 ghost use Rattle.kb_cli.specs.LineFaults.{Gives, StopsAt};
 ghost use Rattle.kb_cli.specs.WordLines.{newline, LineHasFault};
 ghost use Rattle.kb_cli.specs.Progress.{Standing, EndsLine, AllAnswered, Reading};
-ghost use Rattle.kb_cli.specs.Stops.{StopSays, StopsWith, TurnSays, TookAtMost, LineCounts, StopCounts};
+ghost use Rattle.kb_cli.specs.Stops.{StopSays, StopsWith, TurnSays, TookAtMost, LeavesNone, LineCounts, StopCounts};
 ghost use Rattle.kb_cli.specs.declared.word_lines.LineFault.TheVariants as faults;
 ghost use Rattle.kb_cli.specs.declared.word_lines.Stop.TheVariants as stops;
 ghost use Rattle.kb_presfile.specs.Holds.{Parts};
@@ -316,7 +316,7 @@ enum Turn {
     Ended,
 }
 
-/// Sends what is pending, asks for bytes, and takes them.
+/// Asks for bytes, and takes them. Nothing is pending when it asks.
 fn take_turn<R: Reducer, I: Source, O: Sink>(
     alloc: Global,
     presentation: &Presentation,
@@ -329,6 +329,7 @@ fn take_turn<R: Reducer, I: Source, O: Sink>(
 ) -> Result<Turn, Stop>
     requires least { (w m : List ℕ) → NormalForm (R.rules reducer.now) w m → IsLeast (relations_of presentation.now.inv presentation.now.eqs) w m }
     requires counted { (progress.old.number ≤ count) × (count ≤ MOST_INPUT) }
+    requires sent { progress.old.pending.items ≡ [] }
     requires buffer { (0 < length buffer.old) × (length buffer.old ≤ BUFFER) }
     ensures says { (before whole : List ℕ) → I.tells input.old → O.tells out.old
         → Reading (parts_of presentation.now) before (O.written out.old) whole (I.left input.old) progress.old.line.items progress.old.pending.items progress.old.number count
@@ -342,19 +343,16 @@ fn take_turn<R: Reducer, I: Source, O: Sink>(
     ensures input_count { I.faults input.old ≤ I.faults input.new }
     ensures output_count { O.faults out.old ≤ O.faults out.new }
 {
-    if let Err(stop) = send(progress, out) {
-        return Err(stop);
-    }
     let more = match input.read(buffer) {
+        Ok(0) => {
+            return match finish(alloc, presentation, reducer, progress, out) {
+                Ok(()) => Ok(Turn::Ended),
+                Err(stop) => Err(stop),
+            };
+        }
         Ok(more) => more,
         Err(Failed) => return Err(Stop::Input),
     };
-    if more == 0 {
-        return match finish(alloc, presentation, reducer, progress, out) {
-            Ok(()) => Ok(Turn::Ended),
-            Err(stop) => Err(stop),
-        };
-    }
     if MOST_INPUT - count < more {
         let last = &buffer[..MOST_INPUT - count];
         return Err(too_long(alloc, presentation, reducer, progress, last, out));
@@ -390,5 +388,112 @@ fn too_long<R: Reducer, O: Sink>(
             Err(stop) => stop,
         },
         Err(stop) => stop,
+    }
+}
+
+/// Answers the word lines of the input, up to its end.
+pub(crate) fn answer_input<R: Reducer, I: Source, O: Sink>(
+    alloc: Global,
+    presentation: &Presentation,
+    reducer: &R,
+    input: &mut I,
+    out: &mut O,
+) -> Result<(), Stop>
+    requires least { (w m : List ℕ) → NormalForm (R.rules reducer.now) w m → IsLeast (relations_of presentation.now.inv presentation.now.eqs) w m }
+    ensures answered { I.tells input.old → O.tells out.old
+        → OnOk result (AllAnswered (parts_of presentation.now) (O.written out.old) (O.written out.new) (I.left input.old) × (I.left input.new ≡ [])) }
+    ensures stops { I.tells input.old → O.tells out.old
+        → IfErr result (StopsWith (parts_of presentation.now) (O.written out.old) (O.written out.new) (I.left input.old) (I.left input.new)) }
+    ensures counts { IfErr result (StopCounts (I.faults input.old) (I.faults input.new) (O.faults out.old) (O.faults out.new)) }
+    ensures still_tells { (I.tells input.old → I.tells input.new) × (O.tells out.old → O.tells out.new) }
+    ensures input_count { I.faults input.old ≤ I.faults input.new }
+    ensures output_count { O.faults out.old ≤ O.faults out.new }
+{
+    let mut buffer = match vec![in alloc; 0u8; BUFFER] {
+        Ok(buffer) => buffer,
+        Err(_) => return Err(Stop::Memory),
+    };
+    answer_turns(alloc, presentation, reducer, buffer.as_mut_slice(), input, out)
+}
+
+/// Answers the word lines of the input in turns, each of at most one buffer.
+fn answer_turns<R: Reducer, I: Source, O: Sink>(
+    alloc: Global,
+    presentation: &Presentation,
+    reducer: &R,
+    buffer: &mut [u8],
+    input: &mut I,
+    out: &mut O,
+) -> Result<(), Stop>
+    requires buffer { (0 < length buffer.old) × (length buffer.old ≤ BUFFER) }
+    requires least { (w m : List ℕ) → NormalForm (R.rules reducer.now) w m → IsLeast (relations_of presentation.now.inv presentation.now.eqs) w m }
+    ensures answered { I.tells input.old → O.tells out.old
+        → OnOk result (AllAnswered (parts_of presentation.now) (O.written out.old) (O.written out.new) (I.left input.old) × (I.left input.new ≡ [])) }
+    ensures stops { I.tells input.old → O.tells out.old
+        → IfErr result (StopsWith (parts_of presentation.now) (O.written out.old) (O.written out.new) (I.left input.old) (I.left input.new)) }
+    ensures counts { IfErr result (StopCounts (I.faults input.old) (I.faults input.new) (O.faults out.old) (O.faults out.new)) }
+    ensures still_tells { (I.tells input.old → I.tells input.new) × (O.tells out.old → O.tells out.new) }
+    ensures input_count { I.faults input.old ≤ I.faults input.new }
+    ensures output_count { O.faults out.old ≤ O.faults out.new }
+{
+    let mut progress = Progress {
+        line: Vec::new(alloc),
+        number: 0,
+        pending: Vec::new(alloc),
+    };
+    let mut count = 0;
+    loop {
+        match next_turn(
+            alloc,
+            presentation,
+            reducer,
+            &mut progress,
+            count,
+            buffer,
+            input,
+            out,
+        ) {
+            Ok(Turn::Took(more)) => count += more,
+            Ok(Turn::Ended) => return Ok(()),
+            Err(stop) => return Err(stop),
+        }
+    }
+}
+
+/// A turn, after which nothing is pending.
+fn next_turn<R: Reducer, I: Source, O: Sink>(
+    alloc: Global,
+    presentation: &Presentation,
+    reducer: &R,
+    progress: &mut Progress,
+    count: usize,
+    buffer: &mut [u8],
+    input: &mut I,
+    out: &mut O,
+) -> Result<Turn, Stop>
+    requires least { (w m : List ℕ) → NormalForm (R.rules reducer.now) w m → IsLeast (relations_of presentation.now.inv presentation.now.eqs) w m }
+    requires counted { (progress.old.number ≤ count) × (count ≤ MOST_INPUT) }
+    requires sent { progress.old.pending.items ≡ [] }
+    requires buffer { (0 < length buffer.old) × (length buffer.old ≤ BUFFER) }
+    ensures says { (before whole : List ℕ) → I.tells input.old → O.tells out.old
+        → Reading (parts_of presentation.now) before (O.written out.old) whole (I.left input.old) progress.old.line.items progress.old.pending.items progress.old.number count
+        → IfOk result (TurnSays (parts_of presentation.now) before (O.written out.new) whole (I.left input.new) progress.new.line.items progress.new.pending.items progress.new.number count) }
+    ensures stops { (before whole : List ℕ) → I.tells input.old → O.tells out.old
+        → Reading (parts_of presentation.now) before (O.written out.old) whole (I.left input.old) progress.old.line.items progress.old.pending.items progress.old.number count
+        → IfErr result (StopsWith (parts_of presentation.now) before (O.written out.new) whole (I.left input.new)) }
+    ensures took { IfOk result (TookAtMost progress.new.number count) }
+    ensures sent { IfOk result (LeavesNone progress.new.pending.items) }
+    ensures counts { IfErr result (StopCounts (I.faults input.old) (I.faults input.new) (O.faults out.old) (O.faults out.new)) }
+    ensures still_tells { (I.tells input.old → I.tells input.new) × (O.tells out.old → O.tells out.new) }
+    ensures input_count { I.faults input.old ≤ I.faults input.new }
+    ensures output_count { O.faults out.old ≤ O.faults out.new }
+{
+    match take_turn(alloc, presentation, reducer, progress, count, buffer, input, out) {
+        Ok(Turn::Took(more)) => match send(progress, out) {
+            Ok(()) => Ok(Turn::Took(more)),
+            Err(stop) => Err(stop),
+        },
+        Ok(Turn::Ended) => Ok(Turn::Ended),
+        Err(stop) => Err(stop),
     }
 }
