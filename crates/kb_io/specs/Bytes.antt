@@ -8,7 +8,9 @@ pub record AppendsPrefix (before now bytes : List ℕ) : Type 0 where
   pub splits : bytes ≡ prefix ++ rest
   pub appends : now ≡ before ++ prefix
 
--- a stream over memory: its bytes, still to be read or written so far, and how many calls failed
+-- a stream over memory: its bytes, still to be read or written so far, the numbers of the calls that
+-- are to fail, and how many have failed
 pub record Stream : Type 0 where
   pub bytes : List ℕ
+  pub failing : List ℕ
   pub faults : ℕ

@@ -10,3 +10,10 @@ whole_holds shelf name = option_map (λ bytes. bytes.items) (get_by_text shelf.f
 
 abbrev pub mem_holds : MemShelf → List ℕ → Option (List ℕ)
 mem_holds shelf = whole_holds shelf.shelf
+
+-- the numbers of the loads and of the stores that are to fail
+abbrev pub loads_to_fail : MemShelf → List ℕ
+loads_to_fail shelf = shelf.loads.numbers.items
+
+abbrev pub stores_to_fail : MemShelf → List ℕ
+stores_to_fail shelf = shelf.stores.numbers.items

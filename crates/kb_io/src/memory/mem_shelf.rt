@@ -16,12 +16,16 @@ pub struct MemShelf {
 }
 
 impl MemShelf {
-    ghost use Rattle.kb_io.specs.Shelves.{mem_holds};
+    ghost use Rattle.kb_io.specs.Shelves.{mem_holds, loads_to_fail, stores_to_fail};
 
     /// A shelf that holds nothing. The loads and the stores with these numbers, each counted from 1,
     /// fail.
     pub fn new(alloc: Global, failing_loads: Vec<u64>, failing_stores: Vec<u64>) -> MemShelf
-        ensures { (name : List ℕ) → mem_holds result name ≡ None }
+        ensures empty { (name : List ℕ) → mem_holds result name ≡ None }
+        ensures loads { loads_to_fail result ≡ failing_loads.items }
+        ensures stores { stores_to_fail result ≡ failing_stores.items }
+        ensures load_faults { ⟦<MemShelf as Shelf>⟧.load_faults result ≡ 0 }
+        ensures store_faults { ⟦<MemShelf as Shelf>⟧.store_faults result ≡ 0 }
     {
         MemShelf {
             shelf: WholeShelf::new(alloc),

@@ -25,7 +25,7 @@ impl<R> Model for MemSink<R> {
 
     ghost Value = { Stream };
 
-    ghost view = { λ it. record { bytes = it.sink; faults = it.calls.failed } };
+    ghost view = { λ it. record { bytes = it.sink; failing = it.calls.numbers.items; faults = it.calls.failed } };
 
     ghost invariant = { λ it. 0 < it.piece };
 }
@@ -36,6 +36,7 @@ impl<R: Wait> MemSink<R> {
     pub fn new(alloc: Global, rt: R, piece: usize, failing: Vec<u64>) -> MemSink<R>
         requires { 0 < piece }
         ensures bytes { result.bytes ≡ [] }
+        ensures failing { result.failing ≡ failing.items }
         ensures faults { result.faults ≡ 0 }
     {
         MemSink {

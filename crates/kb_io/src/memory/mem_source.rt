@@ -23,7 +23,7 @@ impl Model for MemSource {
 
     ghost Value = { Stream };
 
-    ghost view = { λ it. record { bytes = it.source; faults = it.calls.failed } };
+    ghost view = { λ it. record { bytes = it.source; failing = it.calls.numbers.items; faults = it.calls.failed } };
 
     ghost invariant = { λ it. 0 < it.piece };
 }
@@ -34,6 +34,7 @@ impl MemSource {
     pub fn new(bytes: Vec<u8>, piece: usize, failing: Vec<u64>) -> MemSource
         requires { 0 < piece }
         ensures bytes { result.bytes ≡ bytes.items }
+        ensures failing { result.failing ≡ failing.items }
         ensures faults { result.faults ≡ 0 }
     {
         MemSource {

@@ -1,6 +1,6 @@
 //! The files of the system, by their paths.
 
-ghost use Rattle.std.specs.Prelude.{Some, None, IfOk, IfSome};
+ghost use Rattle.std.specs.Prelude.{◌≡◌, Some, None, IfOk, IfSome};
 ghost use Rattle.kb_io.specs.Loading.{LoadGives};
 
 use super::faults::count_fault;
@@ -23,7 +23,10 @@ pub struct FileShelf<R> {
 
 impl<R: Files + Wait> FileShelf<R> {
     /// The files, of which none has failed.
-    pub fn new(rt: R) -> FileShelf<R> {
+    pub fn new(rt: R) -> FileShelf<R>
+        ensures loads { ⟦<FileShelf<R> as Shelf>⟧.load_faults result ≡ 0 }
+        ensures stores { ⟦<FileShelf<R> as Shelf>⟧.store_faults result ≡ 0 }
+    {
         FileShelf {
             rt,
             load_faults: 0,

@@ -19,7 +19,9 @@ pub struct StdIn<R: Input> {
 
 impl<R: Input + Wait> StdIn<R> {
     /// The standard input, of which nothing was read by this value and nothing has failed.
-    pub fn new(rt: R) -> StdIn<R> {
+    pub fn new(rt: R) -> StdIn<R>
+        ensures { ⟦<StdIn<R> as Source>⟧.faults result ≡ 0 }
+    {
         StdIn {
             reader: rt.reader(),
             rt,

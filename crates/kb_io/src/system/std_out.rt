@@ -1,6 +1,6 @@
 //! The standard output and the standard error.
 
-ghost use Rattle.std.specs.Prelude.{◌<◌, ◌≤◌, [], IfOk, length};
+ghost use Rattle.std.specs.Prelude.{◌≡◌, ◌<◌, ◌≤◌, [], IfOk, length};
 
 use super::faults::count_fault;
 use crate::failed::Failed;
@@ -17,7 +17,9 @@ pub struct StdOut<R> {
 
 impl<R: Print + Wait> StdOut<R> {
     /// The standard output, on which nothing has failed.
-    pub fn new(rt: R) -> StdOut<R> {
+    pub fn new(rt: R) -> StdOut<R>
+        ensures { ⟦<StdOut<R> as Sink>⟧.faults result ≡ 0 }
+    {
         StdOut { rt, faults: 0 }
     }
 }
@@ -50,7 +52,9 @@ pub struct StdErr<E, R> {
 
 impl<E: Print, R: Wait> StdErr<E, R> {
     /// The standard error, on which nothing has failed.
-    pub fn new(stream: E, rt: R) -> StdErr<E, R> {
+    pub fn new(stream: E, rt: R) -> StdErr<E, R>
+        ensures { ⟦<StdErr<E, R> as Sink>⟧.faults result ≡ 0 }
+    {
         StdErr {
             stream,
             rt,
