@@ -8,7 +8,7 @@ use std::alloc::Global;
 use std::marker::Model;
 
 /// A rule: its left side may be replaced by its right side, which is less.
-#[derive(Drop)]
+#[derive(Debug, PartialEq, Eq, Drop)]
 pub struct Rule {
     left: Word,
     right: Word,
@@ -22,6 +22,8 @@ impl Model for Rule {
     ghost view = { λ rule. (rule.left, rule.right) };
 
     ghost invariant = { λ rule. Less rule.right rule.left };
+
+    ghost inverse = { λ pair. record { left = pair.0; right = pair.1 } };
 }
 
 impl Rule {

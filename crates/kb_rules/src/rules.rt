@@ -11,7 +11,7 @@ use std::alloc::Global;
 use std::marker::Model;
 
 /// A list of rules, in an order that counts: where several left sides end at one place, the first is used.
-#[derive(Drop)]
+#[derive(Debug, Drop)]
 pub struct Rules {
     rules: Vec<Rule>,
 }
