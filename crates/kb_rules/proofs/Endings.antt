@@ -100,7 +100,7 @@ pub first_rewrite_at : (rules : List Pair) (front : List ℕ) (x : ℕ) (rest : 
 first_rewrite_at rules front x rest rule irreducible f =
     let whole : front ++ x ∷ [] ≡ f.ends.0 ++ rule.0 = f.ends.1 in
     let P : List ℕ → Type 0 =
-      λ w. (earlier : ℕ) (other : Pair) → earlier < f.index → slice_get rules earlier ≡ Some other → ¬ EndsWith w other.0 in
+    λ w. (earlier : ℕ) (other : Pair) → earlier < f.index → slice_get rules earlier ≡ Some other → ¬ EndsWith w other.0 in
     record {
       before = f.ends.0;
       index = f.index;

@@ -39,7 +39,7 @@ reading_from rules front [] irreducible =
     read (subst P (sym (append-nil front)) irreducible)
 reading_from rules front (x ∷ rest) irreducible =
     let next : IsIrreducible (OneOf rules) (front ++ x ∷ []) → Reading rules ((front ++ x ∷ []) ++ rest) =
-      reading_from rules (front ++ x ∷ []) rest in
+    reading_from rules (front ++ x ∷ []) rest in
     elim (cases_ending rules (front ++ x ∷ [])) [
       | inl f ↦ rewritten (f.1.ends.0 ++ f.0.1 ++ rest) (first_rewrite_at rules front x rest f.0 irreducible f.1)
       | inr none ↦

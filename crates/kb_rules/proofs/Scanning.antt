@@ -36,7 +36,7 @@ pub cut_irreducible : {rules : List Pair} {rule : Pair} (front : List ℕ) (x : 
     → (f : IsFirstEnding rules (front ++ x ∷ []) rule) → IsIrreducible (OneOf rules) f.ends.0
 cut_irreducible {rules = rules} {rule = rule} front x irreducible f =
     let some : rule.0 ≢ [] = λ none.
-      irreducible front rule [] (f.index, f.is_rule) (sym (append-nil (front ++ rule.0) ∙ ap (λ l. front ++ l) none ∙ append-nil front)) in
+    irreducible front rule [] (f.index, f.is_rule) (sym (append-nil (front ++ rule.0) ∙ ap (λ l. front ++ l) none ∙ append-nil front)) in
     proper rules front x irreducible f.ends.0 rule.0 f.ends.1 (from_end rule.0) some
 
 -- with the left side cut off and the right side put back the first rewrite is made

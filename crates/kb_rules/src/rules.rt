@@ -100,7 +100,7 @@ impl Rules {
         ensures { IsTrue result ↔ OneOf self.now rule.now }
     {
         for own in self.as_slice() {
-            if own.is_same(rule) {
+            if *own == *rule {
                 return true;
             }
         }
