@@ -74,7 +74,7 @@ pub irreducible_front : (rules : List Pair) (front rest : List ℕ) → IsIrredu
 irreducible_front rules front rest irreducible before pair after one whole =
     irreducible before pair (after ++ rest) one (ap (λ w. w ++ rest) whole ∙ append_assoc (before ++ pair.0) after rest)
 
-proper : (rules : List Pair) (front : List ℕ) (x : ℕ) → IsIrreducible (OneOf rules) front
+pub proper : (rules : List Pair) (front : List ℕ) (x : ℕ) → IsIrreducible (OneOf rules) front
     → (prefix rest : List ℕ) → front ++ x ∷ [] ≡ prefix ++ rest → FromEnd rest → rest ≢ [] → IsIrreducible (OneOf rules) prefix
 proper rules front x irreducible prefix rest whole empty some = absurd (some refl)
 proper rules front x irreducible prefix rest whole (last part y) some =

@@ -1,6 +1,6 @@
 -- Fronts and ends of lists, and the last element.
 use Rattle.std.proofs.Common.{◌≡◌, All, subst, ◌+◌, ◌<◌, length-append, arith, ◌≢◌, ℕ, ◌≤◌, ◌⊎◌, List, [], ◌∷◌, ◌++◌, length, take, drop, refl, sym, ap, ◌∙◌, inl, inr}
-use Rattle.std.proofs.lemmas.List.{get_or-append-add, take_at, take-append-le, take-append-drop, append_cancel_left}
+use Rattle.std.proofs.lemmas.List.{get_or-append-add, get_or_append_left, take_at, take-append-le, take-append-drop, append_cancel_left}
 use Rattle.std.proofs.lemmas.Bool.{cases_eq}
 
 -- of two fronts of one list the shorter is a front of the longer
@@ -54,5 +54,12 @@ All-rest P rest whole front same all k d within =
     let Q : List ℕ → Type 0 = λ zs. All P zs in
     let both : All P (front ++ rest) = subst Q same all in
     let fits : length front + k < length (front ++ rest) = omega (arith, length-append front rest) in
-    let R : ℕ → Type 0 = P in
-    subst R (get_or-append-add front rest k d) (both (length front + k) d fits)
+    subst P (get_or-append-add front rest k d) (both (length front + k) d fits)
+
+-- what holds of each element holds of each element of a front
+pub All-front : (P : ℕ → Type 0) (front whole rest : List ℕ) → whole ≡ front ++ rest → All P whole → All P front
+All-front P front whole rest same all k d within =
+    let Q : List ℕ → Type 0 = λ zs. All P zs in
+    let both : All P (front ++ rest) = subst Q same all in
+    let fits : k < length (front ++ rest) = omega (arith, length-append front rest) in
+    subst P (get_or_append_left front rest d k within) (both k d fits)

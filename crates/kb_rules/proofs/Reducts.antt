@@ -5,7 +5,7 @@ use Rattle.kb_word.specs.Path.{Linked}
 use Rattle.kb_word.specs.Order.{IsReductionOrder}
 use Rattle.kb_word.specs.Congruence.{Replaces, Congruent}
 use Rattle.kb_word.specs.Rewriting.{FirstRewrite, NormalForm, ReducesTo}
-use Rattle.kb_rules.proofs.Paths.{path_mapped}
+use Rattle.kb_word.proofs.PathLemmas.{path_implied}
 
 pub first_rewrite_replaces : {rules : List Pair} {u v : List ℕ} → FirstRewrite rules u v → Replaces (OneOf rules) u v
 first_rewrite_replaces f =
@@ -13,11 +13,11 @@ first_rewrite_replaces f =
 
 -- a normal form is a reduct
 pub normal_form_reduct : {rules : List Pair} {w m : List ℕ} → NormalForm rules w m → ReducesTo (OneOf rules) w m
-normal_form_reduct normal = path_mapped (λ u v. first_rewrite_replaces) normal.path
+normal_form_reduct normal = path_implied (λ u v. first_rewrite_replaces) normal.path
 
 -- a reduct is congruent
 pub reduct_congruent : {allowed : Pair → Type 0} {u v : List ℕ} → ReducesTo allowed u v → Congruent allowed u v
-reduct_congruent reduces = path_mapped (λ u v step. inl step) reduces
+reduct_congruent reduces = path_implied (λ u v step. inl step) reduces
 
 -- a normal form is congruent
 pub normal_form_congruent : {rules : List Pair} {w m : List ℕ} → NormalForm rules w m → Congruent (OneOf rules) w m

@@ -6,7 +6,7 @@ use Rattle.kb_word.specs.Words.{Pair, OneOf}
 use Rattle.kb_word.specs.Path.{Linked}
 use Rattle.kb_word.specs.Rewriting.{IsIrreducible, FirstRewrite, NormalForm}
 use Rattle.kb_rules.proofs.Lists.{longer_front, append_cancel_long}
-use Rattle.kb_rules.proofs.Paths.{path_none, path_more}
+use Rattle.kb_word.proofs.PathLemmas.{path_none, path_step}
 
 -- an irreducible word has no first rewrite
 pub no_first_rewrite : {rules : List Pair} {u v : List ℕ} → IsIrreducible (OneOf rules) u → FirstRewrite rules u v → ⊥
@@ -86,7 +86,7 @@ normal_form_unique {rules = rules} {w = w} {m = m} {n = n} f g =
 -- an irreducible word is its own normal form
 pub irreducible_is_normal : (rules : List Pair) (w : List ℕ) → IsIrreducible (OneOf rules) w → NormalForm rules w w
 irreducible_is_normal rules w irreducible =
-    record { path = path_none (FirstRewrite rules) w; irreducible = irreducible }
+    record { path = path_none w; irreducible = irreducible }
 
 -- an irreducible word has no other normal form
 pub normal_form_of_irreducible : {rules : List Pair} {w m : List ℕ} → IsIrreducible (OneOf rules) w → NormalForm rules w m → m ≡ w
@@ -94,4 +94,4 @@ normal_form_of_irreducible {rules = rules} {w = w} irreducible normal = normal_f
 
 -- a normal form of what the first rewrite gives is one of the word
 pub normal_form_more : {rules : List Pair} {u v m : List ℕ} → FirstRewrite rules u v → NormalForm rules v m → NormalForm rules u m
-normal_form_more first normal = record { path = path_more first normal.path; irreducible = normal.irreducible }
+normal_form_more first normal = record { path = path_step first normal.path; irreducible = normal.irreducible }

@@ -1,6 +1,6 @@
 //! One rule.
 
-ghost use Rattle.std.specs.Prelude.{◌≡◌, IfOk};
+ghost use Rattle.std.specs.Prelude.{◌≡◌, ◌↔◌, IsTrue, IfOk};
 ghost use Rattle.kb_word.specs.Words.{Less};
 
 use kb_word::{Memory, Word};
@@ -54,6 +54,13 @@ impl Rule {
         ensures decreasing { Less result.1 result.0 }
     {
         (self.left, self.right)
+    }
+
+    /// Whether the rules have the same sides.
+    pub fn is_same(&self, other: &Rule) -> bool
+        ensures { IsTrue result ↔ (self.now ≡ other.now) }
+    {
+        self.left == other.left && self.right == other.right
     }
 
     /// A rule of the same sides.

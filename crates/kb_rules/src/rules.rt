@@ -94,4 +94,27 @@ impl Rules {
     {
         self.rules.as_slice()
     }
+
+    /// Whether the rule is one of the list's.
+    pub fn contains(&self, rule: &Rule) -> bool
+        ensures { IsTrue result ↔ OneOf self.now rule.now }
+    {
+        for own in self.as_slice() {
+            if own.is_same(rule) {
+                return true;
+            }
+        }
+        false
+    }
+
+    /// A list of the same rules.
+    pub fn copy(&self, alloc: Global) -> Result<Rules, Memory>
+        ensures { IfOk result (λ list. list ≡ self.now) }
+    {
+        let mut list = Rules::new(alloc);
+        for rule in self.as_slice() {
+            list.push(rule.copy(alloc)?)?;
+        }
+        Ok(list)
+    }
 }

@@ -25,7 +25,8 @@ impl Model for Unread {
 impl Unread {
     /// All letters of a word.
     pub fn of(alloc: Global, word: &Word) -> Result<Unread, Memory>
-        ensures { IfOk result (λ unread. unread ≡ word.now) }
+        ensures ok { IfOk result (λ unread. unread ≡ word.now) }
+        ensures range { All (λ letter. letter < 2 ^ 16) word.now }
     {
         let mut unread = Unread {
             stack: Vec::new(alloc),
@@ -45,7 +46,8 @@ impl Unread {
 
     /// Puts a word in front of what is still to be read.
     pub fn put_back(&mut self, word: &Word) -> Result<(), Memory>
-        ensures { OnOk result (self.new ≡ word.now ++ self.old) }
+        ensures ok { OnOk result (self.new ≡ word.now ++ self.old) }
+        ensures range { All (λ letter. letter < 2 ^ 16) word.now }
     {
         let old_len = self.stack.len();
         self.stack.extend_from_slice(word.letters())?;
