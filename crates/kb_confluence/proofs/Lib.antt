@@ -3,3 +3,5 @@ pub mod Replacements
 pub mod Newman
 pub mod LeastWords
 pub mod Transport
+mod Checking
+mod Verdicts
