@@ -1,23 +1,18 @@
 -- How far the test has come: each overlap before the next one joins.
-use Rattle.std.proofs.Common.{◌≡◌, ◌≢◌, ℕ, zero, suc, ◌+◌, ◌<◌, ◌≤◌, ◌⊎◌, List, length, get_or, Some, refl, sym, ◌∙◌, ap, subst, inl, inr, arith, add-one}
+use Rattle.std.proofs.Common.{◌≡◌, ℕ, suc, ◌+◌, ◌<◌, ◌≤◌, List, length, get_or, Some, refl, sym, ◌∙◌, ap, subst, inl, inr, arith}
 use Rattle.std.specs.Prelude.{slice_get}
-use Rattle.std.proofs.lemmas.Bool.{cases_lt, cases_eq}
-use Rattle.std.proofs.lemmas.Option.{slice_get_within, slice_get_read}
+use Rattle.std.proofs.lemmas.Bool.{cases_lt}
+use Rattle.std.proofs.lemmas.Option.{slice_get_read}
 use Rattle.kb_word.specs.Words.{Pair}
-use Rattle.kb_word.specs.Overlap.{Overlaps, OverlapOf, Joins, Parts, IsConfluent, critical_pair}
+use Rattle.kb_word.specs.Overlap.{Overlaps, OverlapOf, Joins, Parts, critical_pair}
 use Rattle.kb_overlap.specs.Search.{Search, NoOverlapFrom, IsFirstOverlap}
-use Rattle.kb_confluence.specs.Unjoined.{ComesBefore, EarlierJoin, IsFirstUnjoined}
+use Rattle.kb_confluence.specs.Unjoined.{EarlierJoin, IsFirstUnjoined}
 
 -- the search for overlaps of two rules, when each overlap before its place joins
 pub record Tried (rules : List Pair) (i j : ℕ) (first second : Pair) (search : Search) : Type 0 where
   pub first_is : search.first ≡ first.0
   pub second_is : search.second ≡ second.0
   pub earlier : EarlierJoin rules i j search.here
-
-pub nothing_before_start : (rules : List Pair) → EarlierJoin rules 0 0 0
-nothing_before_start rules i j p first second (inl low) overlap = absurd (omega arith)
-nothing_before_start rules i j p first second (inr (same, inl low)) overlap = absurd (omega arith)
-nothing_before_start rules i j p first second (inr (same, inr (same', low))) overlap = absurd (omega arith)
 
 -- what is read of the list of rules at an index
 pub rule_at : (rules : List Pair) (i : ℕ) (rule : Pair) → i < length rules → rule ≡ get_or rules i rule → slice_get rules i ≡ Some rule
@@ -37,11 +32,15 @@ along_rules rules i j k l q first second one other is_first is_second e f overla
     let one_is : one ≡ first = one_rule rules i k first one is_first overlap.is_first e in
     let other_is : other ≡ second = one_rule rules j l second other is_second overlap.is_second f in
     let meets : Overlaps first.0 second.0 q =
-        let P : Pair → Type 0 = λ rule. Overlaps rule.0 other.0 q in
-        let Q : Pair → Type 0 = λ rule. Overlaps first.0 rule.0 q in
-        subst Q other_is (subst P one_is overlap.overlaps) in
+    let P : Pair → Type 0 = λ rule. Overlaps rule.0 other.0 q in
+    let Q : Pair → Type 0 = λ rule. Overlaps first.0 rule.0 q in
+    subst Q other_is (subst P one_is overlap.overlaps) in
     let here : OverlapOf rules i j q first second = record {
-        is_first = is_first; is_second = is_second; overlaps = meets; proper = λ same. overlap.proper (e ∙ same ∙ sym f) } in
+      is_first = is_first;
+      is_second = is_second;
+      overlaps = meets;
+      proper = λ same. overlap.proper (e ∙ same ∙ sym f);
+    } in
     let R : Pair → Type 0 = λ rule. Joins rules (critical_pair first rule q) in
     let S : Pair → Type 0 = λ rule. Joins rules (critical_pair rule other q) in
     subst S (sym one_is) (subst R (sym other_is) (joins here))
@@ -81,27 +80,6 @@ earlier_to_second rules i j here first second is_first is_second earlier none k 
           ]
     ]
 
--- past the last rule as a second one comes the next rule as a first one
-pub earlier_to_first : (rules : List Pair) (i count : ℕ) → length rules ≤ count → EarlierJoin rules i count 0 → EarlierJoin rules (i + 1) 0 0
-earlier_to_first rules i count long earlier k l q one other (inr (same, inl low)) overlap = absurd (omega arith)
-earlier_to_first rules i count long earlier k l q one other (inr (same, inr (same', low))) overlap = absurd (omega arith)
-earlier_to_first rules i count long earlier k l q one other (inl low) overlap =
-    let within : l < length rules = slice_get_within rules l other overlap.is_second in
-    elim (cases_lt k i) [
-      | inl before ↦ earlier k l q one other (inl before) overlap
-      | inr at_last ↦
-          let last : k ≡ i = omega arith in
-          let below : l < count = omega arith in
-          earlier k l q one other (inr (last, inl below)) overlap
-    ]
-
--- past the last rule as a first one all overlaps are tried
-pub confluent_at_end : (rules : List Pair) (count : ℕ) → length rules ≤ count → EarlierJoin rules count 0 0 → IsConfluent rules
-confluent_at_end rules count long earlier i j place first second overlap =
-    let within : i < length rules = slice_get_within rules i first overlap.is_first in
-    let below : i < count = omega arith in
-    earlier i j place first second (inl below) overlap
-
 joins_at : {rules : List Pair} {i j : ℕ} {first second : Pair} (place q : ℕ) → place ≡ q
     → (OverlapOf rules i j place first second → Joins rules (critical_pair first second place))
     → OverlapOf rules i j q first second → Joins rules (critical_pair first second q)
@@ -135,10 +113,11 @@ module _ (rules : List Pair) (i j : ℕ) (first second : Pair) (is_first : slice
       → (OverlapOf rules i j place first second → Joins rules (critical_pair first second place)) → Tried rules i j first second after
   tried_more after place found e joins =
       let next : Tried rules i j first second (record before { here = suc place }) = record {
-          first_is = tried.first_is;
-          second_is = tried.second_is;
-          earlier = earlier_to_place rules i j place (suc place) first second is_first is_second (earlier_to_found place found)
-              (λ q low high overlap. let same : place ≡ q = omega arith in joins_at place q same joins overlap) } in
+        first_is = tried.first_is;
+        second_is = tried.second_is;
+        earlier = earlier_to_place rules i j place (suc place) first second is_first is_second (earlier_to_found place found)
+            (λ q low high overlap. let same : place ≡ q = omega arith in joins_at place q same joins overlap);
+      } in
       let P : Search → Type 0 = λ search. Tried rules i j first second search in
       subst P (sym e) next
 
@@ -149,7 +128,7 @@ module _ (rules : List Pair) (i j : ℕ) (first second : Pair) (is_first : slice
     second = second;
     overlap = record { is_first = is_first; is_second = is_second; overlaps = found_overlap place found; proper = proper };
     parts = parts;
-    earlier = earlier_to_found place found
+    earlier = earlier_to_found place found;
   }
 
   pub tried_all : NoOverlapFrom before.first before.second before.here → EarlierJoin rules i (j + 1) 0

@@ -1,6 +1,6 @@
 -- Lists of pairs that generate the same congruence have the same least words.
-use Rattle.std.proofs.Common.{◌≡◌, ◌⊎◌, ℕ, List, [], ◌∷◌, ◌++◌, refl, sym, subst, inl, inr}
-use Rattle.kb_word.specs.Words.{Pair, OneOf, Less}
+use Rattle.std.proofs.Common.{ℕ, List, ◌++◌, sym, subst, inl, inr}
+use Rattle.kb_word.specs.Words.{Pair}
 use Rattle.kb_word.specs.Congruence.{Replaces, Touches, Congruent, SameCongruence, IsLeast}
 use Rattle.kb_word.proofs.PathLemmas.{path_joined, congruent_between, congruent_symmetric}
 
@@ -11,7 +11,7 @@ Covers others allowed = (pair : Pair) → allowed pair → Congruent others pair
 replaced_congruent : {allowed others : Pair → Type 0} → Covers others allowed → (u v : List ℕ) → Replaces allowed u v → Congruent others u v
 replaced_congruent {others = others} covers u v r =
     let inside : Congruent others (r.before ++ r.pair.0 ++ r.after) (r.before ++ r.pair.1 ++ r.after) =
-        congruent_between r.before r.after (covers r.pair r.is_allowed) in
+    congruent_between r.before r.after (covers r.pair r.is_allowed) in
     let P : List ℕ → Type 0 = λ w. Congruent others w (r.before ++ r.pair.1 ++ r.after) in
     let Q : List ℕ → Type 0 = λ w. Congruent others u w in
     subst Q (sym r.to) (subst P (sym r.from) inside)
@@ -28,5 +28,5 @@ congruent_by_others covers congruent = path_joined (λ w. w) (touching_congruent
 pub least_by_others : (pairs others : List Pair) (w m : List ℕ) → SameCongruence pairs others → IsLeast pairs w m → IsLeast others w m
 least_by_others pairs others w m same is_least = record {
   congruent = congruent_by_others same.covered is_least.congruent;
-  least = λ v congruent. is_least.least v (congruent_by_others same.covers congruent)
+  least = λ v congruent. is_least.least v (congruent_by_others same.covers congruent);
 }

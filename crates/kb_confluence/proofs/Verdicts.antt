@@ -1,9 +1,9 @@
 -- What follows from a verdict.
 use Rattle.std.specs.Prelude.{Result, Ok, Err, IfOk, ◌↔◌, Option, Some, None}
-use Rattle.std.proofs.Common.{◌≡◌, ◌≢◌, ℕ, zero, suc, ◌+◌, List, [], ◌∷◌, ◌++◌, refl, sym, ◌∙◌, subst, inl, add-one}
+use Rattle.std.proofs.Common.{◌≡◌, ℕ, zero, suc, ◌+◌, List, refl, sym, ◌∙◌, subst, add-one}
 use Rattle.kb_word.specs.Words.{Pair, OneOf}
-use Rattle.kb_word.specs.Congruence.{Replaces, Congruent}
-use Rattle.kb_word.specs.Overlap.{Joins, Parts, OverlapOf, IsConfluent, critical_pair, superposition}
+use Rattle.kb_word.specs.Congruence.{Congruent}
+use Rattle.kb_word.specs.Overlap.{Joins, Parts, IsConfluent, critical_pair, superposition}
 use Rattle.kb_word.proofs.PathLemmas.{Replaces-implied, congruent_by_replacement, congruent_symmetric, congruent_transitive}
 use Rattle.kb_rules.proofs.Unique.{normal_form_unique}
 use Rattle.kb_rules.proofs.Reducts.{normal_form_congruent}
@@ -12,14 +12,6 @@ use Rattle.kb_confluence.specs.declared.confluence.Verdict.{Verdict}
 use Rattle.kb_confluence.specs.declared.confluence.Verdict.TheVariants.{Yes, No}
 use Rattle.kb_confluence.specs.Unjoined.{IsFirstUnjoined, IsCounterexample}
 use Rattle.kb_confluence.specs.Answers.{MatchVerdict, IsVerdict, GivesCounterexample, JoinsOrParts}
-
--- a `No` of a part is a `No` of the whole
-pub no_stays : (part whole : Type 0) (rules : List Pair) (verdict : Verdict) → verdict ≢ Yes → MatchVerdict part rules verdict
-    → MatchVerdict whole rules verdict
-no_stays part whole rules Yes other holds = absurd (other refl)
-no_stays part whole rules (No zero j place u v) other holds = absurd holds
-no_stays part whole rules (No (suc i) zero place u v) other holds = absurd holds
-no_stays part whole rules (No (suc i) (suc j) place u v) other holds = holds
 
 -- rules are numbered one above their indices
 pub no_numbered : (yes_says : Type 0) (rules : List Pair) (i j place : ℕ) (u v : List ℕ) → IsFirstUnjoined rules i j place u v
@@ -43,18 +35,18 @@ counterexample rules i j place u v unjoined =
     let whole = superposition first.0 second.0 place in
     let pair : Pair = critical_pair first second place in
     let left : Congruent (OneOf rules) whole u =
-        congruent_transitive
-        (congruent_by_replacement (Replaces-implied (one_of rules first (i, overlap.is_first)) (replaced-by-first first second place overlap.overlaps)))
-        (normal_form_congruent unjoined.parts.left) in
+    congruent_transitive
+    (congruent_by_replacement (Replaces-implied (one_of rules first (i, overlap.is_first)) (replaced-by-first first second place overlap.overlaps)))
+    (normal_form_congruent unjoined.parts.left) in
     let right : Congruent (OneOf rules) whole v =
-        congruent_transitive
-        (congruent_by_replacement (Replaces-implied (one_of rules second (j, overlap.is_second)) (replaced-by-second first second place overlap.overlaps)))
-        (normal_form_congruent unjoined.parts.right) in
+    congruent_transitive
+    (congruent_by_replacement (Replaces-implied (one_of rules second (j, overlap.is_second)) (replaced-by-second first second place overlap.overlaps)))
+    (normal_form_congruent unjoined.parts.right) in
     record {
       different = unjoined.parts.different;
       left = unjoined.parts.left.irreducible;
       right = unjoined.parts.right.irreducible;
-      congruent = congruent_transitive (congruent_symmetric left) right
+      congruent = congruent_transitive (congruent_symmetric left) right;
     }
 
 pub verdict_counterexample : (rules : List Pair) (verdict : Verdict) → IsVerdict rules verdict → GivesCounterexample rules verdict

@@ -1,5 +1,5 @@
 -- What a verdict says.
-use Rattle.std.specs.Prelude.{ℕ, zero, suc, List, Option, MatchOption}
+use Rattle.std.specs.Prelude.{zero, suc, List, Option, MatchOption}
 use Rattle.kb_word.specs.Words.{Pair}
 use Rattle.kb_word.specs.Overlap.{Joins, Parts, IsConfluent}
 use Rattle.kb_confluence.specs.declared.confluence.Verdict.{Verdict}

@@ -11,6 +11,8 @@
 
 mod confluence;
 mod laws;
+#[cfg(test)]
+mod tests;
 
 pub use confluence::{Verdict, check};
 pub use laws::{least_by_the_same_congruence, normal_forms_by_confluent_rules_are_least};
