@@ -15,7 +15,7 @@ abbrev pub EarlierJoin : List Pair → ℕ → ℕ → ℕ → Type 0
 EarlierJoin rules k l q = (i j p : ℕ) (first second : Pair) → ComesBefore i j p k l q → OverlapOf rules i j p first second
     → Joins rules (critical_pair first second p)
 
--- the overlap of rules i and j at this place is the first that doesn't join: its words' normal forms u and v differ
+-- the overlap of the rules of indices i and j, from 0 on, is the first that doesn't join: its words' normal forms are u and v
 pub record IsFirstUnjoined (rules : List Pair) (i j place : ℕ) (u v : List ℕ) : Type 0 where
   pub first : Pair
   pub second : Pair
