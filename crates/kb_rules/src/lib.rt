@@ -14,6 +14,8 @@ mod reducer;
 mod rule;
 mod rules;
 mod scan;
+#[cfg(test)]
+mod tests;
 mod unread;
 
 pub use laws::{

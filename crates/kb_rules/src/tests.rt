@@ -1,0 +1,68 @@
+//! What no clause says: that the calls succeed where there is memory, and that long words are reduced fast.
+
+use super::*;
+use kb_word::{Letter, Memory, Word};
+use std::alloc::Global;
+use std::process::Abort;
+use std::test::Fail;
+
+fn word(alloc: Global, numbers: &[u16]) -> Result<Word, Memory> {
+    let mut word = Word::new(alloc);
+    for number in numbers {
+        word.push(Letter::new(*number))?;
+    }
+    Ok(word)
+}
+
+/// The rule with these sides.
+fn rule(rt: &impl Abort, alloc: Global, left: &[u16], right: &[u16]) -> Result<Rule, Memory> {
+    let left = word(alloc, left)?;
+    let right = word(alloc, right)?;
+    assert!(rt; kb_word::less(&right, &left));
+    Ok(Rule::new(left, right))
+}
+
+/// The rules aa -> 1, bbb -> 1 and abab -> bba of the letters 1 and 2.
+fn some_rules(rt: &impl Abort, alloc: Global) -> Result<Rules, Memory> {
+    let mut rules = Rules::new(alloc);
+    rules.push(rule(rt, alloc, &[1, 1], &[])?)?;
+    rules.push(rule(rt, alloc, &[2, 2, 2], &[])?)?;
+    rules.push(rule(rt, alloc, &[1, 2, 1, 2], &[2, 2, 1])?)?;
+    Ok(rules)
+}
+
+/// The normal form of a word, by a copy of the reducer by those rules.
+fn reduced(rt: &impl Abort, alloc: Global, w: &Word) -> Result<Word, Memory> {
+    let rules = some_rules(rt, alloc)?;
+    let scan = Scan::of(alloc, &rules)?;
+    scan.copy(alloc)?.nf(alloc, w)
+}
+
+#[test]
+fn words_are_reduced(rt: HostRuntime) -> Result<(), Fail> {
+    let w = word(rt.alloc(), &[1, 2, 1, 1, 2, 2, 1, 2, 1, 2])?;
+    let m = word(rt.alloc(), &[2, 1, 2])?;
+    assert!(rt; reduced(&rt, rt.alloc(), &w)? == m);
+    Ok(())
+}
+
+#[test]
+fn rules_are_listed(rt: HostRuntime) -> Result<(), Fail> {
+    let rules = some_rules(&rt, rt.alloc())?;
+    let own = rules.get(2).ok_or("no third rule")?;
+    let same = own.copy(rt.alloc())?;
+    assert!(rt; rules.contains(&same));
+    Ok(())
+}
+
+#[test]
+fn long_words_are_reduced_fast(rt: HostRuntime) -> Result<(), Fail> {
+    let mut w = Word::new(rt.alloc());
+    let part = word(rt.alloc(), &[1, 2, 1, 2, 2])?;
+    for _ in 0..13107 {
+        w.append(&part)?;
+    }
+    let m = reduced(&rt, rt.alloc(), &w)?;
+    assert!(rt; m.len() < w.len());
+    Ok(())
+}
