@@ -11,7 +11,7 @@ use kb_word::{Memory, Word};
 use std::alloc::Global;
 
 /// What the test finds.
-#[derive(Drop)]
+#[derive(Debug, Drop)]
 pub enum Verdict {
     /// The rules are confluent.
     Yes,
