@@ -24,13 +24,16 @@ none_here rule rules w apart none pair zero is ends =
     let P : Pair → Type 0 = λ r. EndsWith w r.0 in apart (subst P (sym (same_Some rule pair is)) ends)
 none_here rule rules w apart none pair (suc index) is ends = none pair (index, is) ends
 
-first_later : (rule : Pair) (rules : List Pair) (w : List ℕ) → (¬ EndsWith w rule.0) → {first_rule : Pair} (f : IsFirstEnding rules w first_rule)
-    → (earlier : ℕ) (other : Pair) → earlier < suc f.index → slice_get (rule ∷ rules) earlier ≡ Some other → ¬ EndsWith w other.0
+first_later : (rule : Pair) (rules : List Pair) (w : List ℕ) → (¬ EndsWith w rule.0)
+    → {first_rule : Pair} (f : IsFirstEnding rules w first_rule)
+    → (earlier : ℕ) (other : Pair) → earlier < suc f.index → slice_get (rule ∷ rules) earlier ≡ Some other
+    → ¬ EndsWith w other.0
 first_later rule rules w apart f zero other below is ends =
     let P : Pair → Type 0 = λ r. EndsWith w r.0 in apart (subst P (sym (same_Some rule other is)) ends)
 first_later rule rules w apart f (suc earlier) other below is ends = f.first earlier other (omega arith) is ends
 
-later : (rule : Pair) (rules : List Pair) (w : List ℕ) → (¬ EndsWith w rule.0) → {other : Pair} → IsFirstEnding rules w other → IsFirstEnding (rule ∷ rules) w other
+later : (rule : Pair) (rules : List Pair) (w : List ℕ) → (¬ EndsWith w rule.0) → {other : Pair}
+    → IsFirstEnding rules w other → IsFirstEnding (rule ∷ rules) w other
 later rule rules w apart f =
     record { index = suc f.index; is_rule = f.is_rule; ends = f.ends; first = first_later rule rules w apart f }
 
@@ -56,38 +59,48 @@ cases_ending (rule ∷ rules) w =
     ]
 
 -- a factor that ends before the last letter is a factor of the rest
-grown : (rules : List Pair) (front : List ℕ) (x : ℕ) → IsIrreducible (OneOf rules) front → NoneEnds rules (front ++ x ∷ [])
-    → (before : List ℕ) (pair : Pair) (after : List ℕ) → OneOf rules pair → FromEnd after → front ++ x ∷ [] ≢ before ++ pair.0 ++ after
+grown : (rules : List Pair) (front : List ℕ) (x : ℕ) → IsIrreducible (OneOf rules) front
+    → NoneEnds rules (front ++ x ∷ [])
+    → (before : List ℕ) (pair : Pair) (after : List ℕ) → OneOf rules pair → FromEnd after
+    → front ++ x ∷ [] ≢ before ++ pair.0 ++ after
 grown rules front x irreducible none before pair after one empty whole =
     none pair one (before, whole ∙ append-nil (before ++ pair.0))
 grown rules front x irreducible none before pair after one (last rest y) whole =
-    irreducible before pair rest one (same_from_push front (before ++ pair.0 ++ rest) x y (whole ∙ sym (append_assoc (before ++ pair.0) rest (y ∷ [])))).0
+    let split : front ++ x ∷ [] ≡ (before ++ pair.0 ++ rest) ++ y ∷ [] = whole ∙ sym (append_assoc (before ++ pair.0) rest (y ∷ [])) in
+    irreducible before pair rest one (same_from_push front (before ++ pair.0 ++ rest) x y split).0
 
 -- an irreducible word stays so with a letter more, where no left side ends at the letter
-pub irreducible_more : (rules : List Pair) (front : List ℕ) (x : ℕ) → IsIrreducible (OneOf rules) front → NoneEnds rules (front ++ x ∷ [])
+pub irreducible_more : (rules : List Pair) (front : List ℕ) (x : ℕ) → IsIrreducible (OneOf rules) front
+    → NoneEnds rules (front ++ x ∷ [])
     → IsIrreducible (OneOf rules) (front ++ x ∷ [])
 irreducible_more rules front x irreducible none before pair after one =
     grown rules front x irreducible none before pair after one (from_end after)
 
 -- a prefix of an irreducible word is irreducible
-pub irreducible_front : (rules : List Pair) (front rest : List ℕ) → IsIrreducible (OneOf rules) (front ++ rest) → IsIrreducible (OneOf rules) front
+pub irreducible_front : (rules : List Pair) (front rest : List ℕ) → IsIrreducible (OneOf rules) (front ++ rest)
+    → IsIrreducible (OneOf rules) front
 irreducible_front rules front rest irreducible before pair after one whole =
     irreducible before pair (after ++ rest) one (ap (λ w. w ++ rest) whole ∙ append_assoc (before ++ pair.0) after rest)
 
 pub proper : (rules : List Pair) (front : List ℕ) (x : ℕ) → IsIrreducible (OneOf rules) front
-    → (prefix rest : List ℕ) → front ++ x ∷ [] ≡ prefix ++ rest → FromEnd rest → rest ≢ [] → IsIrreducible (OneOf rules) prefix
+    → (prefix rest : List ℕ) → front ++ x ∷ [] ≡ prefix ++ rest → FromEnd rest → rest ≢ []
+    → IsIrreducible (OneOf rules) prefix
 proper rules front x irreducible prefix rest whole empty some = absurd (some refl)
 proper rules front x irreducible prefix rest whole (last part y) some =
-    let e : front ≡ prefix ++ part = (same_from_push front (prefix ++ part) x y (whole ∙ sym (append_assoc prefix part (y ∷ [])))).0 in
+    let split : front ++ x ∷ [] ≡ (prefix ++ part) ++ y ∷ [] = whole ∙ sym (append_assoc prefix part (y ∷ [])) in
+    let e : front ≡ prefix ++ part = (same_from_push front (prefix ++ part) x y split).0 in
     let P : List ℕ → Type 0 = λ w. IsIrreducible (OneOf rules) w in
     irreducible_front rules prefix part (subst P e irreducible)
 
 -- The first rewrite: an irreducible front with a letter more that ends with a left side.
-pub first_rewrite_at : (rules : List Pair) (front : List ℕ) (x : ℕ) (rest : List ℕ) (rule : Pair) → IsIrreducible (OneOf rules) front
-    → (f : IsFirstEnding rules (front ++ x ∷ []) rule) → FirstRewrite rules (front ++ x ∷ rest) (f.ends.0 ++ rule.1 ++ rest)
+pub first_rewrite_at : (rules : List Pair) (front : List ℕ) (x : ℕ) (rest : List ℕ) (rule : Pair)
+    → IsIrreducible (OneOf rules) front
+    → (f : IsFirstEnding rules (front ++ x ∷ []) rule)
+    → FirstRewrite rules (front ++ x ∷ rest) (f.ends.0 ++ rule.1 ++ rest)
 first_rewrite_at rules front x rest rule irreducible f =
     let whole : front ++ x ∷ [] ≡ f.ends.0 ++ rule.0 = f.ends.1 in
-    let P : List ℕ → Type 0 = λ w. (earlier : ℕ) (other : Pair) → earlier < f.index → slice_get rules earlier ≡ Some other → ¬ EndsWith w other.0 in
+    let P : List ℕ → Type 0 =
+    λ w. (earlier : ℕ) (other : Pair) → earlier < f.index → slice_get rules earlier ≡ Some other → ¬ EndsWith w other.0 in
     record {
       before = f.ends.0;
       index = f.index;

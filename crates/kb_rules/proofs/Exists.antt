@@ -32,12 +32,14 @@ pub data Reading (rules : List Pair) (w : List ℕ) : Type 0 where
   read : IsIrreducible (OneOf rules) w → Reading rules w
 
 -- the letters that are left are read one by one, what is read being irreducible
-reading_from : (rules : List Pair) (front rest : List ℕ) → IsIrreducible (OneOf rules) front → Reading rules (front ++ rest)
+reading_from : (rules : List Pair) (front rest : List ℕ) → IsIrreducible (OneOf rules) front
+    → Reading rules (front ++ rest)
 reading_from rules front [] irreducible =
     let P : List ℕ → Type 0 = λ w. IsIrreducible (OneOf rules) w in
     read (subst P (sym (append-nil front)) irreducible)
 reading_from rules front (x ∷ rest) irreducible =
-    let next : IsIrreducible (OneOf rules) (front ++ x ∷ []) → Reading rules ((front ++ x ∷ []) ++ rest) = reading_from rules (front ++ x ∷ []) rest in
+    let next : IsIrreducible (OneOf rules) (front ++ x ∷ []) → Reading rules ((front ++ x ∷ []) ++ rest) =
+    reading_from rules (front ++ x ∷ []) rest in
     elim (cases_ending rules (front ++ x ∷ [])) [
       | inl f ↦ rewritten (f.1.ends.0 ++ f.0.1 ++ rest) (first_rewrite_at rules front x rest f.0 irreducible f.1)
       | inr none ↦
@@ -46,19 +48,22 @@ reading_from rules front (x ∷ rest) irreducible =
     ]
 
 -- the empty word is irreducible, where no left side is empty
-pub empty_irreducible : {below : List ℕ → List ℕ → Type 0} → IsReductionOrder below → (rules : List Pair) → AreFalling below rules
+pub empty_irreducible : {below : List ℕ → List ℕ → Type 0} → IsReductionOrder below → (rules : List Pair)
+    → AreFalling below rules
     → IsIrreducible (OneOf rules) []
 empty_irreducible {below = below} order rules falling before pair after one whole =
     let left : pair.0 ≡ [] = empty_middle before pair.0 after whole in
     let P : List ℕ → Type 0 = λ w. below pair.1 w in
     nothing_below_empty order pair.1 (subst P left (falling pair one))
 
-pub cases_reducible : {below : List ℕ → List ℕ → Type 0} → IsReductionOrder below → (rules : List Pair) → AreFalling below rules
+pub cases_reducible : {below : List ℕ → List ℕ → Type 0} → IsReductionOrder below → (rules : List Pair)
+    → AreFalling below rules
     → (w : List ℕ) → Reading rules w
 cases_reducible order rules falling w = reading_from rules [] w (empty_irreducible order rules falling)
 
 -- a first rewrite gives a word that is below
-pub first_rewrite_below : {below : List ℕ → List ℕ → Type 0} → IsReductionOrder below → (rules : List Pair) → AreFalling below rules
+pub first_rewrite_below : {below : List ℕ → List ℕ → Type 0} → IsReductionOrder below → (rules : List Pair)
+    → AreFalling below rules
     → (u v : List ℕ) → FirstRewrite rules u v → below v u
 first_rewrite_below {below = below} order rules falling u v f =
     let P : List ℕ → Type 0 = λ w. below w u in
@@ -69,7 +74,8 @@ first_rewrite_below {below = below} order rules falling u v f =
 abbrev pub HasNormalForm : List Pair → List ℕ → Type 0
 HasNormalForm rules w = (m : List ℕ) × NormalForm rules w m
 
-exists_from : {below : List ℕ → List ℕ → Type 0} → IsReductionOrder below → (rules : List Pair) → AreFalling below rules
+exists_from : {below : List ℕ → List ℕ → Type 0} → IsReductionOrder below → (rules : List Pair)
+    → AreFalling below rules
     → (w : List ℕ) → Accessible below w → HasNormalForm rules w
 exists_from {below = below} order rules falling w (accessible lower) =
     let next : (v : List ℕ) → below v w → HasNormalForm rules v = λ v fall. exists_from order rules falling v (lower v fall) in
@@ -80,6 +86,7 @@ exists_from {below = below} order rules falling w (accessible lower) =
     ]
 
 -- every word has a normal form
-pub normal_form_exists : {below : List ℕ → List ℕ → Type 0} → IsReductionOrder below → (rules : List Pair) → AreFalling below rules
+pub normal_form_exists : {below : List ℕ → List ℕ → Type 0} → IsReductionOrder below → (rules : List Pair)
+    → AreFalling below rules
     → (w : List ℕ) → HasNormalForm rules w
 normal_form_exists order rules falling w = exists_from order rules falling w (order.well_founded w)

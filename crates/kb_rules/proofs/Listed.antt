@@ -15,7 +15,8 @@ cases_push (p ∷ pairs) last pair (suc index) is =
     elim (cases_push pairs last pair index is) [ inl one ↦ inl (suc one.0, one.1) | inr same ↦ inr same ]
 
 -- rules stay decreasing with a decreasing rule more
-pub AreDecreasing-push : (rules : List Pair) (rule : Pair) → AreDecreasing rules → Less rule.1 rule.0 → AreDecreasing (rules ++ rule ∷ [])
+pub AreDecreasing-push : (rules : List Pair) (rule : Pair) → AreDecreasing rules → Less rule.1 rule.0
+    → AreDecreasing (rules ++ rule ∷ [])
 AreDecreasing-push rules rule decreasing less other one =
     elim (cases_push rules rule other one.0 one.1) [
       | inl before ↦ decreasing other before
@@ -26,7 +27,8 @@ AreDecreasing-push rules rule decreasing less other one =
 abbrev pub NoneBefore : (Pair → Type 0) → List Pair → ℕ → Type 0
 NoneBefore P pairs n = (index : ℕ) (pair : Pair) → index < n → slice_get pairs index ≡ Some pair → ¬ P pair
 
-pub NoneBefore-more : (P : Pair → Type 0) (pairs : List Pair) (n : ℕ) (next : Pair) → n < length pairs → next ≡ get_or pairs n next
+pub NoneBefore-more : (P : Pair → Type 0) (pairs : List Pair) (n : ℕ) (next : Pair) → n < length pairs
+    → next ≡ get_or pairs n next
     → NoneBefore P pairs n → (¬ P next) → NoneBefore P pairs (n + 1)
 NoneBefore-more P pairs n next within is before apart index pair below at holds =
     elim (cases_lt index n) [

@@ -48,5 +48,6 @@ at_most_along {below = below} order falling u v (next ∷ rest) linked =
 
 -- a reduct isn't above
 pub reduct_at_most : {below : List ℕ → List ℕ → Type 0} → IsReductionOrder below → {allowed : Pair → Type 0}
-    → ((pair : Pair) → allowed pair → below pair.1 pair.0) → {u v : List ℕ} → ReducesTo allowed u v → IsAtMost below v u
+    → ((pair : Pair) → allowed pair → below pair.1 pair.0) → {u v : List ℕ} → ReducesTo allowed u v
+    → IsAtMost below v u
 reduct_at_most order falling {u = u} {v = v} reduces = at_most_along order falling u v reduces.steps reduces.linked

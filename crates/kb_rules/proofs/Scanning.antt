@@ -27,19 +27,23 @@ ending_cut {w = w} {rule = rule} f =
     ap (take (length w - length rule.0)) whole ∙ take_at f.ends.0 rule.0 (length w - length rule.0) at
 
 -- a left side is no longer than what it ends
-pub ending_fits : {rules : List Pair} {w : List ℕ} {rule : Pair} → IsFirstEnding rules w rule → length rule.0 ≤ length w
+pub ending_fits : {rules : List Pair} {w : List ℕ} {rule : Pair} → IsFirstEnding rules w rule
+    → length rule.0 ≤ length w
 ending_fits {rule = rule} f = omega (arith, ap length f.ends.1, length-append f.ends.0 rule.0)
 
 -- what stands before a left side that ends at the letter read last is irreducible
 pub cut_irreducible : {rules : List Pair} {rule : Pair} (front : List ℕ) (x : ℕ) → IsIrreducible (OneOf rules) front
     → (f : IsFirstEnding rules (front ++ x ∷ []) rule) → IsIrreducible (OneOf rules) f.ends.0
 cut_irreducible {rules = rules} {rule = rule} front x irreducible f =
-    let some : rule.0 ≢ [] = λ none. irreducible front rule [] (f.index, f.is_rule) (sym (append-nil (front ++ rule.0) ∙ ap (λ l. front ++ l) none ∙ append-nil front)) in
+    let some : rule.0 ≢ [] = λ none.
+    irreducible front rule [] (f.index, f.is_rule) (sym (append-nil (front ++ rule.0) ∙ ap (λ l. front ++ l) none ∙ append-nil front)) in
     proper rules front x irreducible f.ends.0 rule.0 f.ends.1 (from_end rule.0) some
 
 -- with the left side cut off and the right side put back the first rewrite is made
-pub cut_reads : {rules : List Pair} {rule : Pair} (front : List ℕ) (x : ℕ) (rest front' rest' : List ℕ) → IsIrreducible (OneOf rules) front
-    → IsFirstEnding rules (front ++ x ∷ []) rule → front' ≡ take (length (front ++ x ∷ []) - length rule.0) (front ++ x ∷ [])
+pub cut_reads : {rules : List Pair} {rule : Pair} (front : List ℕ) (x : ℕ) (rest front' rest' : List ℕ)
+    → IsIrreducible (OneOf rules) front
+    → IsFirstEnding rules (front ++ x ∷ []) rule
+    → front' ≡ take (length (front ++ x ∷ []) - length rule.0) (front ++ x ∷ [])
     → rest' ≡ rule.1 ++ rest → Reads rules front x rest front' rest'
 cut_reads {rules = rules} {rule = rule} front x rest front' rest' irreducible f cut back =
     let before : front' ≡ f.ends.0 = cut ∙ ending_cut f in
@@ -48,7 +52,8 @@ cut_reads {rules = rules} {rule = rule} front x rest front' rest' irreducible f 
     rewritten (subst P same (first_rewrite_at rules front x rest rule irreducible f))
 
 pub cut_range : {rules : List Pair} {rule : Pair} (P : ℕ → Type 0) (front : List ℕ) (x : ℕ) (rest front' rest' : List ℕ)
-    → IsFirstEnding rules (front ++ x ∷ []) rule → front' ≡ take (length (front ++ x ∷ []) - length rule.0) (front ++ x ∷ [])
+    → IsFirstEnding rules (front ++ x ∷ []) rule
+    → front' ≡ take (length (front ++ x ∷ []) - length rule.0) (front ++ x ∷ [])
     → rest' ≡ rule.1 ++ rest → All P (front ++ x ∷ rest) → All P rule.1 → All P (front' ++ rest')
 cut_range {rule = rule} P front x rest front' rest' f cut back all right =
     let before : front' ≡ f.ends.0 = cut ∙ ending_cut f in
@@ -72,14 +77,16 @@ passed_same : (front : List ℕ) (x : ℕ) (rest front' rest' : List ℕ) → fr
 passed_same front x rest front' rest' one two = cc (one, two) ∙ append_assoc front (x ∷ []) rest
 
 -- what is read and to be read has the normal forms of what it was before
-pub reads_leads : {rules : List Pair} {front rest front' rest' : List ℕ} {x : ℕ} → Reads rules front x rest front' rest'
+pub reads_leads : {rules : List Pair} {front rest front' rest' : List ℕ} {x : ℕ}
+    → Reads rules front x rest front' rest'
     → (m : List ℕ) → NormalForm rules (front' ++ rest') m → NormalForm rules (front ++ x ∷ rest) m
 reads_leads {rules = rules} {front = front} {rest = rest} {front' = front'} {rest' = rest'} {x = x} (passed one two) m normal =
     let P : List ℕ → Type 0 = λ w. NormalForm rules w m in subst P (passed_same front x rest front' rest' one two) normal
 reads_leads (rewritten f) m normal = normal_form_more f normal
 
 -- the word doesn't grow
-pub reads_fits : {rules : List Pair} {front rest front' rest' : List ℕ} {x : ℕ} → AreDecreasing rules → Reads rules front x rest front' rest'
+pub reads_fits : {rules : List Pair} {front rest front' rest' : List ℕ} {x : ℕ} → AreDecreasing rules
+    → Reads rules front x rest front' rest'
     → length (front' ++ rest') ≤ length (front ++ x ∷ rest)
 reads_fits {front = front} {rest = rest} {front' = front'} {rest' = rest'} {x = x} decreasing (passed one two) =
     omega (arith, ap length (passed_same front x rest front' rest' one two))
@@ -90,18 +97,22 @@ falls_by_rank n low high short long falls fits =
     omega (arith, mul-le-mul_right (n + 1) falls)
 
 -- the word's rank falls, or what is to be read gets shorter
-pub reads_falls : {rules : List Pair} {front rest front' rest' : List ℕ} {x : ℕ} (n : ℕ) → AreDecreasing rules → Reads rules front x rest front' rest'
-    → All (λ y. y < 2 ^ 16) (front ++ x ∷ rest) → All (λ y. y < 2 ^ 16) (front' ++ rest') → length (front ++ x ∷ rest) ≤ n
+pub reads_falls : {rules : List Pair} {front rest front' rest' : List ℕ} {x : ℕ} (n : ℕ) → AreDecreasing rules
+    → Reads rules front x rest front' rest'
+    → All (λ y. y < 2 ^ 16) (front ++ x ∷ rest) → All (λ y. y < 2 ^ 16) (front' ++ rest')
+    → length (front ++ x ∷ rest) ≤ n
     → rank (front' ++ rest') * (n + 1) + length rest' < rank (front ++ x ∷ rest) * (n + 1) + length (x ∷ rest)
 reads_falls {front = front} {rest = rest} {front' = front'} {rest' = rest'} {x = x} n decreasing (passed one two) all all' fits =
     omega (arith, ap (λ w. rank w * (n + 1)) (passed_same front x rest front' rest' one two), ap length two)
 reads_falls {front = front} {rest = rest} {front' = front'} {rest' = rest'} {x = x} n decreasing (rewritten f) all all' fits =
     let less : Less (front' ++ rest') (front ++ x ∷ rest) = read_less decreasing f in
     let short : length rest' ≤ n = omega (arith, less_fits less, length-append front' rest') in
-    falls_by_rank n (rank (front' ++ rest')) (rank (front ++ x ∷ rest)) (length rest') (length (x ∷ rest)) (rank_falls (front' ++ rest') (front ++ x ∷ rest) all' all less) short
+    let falls : rank (front' ++ rest') < rank (front ++ x ∷ rest) = rank_falls (front' ++ rest') (front ++ x ∷ rest) all' all less in
+    falls_by_rank n (rank (front' ++ rest')) (rank (front ++ x ∷ rest)) (length rest') (length (x ∷ rest)) falls short
 
 -- the word that is cut off is named by the lengths that were read
-pub cut_is : {w whole front' : List ℕ} {n m : ℕ} (left : List ℕ) → w ≡ whole → n ≡ length w → m ≡ length left → front' ≡ take (n - m) w
+pub cut_is : {w whole front' : List ℕ} {n m : ℕ} (left : List ℕ) → w ≡ whole → n ≡ length w → m ≡ length left
+    → front' ≡ take (n - m) w
     → front' ≡ take (length whole - length left) whole
 cut_is {w = w} {whole = whole} {n = n} {m = m} left same long side cut =
     cut ∙ cc (long ∙ ap length same, side, same)

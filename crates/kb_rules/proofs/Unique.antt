@@ -14,7 +14,8 @@ no_first_rewrite irreducible first =
     irreducible first.before first.rule first.after (first.index, first.is_rule) first.from
 
 -- what ends with a left side isn't irreducible
-ends_reducible : {rules : List Pair} {u v : List ℕ} (f : FirstRewrite rules u v) → IsIrreducible (OneOf rules) (f.before ++ f.rule.0) → ⊥
+ends_reducible : {rules : List Pair} {u v : List ℕ} (f : FirstRewrite rules u v)
+    → IsIrreducible (OneOf rules) (f.before ++ f.rule.0) → ⊥
 ends_reducible f irreducible =
     irreducible f.before f.rule [] (f.index, f.is_rule) (sym (append-nil (f.before ++ f.rule.0)))
 
@@ -41,16 +42,19 @@ same_front f g =
     append_cancel_long front f.after whole g.after same long
 
 -- the first rule in list order isn't earlier at one of two first rewrites
-not_earlier : {rules : List Pair} {u v w : List ℕ} (f : FirstRewrite rules u v) (g : FirstRewrite rules u w) → f.index < g.index → ⊥
+not_earlier : {rules : List Pair} {u v w : List ℕ} (f : FirstRewrite rules u v) (g : FirstRewrite rules u w)
+    → f.index < g.index → ⊥
 not_earlier f g earlier = g.first f.index f.rule earlier f.is_rule (f.before, sym (same_front f g).0)
 
-same_index : {rules : List Pair} {u v w : List ℕ} (f : FirstRewrite rules u v) (g : FirstRewrite rules u w) → f.index ≡ g.index
+same_index : {rules : List Pair} {u v w : List ℕ} (f : FirstRewrite rules u v) (g : FirstRewrite rules u w)
+    → f.index ≡ g.index
 same_index f g =
     let one : f.index < g.index → ⊥ = not_earlier f g in
     let two : g.index < f.index → ⊥ = not_earlier g f in
     omega arith
 
-same_rule : {rules : List Pair} {u v w : List ℕ} (f : FirstRewrite rules u v) (g : FirstRewrite rules u w) → f.rule ≡ g.rule
+same_rule : {rules : List Pair} {u v w : List ℕ} (f : FirstRewrite rules u v) (g : FirstRewrite rules u w)
+    → f.rule ≡ g.rule
 same_rule {rules = rules} f g =
     same_Some f.rule g.rule (sym f.is_rule ∙ ap (slice_get rules) (same_index f g) ∙ g.is_rule)
 
@@ -89,9 +93,12 @@ irreducible_is_normal rules w irreducible =
     record { path = path_none w; irreducible = irreducible }
 
 -- an irreducible word has no other normal form
-pub normal_form_of_irreducible : {rules : List Pair} {w m : List ℕ} → IsIrreducible (OneOf rules) w → NormalForm rules w m → m ≡ w
-normal_form_of_irreducible {rules = rules} {w = w} irreducible normal = normal_form_unique normal (irreducible_is_normal rules w irreducible)
+pub normal_form_of_irreducible : {rules : List Pair} {w m : List ℕ} → IsIrreducible (OneOf rules) w
+    → NormalForm rules w m → m ≡ w
+normal_form_of_irreducible {rules = rules} {w = w} irreducible normal =
+    normal_form_unique normal (irreducible_is_normal rules w irreducible)
 
 -- a normal form of what the first rewrite gives is one of the word
-pub normal_form_more : {rules : List Pair} {u v m : List ℕ} → FirstRewrite rules u v → NormalForm rules v m → NormalForm rules u m
+pub normal_form_more : {rules : List Pair} {u v m : List ℕ} → FirstRewrite rules u v → NormalForm rules v m
+    → NormalForm rules u m
 normal_form_more first normal = record { path = path_step first normal.path; irreducible = normal.irreducible }

@@ -1,14 +1,16 @@
 //! One rule.
 
 ghost use Rattle.std.specs.Prelude.{◌≡◌, ◌↔◌, IsTrue, IfOk};
+ghost use Rattle.std.specs.Cmp.{partial_equiv_from_equiv};
 ghost use Rattle.kb_word.specs.Words.{Less};
+ghost use Rattle.kb_rules.specs.Sides.{same_sides, same_sides_equiv};
 
 use kb_word::{Memory, Word};
 use std::alloc::Global;
 use std::marker::Model;
 
 /// A rule: its left side may be replaced by its right side, which is less.
-#[derive(Drop)]
+#[derive(Debug, Drop)]
 pub struct Rule {
     left: Word,
     right: Word,
@@ -56,13 +58,6 @@ impl Rule {
         (self.left, self.right)
     }
 
-    /// Whether the rules have the same sides.
-    pub fn is_same(&self, other: &Rule) -> bool
-        ensures { IsTrue result ↔ (self.now ≡ other.now) }
-    {
-        self.left == other.left && self.right == other.right
-    }
-
     /// A rule of the same sides.
     pub fn copy(&self, alloc: Global) -> Result<Rule, Memory>
         ensures { IfOk result (λ rule. rule ≡ self.now) }
@@ -71,4 +66,21 @@ impl Rule {
         let right = self.right.copy(alloc)?;
         Ok(Rule { left, right })
     }
+}
+
+impl PartialEq for Rule {
+    ghost eq = { same_sides };
+
+    ghost laws = { partial_equiv_from_equiv same_sides_equiv };
+
+    fn eq(&self, other: &Rule) -> bool
+        ensures answer { result ≡ same_sides self.now other.now }
+        ensures same { IsTrue result ↔ (self.now ≡ other.now) }
+    {
+        self.left == other.left && self.right == other.right
+    }
+}
+
+impl Eq for Rule {
+    ghost laws = { same_sides_equiv };
 }

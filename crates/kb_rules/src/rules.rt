@@ -11,7 +11,7 @@ use std::alloc::Global;
 use std::marker::Model;
 
 /// A list of rules, in an order that counts: where several left sides end at one place, the first is used.
-#[derive(Drop)]
+#[derive(Debug, Drop)]
 pub struct Rules {
     rules: Vec<Rule>,
 }
@@ -100,7 +100,7 @@ impl Rules {
         ensures { IsTrue result ↔ OneOf self.now rule.now }
     {
         for own in self.as_slice() {
-            if own.is_same(rule) {
+            if *own == *rule {
                 return true;
             }
         }

@@ -15,7 +15,7 @@ use std::alloc::Global;
 use std::marker::Model;
 
 /// A reducer that reads the word from left to right and, after each letter, tries the rules in list order.
-#[derive(Drop)]
+#[derive(Debug, Drop)]
 pub struct Scan {
     rules: Rules,
 }

@@ -7,7 +7,7 @@ use std::alloc::Global;
 use std::marker::Model;
 
 /// The letters that are still to be read. They are kept in a stack, the next one on top.
-#[derive(Drop)]
+#[derive(Debug, Drop)]
 pub struct Unread {
     stack: Vec<Letter>,
 }

@@ -7,7 +7,9 @@ pub loop-letter-smaller : goal.loop-letter-smaller
 loop-letter-smaller c =
     let R : List ℕ → Type 0 = λ rest. All (λ x. x < 2 ^ 16) (c.loop-letter.front ++ rest) in
     let F : List ℕ → Type 0 = λ rest. length (c.loop-letter.front ++ rest) ≤ length c.args.w.now in
-    let falls = reads_falls (length c.args.w.now) c.requires c.in_ok-read.ensures.reads (subst R c.in-Some.ensures.some c.loop-letter.invariant.range) c.in_ok-read.ensures.range (subst F c.in-Some.ensures.some c.loop-letter.invariant.fits) in
+    let before = subst R c.in-Some.ensures.some c.loop-letter.invariant.range in
+    let fits = subst F c.in-Some.ensures.some c.loop-letter.invariant.fits in
+    let falls = reads_falls (length c.args.w.now) c.requires c.in_ok-read.ensures.reads before c.in_ok-read.ensures.range fits in
     rw c.in-Some.ensures.some falls
 
 pub loop-letter-preserved : goal.loop-letter-preserved

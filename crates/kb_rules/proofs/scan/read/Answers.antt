@@ -30,7 +30,9 @@ returns-in-Some-clause-reads c =
     subst Q c.in_ok-push.ensures.ok c.in-Some.ensures.some in
     let cut = cut_is c.in-Some.rule.now.0 c.in_ok-push.ensures.ok c.len.ensures (c.len-in-Some.ensures ∙ ap length c.left.ensures) c.truncate.ensures in
     OnOk_then c.put_back.result c.put_back.ensures.ok
-    (λ back. cut_reads c.args.front.now c.args.letter c.args.unread.now c.truncate.new.self c.put_back.new.self c.requires.irreducible f cut (back ∙ ap (λ r. r ++ c.args.unread.now) c.right.ensures.value))
+    (λ back.
+    let rest = back ∙ ap (λ r. r ++ c.args.unread.now) c.right.ensures.value in
+    cut_reads c.args.front.now c.args.letter c.args.unread.now c.truncate.new.self c.put_back.new.self c.requires.irreducible f cut rest)
 
 pub returns-in-Some-clause-range : goal.returns-in-Some-clause-range
 returns-in-Some-clause-range c =
@@ -40,4 +42,7 @@ returns-in-Some-clause-range c =
     subst Q c.in_ok-push.ensures.ok c.in-Some.ensures.some in
     let cut = cut_is c.in-Some.rule.now.0 c.in_ok-push.ensures.ok c.len.ensures (c.len-in-Some.ensures ∙ ap length c.left.ensures) c.truncate.ensures in
     OnOk_then c.put_back.result c.put_back.ensures.ok
-    (λ back. cut_range (λ x. x < 2 ^ 16) c.args.front.now c.args.letter c.args.unread.now c.truncate.new.self c.put_back.new.self f cut (back ∙ ap (λ r. r ++ c.args.unread.now) c.right.ensures.value) c.requires.range (subst R c.right.ensures.value c.put_back.ensures.range))
+    (λ back.
+    let rest = back ∙ ap (λ r. r ++ c.args.unread.now) c.right.ensures.value in
+    let right = subst R c.right.ensures.value c.put_back.ensures.range in
+    cut_range (λ x. x < 2 ^ 16) c.args.front.now c.args.letter c.args.unread.now c.truncate.new.self c.put_back.new.self f cut rest c.requires.range right)
