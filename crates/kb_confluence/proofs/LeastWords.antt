@@ -1,8 +1,7 @@
 -- A normal form by confluent rules is the least congruent word. Proved of any reduction order.
-use Rattle.std.proofs.Common.{◌≡◌, ◌≢◌, ℕ, ◌⊎◌, List, [], ◌∷◌, ◌++◌, refl, sym, ◌∙◌, subst, inl, inr}
+use Rattle.std.proofs.Common.{◌≡◌, ℕ, List, subst, inl, inr}
 use Rattle.kb_word.specs.Words.{Pair, OneOf}
-use Rattle.kb_word.specs.Path.{Path}
-use Rattle.kb_word.specs.Order.{Accessible, IsReductionOrder}
+use Rattle.kb_word.specs.Order.{IsReductionOrder}
 use Rattle.kb_word.specs.Congruence.{Replaces, Touches, Congruent}
 use Rattle.kb_word.specs.Rewriting.{IsIrreducible, ReducesTo, NormalForm}
 use Rattle.kb_word.specs.Overlap.{IsConfluent}

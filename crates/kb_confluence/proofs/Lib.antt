@@ -2,4 +2,5 @@ pub mod Occurrences
 pub mod Replacements
 pub mod Newman
 pub mod LeastWords
-pub mod Transport
+mod Checking
+mod Verdicts

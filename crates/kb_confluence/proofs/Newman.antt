@@ -1,6 +1,6 @@
 -- Newman's lemma: where steps fall in a well-founded relation and any two steps from one thing have a common
 -- reduct, a thing has one irreducible reduct at most. Newman, Annals of Mathematics 43 (1942).
-use Rattle.std.proofs.Common.{◌≡◌, List, [], ◌∷◌, refl, sym, ◌∙◌, subst}
+use Rattle.std.proofs.Common.{◌≡◌, List, [], ◌∷◌, sym, ◌∙◌, subst}
 use Rattle.kb_word.specs.Path.{Linked, Path}
 use Rattle.kb_word.specs.Order.{Accessible, accessible}
 use Rattle.kb_word.proofs.PathLemmas.{path_append}
@@ -35,9 +35,9 @@ module _ {X : Type 0} (step below : X → X → Type 0) (Irreducible : X → Typ
       let meeting = meets x y z p.0 q.0 in
       let last = ends meeting.joint in
       let first : m ≡ last.end = lower y (falls x y p.0) m last.end (record { steps = steps; linked = p.1 })
-          (path_append meeting.left last.path) is_end last.irreducible in
+      (path_append meeting.left last.path) is_end last.irreducible in
       let second : n ≡ last.end = lower z (falls x z q.0) n last.end (record { steps = others; linked = q.1 })
-          (path_append meeting.right last.path) other_end last.irreducible in
+      (path_append meeting.right last.path) other_end last.irreducible in
       first ∙ sym second
 
   pub one_end : (x : X) → Accessible below x → HasOneEnd x

@@ -1,9 +1,9 @@
 -- Two occurrences of words in one word: they are apart, or the later one begins within the earlier one, and
 -- then they overlap there.
-use Rattle.std.proofs.Common.{◌≡◌, ℕ, zero, suc, ◌+◌, ◌-◌, ◌<◌, ◌≤◌, ◌⊎◌, List, [], ◌∷◌, ◌++◌, length, take, drop, Some, None, refl, sym, ◌∙◌, ap, subst, inl, inr, arith, append_assoc, length-append, suc-le-suc, zero-le, zero-add}
+use Rattle.std.proofs.Common.{◌≡◌, ℕ, zero, suc, ◌+◌, ◌-◌, ◌<◌, ◌≤◌, ◌⊎◌, List, [], ◌∷◌, ◌++◌, length, take, drop, Some, refl, sym, ◌∙◌, ap, inl, inr, arith, append_assoc, length-append, zero-add}
 use Rattle.std.specs.Prelude.{slice_get}
 use Rattle.std.proofs.Math.Nat.{suc-add}
-use Rattle.std.proofs.lemmas.List.{append-nil, drop-drop, drop_at, take_at}
+use Rattle.std.proofs.lemmas.List.{drop-drop, drop_at, take_at}
 use Rattle.std.proofs.lemmas.Bool.{cases_lt}
 use Rattle.kb_word.specs.Overlap.{Overlaps}
 
@@ -87,11 +87,11 @@ within-shared before l after front m behind d q front_is l_is inside s =
       overlaps = record {
         within = inside;
         agree = λ k low high.
-            ap (λ w. slice_get w (length d + k)) l_is ∙ slice_get-append d q k ∙ s.agree k (omega arith) high
+            ap (λ w. slice_get w (length d + k)) l_is ∙ slice_get-append d q k ∙ s.agree k (omega arith) high;
       };
       front_is = front_is ∙ ap (λ w. before ++ w) (sym taken);
       after_is = s.after_is ∙ ap (λ n. drop n m ++ s.rest) (sym left);
-      behind_is = s.behind_is ∙ ap (λ w. w ++ s.rest) (ap (drop (length m)) (sym dropped) ∙ past)
+      behind_is = s.behind_is ∙ ap (λ w. w ++ s.rest) (ap (drop (length m)) (sym dropped) ∙ past);
     }
 
 within : (before l after front m behind : List ℕ) → before ++ l ++ after ≡ front ++ m ++ behind → length before ≤ length front

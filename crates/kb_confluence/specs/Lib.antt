@@ -1,0 +1,2 @@
+pub mod Unjoined
+pub mod Answers

@@ -11,12 +11,10 @@ ghost use Rattle.kb_word.specs.Overlap.{IsConfluent};
 pub fn normal_forms_by_confluent_rules_are_least()
     ensures { (rules : List Pair) (w m : Letters) → AreDecreasing rules → IsConfluent rules
         → NormalForm rules w m → IsLeast rules w m }
-{
-}
+{}
 
 /// A least word stays least by other pairs that generate the same congruence.
 pub fn least_by_the_same_congruence()
     ensures { (pairs others : List Pair) (w m : Letters) → SameCongruence pairs others → IsLeast pairs w m
         → IsLeast others w m }
-{
-}
+{}

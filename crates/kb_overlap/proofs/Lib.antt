@@ -1,2 +1,2 @@
-mod Superposed
+pub mod Superposed
 mod Searching

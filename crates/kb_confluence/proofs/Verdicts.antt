@@ -1,0 +1,90 @@
+-- What follows from a verdict.
+use Rattle.std.specs.Prelude.{Result, Ok, Err, IfOk, ◌↔◌, Option, Some, None}
+use Rattle.std.proofs.Common.{◌≡◌, ℕ, zero, suc, ◌+◌, List, refl, sym, ◌∙◌, subst, add-one}
+use Rattle.kb_word.specs.Words.{Pair, OneOf}
+use Rattle.kb_word.specs.Congruence.{Congruent}
+use Rattle.kb_word.specs.Overlap.{Joins, Parts, IsConfluent, critical_pair, superposition}
+use Rattle.kb_word.proofs.PathLemmas.{Replaces-implied, congruent_by_replacement, congruent_symmetric, congruent_transitive}
+use Rattle.kb_rules.proofs.Unique.{normal_form_unique}
+use Rattle.kb_rules.proofs.Reducts.{normal_form_congruent}
+use Rattle.kb_overlap.proofs.Superposed.{replaced-by-first, replaced-by-second}
+use Rattle.kb_confluence.specs.declared.confluence.Verdict.{Verdict}
+use Rattle.kb_confluence.specs.declared.confluence.Verdict.TheVariants.{Yes, No}
+use Rattle.kb_confluence.specs.Unjoined.{IsFirstUnjoined, IsCounterexample}
+use Rattle.kb_confluence.specs.Answers.{MatchVerdict, IsVerdict, GivesCounterexample, JoinsOrParts}
+
+-- rules are numbered one above their indices
+pub no_numbered : (yes_says : Type 0) (rules : List Pair) (i j place : ℕ) (u v : List ℕ) → IsFirstUnjoined rules i j place u v
+    → MatchVerdict yes_says rules (No (i + 1) (j + 1) place u v)
+no_numbered yes_says rules i j place u v unjoined = rw (add-one i, add-one j) unjoined
+
+pub parts_refute : {rules : List Pair} {pair : Pair} {u v : List ℕ} → Parts rules pair u v → ¬ Joins rules pair
+parts_refute parts joins = parts.different (normal_form_unique parts.left joins.left ∙ normal_form_unique joins.right parts.right)
+
+pub unjoined_refutes : (rules : List Pair) (i j place : ℕ) (u v : List ℕ) → IsFirstUnjoined rules i j place u v → ¬ IsConfluent rules
+unjoined_refutes rules i j place u v unjoined confluent =
+    parts_refute unjoined.parts (confluent i j place unjoined.first unjoined.second unjoined.overlap)
+
+one_of : (rules : List Pair) (rule : Pair) → OneOf rules rule → (pair : Pair) → pair ≡ rule → OneOf rules pair
+one_of rules rule is_rule pair e = let P : Pair → Type 0 = λ other. OneOf rules other in subst P (sym e) is_rule
+
+-- both words of an overlap that doesn't join come from the superposition
+pub counterexample : (rules : List Pair) (i j place : ℕ) (u v : List ℕ) → IsFirstUnjoined rules i j place u v → IsCounterexample rules u v
+counterexample rules i j place u v unjoined =
+    let first = unjoined.first in let second = unjoined.second in let overlap = unjoined.overlap in
+    let whole = superposition first.0 second.0 place in
+    let pair : Pair = critical_pair first second place in
+    let left : Congruent (OneOf rules) whole u =
+    congruent_transitive
+    (congruent_by_replacement (Replaces-implied (one_of rules first (i, overlap.is_first)) (replaced-by-first first second place overlap.overlaps)))
+    (normal_form_congruent unjoined.parts.left) in
+    let right : Congruent (OneOf rules) whole v =
+    congruent_transitive
+    (congruent_by_replacement (Replaces-implied (one_of rules second (j, overlap.is_second)) (replaced-by-second first second place overlap.overlaps)))
+    (normal_form_congruent unjoined.parts.right) in
+    record {
+      different = unjoined.parts.different;
+      left = unjoined.parts.left.irreducible;
+      right = unjoined.parts.right.irreducible;
+      congruent = congruent_transitive (congruent_symmetric left) right;
+    }
+
+pub verdict_counterexample : (rules : List Pair) (verdict : Verdict) → IsVerdict rules verdict → GivesCounterexample rules verdict
+verdict_counterexample rules Yes holds = tt
+verdict_counterexample rules (No zero j place u v) holds = absurd holds
+verdict_counterexample rules (No (suc i) zero place u v) holds = absurd holds
+verdict_counterexample rules (No (suc i) (suc j) place u v) holds = counterexample rules i j place u v holds
+
+pub yes_confluent : (rules : List Pair) (verdict : Verdict) → IsVerdict rules verdict → verdict ≡ Yes → IsConfluent rules
+yes_confluent rules verdict holds e = subst (IsVerdict rules) e holds
+
+pub confluent_yes : (rules : List Pair) (verdict : Verdict) → IsVerdict rules verdict → IsConfluent rules → verdict ≡ Yes
+confluent_yes rules Yes holds confluent = refl
+confluent_yes rules (No zero j place u v) holds confluent = absurd holds
+confluent_yes rules (No (suc i) zero place u v) holds confluent = absurd holds
+confluent_yes rules (No (suc i) (suc j) place u v) holds confluent = absurd (unjoined_refutes rules i j place u v holds confluent)
+
+pub answer_confluent : {E : Type 0} (rules : List Pair) (answer : Result Verdict E) → IfOk answer (IsVerdict rules)
+    → IfOk answer (λ verdict. (verdict ≡ Yes) ↔ IsConfluent rules)
+answer_confluent rules (Ok verdict) holds = (yes_confluent rules verdict holds, confluent_yes rules verdict holds)
+answer_confluent rules (Err error) holds = tt
+
+pub answer_counterexample : {E : Type 0} (rules : List Pair) (answer : Result Verdict E) → IfOk answer (IsVerdict rules)
+    → IfOk answer (GivesCounterexample rules)
+answer_counterexample rules (Ok verdict) holds = verdict_counterexample rules verdict holds
+answer_counterexample rules (Err error) holds = tt
+
+-- what it says of a pair that there are two words, or none
+pub parts_given : (mine rules : List Pair) (pair : Pair) (words : Option Pair) (u v : List ℕ) → mine ≡ rules → words ≡ Some (u, v)
+    → JoinsOrParts mine pair words → Parts rules pair u v
+parts_given mine rules pair words u v e f says =
+    let P : Option Pair → Type 0 = λ given. JoinsOrParts mine pair given in
+    let Q : List Pair → Type 0 = λ list. Parts list pair u v in
+    subst Q e (subst P f says)
+
+pub joins_given : (mine rules : List Pair) (pair : Pair) (words : Option Pair) → mine ≡ rules → words ≡ None
+    → JoinsOrParts mine pair words → Joins rules pair
+joins_given mine rules pair words e f says =
+    let P : Option Pair → Type 0 = λ given. JoinsOrParts mine pair given in
+    let Q : List Pair → Type 0 = λ list. Joins list pair in
+    subst Q e (subst P f says)

@@ -1,0 +1,141 @@
+//! The test for confluence.
+
+ghost use Rattle.std.specs.Prelude.{◌≡◌, ◌↔◌, ◌+◌, ◌^◌, ◌<◌, ◌≤◌, IfOk, length};
+ghost use Rattle.kb_word.specs.Overlap.{Overlaps, IsConfluent, critical_pair};
+ghost use Rattle.kb_confluence.specs.Unjoined.{EarlierJoin};
+ghost use Rattle.kb_confluence.specs.Answers.{MatchVerdict, IsVerdict, GivesCounterexample, JoinsOrParts};
+
+use kb_overlap::{pair_at, places};
+use kb_rules::{Reducer, Rule, Rules};
+use kb_word::{Memory, Word};
+use std::alloc::Global;
+
+/// What the test finds.
+#[derive(Debug, Drop)]
+pub enum Verdict {
+    /// The rules are confluent.
+    Yes,
+    /// The first overlap, by `i`, then `j`, then `place`, whose critical pair doesn't join.
+    No {
+        /// The rule that begins first, numbered from 1 in list order.
+        i: u32,
+        /// The rule whose left side begins within that of rule `i`.
+        j: u32,
+        /// The place of rule `i`'s left side at which that of rule `j` begins.
+        place: u64,
+        /// The normal form of the overlap's word after rule `i` is applied.
+        u: Word,
+        /// The normal form of the overlap's word after rule `j` is applied.
+        v: Word,
+    },
+}
+
+/// Whether the rules are confluent, by the normal forms of all critical pairs. The count of workers changes
+/// nothing yet.
+pub fn check<R: Reducer>(
+    alloc: Global,
+    rules: &Rules,
+    reducer: &R,
+    workers: u32,
+) -> Result<Verdict, Memory>
+    requires reducer { R.rules reducer.now ≡ rules.now }
+    requires size { length rules.now ≤ 2 ^ 31 }
+    requires workers { (1 ≤ workers) × (workers ≤ 64) }
+    ensures verdict { IfOk result (IsVerdict rules.now) }
+    ensures confluent { IfOk result (λ verdict. (verdict ≡ Verdict.Yes) ↔ IsConfluent rules.now) }
+    ensures counterexample { IfOk result (GivesCounterexample rules.now) }
+{
+    let _ = workers;
+    check_rules(alloc, rules.as_slice(), reducer)
+}
+
+/// The verdict on these rules.
+fn check_rules<R: Reducer>(alloc: Global, rules: &[Rule], reducer: &R) -> Result<Verdict, Memory>
+    requires reducer { R.rules reducer.now ≡ rules.now }
+    requires size { length rules.now ≤ 2 ^ 31 }
+    ensures { IfOk result (IsVerdict rules.now) }
+{
+    for i in 0..rules.len() {
+        match check_row(alloc, rules, reducer, i)? {
+            Verdict::Yes => {}
+            no => return Ok(no),
+        }
+    }
+    Ok(Verdict::Yes)
+}
+
+/// The verdict on the overlaps in which the rule of this index begins first.
+fn check_row<R: Reducer>(
+    alloc: Global,
+    rules: &[Rule],
+    reducer: &R,
+    i: usize,
+) -> Result<Verdict, Memory>
+    requires reducer { R.rules reducer.now ≡ rules.now }
+    requires size { length rules.now ≤ 2 ^ 31 }
+    requires index { i < length rules.now }
+    requires earlier { EarlierJoin rules.now i 0 0 }
+    ensures { IfOk result (MatchVerdict (EarlierJoin rules.now (i + 1) 0 0) rules.now) }
+{
+    for j in 0..rules.len() {
+        match check_pair(alloc, rules, reducer, i, j)? {
+            Verdict::Yes => {}
+            no => return Ok(no),
+        }
+    }
+    Ok(Verdict::Yes)
+}
+
+/// The verdict on the overlaps of two rules, by their indices.
+fn check_pair<R: Reducer>(
+    alloc: Global,
+    rules: &[Rule],
+    reducer: &R,
+    i: usize,
+    j: usize,
+) -> Result<Verdict, Memory>
+    requires reducer { R.rules reducer.now ≡ rules.now }
+    requires size { length rules.now ≤ 2 ^ 31 }
+    requires first { i < length rules.now }
+    requires second { j < length rules.now }
+    requires earlier { EarlierJoin rules.now i j 0 }
+    ensures { IfOk result (MatchVerdict (EarlierJoin rules.now i (j + 1) 0) rules.now) }
+{
+    let first = &rules[i];
+    let second = &rules[j];
+    for place in places(first.left(), second.left()) {
+        // A rule with itself at place 0 is one replacement, and no overlap.
+        if i == j && place == 0 {
+            continue;
+        }
+        if let Some((u, v)) = parted(alloc, reducer, first, second, place)? {
+            let (i, j) = (i as u32 + 1, j as u32 + 1);
+            return Ok(Verdict::No { i, j, place, u, v });
+        }
+    }
+    Ok(Verdict::Yes)
+}
+
+/// The normal forms of a critical pair's words, where they differ.
+fn parted<R: Reducer>(
+    alloc: Global,
+    reducer: &R,
+    first: &Rule,
+    second: &Rule,
+    place: u64,
+) -> Result<Option<(Word, Word)>, Memory>
+    requires { Overlaps first.now.0 second.now.0 place }
+    ensures { IfOk result (JoinsOrParts (R.rules reducer.now) (critical_pair first.now second.now place)) }
+{
+    let (one, other) = pair_at(
+        alloc,
+        first.left(),
+        first.right(),
+        second.left(),
+        second.right(),
+        place,
+    )?;
+    let u = reducer.nf(alloc, &one)?;
+    let v = reducer.nf(alloc, &other)?;
+    Ok(if u == v { None } else { Some((u, v)) })
+}
