@@ -209,3 +209,6 @@ fn workers(text: &str) -> Option<u32>
     }
     Some(workers)
 }
+
+#[cfg(test)]
+mod tests;

@@ -3,4 +3,4 @@
 
 mod command_line;
 
-pub use command_line::{Command, UsageError};
+pub use command_line::{Command, UsageError, a_line_is_not_faulty, a_line_says_one_command, read_words};
