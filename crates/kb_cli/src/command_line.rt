@@ -146,7 +146,7 @@ fn file_argument<'a>(alloc: Global) -> Arg<'a>
         .value_name("FILE")
         .required(true)
         .action(ArgAction::Set)
-        .help("The file that holds the presentation")
+        .help("A file with a presentation whose oriented relations are confluent")
 }
 
 /// The option that says how many threads work.
@@ -160,7 +160,7 @@ fn workers_option<'a>(alloc: Global) -> Arg<'a>
         .default_value("4")
         .action(ArgAction::Set)
         .value_parser(value_parser!(u32).range(1..=64))
-        .help("How many threads work side by side, 1 to 64; the answers don't depend on it")
+        .help("Threads that work side by side, 1 to 64; the answers don't depend on their number")
 }
 
 /// `wordreduce FILE`.
@@ -169,7 +169,7 @@ fn wordreduce_command<'a>(alloc: Global) -> Result<clap::Command<'a>, AllocError
     ensures local { IfOk result (λ command. (fields_of command).has_globals ≡ false) }
 {
     clap::Command::new(alloc, "wordreduce")
-        .about("Prints the least word of each word that standard input holds, one a line")
+        .about("Prints, for the word on each line of standard input, the shortlex-least word that equals it")
         .arg(file_argument(alloc))?
         .arg(workers_option(alloc))
 }
@@ -179,8 +179,9 @@ fn line_command<'a>(alloc: Global) -> Result<clap::Command<'a>, AllocError>
     ensures app { IfOk result (λ command. app_of command ≡ line_app) }
 {
     clap::Command::new(alloc, "kb")
-        .about("Computes in finitely presented groups and monoids by rewriting words")
+        .about("Computes with words in finitely presented groups and monoids")
         .no_binary_name(true)
+        .bin_name("kb")?
         .subcommand_required(true)
         .arg_required_else_help(true)
         .subcommand(wordreduce_command(alloc)?)
