@@ -1,0 +1,7 @@
+pub mod Lists
+pub mod Unique
+pub mod Endings
+pub mod Exists
+pub mod Reducts
+pub mod Listed
+pub mod Scanning

@@ -1,0 +1,45 @@
+-- Lists of rules: a rule more at the end.
+use Rattle.std.proofs.Common.{◌≡◌, ℕ, zero, suc, ◌+◌, ◌<◌, ◌≤◌, ◌⊎◌, List, [], ◌∷◌, ◌++◌, length, slice_get, get_or, Some, refl, sym, ap, ◌∙◌, subst, inl, inr, arith}
+use Rattle.std.proofs.lemmas.Option.{same_Some, none-some, slice_get_read, slice_get_within}
+use Rattle.std.proofs.lemmas.Bool.{cases_lt}
+use Rattle.kb_word.specs.Words.{Pair, Less, OneOf}
+use Rattle.kb_word.specs.Rewriting.{AreDecreasing}
+
+-- what is one of the list with a pair more at the end is one of the list, or that pair
+pub cases_push : (pairs : List Pair) (last pair : Pair) (index : ℕ) → slice_get (pairs ++ last ∷ []) index ≡ Some pair
+    → OneOf pairs pair ⊎ (last ≡ pair)
+cases_push [] last pair zero is = inr (same_Some last pair is)
+cases_push [] last pair (suc index) is = absurd (none-some pair is)
+cases_push (p ∷ pairs) last pair zero is = inl (0, is)
+cases_push (p ∷ pairs) last pair (suc index) is =
+    elim (cases_push pairs last pair index is) [ inl one ↦ inl (suc one.0, one.1) | inr same ↦ inr same ]
+
+-- rules stay decreasing with a decreasing rule more
+pub AreDecreasing-push : (rules : List Pair) (rule : Pair) → AreDecreasing rules → Less rule.1 rule.0 → AreDecreasing (rules ++ rule ∷ [])
+AreDecreasing-push rules rule decreasing less other one =
+    elim (cases_push rules rule other one.0 one.1) [
+      | inl before ↦ decreasing other before
+      | inr same ↦ let P : Pair → Type 0 = λ p. Less p.1 p.0 in subst P same less
+    ]
+
+-- no pair of the first n has the property
+abbrev pub NoneBefore : (Pair → Type 0) → List Pair → ℕ → Type 0
+NoneBefore P pairs n = (index : ℕ) (pair : Pair) → index < n → slice_get pairs index ≡ Some pair → ¬ P pair
+
+pub NoneBefore-more : (P : Pair → Type 0) (pairs : List Pair) (n : ℕ) (next : Pair) → n < length pairs → next ≡ get_or pairs n next
+    → NoneBefore P pairs n → (¬ P next) → NoneBefore P pairs (n + 1)
+NoneBefore-more P pairs n next within is before apart index pair below at holds =
+    elim (cases_lt index n) [
+      | inl earlier ↦ before index pair earlier at holds
+      | inr late ↦
+          let same : index ≡ n = omega arith in
+          let there : slice_get pairs n ≡ Some next = slice_get_read pairs (length pairs) n next refl within is in
+          let both : next ≡ pair = same_Some next pair (sym there ∙ ap (slice_get pairs) (sym same) ∙ at) in
+          apart (subst P (sym both) holds)
+    ]
+
+pub NoneBefore-all : (P : Pair → Type 0) (pairs : List Pair) (n : ℕ) → length pairs ≤ n → NoneBefore P pairs n
+    → (pair : Pair) → OneOf pairs pair → ¬ P pair
+NoneBefore-all P pairs n all before pair one =
+    let within : one.0 < length pairs = slice_get_within pairs one.0 pair one.1 in
+    before one.0 pair (omega arith) one.1

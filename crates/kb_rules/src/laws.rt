@@ -1,0 +1,34 @@
+//! The laws of rewriting that callers cite. None of them does anything when it runs.
+
+ghost use Rattle.std.specs.Prelude.{◌≡◌, ◌⊎◌, List};
+ghost use Rattle.kb_word.specs.Words.{Letters, Pair, OneOf, Less};
+ghost use Rattle.kb_word.specs.Congruence.{Congruent};
+ghost use Rattle.kb_word.specs.Rewriting.{AreDecreasing, IsIrreducible, NormalForm, ReducesTo};
+
+/// A word has one normal form at most, whatever the rules are.
+pub fn normal_forms_are_unique()
+    ensures { (rules : List Pair) (w m n : Letters) → NormalForm rules w m → NormalForm rules w n → m ≡ n }
+{}
+
+/// An irreducible word is its own normal form, and the only one.
+pub fn irreducible_words_are_normal()
+    ensures own { (rules : List Pair) (w : Letters) → IsIrreducible (OneOf rules) w → NormalForm rules w w }
+    ensures only { (rules : List Pair) (w m : Letters) → IsIrreducible (OneOf rules) w → NormalForm rules w m → m ≡ w }
+{}
+
+/// Every word has a normal form by decreasing rules.
+pub fn normal_forms_exist()
+    ensures { (rules : List Pair) (w : Letters) → AreDecreasing rules → (m : Letters) × NormalForm rules w m }
+{}
+
+/// A normal form is a reduct of the word, and congruent to it.
+pub fn a_normal_form_is_a_reduct()
+    ensures reduct { (rules : List Pair) (w m : Letters) → NormalForm rules w m → ReducesTo (OneOf rules) w m }
+    ensures congruent { (rules : List Pair) (w m : Letters) → NormalForm rules w m → Congruent (OneOf rules) w m }
+{}
+
+/// Reduction keeps the congruence, and by decreasing rules a reduct is the same word or a lesser one.
+pub fn reducts_are_congruent_and_not_greater()
+    ensures congruent { (rules : List Pair) (u v : Letters) → ReducesTo (OneOf rules) u v → Congruent (OneOf rules) u v }
+    ensures not_greater { (rules : List Pair) (u v : Letters) → AreDecreasing rules → ReducesTo (OneOf rules) u v → (v ≡ u) ⊎ Less v u }
+{}
