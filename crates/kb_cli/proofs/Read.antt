@@ -1,5 +1,6 @@
 -- What the getters of the matches give, as facts of the rows.
 use Rattle.std.proofs.Common.{◌≡◌, ◌∙◌, Option, Some, None, sym, option_map}
+use Rattle.std.specs.Prelude.{IsTrue, true, false}
 use Rattle.std.specs.Borrow.{Bor}
 use Rattle.clap.specs.Words.{Text, first_of, first_value, rows_of}
 use Rattle.clap.specs.declared.parser.matches.Found.{Found}
@@ -19,3 +20,7 @@ module _ {X : Type 0} where
   same_value o x y one other =
       let both : Some x ≡ Some y = sym one ∙ other in
       cc
+
+-- a test that came out false did not hold
+pub never : ¬ IsTrue false
+never h = let bad : false ≡ true = h in cc

@@ -169,7 +169,9 @@ fn wordreduce_command<'a>(alloc: Global) -> Result<clap::Command<'a>, AllocError
     ensures local { IfOk result (λ command. (fields_of command).has_globals ≡ false) }
 {
     clap::Command::new(alloc, "wordreduce")
-        .about("Prints, for the word on each line of standard input, the shortlex-least word that equals it")
+        .about(
+            "Prints, for the word on each line of standard input, the shortlex-least word that equals it",
+        )
         .arg(file_argument(alloc))?
         .arg(workers_option(alloc))
 }

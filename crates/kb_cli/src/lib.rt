@@ -2,5 +2,12 @@
 #![tactic(auto)]
 
 mod command_line;
+mod orienting;
 
-pub use command_line::{Command, UsageError, a_line_is_not_faulty, a_line_says_one_command, read_words};
+pub use command_line::{
+    Command, UsageError, a_line_is_not_faulty, a_line_says_one_command, read_words,
+};
+pub use orienting::{
+    oriented, oriented_relations_are_one_list, oriented_relations_keep_the_congruence,
+    oriented_rules_decrease,
+};
