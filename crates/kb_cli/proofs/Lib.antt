@@ -1,3 +1,4 @@
 pub mod Read
 pub mod Line
 pub mod OrientLemmas
+pub mod PrintLemmas

@@ -3,6 +3,7 @@
 
 mod command_line;
 mod orienting;
+mod printed;
 
 pub use command_line::{
     Command, UsageError, a_line_is_not_faulty, a_line_says_one_command, read_words,
@@ -11,3 +12,4 @@ pub use orienting::{
     oriented, oriented_relations_are_one_list, oriented_relations_keep_the_congruence,
     oriented_rules_decrease,
 };
+pub use printed::print_word;
