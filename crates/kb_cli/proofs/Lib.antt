@@ -2,3 +2,4 @@ pub mod Read
 pub mod Line
 pub mod OrientLemmas
 pub mod PrintLemmas
+pub mod ProgressLemmas

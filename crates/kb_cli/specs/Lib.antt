@@ -1,2 +1,9 @@
 pub mod Printed
 pub mod CommandLine
+pub mod WordLines
+pub mod Progress
+pub mod PartsOf
+pub mod LineFaults
+pub mod Stops
+pub mod Exits
+-- pub mod Headline

@@ -4,6 +4,8 @@
 mod command_line;
 mod orienting;
 mod printed;
+mod status;
+mod word_lines;
 
 pub use command_line::{
     Command, UsageError, a_line_is_not_faulty, a_line_says_one_command, read_words,
@@ -13,3 +15,4 @@ pub use orienting::{
     oriented_rules_decrease,
 };
 pub use printed::print_word;
+pub use status::{Cert, FileFault, Refusal, Status, Which};

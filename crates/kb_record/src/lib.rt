@@ -4,9 +4,11 @@
 mod error;
 mod meaning;
 mod parser;
+mod stub;
 mod token;
 mod tree;
 
 pub use parser::parse;
+pub use stub::{is_blank, parse_word};
 pub use error::{RecordError, WordError};
 pub use tree::{Expr, Factor, Rec, Value};

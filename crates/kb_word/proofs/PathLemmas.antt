@@ -180,7 +180,7 @@ replaced_covered : (allowed others : Pair → Type 0) → ((pair : Pair) → all
 replaced_covered allowed others covered u v r =
     let sides = congruent_between r.before r.after (covered r.pair r.is_allowed) in
     congruent_transitive (path_equal u (r.before ++ r.pair.0 ++ r.after) r.from)
-      (congruent_transitive sides (path_equal (r.before ++ r.pair.1 ++ r.after) v (sym r.to)))
+    (congruent_transitive sides (path_equal (r.before ++ r.pair.1 ++ r.after) v (sym r.to)))
 
 touches_covered : (allowed others : Pair → Type 0) → ((pair : Pair) → allowed pair → Congruent others pair.0 pair.1)
     → (u v : List ℕ) → Touches allowed u v → Congruent others u v
@@ -202,7 +202,7 @@ SameCongruence-back same = record { covered = same.covers; covers = same.covered
 pub SameCongruence-then : {pairs others more : List Pair} → SameCongruence pairs others → SameCongruence others more → SameCongruence pairs more
 SameCongruence-then same next = record {
   covered = λ pair h. congruent_covered next.covered (same.covered pair h);
-  covers = λ pair h. congruent_covered same.covers (next.covers pair h)
+  covers = λ pair h. congruent_covered same.covers (next.covers pair h);
 }
 
 -- the same congruence relates the same words
@@ -214,7 +214,7 @@ congruent_same same p = congruent_covered same.covered p
 pub IsLeast-same : {pairs others : List Pair} → SameCongruence pairs others → (w m : List ℕ) → IsLeast pairs w m → IsLeast others w m
 IsLeast-same same w m least = record {
   congruent = congruent_same same least.congruent;
-  least = λ v p. least.least v (congruent_same (SameCongruence-back same) p)
+  least = λ v p. least.least v (congruent_same (SameCongruence-back same) p);
 }
 
 -- reduced words are congruent

@@ -1,0 +1,5 @@
+pub mod Occurrences
+pub mod Replacements
+pub mod Newman
+pub mod LeastWords
+pub mod Transport

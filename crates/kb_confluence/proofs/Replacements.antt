@@ -1,0 +1,145 @@
+-- Two replacements in one word lead to words that have a common reduct, where the rules are confluent.
+use Rattle.std.proofs.Common.{◌≡◌, ℕ, zero, suc, ◌+◌, ◌-◌, ◌<◌, ◌≤◌, ◌⊎◌, List, [], ◌∷◌, ◌++◌, length, take, drop, Some, refl, sym, ◌∙◌, ap, subst, inl, inr, arith, append_assoc}
+use Rattle.std.specs.Prelude.{slice_get}
+use Rattle.std.proofs.lemmas.Bool.{cases_lt, cases_eq}
+use Rattle.std.proofs.lemmas.List.{append-nil, drop_all}
+use Rattle.kb_word.specs.Words.{Pair, OneOf}
+use Rattle.kb_word.specs.Path.{Path}
+use Rattle.kb_word.specs.Congruence.{Replaces}
+use Rattle.kb_word.specs.Rewriting.{ReducesTo, NormalForm, FirstRewrite}
+use Rattle.kb_word.specs.Overlap.{Overlaps, OverlapOf, Joins, IsConfluent, critical_pair}
+use Rattle.kb_word.proofs.PathLemmas.{path_equal, path_one, path_mapped, path_implied, Replaces-between}
+use Rattle.kb_rules.proofs.Reducts.{normal_form_reduct}
+use Rattle.kb_confluence.proofs.Occurrences.{Apart, Within, cases_occurrences}
+
+-- one word to which both reduce
+pub record CommonReduct (allowed : Pair → Type 0) (u v : List ℕ) : Type 0 where
+  pub joint : List ℕ
+  pub left : ReducesTo allowed u joint
+  pub right : ReducesTo allowed v joint
+
+pub common_swapped : {allowed : Pair → Type 0} {u v : List ℕ} → CommonReduct allowed u v → CommonReduct allowed v u
+common_swapped common = record { joint = common.joint; left = common.right; right = common.left }
+
+normal_form_between : {rules : List Pair} {u m : List ℕ} (before after : List ℕ) → NormalForm rules u m
+    → ReducesTo (OneOf rules) (before ++ u ++ after) (before ++ m ++ after)
+normal_form_between {rules = rules} before after normal =
+    path_mapped (λ w. before ++ w ++ after) (λ u v step. Replaces-between before after step) (normal_form_reduct normal)
+
+-- a pair that joins has a common reduct between other words too
+joins_between : {rules : List Pair} {pair : Pair} (before after : List ℕ) → Joins rules pair
+    → CommonReduct (OneOf rules) (before ++ pair.0 ++ after) (before ++ pair.1 ++ after)
+joins_between before after joins = record {
+  joint = before ++ joins.joint ++ after;
+  left = normal_form_between before after joins.left;
+  right = normal_form_between before after joins.right
+}
+
+common_along : {allowed : Pair → Type 0} (u v u' v' : List ℕ) → u ≡ u' → v ≡ v' → CommonReduct allowed u' v' → CommonReduct allowed u v
+common_along {allowed = allowed} u v u' v' e f common =
+    let P : List ℕ → Type 0 = λ w. CommonReduct allowed w v in
+    let Q : List ℕ → Type 0 = λ w. CommonReduct allowed u' w in
+    subst P (sym e) (subst Q (sym f) common)
+
+-- replacements that are apart commute
+common_apart : {allowed : Pair → Type 0} {w u v : List ℕ} (f : Replaces allowed w u) (g : Replaces allowed w v)
+    → Apart f.before f.pair.0 f.after g.before g.pair.0 g.after → CommonReduct allowed u v
+common_apart {u = u} {v = v} f g places =
+    let l = f.pair.0 in let r = f.pair.1 in let m = g.pair.0 in let s = g.pair.1 in
+    let middle = places.between in
+    let second : u ≡ (f.before ++ r ++ middle) ++ m ++ g.after =
+        f.to ∙ ap (λ rest. f.before ++ r ++ rest) places.after_is ∙ simp append_assoc in
+    let first : v ≡ f.before ++ l ++ (middle ++ s ++ g.after) =
+        g.to ∙ ap (λ front. front ++ s ++ g.after) places.front_is ∙ simp append_assoc in
+    let both : f.before ++ r ++ (middle ++ s ++ g.after) ≡ (f.before ++ r ++ middle) ++ s ++ g.after = simp append_assoc in
+    record {
+      joint = (f.before ++ r ++ middle) ++ s ++ g.after;
+      left = path_one (record { before = f.before ++ r ++ middle; pair = g.pair; after = g.after; is_allowed = g.is_allowed; from = second; to = refl });
+      right = path_one (record { before = f.before; pair = f.pair; after = middle ++ s ++ g.after; is_allowed = f.is_allowed; from = first; to = sym both })
+    }
+
+-- overlapping replacements give the critical pair, between other words
+common_overlapping : {rules : List Pair} {w u v : List ℕ} (f : Replaces (OneOf rules) w u) (g : Replaces (OneOf rules) w v)
+    → (places : Within f.before f.pair.0 f.after g.before g.pair.0 g.after)
+    → Joins rules (critical_pair f.pair g.pair places.place) → CommonReduct (OneOf rules) u v
+common_overlapping {rules = rules} {u = u} {v = v} f g places joins =
+    let p = places.place in
+    let pair : Pair = critical_pair f.pair g.pair p in
+    let first : u ≡ f.before ++ pair.0 ++ places.rest =
+        f.to ∙ ap (λ after. f.before ++ f.pair.1 ++ after) places.after_is ∙ simp append_assoc in
+    let second : v ≡ f.before ++ pair.1 ++ places.rest =
+        g.to ∙ ap (λ front. front ++ g.pair.1 ++ g.after) places.front_is
+            ∙ ap (λ behind. f.before ++ take p f.pair.0 ++ g.pair.1 ++ behind) places.behind_is ∙ simp append_assoc in
+    common_along u v (f.before ++ pair.0 ++ places.rest) (f.before ++ pair.1 ++ places.rest) first second
+    (joins_between {rules = rules} {pair = pair} f.before places.rest joins)
+
+some-injective : {x y : Pair} → Some x ≡ Some y → x ≡ y
+some-injective e = cc
+
+-- rules of one number are one rule
+one_rule : (rules : List Pair) (i j : ℕ) (pair other : Pair) → slice_get rules i ≡ Some pair → slice_get rules j ≡ Some other → i ≡ j → pair ≡ other
+one_rule rules i j pair other first second e = some-injective (sym first ∙ ap (slice_get rules) e ∙ second)
+
+-- one rule, replaced at one place, gives one word
+same_replacement : (before l after front m behind rest r s : List ℕ) → l ≡ m → r ≡ s → front ≡ before ++ []
+    → after ≡ drop (length l) m ++ rest → behind ≡ drop (length m) l ++ rest → before ++ r ++ after ≡ front ++ s ++ behind
+same_replacement before l after front m behind rest r s e f front_is after_is behind_is =
+    let none : drop (length l) m ≡ [] = drop_all (length l) m (let long : length l ≡ length m = ap length e in omega arith) in
+    let none' : drop (length m) l ≡ [] = drop_all (length m) l (let long : length l ≡ length m = ap length e in omega arith) in
+    let after_rest : after ≡ rest = after_is ∙ ap (λ d. d ++ rest) none in
+    let behind_rest : behind ≡ rest = behind_is ∙ ap (λ d. d ++ rest) none' in
+    let front_before : front ≡ before = front_is ∙ append-nil before in
+    cc
+
+common_same : (rules : List Pair) {w u v : List ℕ} (f : Replaces (OneOf rules) w u) (g : Replaces (OneOf rules) w v)
+    → (places : Within f.before f.pair.0 f.after g.before g.pair.0 g.after) → places.place ≡ 0 → f.pair ≡ g.pair
+    → CommonReduct (OneOf rules) u v
+common_same rules {u = u} {v = v} f g places zero_place one =
+    let front_is : g.before ≡ f.before ++ [] = places.front_is ∙ ap (λ p. f.before ++ take p f.pair.0) zero_place in
+    let after_is : f.after ≡ drop (length f.pair.0 - 0) g.pair.0 ++ places.rest =
+        places.after_is ∙ ap (λ p. drop (length f.pair.0 - p) g.pair.0 ++ places.rest) zero_place in
+    let behind_is : g.after ≡ drop (0 + length g.pair.0) f.pair.0 ++ places.rest =
+        places.behind_is ∙ ap (λ p. drop (p + length g.pair.0) f.pair.0 ++ places.rest) zero_place in
+    let after_is' : f.after ≡ drop (length f.pair.0) g.pair.0 ++ places.rest =
+        let e : length f.pair.0 - 0 ≡ length f.pair.0 = omega arith in after_is ∙ ap (λ n. drop n g.pair.0 ++ places.rest) e in
+    let behind_is' : g.after ≡ drop (length g.pair.0) f.pair.0 ++ places.rest =
+        let e : 0 + length g.pair.0 ≡ length g.pair.0 = omega arith in behind_is ∙ ap (λ n. drop n f.pair.0 ++ places.rest) e in
+    let same : u ≡ v = f.to
+        ∙ same_replacement f.before f.pair.0 f.after g.before g.pair.0 g.after places.rest f.pair.1 g.pair.1
+            (ap (λ (pair : Pair). pair.0) one) (ap (λ (pair : Pair). pair.1) one) front_is after_is' behind_is'
+        ∙ sym g.to in
+    record { joint = v; left = path_equal u v same; right = path_equal v v refl }
+
+-- m begins within l: a critical pair, or one rule at one place
+common_within : {rules : List Pair} → IsConfluent rules → {w u v : List ℕ} (f : Replaces (OneOf rules) w u) (g : Replaces (OneOf rules) w v)
+    → Within f.before f.pair.0 f.after g.before g.pair.0 g.after → CommonReduct (OneOf rules) u v
+common_within {rules = rules} confluent {u = u} {v = v} f g places =
+    let i = f.is_allowed.0 in let j = g.is_allowed.0 in
+    let overlapping : (i ≡ j → 0 < places.place) → CommonReduct (OneOf rules) u v = λ proper.
+        common_overlapping f g places (confluent i j places.place f.pair g.pair (record {
+          is_first = f.is_allowed.1; is_second = g.is_allowed.1; overlaps = places.overlaps; proper = proper })) in
+    elim (cases_lt 0 places.place) [
+      | inl later ↦ overlapping (λ _. later)
+      | inr none ↦ elim (cases_eq i j) [
+          | inl same ↦ common_same rules f g places (omega arith) (one_rule rules i j f.pair g.pair f.is_allowed.1 g.is_allowed.1 same)
+          | inr different ↦ overlapping (λ same. absurd (different same))
+        ]
+    ]
+
+common_ordered : {rules : List Pair} → IsConfluent rules → {w u v : List ℕ} (f : Replaces (OneOf rules) w u) (g : Replaces (OneOf rules) w v)
+    → length f.before ≤ length g.before → CommonReduct (OneOf rules) u v
+common_ordered confluent f g low =
+    elim (cases_occurrences f.before f.pair.0 f.after g.before g.pair.0 g.after (sym f.from ∙ g.from) low) [
+      | inl places ↦ common_apart f g places
+      | inr places ↦ common_within confluent f g places
+    ]
+
+-- The critical pair lemma: by confluent rules, words that are one replacement away from a word have a common reduct.
+-- Knuth, Bendix; Book, Otto, String-Rewriting Systems, 2.3.
+pub common_reduct : {rules : List Pair} → IsConfluent rules → {w u v : List ℕ} → Replaces (OneOf rules) w u → Replaces (OneOf rules) w v
+    → CommonReduct (OneOf rules) u v
+common_reduct confluent f g =
+    elim (cases_lt (length g.before) (length f.before)) [
+      | inl later ↦ common_swapped (common_ordered confluent g f (omega arith))
+      | inr low ↦ common_ordered confluent f g low
+    ]

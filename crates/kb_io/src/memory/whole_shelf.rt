@@ -1,0 +1,72 @@
+//! A shelf over memory that never fails.
+
+ghost use Rattle.std.specs.Prelude.{◌≡◌, ◌≢◌, ℕ, List, Option, Some, None, OnOk, OnErr, option_map};
+
+use crate::shelf::{Load, Shelf, ShelfFault};
+use std::alloc::{AllocError, Global};
+use std::collections::BTreeMap;
+
+/// Byte strings in memory, under names.
+#[derive(Drop)]
+pub struct WholeShelf {
+    files: BTreeMap<String, Vec<u8>>,
+}
+
+impl WholeShelf {
+    ghost use Rattle.kb_io.specs.Shelves.{whole_holds};
+
+    /// A shelf that holds nothing.
+    pub fn new(alloc: Global) -> WholeShelf
+        ensures { (name : List ℕ) → whole_holds result name ≡ None }
+    {
+        WholeShelf {
+            files: BTreeMap::new(alloc),
+        }
+    }
+
+    /// The bytes under the name.
+    pub fn get(&self, name: &str) -> Option<&[u8]>
+        ensures { option_map (λ bytes. bytes.now) result ≡ whole_holds self.now name.now }
+    {
+        match self.files.get(name) {
+            Some(bytes) => Some(bytes.as_slice()),
+            None => None,
+        }
+    }
+
+    /// Puts the bytes under the name. Where memory runs out nothing changes.
+    pub fn insert(&mut self, alloc: Global, name: &str, bytes: &[u8]) -> Result<(), AllocError>
+        ensures put { OnOk result (whole_holds self.new name.now ≡ Some bytes.now) }
+        ensures others { (other : List ℕ) → other ≢ name.now → whole_holds self.new other ≡ whole_holds self.old other }
+        ensures err { OnErr result ((other : List ℕ) → whole_holds self.new other ≡ whole_holds self.old other) }
+    {
+        let key = String::from_str(alloc, name)?;
+        let value = Vec::from_slice(alloc, bytes)?;
+        self.files.insert(key, value)?;
+        Ok(())
+    }
+}
+
+impl Shelf for WholeShelf {
+    ghost use Rattle.kb_io.specs.Shelves.{whole_holds};
+
+    ghost tells = { λ _. Unit {0} };
+
+    ghost holds = { whole_holds };
+
+    ghost load_faults = { λ _. 0 };
+
+    ghost store_faults = { λ _. 0 };
+
+    fn load(&mut self, alloc: Global, name: &str, max: usize) -> Result<Load, ShelfFault> {
+        match self.get(name) {
+            None => Ok(Load::Missing),
+            Some(bytes) if bytes.len() > max => Ok(Load::TooLong),
+            Some(bytes) => Ok(Load::Text(Vec::from_slice(alloc, bytes)?)),
+        }
+    }
+
+    fn store(&mut self, alloc: Global, name: &str, bytes: &[u8]) -> Result<(), ShelfFault> {
+        Ok(self.insert(alloc, name, bytes)?)
+    }
+}

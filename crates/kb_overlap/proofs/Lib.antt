@@ -1,0 +1,2 @@
+mod Superposed
+mod Searching
