@@ -1,1 +1,5 @@
+pub mod Read
+pub mod Line
+pub mod OrientLemmas
+pub mod PrintLemmas
 pub mod ProgressLemmas

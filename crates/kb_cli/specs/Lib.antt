@@ -1,4 +1,5 @@
 pub mod Printed
+pub mod CommandLine
 pub mod WordLines
 pub mod Progress
 pub mod PartsOf
