@@ -6,4 +6,4 @@ pub mod PartsOf
 pub mod LineFaults
 pub mod Stops
 pub mod Exits
--- pub mod Headline
+pub mod Headline

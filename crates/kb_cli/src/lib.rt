@@ -4,8 +4,11 @@
 mod command_line;
 mod orienting;
 mod printed;
+mod report;
+mod run;
 mod status;
 mod word_lines;
+mod word_reduce;
 
 pub use command_line::{
     Command, UsageError, a_line_is_not_faulty, a_line_says_one_command, read_words,
@@ -14,5 +17,6 @@ pub use orienting::{
     oriented, oriented_relations_are_one_list, oriented_relations_keep_the_congruence,
     oriented_rules_decrease,
 };
+pub use run::run;
 pub use printed::print_word;
 pub use status::{Cert, FileFault, Refusal, Status, Which};

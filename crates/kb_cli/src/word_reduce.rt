@@ -1,0 +1,156 @@
+//! `wordreduce FILE`: the least words of word lines, by a presentation whose oriented relations are confluent.
+
+ghost use Rattle.std.specs.Prelude.{◌≡◌, ◌≤◌, ◌<◌, List, ℕ, length, IfOk, IfErr, OnOk, OnErr};
+ghost use Rattle.kb_word.specs.Relations.{relations_of, AreOriented};
+ghost use Rattle.kb_word.specs.Overlap.{IsConfluent};
+ghost use Rattle.kb_cli.specs.PartsOf.{parts_of};
+ghost use Rattle.kb_cli.specs.Headline.{FileSays, FileStops, AnswersSay, WordReduceSays, FaultCounts, IsUndecided, FrontOfNo, no_line};
+
+use crate::orienting::oriented;
+use crate::printed::print_word;
+use crate::status::{Cert, FileFault, Refusal, Status, Which};
+use crate::word_lines::{Stop, answer_input};
+use kb_confluence::{Verdict, check};
+use kb_io::{Failed, Load, Shelf, ShelfFault, Sink, Source, write_all};
+use kb_presfile::{PresError, read};
+use kb_rules::{Reducer, Rules, Scan};
+use kb_word::{Memory, Names, Presentation, Text, Word};
+use std::alloc::Global;
+
+/// A file has at most so many bytes.
+const MOST_FILE: usize = 16_777_216;
+
+/// Checks the oriented relations of the file's presentation, and answers the word lines by them.
+pub(crate) fn word_reduce<F: Shelf, I: Source, O: Sink>(
+    alloc: Global,
+    file: &Text,
+    workers: u32,
+    shelf: &mut F,
+    input: &mut I,
+    out: &mut O,
+) -> Status
+    requires { (1 ≤ workers) × (workers ≤ 64) }
+    ensures says { F.tells shelf.old → I.tells input.old → O.tells out.old → WordReduceSays (F.holds shelf.old) file.now
+        (record { input = I.left input.old; left = I.left input.new; before = O.written out.old; written = O.written out.new }) result }
+    ensures faults { FaultCounts (F.load_faults shelf.old) (F.load_faults shelf.new) (I.faults input.old) (I.faults input.new) (O.faults out.old) (O.faults out.new) result }
+    ensures files { (name : List ℕ) → F.holds shelf.new name ≡ F.holds shelf.old name }
+    ensures stores { F.store_faults shelf.new ≡ F.store_faults shelf.old }
+    ensures load_count { F.load_faults shelf.old ≤ F.load_faults shelf.new }
+    ensures input_count { I.faults input.old ≤ I.faults input.new }
+    ensures output_count { O.faults out.old ≤ O.faults out.new }
+{
+    match load_presentation(alloc, file, shelf) {
+        Ok(presentation) => answer_by(alloc, &presentation, workers, input, out),
+        Err(status) => status,
+    }
+}
+
+/// The presentation that the file says, or why the run ends before it is known.
+fn load_presentation<F: Shelf>(
+    alloc: Global,
+    file: &Text,
+    shelf: &mut F,
+) -> Result<Presentation, Status>
+    ensures says { F.tells shelf.old → IfOk result (λ presentation. FileSays (F.holds shelf.old) file.now (parts_of presentation)) }
+    ensures few { IfOk result (λ presentation. length presentation.eqs ≤ 65535) }
+    ensures stops { F.tells shelf.old → IfErr result (FileStops (F.holds shelf.old) file.now) }
+    ensures faults { IfErr result (λ status. (input output : ℕ) → FaultCounts (F.load_faults shelf.old) (F.load_faults shelf.new) input input output output status) }
+    ensures files { (name : List ℕ) → F.holds shelf.new name ≡ F.holds shelf.old name }
+    ensures stores { F.store_faults shelf.new ≡ F.store_faults shelf.old }
+    ensures load_count { F.load_faults shelf.old ≤ F.load_faults shelf.new }
+{
+    let name = match file.copy(alloc) {
+        Ok(name) => name,
+        Err(Memory) => return Err(Status::Memory),
+    };
+    match shelf.load(alloc, file.as_str(), MOST_FILE) {
+        Ok(Load::Text(bytes)) => presentation_of(alloc, name, bytes.as_slice()),
+        Ok(Load::Missing) => Err(refused(name, FileFault::Missing)),
+        Ok(Load::TooLong) => Err(refused(name, FileFault::TooLong)),
+        Err(ShelfFault::Failed) => Err(Status::Fault(Which::Load(name))),
+        Err(ShelfFault::Memory) => Err(Status::Memory),
+    }
+}
+
+/// The presentation that the bytes of a file say, or the refusal of the file.
+fn presentation_of(alloc: Global, name: Text, bytes: &[u8]) -> Result<Presentation, Status> {
+    match read(alloc, bytes) {
+        Ok(presentation) => Ok(presentation),
+        Err(PresError::Memory) => Err(Status::Memory),
+        Err(fault) => Err(refused(name, FileFault::Presentation(fault))),
+    }
+}
+
+/// The file is refused.
+fn refused(name: Text, fault: FileFault) -> Status {
+    Status::Refused(Refusal::File { name, fault })
+}
+
+/// Checks the oriented relations, and answers the word lines by them.
+fn answer_by<I: Source, O: Sink>(
+    alloc: Global,
+    presentation: &Presentation,
+    workers: u32,
+    input: &mut I,
+    out: &mut O,
+) -> Status {
+    let rules = match oriented(alloc, presentation) {
+        Ok(rules) => rules,
+        Err(Memory) => return Status::Memory,
+    };
+    let scan = match Scan::of(alloc, &rules) {
+        Ok(scan) => scan,
+        Err(Memory) => return Status::Memory,
+    };
+    match check(alloc, &rules, &scan, workers) {
+        Ok(Verdict::Yes) => answer_lines(alloc, presentation, &scan, input, out),
+        Ok(Verdict::No { u, v, .. }) => say_no(alloc, presentation, u, v, out),
+        Err(Memory) => Status::Memory,
+    }
+}
+
+/// Answers the word lines by rules that are confluent.
+fn answer_lines<I: Source, O: Sink>(
+    alloc: Global,
+    presentation: &Presentation,
+    scan: &Scan,
+    input: &mut I,
+    out: &mut O,
+) -> Status {
+    match answer_input(alloc, presentation, scan, input, out) {
+        Ok(()) => Status::Yes,
+        Err(Stop::Refused { number, fault }) => Status::Refused(Refusal::Line { number, fault }),
+        Err(Stop::TooLong) => Status::Refused(Refusal::InputTooLong),
+        Err(Stop::Input) => Status::Fault(Which::Input),
+        Err(Stop::Output) => Status::Fault(Which::Output),
+        Err(Stop::Memory) => Status::Memory,
+    }
+}
+
+/// Writes the line that shows why the rules aren't confluent.
+fn say_no<O: Sink>(
+    alloc: Global,
+    presentation: &Presentation,
+    u: Word,
+    v: Word,
+    out: &mut O,
+) -> Status {
+    let line = match no_line(alloc, &presentation.names, &u, &v) {
+        Ok(line) => line,
+        Err(Memory) => return Status::Memory,
+    };
+    match write_all(out, &line) {
+        Ok(()) => Status::No(Cert::NotConfluent { u, v }),
+        Err(Failed) => Status::Fault(Which::Output),
+    }
+}
+
+/// `no confluent U V` and a newline.
+fn no_line(alloc: Global, names: &Names, u: &Word, v: &Word) -> Result<Vec<u8>, Memory> {
+    let mut line = Vec::from_slice(alloc, b"no confluent ")?;
+    print_word(names, u, &mut line)?;
+    line.push(b' ')?;
+    print_word(names, v, &mut line)?;
+    line.push(b'\n')?;
+    Ok(line)
+}
