@@ -1,5 +1,5 @@
 -- The tokens of `specs/Token.antt` that the code's tokens stand for.
-use Rattle.std.specs.Prelude.{ℕ, List, map}
+use Rattle.std.specs.Prelude.{◌≡◌, ℕ, suc, ◌<◌, ◌≤◌, List, map, Some, slice_get}
 use Rattle.kb_record.specs.Token as tree
 use Rattle.kb_record.specs.declared.token.Token.{Token}
 use Rattle.kb_record.specs.declared.token.Token.TheVariants.{Name, Number, String, Assign, OpenRound, CloseRound, OpenSquare, CloseSquare, Comma, Semicolon, Star, Caret, Dots, Rec}
@@ -24,3 +24,10 @@ token_view Rec = tree.rec_word
 -- the tokens of some lexemes, in order
 abbrev pub tokens_view : List Lexeme → List tree.Token
 tokens_view lexemes = map (λ (lexeme : Lexeme). token_view lexeme.token) lexemes
+
+-- each lexeme has bytes, within a text of this length, and stands behind the one before it
+pub record ArePlaced (text_length : ℕ) (lexemes : List Lexeme) : Type 0 where
+  pub within : (k : ℕ) (lexeme : Lexeme) → slice_get lexemes k ≡ Some lexeme
+      → (lexeme.start < lexeme.end) × (lexeme.end ≤ text_length)
+  pub ascending : (k : ℕ) (lexeme next : Lexeme) → slice_get lexemes k ≡ Some lexeme
+      → slice_get lexemes (suc k) ≡ Some next → lexeme.end ≤ next.start

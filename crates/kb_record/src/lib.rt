@@ -2,11 +2,12 @@
 #![tactic(auto)]
 
 mod error;
+mod lexer;
 mod meaning;
 mod parser;
 mod token;
 mod tree;
 
-pub use parser::parse;
 pub use error::{RecordError, WordError};
+pub use parser::parse;
 pub use tree::{Expr, Factor, Rec, Value};
