@@ -1,0 +1,5 @@
+pub mod FirstTokens
+pub mod LongestFronts
+pub mod Values
+pub mod OneToken
+pub mod Lexings
