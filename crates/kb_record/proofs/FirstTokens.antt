@@ -131,7 +131,7 @@ negative_only b more h (assigns at whole) = absurd (omega arith)
 negative_only b more h (ranges at whole) = absurd (omega arith)
 negative_only b more h (single at whole) = absurd (omega arith)
 
-quoted_only : (b : ℕ) (more : List ℕ) → b ≡ 34 → Kind b more → (text : List ℕ) × (more ≡ text ++ 34 ∷ []) × AllByRecursion IsStringByte text
+pub quoted_only : (b : ℕ) (more : List ℕ) → b ≡ 34 → Kind b more → (text : List ℕ) × (more ≡ text ++ 34 ∷ []) × AllByRecursion IsStringByte text
 quoted_only b more h (word at goes) = absurd (omega arith)
 quoted_only b more h (digits at each few) = absurd (omega arith)
 quoted_only b more h (negative at each some few) = absurd (omega arith)

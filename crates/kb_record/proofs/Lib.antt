@@ -3,3 +3,4 @@ pub mod LongestFronts
 pub mod Values
 pub mod OneToken
 pub mod Lexings
+pub mod TokenFronts

@@ -58,3 +58,16 @@ AreFewDigits digits = AllByRecursion IsDigit digits × (length digits ≤ 18)
 -- a byte from space to `~`, but for `"`
 abbrev pub is_string_byte : ℕ → Bool
 is_string_byte byte = (nat_le 32 byte && nat_le byte 126) && not (byte == 34)
+
+abbrev pub IsBracket : tree.Token → Type 0
+IsBracket tree.open_round = Unit {0}
+IsBracket tree.close_round = Unit {0}
+IsBracket tree.open_square = Unit {0}
+IsBracket tree.close_square = Unit {0}
+IsBracket _ = ⊥
+
+-- the last token is a bracket
+abbrev pub EndsInBracket : List tree.Token → Type 0
+EndsInBracket [] = ⊥
+EndsInBracket (token ∷ []) = IsBracket token
+EndsInBracket (token ∷ next ∷ tokens) = EndsInBracket (next ∷ tokens)

@@ -1,11 +1,11 @@
 //! From bytes to tokens.
 
-ghost use Rattle.std.specs.Prelude.{◌≡◌, ◌≢◌, ◌↔◌, ℕ, ◌+◌, ◌<◌, ◌≤◌, false, IsTrue, IfOk, pos, List, Some, length, slice_get, slice_index, take, drop, take_while};
+ghost use Rattle.std.specs.Prelude.{◌≡◌, ◌≢◌, ◌↔◌, ℕ, ◌+◌, ◌<◌, ◌≤◌, false, IsTrue, IfOk, pos, List, ◌++◌, Some, length, slice_get, slice_index, take, drop, take_while};
 ghost use Rattle.std.specs.Char.{is_ascii_digit};
 ghost use Rattle.std.specs.List.{AllByRecursion};
 ghost use Rattle.kb_record.specs.Token.{Token as TreeToken};
 ghost use Rattle.kb_record.specs.Spelling.{TokensOf, after_gap, after_comment, BeginsNames, IsNameByte, IsDigit, GoesOnAsName, value_after};
-ghost use Rattle.kb_record.specs.Lexemes.{tokens_view, ArePlaced, IsFirst, IsLongestFront, GoesOnAt, AreFewDigits, is_string_byte};
+ghost use Rattle.kb_record.specs.Lexemes.{tokens_view, ArePlaced, IsFirst, IsLongestFront, GoesOnAt, AreFewDigits, is_string_byte, EndsInBracket};
 ghost use Rattle.kb_record.specs.declared.token.Lexeme.{Lexeme};
 
 use crate::token::{Lexeme, Token};
@@ -244,4 +244,11 @@ fn mark<'a>(text: &[u8]) -> Option<(Token<'a>, usize)>
 pub fn a_text_has_one_list_of_tokens()
     ensures { (bytes : List ℕ) (tokens others : List TreeToken)
         → TokensOf bytes tokens → TokensOf bytes others → tokens ≡ others }
+{}
+
+/// Where the last token of a front is a bracket, the tokens of the whole text begin with those of the front.
+pub fn a_front_ending_in_a_bracket_keeps_its_tokens()
+    ensures { (front behind : List ℕ) (tokens others : List TreeToken) → EndsInBracket tokens
+        → TokensOf front tokens → TokensOf (front ++ behind) others
+        → (more : List TreeToken) × (others ≡ tokens ++ more) }
 {}
