@@ -9,5 +9,6 @@ mod token;
 mod tree;
 
 pub use error::{RecordError, WordError};
+pub use meaning::word_of;
 pub use parser::parse;
 pub use tree::{Expr, Factor, Rec, Value};
