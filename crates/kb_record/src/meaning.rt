@@ -10,6 +10,9 @@ use crate::tree::{Expr, Factor};
 use kb_word::{Memory, Presentation, Text, Word};
 use std::alloc::Global;
 
+#[cfg(test)]
+mod tests;
+
 /// The most letters that a word may have, and each factor, group and product in it.
 const MOST_LETTERS: usize = 65_535;
 
