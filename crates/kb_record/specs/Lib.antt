@@ -7,3 +7,4 @@ pub mod Nesting
 pub mod View
 pub mod Lexemes
 pub mod Faults
+pub mod Reading

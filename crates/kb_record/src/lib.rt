@@ -1,7 +1,9 @@
 //! Words and records as text.
 #![tactic(auto)]
 
+mod cursor;
 mod error;
+mod lexer;
 mod meaning;
 mod parser;
 mod token;
