@@ -92,37 +92,37 @@ joined item goes_on (suc n) tokens =
 abbrev pub row : {A : Type 0} → Parse A → Parse Bool → Parse (List A)
 row item goes_on tokens = joined item goes_on (suc (length tokens)) tokens
 
+abbrev pub passes_to : List Token → Option (List Token) → Reading Bool
+passes_to tokens None = read false tokens
+passes_to tokens (Some rest) = read true rest
+
 -- whether the mark comes, which is passed
 abbrev pub passes : Mark → Parse Bool
-passes mark tokens = passed tokens (behind mark tokens)
-  where
-    passed : List Token → Option (List Token) → Reading Bool
-    passed tokens None = read false tokens
-    passed tokens (Some rest) = read true rest
+passes mark tokens = passes_to tokens (behind mark tokens)
+
+abbrev pub comma_unless : List Token → Option (List Token) → Reading Bool
+comma_unless tokens None = past (behind Comma tokens) (λ rest. read true rest)
+comma_unless tokens (Some rest) = read false rest
 
 -- whether a comma comes and not the mark that closes; either is passed
 abbrev pub passes_comma : Mark → Parse Bool
-passes_comma close tokens = closed tokens (behind close tokens)
-  where
-    closed : List Token → Option (List Token) → Reading Bool
-    closed tokens None = past (behind Comma tokens) (λ rest. read true rest)
-    closed tokens (Some rest) = read false rest
+passes_comma close tokens = comma_unless tokens (behind close tokens)
 
 -- ---- words
 
+abbrev pub power_behind : List Token → Option (List Token) → Reading (Option ℤ)
+power_behind tokens None = read None tokens
+power_behind tokens (Some rest) = reading_map Some (read_number rest)
+
 abbrev pub read_power : Parse (Option ℤ)
 read_power tokens = power_behind tokens (behind Caret tokens)
-  where
-    power_behind : List Token → Option (List Token) → Reading (Option ℤ)
-    power_behind tokens None = read None tokens
-    power_behind tokens (Some rest) = reading_map Some (read_number rest)
+
+abbrev pub factor_behind : Parse Factors → List Token → Option (List Token) → Reading Factor
+factor_behind group tokens None = and_then (read_name tokens) (λ text rest. reading_map (named text) (read_power rest))
+factor_behind group tokens (Some inside) = and_then (group inside) (λ factors rest. reading_map (grouped factors) (read_power rest))
 
 abbrev pub factor_with : Parse Factors → Parse Factor
 factor_with group tokens = factor_behind group tokens (behind OpenRound tokens)
-  where
-    factor_behind : Parse Factors → List Token → Option (List Token) → Reading Factor
-    factor_behind group tokens None = and_then (read_name tokens) (λ text rest. reading_map (named text) (read_power rest))
-    factor_behind group tokens (Some inside) = and_then (group inside) (λ factors rest. reading_map (grouped factors) (read_power rest))
 
 abbrev pub word_with : Parse Factors → Parse Factors
 word_with group tokens = reading_map factors_of (row (factor_with group) (passes Star) tokens)
@@ -165,33 +165,47 @@ begin_range _ = None
 abbrev pub range_from : ℤ → Parse Value
 range_from from tokens = and_then (read_number tokens) (λ to rest. past (behind CloseSquare rest) (read (range_value from to)))
 
+abbrev pub list_behind : Parse Value → List Token → Option (List Token) → Option (ℤ × List Token) → Reading Value
+list_behind value tokens (Some rest) range = read (list_value no_places) rest
+list_behind value tokens None (Some (from, rest)) = range_from from rest
+list_behind value tokens None None = reading_map (λ places. list_value (places_of places)) (row (place_with value) (passes_comma CloseSquare) tokens)
+
 abbrev pub list_with : Parse Value → Parse Value
 list_with value tokens = list_behind value tokens (behind CloseSquare tokens) (begin_range tokens)
-  where
-    list_behind : Parse Value → List Token → Option (List Token) → Option (ℤ × List Token) → Reading Value
-    list_behind value tokens (Some rest) range = read (list_value no_places) rest
-    list_behind value tokens None (Some (from, rest)) = range_from from rest
-    list_behind value tokens None None = reading_map (λ places. list_value (places_of places)) (row (place_with value) (passes_comma CloseSquare) tokens)
+
+abbrev pub fields_behind : Parse Value → List Token → Option (List Token) → Reading (List (List ℕ × Value))
+fields_behind value tokens (Some rest) = read [] rest
+fields_behind value tokens None = row (field_with value) (passes_comma CloseRound) tokens
 
 abbrev pub fields_with : Parse Value → Parse (List (List ℕ × Value))
 fields_with value tokens = fields_behind value tokens (behind CloseRound tokens)
-  where
-    fields_behind : Parse Value → List Token → Option (List Token) → Reading (List (List ℕ × Value))
-    fields_behind value tokens (Some rest) = read [] rest
-    fields_behind value tokens None = row (field_with value) (passes_comma CloseRound) tokens
 
 abbrev pub fields_from : List (List ℕ × Value) → Fields
 fields_from [] = no_fields
 fields_from (f ∷ fs) = field f.0 f.1 (fields_from fs)
 
+abbrev pub record_with : Parse (List (List ℕ × Value)) → Parse Value
+record_with fields tokens = past (behind OpenRound tokens) (λ rest. reading_map (λ found. record_value (fields_from found)) (fields rest))
+
+abbrev pub begins_word : List Token → Bool
+begins_word (name text ∷ tokens) = true
+begins_word (open_round ∷ tokens) = true
+begins_word _ = false
+
+-- a number or a string
+abbrev pub read_scalar : Parse Value
+read_scalar (number z ∷ tokens) = read (number_value z) tokens
+read_scalar (string text ∷ tokens) = read (string_value text) tokens
+read_scalar _ = unexpected
+
+abbrev pub value_behind : Parse Value → Parse (List (List ℕ × Value)) → List Token → Option (List Token) → Option (List Token) → Reading Value
+value_behind list fields tokens (Some rest) opened = record_with fields rest
+value_behind list fields tokens None (Some rest) = list rest
+value_behind list fields tokens None None = read_scalar tokens
+
 abbrev pub value_with : Parse Factors → Parse Value → Parse (List (List ℕ × Value)) → Parse Value
-value_with word list fields (name text ∷ tokens) = reading_map word_value (word (name text ∷ tokens))
-value_with word list fields (open_round ∷ tokens) = reading_map word_value (word (open_round ∷ tokens))
-value_with word list fields (number z ∷ tokens) = read (number_value z) tokens
-value_with word list fields (string text ∷ tokens) = read (string_value text) tokens
-value_with word list fields (rec_word ∷ tokens) = past (behind OpenRound tokens) (λ rest. reading_map (λ found. record_value (fields_from found)) (fields rest))
-value_with word list fields (open_square ∷ tokens) = list tokens
-value_with word list fields _ = unexpected
+value_with word list fields tokens =
+    if begins_word tokens then reading_map word_value (word tokens) else value_behind list fields tokens (behind Rec tokens) (behind OpenSquare tokens)
 
 -- a value, with brackets in brackets no deeper than the number
 unfoldable pub read_value : ℕ → Parse Value
@@ -207,6 +221,10 @@ read_list (suc depth) = list_with (read_value depth)
 abbrev pub read_fields : ℕ → Parse (List (List ℕ × Value))
 read_fields zero = too_deep
 read_fields (suc depth) = fields_with (read_value depth)
+
+-- a record behind its `rec`
+abbrev pub read_record : ℕ → Parse Value
+read_record depth = record_with (read_fields depth)
 
 abbrev pub field_view : Bor (List ℕ) × ValueType → List ℕ × Value
 field_view f = (f.0.now, value_view f.1)

@@ -1,12 +1,14 @@
 //! The tokens that are still to be read.
 
-ghost use Rattle.std.specs.Prelude.{◌≡◌, ◌<◌, ◌≤◌, ◌∷◌, [], Some, None, length, MatchOption, IfOk, OnOk, IfErr, IsTrue, MatchResult};
+ghost use Rattle.std.specs.Prelude.{◌≡◌, ◌≢◌, ◌<◌, ◌≤◌, ◌∷◌, [], Some, None, length, MatchOption, IfOk, OnOk, IfErr, IsTrue, MatchResult, ◌⊎◌, false};
 ghost use Rattle.kb_record.specs.declared.cursor.Stop.TheVariants as stops;
 ghost use Rattle.std.specs.Bool.{MatchBool};
+ghost use Rattle.kb_record.specs.View.{value_view};
 ghost use Rattle.kb_record.specs.Lexemes.{token_view, tokens_view};
-ghost use Rattle.kb_record.specs.Reading.{Reads, remaining, Begins, is_mark, behind, read_name, read_number, begin_range, ends_place, passes_comma};
+ghost use Rattle.kb_record.specs.Reading.{Reads, remaining, Begins, is_mark, behind, read_name, read_number, read_scalar, begins_word, begin_range, ends_place, passes_comma};
 
 use crate::token::{Lexeme, Token};
+use crate::tree::Value;
 use kb_word::Memory;
 use std::alloc::AllocFailed;
 
@@ -183,6 +185,30 @@ impl<'t, 'a> Cursor<'t, 'a> {
         }
     }
 
+    /// Passes the number or the string that has to come next.
+    pub fn scalar(&mut self) -> Result<Value<'a>, Stop>
+        ensures { Reads (read_scalar (remaining self.old)) value_view result (remaining self.new) }
+    {
+        match self.peek() {
+            Some(Token::Number(number)) => {
+                self.at += 1;
+                Ok(Value::Number(number))
+            }
+            Some(Token::String(text)) => {
+                self.at += 1;
+                Ok(Value::String(text))
+            }
+            _ => Err(Stop::Unexpected(Expected::Value)),
+        }
+    }
+
+    /// Whether a name or an open bracket comes next.
+    pub fn begins_word(&self) -> bool
+        ensures { result ≡ begins_word (remaining self.now) }
+    {
+        matches!(self.peek(), Some(Token::Name(_) | Token::OpenRound))
+    }
+
     /// Passes the number and the dots that a range begins with, if they come next.
     pub fn begin_range(&mut self) -> Option<i64>
         ensures { MatchOption result
@@ -206,5 +232,24 @@ impl<'t, 'a> Cursor<'t, 'a> {
         ensures { result ≡ ends_place (remaining self.now) }
     {
         matches!(self.peek(), Some(Token::Comma | Token::CloseSquare))
+    }
+
+    /// Nothing may be left, and the tokens have to be all that there are.
+    pub fn end(&self, whole: bool) -> Result<(), Stop>
+        ensures { MatchResult result (λ _. (remaining self.now ≡ []) × IsTrue whole)
+            (λ stop. ((remaining self.now ≢ []) ⊎ (whole ≡ false)) × (stop ≡ stops.Unexpected Expected.Mark)) }
+    {
+        if whole && self.left() == 0 {
+            Ok(())
+        } else {
+            Err(Stop::Unexpected(Expected::Mark))
+        }
+    }
+
+    /// How many tokens are left.
+    pub fn left(&self) -> usize
+        ensures { result ≡ length (remaining self.now) }
+    {
+        self.lexemes.len().saturating_sub(self.at)
     }
 }

@@ -6,9 +6,12 @@ mod error;
 mod lexer;
 mod meaning;
 mod parser;
+mod place;
 mod token;
 mod tree;
+mod values;
+mod words;
 
-pub use parser::parse;
+pub use parser::{parse, parse_expr};
 pub use error::{RecordError, WordError};
 pub use tree::{Expr, Factor, Rec, Value};

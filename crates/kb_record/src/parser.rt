@@ -3,12 +3,21 @@
 ghost use Rattle.std.specs.Prelude.{◌≡◌, ◌≤◌, IfOk, IfErr, OnErr};
 ghost use Rattle.kb_record.specs.Grammar.{TextOf, WordOf};
 ghost use Rattle.kb_record.specs.Nesting.{deepest, text_nesting, word_nesting};
-ghost use Rattle.kb_record.specs.Faults.{HasTextFault};
+ghost use Rattle.kb_record.specs.Faults.{HasTextFault, HasTreeFault};
 ghost use Rattle.kb_record.specs.View.{text_view, word_view};
 
+use crate::cursor::{Cursor, Expected, Mark, Stop};
 use crate::error::RecordError;
-use crate::tree::Rec;
+use crate::lexer::{Lexed, lex};
+use crate::place::syntax_place;
+use crate::token::Lexeme;
+use crate::tree::{Expr, Rec};
+use crate::values::fields;
+use crate::words::word;
 use std::alloc::Global;
+
+/// Brackets in brackets may stand this deep.
+const DEEPEST: usize = 64;
 
 /// Reads a text: a name, `:=` and a record.
 pub fn parse<'a>(alloc: Global, bytes: &'a [u8]) -> Result<Rec<'a>, RecordError>
@@ -16,7 +25,74 @@ pub fn parse<'a>(alloc: Global, bytes: &'a [u8]) -> Result<Rec<'a>, RecordError>
     ensures shallow { IfOk result (λ text. text_nesting (text_view text) ≤ deepest) }
     ensures fault { IfErr result (HasTextFault bytes.now) }
 {
-    let _alloc = alloc;
-    let _len = bytes.len();
-    Err(RecordError::Memory)
+    let lexed = lex(alloc, bytes)?;
+    let mut tokens = Cursor::new(&lexed.lexemes);
+    match whole_text(alloc, &mut tokens, lexed.whole) {
+        Ok(text) => Ok(text),
+        Err(stop) => Err(error_at(bytes, &lexed.lexemes, tokens.left(), stop)),
+    }
 }
+
+/// Reads a word.
+pub fn parse_expr<'a>(alloc: Global, bytes: &'a [u8]) -> Result<Expr<'a>, RecordError>
+    ensures read { IfOk result (λ word. WordOf bytes.now (word_view word)) }
+    ensures shallow { IfOk result (λ word. word_nesting (word_view word) ≤ deepest) }
+    ensures fault { IfErr result (HasTreeFault bytes.now) }
+{
+    let lexed = lex(alloc, bytes)?;
+    let mut tokens = Cursor::new(&lexed.lexemes);
+    match whole_word(alloc, &mut tokens, lexed.whole) {
+        Ok(word) => Ok(word),
+        Err(stop) => Err(error_at(bytes, &lexed.lexemes, tokens.left(), stop)),
+    }
+}
+
+/// The refusal of a text whose reading stops before so many of its last lexemes.
+fn error_at(bytes: &[u8], lexemes: &[Lexeme<'_>], left: usize, stop: Stop) -> RecordError {
+    let good = &lexemes[..lexemes.len().saturating_sub(left)];
+    match stop {
+        Stop::Unexpected(expected) => RecordError::Syntax {
+            at: syntax_place(bytes, good, expected),
+        },
+        Stop::TooDeep => RecordError::TooDeep {
+            at: good.last().map_or(0, |bracket| bracket.start),
+        },
+        Stop::Memory => RecordError::Memory,
+    }
+}
+
+/// Reads a text that goes to the end of the tokens, which are all that the bytes have.
+fn whole_text<'a>(
+    alloc: Global,
+    tokens: &mut Cursor<'_, 'a>,
+    whole: bool,
+) -> Result<Rec<'a>, Stop> {
+    let text = text(alloc, tokens)?;
+    let _semicolon = tokens.take(Mark::Semicolon);
+    tokens.end(whole)?;
+    Ok(text)
+}
+
+/// Reads a name, `:=` and a record.
+fn text<'a>(alloc: Global, tokens: &mut Cursor<'_, 'a>) -> Result<Rec<'a>, Stop> {
+    let name = tokens.name()?;
+    tokens.expect(Mark::Assign, Expected::Assign)?;
+    tokens.expect(Mark::Rec, Expected::Rec)?;
+    tokens.expect(Mark::OpenRound, Expected::Mark)?;
+    let fields = fields(alloc, tokens, DEEPEST)?;
+    Ok(Rec { name, fields })
+}
+
+/// Reads a word that goes to the end of the tokens, which are all that the bytes have.
+fn whole_word<'a>(
+    alloc: Global,
+    tokens: &mut Cursor<'_, 'a>,
+    whole: bool,
+) -> Result<Expr<'a>, Stop> {
+    let factors = word(alloc, tokens, DEEPEST)?;
+    tokens.end(whole)?;
+    Ok(Expr { factors })
+}
+
+#[cfg(test)]
+mod tests;

@@ -1,0 +1,4 @@
+pub mod Depths
+pub mod Marks
+pub mod Rows
+pub mod Views
