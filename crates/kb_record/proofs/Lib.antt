@@ -1,4 +1,11 @@
+pub mod Balanced
 pub mod Depths
+pub mod Finds
+pub mod FoundValues
+pub mod FoundWords
+pub mod Fronts
 pub mod Marks
 pub mod Rows
+pub mod Unique
 pub mod Views
+pub mod Within

@@ -3,6 +3,7 @@
 
 mod cursor;
 mod error;
+mod laws;
 mod lexer;
 mod meaning;
 mod parser;

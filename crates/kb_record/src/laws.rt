@@ -1,0 +1,35 @@
+//! Laws of the grammar.
+
+ghost use Rattle.std.specs.Prelude.{◌≡◌, ◌≤◌, ◌<◌, ◌++◌, ℕ, List, suc};
+ghost use Rattle.kb_record.specs.Token.{Token};
+ghost use Rattle.kb_record.specs.Tree.{Factors, TextTree};
+ghost use Rattle.kb_record.specs.Grammar.{IsText, IsWordText};
+ghost use Rattle.kb_record.specs.Nesting.{deepest, text_nesting, word_nesting, open_behind};
+
+/// No front of a word's tokens has more brackets open than the word nests.
+pub fn fronts_of_words_open_no_more_than_they_nest()
+    ensures { (tokens more : List Token) (factors : Factors) → IsWordText (tokens ++ more) factors
+        → open_behind 0 tokens ≤ word_nesting factors }
+{
+}
+
+/// No front of a text's tokens has more brackets open than the text nests.
+pub fn fronts_of_texts_open_no_more_than_they_nest()
+    ensures { (tokens more : List Token) (text : TextTree) → IsText (tokens ++ more) text
+        → open_behind 0 tokens ≤ text_nesting text }
+{
+}
+
+/// A word's tokens have one tree.
+pub fn tokens_of_a_word_have_one_tree()
+    ensures { (tokens : List Token) (one other : Factors) → IsWordText tokens one → IsWordText tokens other
+        → one ≡ other }
+{
+}
+
+/// A text's tokens have one tree.
+pub fn tokens_of_a_text_have_one_tree()
+    ensures { (tokens : List Token) (one other : TextTree) → IsText tokens one → IsText tokens other
+        → one ≡ other }
+{
+}
