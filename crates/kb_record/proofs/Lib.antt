@@ -3,6 +3,9 @@ pub mod Depths
 pub mod Finds
 pub mod FoundValues
 pub mod FoundWords
+pub mod Forms
+pub mod RowForms
+pub mod WordForms
 pub mod Fronts
 pub mod Marks
 pub mod Rows

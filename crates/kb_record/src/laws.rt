@@ -3,7 +3,8 @@
 ghost use Rattle.std.specs.Prelude.{◌≡◌, ◌≤◌, ◌<◌, ◌++◌, ℕ, List, suc};
 ghost use Rattle.kb_record.specs.Token.{Token};
 ghost use Rattle.kb_record.specs.Tree.{Factors, TextTree};
-ghost use Rattle.kb_record.specs.Grammar.{IsText, IsWordText};
+ghost use Rattle.kb_record.specs.Grammar.{IsText, IsWordText, word_tokens};
+ghost use Rattle.kb_record.specs.Reading.{read, read_word};
 ghost use Rattle.kb_record.specs.Nesting.{deepest, text_nesting, word_nesting, open_behind};
 
 /// No front of a word's tokens has more brackets open than the word nests.
@@ -31,5 +32,11 @@ pub fn tokens_of_a_word_have_one_tree()
 pub fn tokens_of_a_text_have_one_tree()
     ensures { (tokens : List Token) (one other : TextTree) → IsText tokens one → IsText tokens other
         → one ≡ other }
+{
+}
+
+/// Read a word.
+pub fn reading_of_words()
+    ensures { (tokens rest : List Token) (factors : Factors) → read_word deepest tokens ≡ read factors rest → tokens ≡ word_tokens factors ++ rest }
 {
 }
