@@ -10,5 +10,6 @@ pub mod Fronts
 pub mod Marks
 pub mod Rows
 pub mod Unique
+pub mod ValueForms
 pub mod Views
 pub mod Within

@@ -2,9 +2,9 @@
 
 ghost use Rattle.std.specs.Prelude.{◌≡◌, ◌≤◌, ◌<◌, ◌++◌, ℕ, List, suc};
 ghost use Rattle.kb_record.specs.Token.{Token};
-ghost use Rattle.kb_record.specs.Tree.{Factors, TextTree};
-ghost use Rattle.kb_record.specs.Grammar.{IsText, IsWordText, word_tokens};
-ghost use Rattle.kb_record.specs.Reading.{read, read_word};
+ghost use Rattle.kb_record.specs.Tree.{Factors, Value, TextTree};
+ghost use Rattle.kb_record.specs.Grammar.{IsText, IsWordText, word_tokens, value_tokens};
+ghost use Rattle.kb_record.specs.Reading.{read, read_word, read_value};
 ghost use Rattle.kb_record.specs.Nesting.{deepest, text_nesting, word_nesting, open_behind};
 
 /// No front of a word's tokens has more brackets open than the word nests.
@@ -38,5 +38,11 @@ pub fn tokens_of_a_text_have_one_tree()
 /// Read a word.
 pub fn reading_of_words()
     ensures { (tokens rest : List Token) (factors : Factors) → read_word deepest tokens ≡ read factors rest → tokens ≡ word_tokens factors ++ rest }
+{
+}
+
+/// Read a value.
+pub fn reading_of_values()
+    ensures { (tokens rest : List Token) (value : Value) → read_value deepest tokens ≡ read value rest → tokens ≡ value_tokens value ++ rest }
 {
 }
