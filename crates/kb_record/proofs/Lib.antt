@@ -1,4 +1,8 @@
 pub mod Balanced
+pub mod FirstTokens
+pub mod LongestFronts
+pub mod OneToken
+pub mod Values
 pub mod Depths
 pub mod Finds
 pub mod FoundValues
@@ -12,4 +16,5 @@ pub mod Rows
 pub mod Unique
 pub mod ValueForms
 pub mod Views
+pub mod Whole
 pub mod Within

@@ -23,7 +23,7 @@ one_word tokens one other g h =
     both (word_nesting one) (word_nesting one) (word_nesting other) one other [] (read_word (word_nesting one) tokens) (omega arith) (finds_word (word_nesting one) tokens one g) (finds_word (word_nesting one) tokens other h)
 
 -- what stands behind the record of a text
-abbrev TextEnd : List Token → Type 0
+abbrev pub TextEnd : List Token → Type 0
 TextEnd rest = (rest ≡ []) ⊎ (rest ≡ semicolon ∷ [])
 
 finds_text_to : (d : ℕ) (tokens rest : List Token) (text : TextTree) → AreFields text.fields → tokens ≡ name text.title ∷ assign ∷ value_tokens (record_value text.fields) ++ rest

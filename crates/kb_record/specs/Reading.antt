@@ -1,11 +1,14 @@
 -- Reading tokens from the left: the tree that stands first, and the tokens behind it.
-use Rattle.std.specs.Prelude.{◌≡◌, ℕ, zero, suc, ◌+◌, ◌-◌, ℤ, List, [], ◌∷◌, ◌++◌, length, drop, ◌<◌, map, Bool, true, false, if◌then◌else◌, Option, Some, None, Result, Ok, Err}
+use Rattle.std.specs.Prelude.{◌≡◌, ◌≢◌, ◌⊎◌, IsTrue, unwrap_or, ℕ, zero, suc, ◌+◌, ◌-◌, ℤ, List, [], ◌∷◌, ◌++◌, length, drop, ◌<◌, map, Bool, true, false, if◌then◌else◌, Option, Some, None, Result, Ok, Err}
 use Rattle.std.specs.Borrow.{Bor}
 use Rattle.kb_record.specs.Token.{Token, name, number, string, assign, open_round, close_round, open_square, close_square, comma, semicolon, star, caret, dots, rec_word}
 use Rattle.kb_record.specs.Tree.{Factor, named, grouped, Factors, no_factors, factor, Value, number_value, string_value, record_value, list_value, range_value, word_value, Fields, no_fields, field, Places, no_places, place, empty_place, TextTree}
 use Rattle.kb_record.specs.View.{factors_of, places_of, value_view}
 use Rattle.kb_record.specs.Lexemes.{token_view, tokens_view}
 use Rattle.kb_record.specs.declared.tree.Value.{Value as ValueType}
+use Rattle.kb_record.specs.declared.tree.Rec.{Rec as RecType}
+use Rattle.kb_record.specs.declared.error.RecordError.{RecordError}
+use Rattle.kb_record.specs.declared.error.RecordError.TheVariants as errors
 use Rattle.kb_record.specs.declared.token.Token.{Token as TokenType}
 use Rattle.kb_record.specs.declared.cursor.Cursor.{Cursor}
 use Rattle.kb_record.specs.declared.cursor.Mark.{Mark}
@@ -231,9 +234,41 @@ field_view f = (f.0.now, value_view f.1)
 
 -- ---- texts
 
--- the name and the fields of a text, with the tokens behind its record
+-- the name and the fields of a text, and the tokens behind its record
 abbrev pub read_text : ℕ → Parse (List ℕ × List (List ℕ × Value))
-read_text depth tokens = and_then (read_name tokens) (λ title rest.
-    past (behind Assign rest) (λ others.
-        past (behind Rec others) (λ opening.
-            past (behind OpenRound opening) (λ inside. reading_map (λ fields. (title, fields)) (read_fields depth inside)))))
+read_text depth tokens =
+    and_then (read_name tokens) (λ title rest.
+        past (behind Assign rest) (λ others.
+            past (behind Rec others) (λ opening.
+                past (behind OpenRound opening) (λ inside. reading_map (λ fields. (title, fields)) (read_fields depth inside)))))
+
+-- the tokens behind the semicolon that may come
+abbrev pub skip_semicolon : List Token → List Token
+skip_semicolon tokens = unwrap_or (behind Semicolon tokens) tokens
+
+-- a text with its semicolon
+abbrev pub read_ended : ℕ → Parse (List ℕ × List (List ℕ × Value))
+read_ended depth tokens = and_then (read_text depth tokens) (λ text rest. read text (skip_semicolon rest))
+
+abbrev pub rec_view : RecType → List ℕ × List (List ℕ × Value)
+rec_view text = (text.name.now, map field_view text.fields.items)
+
+-- no tree is read, or not up to the end of the tokens
+abbrev pub FallsShort : {A : Type 0} → Reading A → Type 0
+FallsShort (read tree rest) = rest ≢ []
+FallsShort unexpected = Unit {0}
+FallsShort (too_deep rest) = ⊥
+
+-- what the code answers of all tokens, which are those of the whole text or not
+abbrev pub ReadsAll : {A B : Type 0} → Reading A → (B → A) → Bool → Result B Stop → List Token → Type 0
+ReadsAll reading view whole (Ok found) rest = (reading ≡ read (view found) []) × IsTrue whole
+ReadsAll reading view whole (Err (Unexpected expected)) rest = (whole ≡ false) ⊎ FallsShort reading
+ReadsAll reading view whole (Err TooDeep) rest = reading ≡ too_deep rest
+ReadsAll reading view whole (Err Memory) rest = Unit {0}
+
+-- the refusal that says so
+abbrev pub Says : Stop → RecordError → Type 0
+Says (Unexpected expected) (errors.Syntax at) = Unit {0}
+Says TooDeep (errors.TooDeep at) = Unit {0}
+Says Memory errors.Memory = Unit {0}
+Says _ _ = ⊥

@@ -10,7 +10,7 @@ mod parser;
 mod place;
 mod token;
 mod tree;
-mod values;
+mod records;
 mod words;
 
 pub use parser::{parse, parse_expr};

@@ -4,6 +4,7 @@ ghost use Rattle.std.specs.Prelude.{◌≡◌, ◌≤◌, IfOk, IfErr, OnErr};
 ghost use Rattle.kb_record.specs.Grammar.{TextOf, WordOf};
 ghost use Rattle.kb_record.specs.Nesting.{deepest, text_nesting, word_nesting};
 ghost use Rattle.kb_record.specs.Faults.{HasTextFault, HasTreeFault};
+ghost use Rattle.kb_record.specs.Reading.{Reads, ReadsAll, Says, remaining, read_text, read_ended, read_word, rec_view};
 ghost use Rattle.kb_record.specs.View.{text_view, word_view};
 
 use crate::cursor::{Cursor, Expected, Mark, Stop};
@@ -12,7 +13,7 @@ use crate::lexer::{Lexed, lex};
 use crate::place::syntax_place;
 use crate::token::Lexeme;
 use crate::tree::{Expr, Rec};
-use crate::values::fields;
+use crate::records::fields;
 use crate::words::word;
 use std::alloc::Global;
 
@@ -48,7 +49,9 @@ pub fn parse_expr<'a>(alloc: Global, bytes: &'a [u8]) -> Result<Expr<'a>, Record
 }
 
 /// The refusal of a text whose reading stops before so many of its last lexemes.
-fn error_at(bytes: &[u8], lexemes: &[Lexeme<'_>], left: usize, stop: Stop) -> RecordError {
+fn error_at(bytes: &[u8], lexemes: &[Lexeme<'_>], left: usize, stop: Stop) -> RecordError
+    ensures { Says stop result }
+{
     let good = &lexemes[..lexemes.len().saturating_sub(left)];
     match stop {
         Stop::Unexpected(expected) => RecordError::Syntax {
@@ -66,7 +69,9 @@ fn whole_text<'a>(
     alloc: Global,
     tokens: &mut Cursor<'_, 'a>,
     whole: bool,
-) -> Result<Rec<'a>, Stop> {
+) -> Result<Rec<'a>, Stop>
+    ensures { ReadsAll (read_ended deepest (remaining tokens.old)) rec_view whole result (remaining tokens.new) }
+{
     let text = text(alloc, tokens)?;
     let _semicolon = tokens.take(Mark::Semicolon);
     tokens.end(whole)?;
@@ -74,7 +79,9 @@ fn whole_text<'a>(
 }
 
 /// Reads a name, `:=` and a record.
-fn text<'a>(alloc: Global, tokens: &mut Cursor<'_, 'a>) -> Result<Rec<'a>, Stop> {
+fn text<'a>(alloc: Global, tokens: &mut Cursor<'_, 'a>) -> Result<Rec<'a>, Stop>
+    ensures { Reads (read_text deepest (remaining tokens.old)) rec_view result (remaining tokens.new) }
+{
     let name = tokens.name()?;
     tokens.expect(Mark::Assign, Expected::Assign)?;
     tokens.expect(Mark::Rec, Expected::Rec)?;
@@ -88,7 +95,9 @@ fn whole_word<'a>(
     alloc: Global,
     tokens: &mut Cursor<'_, 'a>,
     whole: bool,
-) -> Result<Expr<'a>, Stop> {
+) -> Result<Expr<'a>, Stop>
+    ensures { ReadsAll (read_word deepest (remaining tokens.old)) word_view whole result (remaining tokens.new) }
+{
     let factors = word(alloc, tokens, DEEPEST)?;
     tokens.end(whole)?;
     Ok(Expr { factors })

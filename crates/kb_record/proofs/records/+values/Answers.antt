@@ -9,7 +9,7 @@ use Rattle.kb_record.specs.declared.cursor.Mark.TheVariants.{CloseRound, CloseSq
 use Rattle.kb_record.proofs.Rows.{after_items, fails, turn, last, item_fails, comma_fails, as_answered, map_one_more, comma-shorter}
 use Rattle.kb_record.proofs.Depths.{read_value_is, value-word, value-record, value-list, value-scalar, same_reading}
 use Rattle.kb_record.proofs.Views.{fields_alike, view-Record}
-use Rattle.kb_record.proofs.values.+values.Goals as goal
+use Rattle.kb_record.proofs.records.+values.Goals as goal
 
 pub places-returns-in_err-place-clause-reads : goal.places-returns-in_err-place-clause-reads
 places-returns-in_err-place-clause-reads t c =

@@ -3,7 +3,7 @@ use Rattle.kb_record.specs.Reading.{remaining, passes_comma, joined, read_value,
 use Rattle.kb_record.specs.View.{value_view}
 use Rattle.kb_record.specs.declared.cursor.Mark.TheVariants.{CloseRound, CloseSquare}
 use Rattle.kb_record.proofs.Rows.{after_items}
-use Rattle.kb_record.proofs.values.+values.Given as goal
+use Rattle.kb_record.proofs.records.+values.Given as goal
 
 abbrev pub decreases-value : goal.decreases-value
 decreases-value l = 6 * l.depth + 4
