@@ -167,13 +167,15 @@ field_row : (text : List ℕ) (v : Value) (fs : Fields) (d n : ℕ) (rest : List
     → ((j : ℕ) → HasFields fs → length (field_tokens fs ++ close_round ∷ rest) < j → Finds d (fields_nesting fs) (list_of_fields fs) rest (joined (field_with (read_value d)) (passes_comma CloseRound) j (field_tokens fs ++ close_round ∷ rest)))
     → Finds d (fields_nesting (field text v fs)) (list_of_fields (field text v fs)) rest (joined (field_with (read_value d)) (passes_comma CloseRound) n (name text ∷ assign ∷ (value_tokens v ++ after_field fs rest)))
 field_row text v no_fields d n rest few here more =
-    let item = found_map d (value_nesting v) d (max (value_nesting v) 0) v (text, v) (close_round ∷ rest) (read_value d (value_tokens v ++ close_round ∷ rest)) (λ tree. (text, tree)) (λ x. omega arith) refl here in
+    let item : Finds d (max (value_nesting v) 0) (text, v) (close_round ∷ rest) (field_with (read_value d) (name text ∷ assign ∷ (value_tokens v ++ close_round ∷ rest))) =
+        found_map d (value_nesting v) d (max (value_nesting v) 0) v (text, v) (close_round ∷ rest) (read_value d (value_tokens v ++ close_round ∷ rest)) (λ tree. (text, tree)) (λ x. omega arith) refl here in
     last_found (field_with (read_value d)) (passes_comma CloseRound) d (max (value_nesting v) 0) n (text, v) _ (close_round ∷ rest) rest (omega arith) item refl
 field_row text v (field t w fs) d zero rest few here more = let never : ⊥ = omega arith in absurd never
 field_row text v (field t w fs) d (suc n) rest few here more =
     let others = field_tokens (field t w fs) ++ close_round ∷ rest in
     let fewer : length others < n = omega (arith, length-append (value_tokens v) (comma ∷ others)) in
-    let item = found_map d (value_nesting v) d (value_nesting v) v (text, v) (comma ∷ others) (read_value d (value_tokens v ++ comma ∷ others)) (λ tree. (text, tree)) (λ x. x) refl here in
+    let item : Finds d (value_nesting v) (text, v) (comma ∷ others) (field_with (read_value d) (name text ∷ assign ∷ (value_tokens v ++ comma ∷ others))) =
+        found_map d (value_nesting v) d (value_nesting v) v (text, v) (comma ∷ others) (read_value d (value_tokens v ++ comma ∷ others)) (λ tree. (text, tree)) (λ x. x) refl here in
     more_found (field_with (read_value d)) (passes_comma CloseRound) d (value_nesting v) (fields_nesting (field t w fs)) (fields_nesting (field text v (field t w fs))) n (text, v) (list_of_fields (field t w fs)) _ (comma ∷ others) others rest (omega arith) (omega arith) item refl (more n tt fewer)
 
 -- ---- values

@@ -1,8 +1,4 @@
 pub mod Balanced
-pub mod FirstTokens
-pub mod LongestFronts
-pub mod OneToken
-pub mod Values
 pub mod Depths
 pub mod Finds
 pub mod FoundValues

@@ -116,3 +116,114 @@ word_fault bytes whole lexemes (Unexpected expected) (errors.Syntax at) rest lex
 word_fault bytes whole lexemes TooDeep (errors.TooDeep at) rest lexed h says = word_deep bytes whole lexemes rest lexed h
 word_fault bytes whole lexemes Memory errors.Memory rest lexed h says = tt
 word_fault bytes whole lexemes _ _ rest lexed h says = absurd says
+
+-- ---- texts
+
+abbrev Named : Type 0
+Named = List ℕ × List (List ℕ × Value)
+
+abbrev text_form : Form Named
+text_form = record {
+  spelled = λ (t : Named). name t.0 ∷ assign ∷ rec_word ∷ open_round ∷ (field_tokens (fields_from t.1) ++ close_round ∷ []);
+  Good = λ (t : Named). AreFields (fields_from t.1);
+  nesting = λ (t : Named). suc (fields_nesting (fields_from t.1));
+}
+
+abbrev tree_of : Named → TextTree
+tree_of t = record { title = t.0; fields = fields_from t.1 }
+
+inside_text : (d : ℕ) (title : List ℕ) (tokens inside : List Token) → tokens ≡ name title ∷ assign ∷ rec_word ∷ open_round ∷ inside → Meets text_form d (suc d) tokens (reading_map (λ fields. (title, fields)) (read_fields d inside))
+inside_text d title tokens inside w =
+    meets_in fields_form text_form (name title ∷ assign ∷ rec_word ∷ open_round ∷ []) 1 d d d (suc d) (λ fields. (title, fields)) tokens inside (read_fields d inside)
+    (record {
+      spelled = λ fs good. ap (λ ts. name title ∷ assign ∷ rec_word ∷ open_round ∷ ts) (sym (append-nil (field_tokens (fields_from fs) ++ close_round ∷ [])));
+      good = λ fs good. good;
+      opens = λ o ts. (let e : suc o ≡ o + 1 = omega arith in ap (λ m. open_behind m ts) e);
+    }) (omega arith) w (λ fs le. le) (fields_meets d inside)
+
+opening_text : (d : ℕ) (title : List ℕ) (tokens opening : List Token) (o : Option (List Token)) → behind OpenRound opening ≡ o → tokens ≡ name title ∷ assign ∷ rec_word ∷ opening
+    → Meets text_form d (suc d) tokens (past o (λ inside. reading_map (λ fields. (title, fields)) (read_fields d inside)))
+opening_text d title tokens opening None e w = tt
+opening_text d title tokens opening (Some inside) e w = inside_text d title tokens inside (w ∙ ap (λ ts. name title ∷ assign ∷ rec_word ∷ ts) (behind-is OpenRound opening inside e))
+
+others_text : (d : ℕ) (title : List ℕ) (tokens others : List Token) (o : Option (List Token)) → behind Rec others ≡ o → tokens ≡ name title ∷ assign ∷ others
+    → Meets text_form d (suc d) tokens (past o (λ opening. past (behind OpenRound opening) (λ inside. reading_map (λ fields. (title, fields)) (read_fields d inside))))
+others_text d title tokens others None e w = tt
+others_text d title tokens others (Some opening) e w = opening_text d title tokens opening (behind OpenRound opening) refl (w ∙ ap (λ ts. name title ∷ assign ∷ ts) (behind-is Rec others opening e))
+
+title_text : (d : ℕ) (title : List ℕ) (tokens rest : List Token) (o : Option (List Token)) → behind Assign rest ≡ o → tokens ≡ name title ∷ rest
+    → Meets text_form d (suc d) tokens (past o (λ others. past (behind Rec others) (λ opening. past (behind OpenRound opening) (λ inside. reading_map (λ fields. (title, fields)) (read_fields d inside)))))
+title_text d title tokens rest None e w = tt
+title_text d title tokens rest (Some others) e w = others_text d title tokens others (behind Rec others) refl (w ∙ ap (λ ts. name title ∷ ts) (behind-is Assign rest others e))
+
+text_meets : (d : ℕ) (tokens : List Token) → Meets text_form d (suc d) tokens (read_text d tokens)
+text_meets d (name title ∷ rest) = title_text d title (name title ∷ rest) rest (behind Assign rest) refl refl
+text_meets d [] = tt
+text_meets d (_ ∷ rest) = tt
+
+abbrev rest_of : {A : Type 0} → Reading A → List Token
+rest_of (read tree rest) = rest
+rest_of unexpected = []
+rest_of (too_deep rest) = rest
+
+abbrev tree_or : {A : Type 0} → A → Reading A → A
+tree_or tree (read found rest) = found
+tree_or tree unexpected = tree
+tree_or tree (too_deep rest) = tree
+
+skipped : (rest : List Token) (o : Option (List Token)) → behind Semicolon rest ≡ o → unwrap_or o rest ≡ [] → TextEnd rest
+skipped rest None e f = inl f
+skipped rest (Some left) e f = inr (behind-is Semicolon rest left e ∙ ap (λ ts. semicolon ∷ ts) f)
+
+-- what was read behind a text and its semicolon
+ended : (d : ℕ) (tokens : List Token) (t : Named) (reading : Reading Named) → Meets text_form d (suc d) tokens reading → and_then reading (λ text rest. read text (skip_semicolon rest)) ≡ read t [] → (rest : List Token) × Stands text_form d tokens rest t × TextEnd rest
+ended d tokens t (read found rest) h e =
+    let P : Named → Type 0 = λ x. Stands text_form d tokens rest x in
+    (rest, subst P (ap (tree_or found) e) h, skipped rest (behind Semicolon rest) refl (ap rest_of e))
+ended d tokens t unexpected h e = cc
+ended d tokens t (too_deep rest) h e = cc
+
+is_text : (tokens rest : List Token) (t : Named) → Stands text_form deepest tokens rest t → TextEnd rest → IsText tokens (tree_of t)
+is_text tokens rest t h (inl e) = (h.good, inl (h.whole ∙ ap (λ ts. text_form.spelled t ++ ts) e ∙ append-nil (text_form.spelled t)))
+is_text tokens rest t h (inr e) = (h.good, inr (h.whole ∙ ap (λ ts. text_form.spelled t ++ ts) e))
+
+pub text_read : (bytes : List ℕ) (whole : Bool) (lexemes : List Lexeme) (t : Named) → LexedOf bytes whole lexemes → (read_ended deepest (tokens_view lexemes) ≡ read t []) × IsTrue whole → TextOf bytes (tree_of t)
+text_read bytes whole lexemes t lexed h =
+    let found = ended deepest (tokens_view lexemes) t (read_text deepest (tokens_view lexemes)) (text_meets deepest (tokens_view lexemes)) h.0 in
+    record { tokens = tokens_view lexemes; spelled = lexed.all h.1; formed = is_text (tokens_view lexemes) found.0 t found.1 found.2 }
+
+pub text_shallow : (tokens : List Token) (t : Named) → read_ended deepest tokens ≡ read t [] → text_nesting (tree_of t) ≤ deepest
+text_shallow tokens t e = (ended deepest tokens t (read_text deepest tokens) (text_meets deepest tokens) e).1.shallow
+
+text_short_of : (d n : ℕ) (t : Named) (rest : List Token) (reading : Reading Named) → TextEnd rest → FallsShort (and_then reading (λ text left. read text (skip_semicolon left))) → Finds d n t rest reading → ⊥
+text_short_of d n t rest (read found left) (inl e) short h = short (ap skip_semicolon (h.1 ∙ e))
+text_short_of d n t rest (read found left) (inr e) short h = short (ap skip_semicolon (h.1 ∙ e))
+text_short_of d n t rest unexpected end short h = h
+text_short_of d n t rest (too_deep left) end short h = short
+
+text_short : (bytes : List ℕ) (whole : Bool) (lexemes : List Lexeme) (text : TextTree) → LexedOf bytes whole lexemes → ((whole ≡ false) ⊎ FallsShort (read_ended deepest (tokens_view lexemes))) → TextOf bytes text → ⊥
+text_short bytes whole lexemes text lexed h given =
+    let same = only bytes whole lexemes given.tokens lexed given.spelled in
+    let short = not_whole whole _ (λ e. lexed.none e given.tokens given.spelled) h in
+    let P : List Token → Type 0 = λ ts. IsText ts text in
+    let found = finds_text deepest (tokens_view lexemes) text (subst P same given.formed) in
+    text_short_of deepest (text_nesting text) _ found.0 (read_text deepest (tokens_view lexemes)) found.1 short found.2
+
+deep_inside : (tokens rest : List Token) (reading : Reading Named) → Meets text_form deepest (suc deepest) tokens reading → and_then reading (λ text left. read text (skip_semicolon left)) ≡ too_deep rest → Deepens text_form (suc deepest) tokens rest
+deep_inside tokens rest (read found left) h e = cc
+deep_inside tokens rest unexpected h e = cc
+deep_inside tokens rest (too_deep left) h e = let P : List Token → Type 0 = λ ts. Deepens text_form (suc deepest) tokens ts in subst P (ap rest_of e) h
+
+text_deep : (bytes : List ℕ) (whole : Bool) (lexemes : List Lexeme) (rest : List Token) → LexedOf bytes whole lexemes → read_ended deepest (tokens_view lexemes) ≡ too_deep rest → IsTooDeep (λ tokens. (text : TextTree) × IsText tokens text) bytes
+text_deep bytes whole lexemes rest lexed e =
+    deep (λ tokens. (text : TextTree) × IsText tokens text) text_form bytes whole lexemes rest lexed (λ t good. (tree_of t, (good, inl refl)))
+    (deep_inside (tokens_view lexemes) rest (read_text deepest (tokens_view lexemes)) (text_meets deepest (tokens_view lexemes)) e)
+
+pub text_fault : (bytes : List ℕ) (whole : Bool) (lexemes : List Lexeme) (stop : Stop) (error : RecordError) (rest : List Token) → LexedOf bytes whole lexemes → ReadsAll (read_ended deepest (tokens_view lexemes)) rec_view whole (Err stop) rest → Says stop error → HasTextFault bytes error
+text_fault bytes whole lexemes (Unexpected expected) (errors.Syntax at) rest lexed h says = λ text given. text_short bytes whole lexemes text lexed h given
+text_fault bytes whole lexemes TooDeep (errors.TooDeep at) rest lexed h says = text_deep bytes whole lexemes rest lexed h
+text_fault bytes whole lexemes Memory errors.Memory rest lexed h says = tt
+text_fault bytes whole lexemes _ _ rest lexed h says = absurd says
+
+pub text_alike : (text : RecType) → tree_of (rec_view text) ≡ text_view text
+text_alike text = let make : Fields → TextTree = λ fs. record { title = text.name.now; fields = fs } in ap make (fields_alike text.fields.items)
