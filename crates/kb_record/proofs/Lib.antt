@@ -14,3 +14,9 @@ pub mod ValueForms
 pub mod Views
 pub mod Whole
 pub mod Within
+pub mod FirstTokens
+pub mod LongestFronts
+pub mod Values
+pub mod OneToken
+pub mod Lexings
+pub mod TokenFronts

@@ -2,7 +2,7 @@
 use Rattle.std.specs.Prelude.{◌≡◌, ℕ, ◌≤◌, List, Option, Result, Ok, Err}
 use Rattle.kb_record.specs.Tree.{Factors, TextTree}
 use Rattle.kb_record.specs.Grammar.{IsText, IsWordText, TextOf, WordOf}
-use Rattle.kb_record.specs.Nesting.{deepest, text_nesting, word_nesting, IsTooDeep}
+use Rattle.kb_record.specs.Nesting.{deepest, word_nesting, IsTooDeep}
 use Rattle.kb_record.specs.Meaning.{WordFault, unknown_generator, no_inverse, too_long, word_meaning}
 use Rattle.kb_record.specs.declared.error.RecordError.{RecordError}
 use Rattle.kb_record.specs.declared.error.RecordError.TheVariants as record_errors

@@ -15,4 +15,5 @@ mod words;
 
 pub use parser::{parse, parse_expr};
 pub use error::{RecordError, WordError};
+pub use parser::parse;
 pub use tree::{Expr, Factor, Rec, Value};

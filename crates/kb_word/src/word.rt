@@ -1,7 +1,7 @@
 //! Words, and their shortlex order.
 
-ghost use Rattle.std.specs.Prelude.{◌≡◌, ◌↔◌, ◌<◌, ◌≤◌, ◌^◌, [], ◌∷◌, ◌++◌, IsTrue, IfOk, OnOk, OnErr, IfSome, IfNone, IsNone, length, All, take};
-ghost use Rattle.kb_word.specs.Words.{Less, StandsAt, IsFactor};
+ghost use Rattle.std.specs.Prelude.{◌≡◌, ◌↔◌, ◌<◌, ◌≤◌, ◌^◌, [], ◌∷◌, ◌++◌, IsTrue, IfOk, OnOk, OnErr, IfSome, IfNone, IsNone, length, All, take, reverse};
+ghost use Rattle.kb_word.specs.Words.{EndsWith};
 
 use crate::letter::Letter;
 use crate::memory::Memory;
@@ -9,7 +9,7 @@ use std::alloc::Global;
 use std::marker::Model;
 
 /// A word: its letters from left to right. The empty word is printed `IdWord`.
-#[derive(Drop)]
+#[derive(Debug, Drop)]
 pub struct Word {
     letters: Vec<Letter>,
 }
@@ -96,6 +96,20 @@ impl Word {
         ensures { self.new ≡ take len self.old }
     {
         self.letters.truncate(len);
+    }
+
+    /// Turns the order of the letters round.
+    pub fn reverse(&mut self)
+        ensures { self.new ≡ reverse self.old }
+    {
+        self.letters.reverse();
+    }
+
+    /// Whether the word ends with these letters. Every word ends with the empty word.
+    pub fn ends_with(&self, suffix: &Word) -> bool
+        ensures { IsTrue result ↔ EndsWith self.now suffix.now }
+    {
+        self.letters().ends_with(suffix.letters())
     }
 
     /// A word of the same letters.
