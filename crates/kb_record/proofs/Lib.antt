@@ -20,3 +20,4 @@ pub mod Values
 pub mod OneToken
 pub mod Lexings
 pub mod TokenFronts
+pub mod Shallow

@@ -1,48 +1,35 @@
-//! Laws of the grammar.
+//! Laws of the grammar: trees are unique, and no text is both read and refused.
 
-ghost use Rattle.std.specs.Prelude.{◌≡◌, ◌≤◌, ◌<◌, ◌++◌, ℕ, List, suc};
+ghost use Rattle.std.specs.Prelude.{◌≡◌, ◌≤◌, ℕ, List};
 ghost use Rattle.kb_record.specs.Token.{Token};
-ghost use Rattle.kb_record.specs.Tree.{Factors, Value, TextTree};
-ghost use Rattle.kb_record.specs.Grammar.{IsText, IsWordText, word_tokens, value_tokens};
-ghost use Rattle.kb_record.specs.Reading.{read, read_word, read_value};
-ghost use Rattle.kb_record.specs.Nesting.{deepest, text_nesting, word_nesting, open_behind};
+ghost use Rattle.kb_record.specs.Tree.{Factors, TextTree};
+ghost use Rattle.kb_record.specs.Grammar.{IsText, IsWordText, TextOf, WordOf};
+ghost use Rattle.kb_record.specs.Nesting.{deepest, text_nesting, word_nesting, IsTooDeep};
 
-/// No front of a word's tokens has more brackets open than the word nests.
-pub fn fronts_of_words_open_no_more_than_they_nest()
-    ensures { (tokens more : List Token) (factors : Factors) → IsWordText (tokens ++ more) factors
-        → open_behind 0 tokens ≤ word_nesting factors }
-{
-}
-
-/// No front of a text's tokens has more brackets open than the text nests.
-pub fn fronts_of_texts_open_no_more_than_they_nest()
-    ensures { (tokens more : List Token) (text : TextTree) → IsText (tokens ++ more) text
-        → open_behind 0 tokens ≤ text_nesting text }
-{
-}
-
-/// A word's tokens have one tree.
-pub fn tokens_of_a_word_have_one_tree()
-    ensures { (tokens : List Token) (one other : Factors) → IsWordText tokens one → IsWordText tokens other
+/// Bytes are a text in one way at most.
+pub fn a_text_has_one_tree()
+    ensures { (bytes : List ℕ) (one other : TextTree) → TextOf bytes one → TextOf bytes other
         → one ≡ other }
 {
 }
 
-/// A text's tokens have one tree.
-pub fn tokens_of_a_text_have_one_tree()
-    ensures { (tokens : List Token) (one other : TextTree) → IsText tokens one → IsText tokens other
+/// Bytes are a word in one way at most.
+pub fn a_word_has_one_tree()
+    ensures { (bytes : List ℕ) (one other : Factors) → WordOf bytes one → WordOf bytes other
         → one ≡ other }
 {
 }
 
-/// Read a word.
-pub fn reading_of_words()
-    ensures { (tokens rest : List Token) (factors : Factors) → read_word deepest tokens ≡ read factors rest → tokens ≡ word_tokens factors ++ rest }
+/// A text that nests as deep as it may has no front with too many brackets open.
+pub fn a_shallow_text_is_not_too_deep()
+    ensures { (bytes : List ℕ) (text : TextTree) → TextOf bytes text → text_nesting text ≤ deepest
+        → ¬ IsTooDeep (λ tokens. (other : TextTree) × IsText tokens other) bytes }
 {
 }
 
-/// Read a value.
-pub fn reading_of_values()
-    ensures { (tokens rest : List Token) (value : Value) → read_value deepest tokens ≡ read value rest → tokens ≡ value_tokens value ++ rest }
+/// A word that nests as deep as it may has no front with too many brackets open.
+pub fn a_shallow_word_is_not_too_deep()
+    ensures { (bytes : List ℕ) (factors : Factors) → WordOf bytes factors → word_nesting factors ≤ deepest
+        → ¬ IsTooDeep (λ tokens. (other : Factors) × IsWordText tokens other) bytes }
 {
 }

@@ -8,12 +8,15 @@ mod lexer;
 mod meaning;
 mod parser;
 mod place;
+mod records;
 mod token;
 mod tree;
-mod records;
 mod words;
 
-pub use parser::{parse, parse_expr};
 pub use error::{RecordError, WordError};
-pub use parser::parse;
+pub use laws::{
+    a_shallow_text_is_not_too_deep, a_shallow_word_is_not_too_deep, a_text_has_one_tree,
+    a_word_has_one_tree,
+};
+pub use parser::{parse, parse_expr};
 pub use tree::{Expr, Factor, Rec, Value};
