@@ -1,8 +1,8 @@
 -- What a reading tells of the tokens: the tree that it gives has them, and a bracket that is too deep stands in a front of some tree's tokens.
-use Rattle.std.proofs.Common.{◌≡◌, ℕ, zero, suc, ◌+◌, ◌≤◌, List, [], ◌∷◌, ◌++◌, Option, Some, None, refl, sym, ap, ◌∙◌, subst, arith, append_assoc, append-nil}
+use Rattle.std.proofs.Common.{◌≡◌, ℕ, ◌+◌, ◌≤◌, List, [], ◌++◌, refl, sym, ap, ◌∙◌, subst, arith, append_assoc, append-nil}
 use Rattle.kb_record.specs.Token.{Token}
 use Rattle.kb_record.specs.Nesting.{open_behind}
-use Rattle.kb_record.specs.Reading.{Reading, read, unexpected, too_deep, Parse, and_then, reading_map}
+use Rattle.kb_record.specs.Reading.{Reading, read, unexpected, too_deep, reading_map}
 
 -- how trees of a kind are written, which of them there are, and how deep they nest
 pub record Form (A : Type 0) : Type 1 where

@@ -1,15 +1,15 @@
 -- The tokens of a value are read as that value, unless it nests too deep.
-use Rattle.std.proofs.Common.{◌≡◌, ℕ, zero, suc, ◌+◌, ◌<◌, ◌≤◌, max, ℤ, List, [], ◌∷◌, ◌++◌, length, Bool, true, false, if◌then◌else◌, Option, Some, None, refl, sym, ap, ◌∙◌, subst, arith, append_assoc, append-nil}
+use Rattle.std.proofs.Common.{◌≡◌, ℕ, zero, suc, ◌<◌, ◌≤◌, max, ℤ, List, [], ◌∷◌, ◌++◌, length, true, false, if◌then◌else◌, Option, Some, None, refl, ap, ◌∙◌, arith, append_assoc}
 use Rattle.std.proofs.lemmas.List.{length-append}
-use Rattle.kb_record.specs.Token.{Token, name, number, string, assign, open_round, close_round, open_square, close_square, comma, dots, rec_word}
-use Rattle.kb_record.specs.Tree.{Factor, named, grouped, Factors, no_factors, factor, Value, number_value, string_value, record_value, list_value, range_value, word_value, Fields, no_fields, field, Places, no_places, place, empty_place}
+use Rattle.kb_record.specs.Token.{Token, name, number, assign, close_round, close_square, comma, dots}
+use Rattle.kb_record.specs.Tree.{named, grouped, Factors, no_factors, factor, Value, number_value, string_value, record_value, list_value, range_value, word_value, Fields, no_fields, field, Places, no_places, place, empty_place}
 use Rattle.kb_record.specs.Grammar.{word_tokens, value_tokens, field_tokens, more_fields, place_tokens, more_places, IsWord, IsValue, AreFields, ArePlaces, IsPlaceList}
 use Rattle.kb_record.specs.Nesting.{word_nesting, value_nesting, fields_nesting, places_nesting}
 use Rattle.kb_record.specs.View.{places_of}
-use Rattle.kb_record.specs.Reading.{Reading, read, unexpected, too_deep, Parse, and_then, reading_map, joined, row, behind, passes_comma, begin_range, ends_place, begins_word, place_with, field_with, fields_from, read_value, read_list, read_fields, read_record, list_with, list_behind, fields_with, read_word}
+use Rattle.kb_record.specs.Reading.{Reading, read, unexpected, too_deep, reading_map, joined, row, behind, passes_comma, begin_range, ends_place, begins_word, place_with, field_with, fields_from, read_value, read_list, read_fields, list_with, list_behind, read_word}
 use Rattle.kb_record.specs.declared.cursor.Mark.TheVariants.{CloseRound, CloseSquare, Dots}
 use Rattle.kb_record.proofs.Depths.{read_value_is, value-word}
-use Rattle.kb_record.proofs.Finds.{Finds, found_as, found_then, found_map, last_found, more_found}
+use Rattle.kb_record.proofs.Finds.{Finds, found_as, found_map, last_found, more_found}
 use Rattle.kb_record.proofs.FoundWords.{Ends, word_found}
 
 -- ---- how values begin
@@ -118,7 +118,7 @@ place_row : (p : Option Value) (spelled : List Token) (m k : ℕ) (ps : Places) 
     → Finds d k (p ∷ list_of_places ps) rest (joined (place_with (read_value d)) (passes_comma CloseSquare) n (spelled ++ after_place ps rest))
 place_row p spelled m k no_places d n rest good le le' few here more =
     let widened : Finds d k (p ∷ []) rest (joined (place_with (read_value d)) (passes_comma CloseSquare) n (spelled ++ close_square ∷ rest)) =
-        widen d m k (p ∷ []) rest _ le (last_found (place_with (read_value d)) (passes_comma CloseSquare) d m n p (spelled ++ close_square ∷ rest) (close_square ∷ rest) rest (omega arith) here refl) in
+    widen d m k (p ∷ []) rest _ le (last_found (place_with (read_value d)) (passes_comma CloseSquare) d m n p (spelled ++ close_square ∷ rest) (close_square ∷ rest) rest (omega arith) here refl) in
     widened
 place_row p spelled m k (place v ps) d zero rest good le le' few here more = let never : ⊥ = omega arith in absurd never
 place_row p spelled m k (place v ps) d (suc n) rest good le le' few here more =
@@ -168,14 +168,14 @@ field_row : (text : List ℕ) (v : Value) (fs : Fields) (d n : ℕ) (rest : List
     → Finds d (fields_nesting (field text v fs)) (list_of_fields (field text v fs)) rest (joined (field_with (read_value d)) (passes_comma CloseRound) n (name text ∷ assign ∷ (value_tokens v ++ after_field fs rest)))
 field_row text v no_fields d n rest few here more =
     let item : Finds d (max (value_nesting v) 0) (text, v) (close_round ∷ rest) (field_with (read_value d) (name text ∷ assign ∷ (value_tokens v ++ close_round ∷ rest))) =
-        found_map d (value_nesting v) d (max (value_nesting v) 0) v (text, v) (close_round ∷ rest) (read_value d (value_tokens v ++ close_round ∷ rest)) (λ tree. (text, tree)) (λ x. omega arith) refl here in
+    found_map d (value_nesting v) d (max (value_nesting v) 0) v (text, v) (close_round ∷ rest) (read_value d (value_tokens v ++ close_round ∷ rest)) (λ tree. (text, tree)) (λ x. omega arith) refl here in
     last_found (field_with (read_value d)) (passes_comma CloseRound) d (max (value_nesting v) 0) n (text, v) _ (close_round ∷ rest) rest (omega arith) item refl
 field_row text v (field t w fs) d zero rest few here more = let never : ⊥ = omega arith in absurd never
 field_row text v (field t w fs) d (suc n) rest few here more =
     let others = field_tokens (field t w fs) ++ close_round ∷ rest in
     let fewer : length others < n = omega (arith, length-append (value_tokens v) (comma ∷ others)) in
     let item : Finds d (value_nesting v) (text, v) (comma ∷ others) (field_with (read_value d) (name text ∷ assign ∷ (value_tokens v ++ comma ∷ others))) =
-        found_map d (value_nesting v) d (value_nesting v) v (text, v) (comma ∷ others) (read_value d (value_tokens v ++ comma ∷ others)) (λ tree. (text, tree)) (λ x. x) refl here in
+    found_map d (value_nesting v) d (value_nesting v) v (text, v) (comma ∷ others) (read_value d (value_tokens v ++ comma ∷ others)) (λ tree. (text, tree)) (λ x. x) refl here in
     more_found (field_with (read_value d)) (passes_comma CloseRound) d (value_nesting v) (fields_nesting (field t w fs)) (fields_nesting (field text v (field t w fs))) n (text, v) (list_of_fields (field t w fs)) _ (comma ∷ others) others rest (omega arith) (omega arith) item refl (more n tt fewer)
 
 -- ---- values

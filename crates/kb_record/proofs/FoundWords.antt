@@ -1,12 +1,12 @@
 -- The tokens of a word are read as that word, unless it nests too deep.
-use Rattle.std.proofs.Common.{◌≡◌, ℕ, zero, suc, ◌+◌, ◌<◌, ◌≤◌, max, ℤ, List, [], ◌∷◌, ◌++◌, length, Bool, true, false, Option, Some, None, refl, sym, ap, ◌∙◌, subst, arith, append_assoc, append-nil}
+use Rattle.std.proofs.Common.{◌≡◌, ℕ, zero, suc, ◌<◌, max, ℤ, List, [], ◌∷◌, ◌++◌, length, Option, Some, None, refl, ap, subst, arith, append_assoc, append-nil}
 use Rattle.std.proofs.lemmas.List.{length-append}
-use Rattle.kb_record.specs.Token.{Token, name, close_round, star}
+use Rattle.kb_record.specs.Token.{Token, close_round, star}
 use Rattle.kb_record.specs.Tree.{Factor, named, grouped, Factors, no_factors, factor}
-use Rattle.kb_record.specs.Grammar.{power_tokens, word_tokens, factor_tokens, more_factors, IsWord, IsFactorTree, AreFactorTrees}
+use Rattle.kb_record.specs.Grammar.{power_tokens, word_tokens, factor_tokens, IsWord, IsFactorTree, AreFactorTrees}
 use Rattle.kb_record.specs.Nesting.{word_nesting, factor_nesting}
 use Rattle.kb_record.specs.View.{factors_of}
-use Rattle.kb_record.specs.Reading.{Reading, read, Parse, and_then, reading_map, joined, row, behind, past, passes, passes_to, power_behind, read_power, read_factor, read_group, read_word}
+use Rattle.kb_record.specs.Reading.{read, reading_map, joined, row, behind, past, passes, passes_to, power_behind, read_power, read_factor, read_group, read_word}
 use Rattle.kb_record.specs.declared.cursor.Mark.TheVariants.{Star, Caret, CloseRound}
 use Rattle.kb_record.proofs.Depths.{read_word_is}
 use Rattle.kb_record.proofs.Finds.{Finds, found_as, found_then, found_map, last_found, more_found}
@@ -49,8 +49,8 @@ row_found : (f : Factor) (others : Factors) (d n : ℕ) (rest : List Token) → 
     → Finds d (word_nesting (factor f others)) (list_of (factor f others)) rest (joined (read_factor d) (passes Star) n (word_tokens (factor f others) ++ rest))
 row_found f no_factors d n rest ends good few first more =
     let here : Finds d (max (factor_nesting f) 0) f rest (read_factor d ((factor_tokens f ++ []) ++ rest)) =
-        found_as d _ f rest _ _ (ap (λ ts. read_factor d (ts ++ rest)) (append-nil (factor_tokens f)))
-        (let P : ℕ → Type 0 = λ k. Finds d k f rest (read_factor d (factor_tokens f ++ rest)) in let same : factor_nesting f ≡ max (factor_nesting f) 0 = omega arith in subst P same (first rest ends.no_power)) in
+    found_as d _ f rest _ _ (ap (λ ts. read_factor d (ts ++ rest)) (append-nil (factor_tokens f)))
+    (let P : ℕ → Type 0 = λ k. Finds d k f rest (read_factor d (factor_tokens f ++ rest)) in let same : factor_nesting f ≡ max (factor_nesting f) 0 = omega arith in subst P same (first rest ends.no_power)) in
     last_found (read_factor d) (passes Star) d (max (factor_nesting f) 0) n f ((factor_tokens f ++ []) ++ rest) rest rest (omega arith) here (ap (passes_to rest) ends.no_star)
 row_found f (factor g gs) d zero rest ends good few first more = let never : ⊥ = omega arith in absurd never
 row_found f (factor g gs) d (suc n) rest ends good few first more =

@@ -1,11 +1,10 @@
 -- Fronts of words and texts.
-use Rattle.std.proofs.Common.{◌≡◌, ℕ, suc, ◌+◌, ◌≤◌, List, [], ◌∷◌, ◌++◌, refl, sym, ◌∙◌, subst, arith, append-nil, ⊎_elim}
-use Rattle.kb_record.specs.Token.{Token, name, assign, semicolon}
+use Rattle.std.proofs.Common.{◌≡◌, ℕ, ◌≤◌, List, [], ◌∷◌, ◌++◌, sym, ◌∙◌, subst, arith, append-nil, ⊎_elim}
+use Rattle.kb_record.specs.Token.{Token, semicolon}
 use Rattle.kb_record.specs.Tree.{Factors, TextTree, record_value}
-use Rattle.kb_record.specs.Grammar.{IsText, IsWordText, word_tokens, value_tokens}
+use Rattle.kb_record.specs.Grammar.{IsText, IsWordText, word_tokens}
 use Rattle.kb_record.specs.Nesting.{open_behind, word_nesting, text_nesting}
 use Rattle.kb_record.proofs.Within.{Within, front_within, word_within, value_within}
-use Rattle.kb_record.proofs.Balanced.{word_balanced, value_balanced}
 
 along : (m : ℕ) (a b : List Token) → a ≡ b → Within m 0 b → Within m 0 a
 along m a b e h = let P : List Token → Type 0 = λ ts. Within m 0 ts in subst P (sym e) h

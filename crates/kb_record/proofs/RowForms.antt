@@ -1,9 +1,9 @@
 -- Rows of items: what is read is a row, and a bracket that is too deep stands in a front of some row.
-use Rattle.std.proofs.Common.{◌≡◌, ℕ, zero, suc, ◌+◌, ◌≤◌, max, List, [], ◌∷◌, ◌++◌, length, Bool, true, false, if◌then◌else◌, refl, sym, ap, ◌∙◌, subst, arith, append_assoc, append-nil}
+use Rattle.std.proofs.Common.{◌≡◌, ℕ, zero, suc, ◌+◌, max, List, [], ◌∷◌, ◌++◌, length, Bool, true, false, if◌then◌else◌, refl, sym, ap, ◌∙◌, arith, append_assoc, append-nil}
 use Rattle.kb_record.specs.Token.{Token}
 use Rattle.kb_record.specs.Nesting.{open_behind}
 use Rattle.kb_record.specs.Reading.{Reading, read, unexpected, too_deep, Parse, and_then, reading_map, joined, row}
-use Rattle.kb_record.proofs.Forms.{Form, Stands, Deepens, Meets, Embeds, deepen, meets_as}
+use Rattle.kb_record.proofs.Forms.{Form, Stands, Meets, deepen}
 
 -- what is passed between the items and behind the last one
 abbrev pub Turns : Token → List Token → List Token → Reading Bool → Type 0
@@ -47,7 +47,6 @@ module _ {A : Type 0} (F : Form A) (between : Token) (closing : List Token) wher
   module _ (item : Parse A) (goes_on : Parse Bool) (d k : ℕ)
       (item_meets : (tokens : List Token) → Meets F d k tokens (item tokens)) (turns : (tokens : List Token) → Turns between closing tokens (goes_on tokens))
       (balanced : (tree : A) (o : ℕ) (tokens : List Token) → open_behind o (F.spelled tree ++ tokens) ≡ open_behind o tokens) (flat : (o : ℕ) (tokens : List Token) → open_behind o (between ∷ tokens) ≡ open_behind o tokens) where
-
     more_to : (x : A) (tokens rest others : List Token) (reading : Reading (List A)) → Stands F d tokens rest x → rest ≡ between ∷ others → Meets row_form d k others reading → Meets row_form d k tokens (reading_map (λ items. x ∷ items) reading)
     more_to x tokens rest others (read xs left) first e h = record {
       whole =

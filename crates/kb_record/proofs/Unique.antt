@@ -1,5 +1,5 @@
 -- Tokens have one tree.
-use Rattle.std.proofs.Common.{◌≡◌, ℕ, ◌+◌, ◌<◌, ◌≤◌, max, List, [], ◌∷◌, ◌++◌, ◌⊎◌, inl, inr, ⊎_elim, refl, sym, ap, ◌∙◌, subst, arith, append-nil, append_assoc}
+use Rattle.std.proofs.Common.{◌≡◌, ℕ, ◌≤◌, max, List, [], ◌∷◌, ◌++◌, ◌⊎◌, inl, inr, ⊎_elim, refl, sym, ap, ◌∙◌, arith, append-nil, append_assoc}
 use Rattle.kb_record.specs.Token.{Token, name, assign, semicolon, rec_word, open_round, close_round}
 use Rattle.kb_record.specs.Tree.{Factors, Value, Fields, TextTree, record_value}
 use Rattle.kb_record.specs.Grammar.{IsText, IsWordText, AreFields, word_tokens, value_tokens, field_tokens}
@@ -7,7 +7,7 @@ use Rattle.kb_record.specs.Nesting.{word_nesting, text_nesting}
 use Rattle.kb_record.specs.Reading.{Reading, read, unexpected, too_deep, read_word, read_text, read_fields, fields_from}
 use Rattle.kb_record.proofs.Finds.{Finds, found_as, found_map}
 use Rattle.kb_record.proofs.FoundValues.{fields_found, list_of_fields, list_of_fields-is}
-use Rattle.kb_record.proofs.FoundWords.{word_found, Ends}
+use Rattle.kb_record.proofs.FoundWords.{word_found}
 
 both : {A : Type 0} (d n m : ℕ) (a b : A) (rest : List Token) (reading : Reading A) → n ≤ d → Finds d n a rest reading → Finds d m b rest reading → a ≡ b
 both d n m a b rest (read found left) le h k = sym h.0 ∙ k.0

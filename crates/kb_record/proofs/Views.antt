@@ -1,8 +1,8 @@
 -- The views of values, a level at a time.
-use Rattle.std.proofs.Common.{◌≡◌, ℕ, List, [], ◌∷◌, map, option_map, refl, ap, ◌∙◌, rules, Vec, Global}
+use Rattle.std.proofs.Common.{◌≡◌, ℕ, List, [], ◌∷◌, map, refl, ap, rules, Vec, Global}
 use Rattle.std.specs.Borrow.{Bor}
-use Rattle.kb_record.specs.Tree.{Fields, field, Value as ValueTree, record_value, list_value}
-use Rattle.kb_record.specs.View.{value_view, fields_of, places_of}
+use Rattle.kb_record.specs.Tree.{field, record_value}
+use Rattle.kb_record.specs.View.{value_view, fields_of}
 use Rattle.kb_record.specs.Reading.{fields_from, field_view}
 use Rattle.kb_record.specs.declared.tree.Value.{Value, Record, the_lemmas}
 

@@ -1,20 +1,19 @@
 -- From what the tokens say to what the bytes say.
-use Rattle.std.proofs.Common.{◌≡◌, ◌≢◌, ℕ, zero, suc, ◌+◌, ◌-◌, ◌<◌, ◌≤◌, List, [], ◌∷◌, ◌++◌, map, length, take, drop, get_or, Bool, true, false, Option, Some, None, Result, Ok, Err, ◌⊎◌, inl, inr, ⊎_elim, refl, sym, ap, ◌∙◌, subst, arith, append_assoc, append-nil}
+use Rattle.std.proofs.Common.{◌≡◌, ℕ, suc, ◌+◌, ◌-◌, ◌<◌, ◌≤◌, List, [], ◌∷◌, ◌++◌, length, take, drop, get_or, Bool, true, false, Option, Some, None, Err, ◌⊎◌, inl, inr, refl, sym, ap, ◌∙◌, subst, arith, append-nil}
 use Rattle.std.specs.Prelude.{slice_get, IsTrue, unwrap_or}
 use Rattle.std.proofs.lemmas.List.{take-map, take-append-drop, length-append, length-map}
 use Rattle.std.proofs.lemmas.Option.{slice_get-get_or}
 use Rattle.std.proofs.Math.Seq.{take-append_seam}
 use Rattle.kb_record.specs.Token.{Token, name, assign, semicolon, rec_word, open_round, close_round}
 use Rattle.kb_record.specs.Spelling.{TokensOf}
-use Rattle.kb_record.specs.Tree.{Factors, Value, Fields, TextTree, record_value}
-use Rattle.kb_record.specs.Grammar.{IsText, IsWordText, TextOf, WordOf, AreFields, word_tokens, value_tokens, field_tokens}
+use Rattle.kb_record.specs.Tree.{Factors, Value, Fields, TextTree}
+use Rattle.kb_record.specs.Grammar.{IsText, IsWordText, TextOf, WordOf, AreFields, word_tokens, field_tokens}
 use Rattle.kb_record.specs.Nesting.{deepest, open_behind, word_nesting, text_nesting, fields_nesting, IsTooDeep}
 use Rattle.kb_record.specs.Faults.{HasTextFault, HasTreeFault}
 use Rattle.kb_record.specs.View.{word_view, text_view}
 use Rattle.kb_record.specs.Lexemes.{token_view, tokens_view}
-use Rattle.kb_record.specs.Reading.{Reading, read, unexpected, too_deep, Parse, and_then, reading_map, behind, past, read_name, read_word, read_text, read_ended, read_fields, skip_semicolon, rec_view, fields_from, FallsShort, ReadsAll, Says}
+use Rattle.kb_record.specs.Reading.{Reading, read, unexpected, too_deep, and_then, reading_map, behind, past, read_word, read_text, read_ended, read_fields, skip_semicolon, rec_view, fields_from, FallsShort, ReadsAll, Says}
 use Rattle.kb_record.specs.declared.token.Lexeme.{Lexeme}
-use Rattle.kb_record.specs.declared.tree.Expr.{Expr}
 use Rattle.kb_record.specs.declared.tree.Rec.{Rec as RecType}
 use Rattle.kb_record.specs.declared.cursor.Mark.TheVariants.{Assign, OpenRound, Rec, Semicolon}
 use Rattle.kb_record.specs.declared.cursor.Stop.{Stop}
@@ -22,7 +21,7 @@ use Rattle.kb_record.specs.declared.cursor.Stop.TheVariants.{Unexpected, TooDeep
 use Rattle.kb_record.specs.declared.error.RecordError.{RecordError}
 use Rattle.kb_record.specs.declared.error.RecordError.TheVariants as errors
 use Rattle.kb_record.proofs.Marks.{behind-is}
-use Rattle.kb_record.proofs.Forms.{Form, Stands, Deepens, Meets, deepen, stand, Embeds, meets_in}
+use Rattle.kb_record.proofs.Forms.{Form, Stands, Deepens, Meets, meets_in}
 use Rattle.kb_record.proofs.WordForms.{word_form, word_meets}
 use Rattle.kb_record.proofs.ValueForms.{fields_form, fields_meets}
 use Rattle.kb_record.proofs.Finds.{Finds}

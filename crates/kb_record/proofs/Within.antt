@@ -1,6 +1,6 @@
 -- No front of a tree's tokens has more brackets open than the tree nests.
-use Rattle.std.proofs.Common.{◌≡◌, ℕ, suc, ◌+◌, ◌-◌, ◌≤◌, max, ℤ, List, [], ◌∷◌, ◌++◌, Option, Some, None, refl, sym, ap, ◌∙◌, subst, arith, append_assoc}
-use Rattle.kb_record.specs.Token.{Token, name, number, string, assign, open_round, close_round, open_square, close_square, comma, semicolon, star, caret, dots, rec_word}
+use Rattle.std.proofs.Common.{◌≡◌, ℕ, suc, ◌+◌, ◌-◌, ◌≤◌, ℤ, List, [], ◌∷◌, ◌++◌, Option, Some, None, refl, sym, subst, arith, append_assoc}
+use Rattle.kb_record.specs.Token.{Token, open_round, close_round, open_square, close_square}
 use Rattle.kb_record.specs.Tree.{Factor, named, grouped, Factors, no_factors, factor, Value, number_value, string_value, record_value, list_value, range_value, word_value, Fields, no_fields, field, Places, no_places, place, empty_place}
 use Rattle.kb_record.specs.Grammar.{power_tokens, word_tokens, factor_tokens, more_factors, value_tokens, field_tokens, more_fields, place_tokens, more_places}
 use Rattle.kb_record.specs.Nesting.{open_behind, word_nesting, factor_nesting, value_nesting, fields_nesting, places_nesting}
@@ -54,7 +54,7 @@ mutual
       let le : o ≤ m = omega arith in (
         le,
         along m (suc o) _ _ (append_assoc (word_tokens fs) (close_round ∷ power_tokens power) ts)
-        (word_within fs m (suc o) (close_round ∷ power_tokens power ++ ts) (omega arith) (omega arith, closes m o (power_tokens power ++ ts) (power_within power m o ts le w))),
+            (word_within fs m (suc o) (close_round ∷ power_tokens power ++ ts) (omega arith) (omega arith, closes m o (power_tokens power ++ ts) (power_within power m o ts le w))),
       )
 
   more_within : (fs : Factors) (m o : ℕ) (ts : List Token) → o + word_nesting fs ≤ m → Within m o ts → Within m o (more_factors fs ++ ts)

@@ -1,5 +1,5 @@
 -- What reading a word tells of the tokens.
-use Rattle.std.proofs.Common.{◌≡◌, ℕ, zero, suc, ◌+◌, ◌≤◌, max, ℤ, List, [], ◌∷◌, ◌++◌, Option, Some, None, refl, sym, ap, ◌∙◌, subst, arith, append_assoc, append-nil}
+use Rattle.std.proofs.Common.{◌≡◌, ℕ, zero, suc, ◌+◌, ◌≤◌, max, ℤ, List, [], ◌∷◌, ◌++◌, Option, Some, None, refl, sym, ap, ◌∙◌, arith, append_assoc, append-nil}
 use Rattle.kb_record.specs.Token.{Token, name, number, star, caret, open_round, close_round}
 use Rattle.kb_record.specs.Tree.{Factor, named, grouped, Factors, no_factors, factor}
 use Rattle.kb_record.specs.Grammar.{power_tokens, word_tokens, factor_tokens, more_factors, IsWord, IsFactorTree, AreFactorTrees}
@@ -10,7 +10,7 @@ use Rattle.kb_record.specs.declared.cursor.Mark.TheVariants.{Star, Caret, OpenRo
 use Rattle.kb_record.proofs.Marks.{behind-is}
 use Rattle.kb_record.proofs.Depths.{read_word_is}
 use Rattle.kb_record.proofs.Balanced.{factor_balanced}
-use Rattle.kb_record.proofs.Forms.{Form, Stands, Deepens, Meets, Embeds, deepen, meets_as, meets_in}
+use Rattle.kb_record.proofs.Forms.{Form, Stands, Meets, deepen, meets_as, meets_in}
 use Rattle.kb_record.proofs.RowForms.{Turns, row_form, row_tokens, more_tokens, GoodRow, AllGood, widest, row_meets}
 
 abbrev pub word_form : Form Factors

@@ -1,8 +1,8 @@
 -- Reading tokens from the left: the tree that stands first, and the tokens behind it.
-use Rattle.std.specs.Prelude.{◌≡◌, ◌≢◌, ◌⊎◌, IsTrue, unwrap_or, ℕ, zero, suc, ◌+◌, ◌-◌, ℤ, List, [], ◌∷◌, ◌++◌, length, drop, ◌<◌, map, Bool, true, false, if◌then◌else◌, Option, Some, None, Result, Ok, Err}
+use Rattle.std.specs.Prelude.{◌≡◌, ◌≢◌, ◌⊎◌, IsTrue, unwrap_or, ℕ, zero, suc, ◌+◌, ℤ, List, [], ◌∷◌, length, drop, ◌<◌, map, Bool, true, false, if◌then◌else◌, Option, Some, None, Result, Ok, Err}
 use Rattle.std.specs.Borrow.{Bor}
 use Rattle.kb_record.specs.Token.{Token, name, number, string, assign, open_round, close_round, open_square, close_square, comma, semicolon, star, caret, dots, rec_word}
-use Rattle.kb_record.specs.Tree.{Factor, named, grouped, Factors, no_factors, factor, Value, number_value, string_value, record_value, list_value, range_value, word_value, Fields, no_fields, field, Places, no_places, place, empty_place, TextTree}
+use Rattle.kb_record.specs.Tree.{Factor, named, grouped, Factors, Value, number_value, string_value, record_value, list_value, range_value, word_value, Fields, no_fields, field, no_places}
 use Rattle.kb_record.specs.View.{factors_of, places_of, value_view}
 use Rattle.kb_record.specs.Lexemes.{token_view, tokens_view}
 use Rattle.kb_record.specs.declared.tree.Value.{Value as ValueType}
@@ -88,8 +88,8 @@ unfoldable pub joined : {A : Type 0} → Parse A → Parse Bool → ℕ → Pars
 joined item goes_on zero tokens = unexpected
 joined item goes_on (suc n) tokens =
     and_then (item tokens) (λ first rest.
-        and_then (goes_on rest) (λ more others.
-            if more then reading_map (λ items. first ∷ items) (joined item goes_on n others) else read (first ∷ []) others))
+    and_then (goes_on rest) (λ more others.
+    if more then reading_map (λ items. first ∷ items) (joined item goes_on n others) else read (first ∷ []) others))
 
 -- more items than tokens there can't be
 abbrev pub row : {A : Type 0} → Parse A → Parse Bool → Parse (List A)
@@ -238,9 +238,9 @@ field_view f = (f.0.now, value_view f.1)
 abbrev pub read_text : ℕ → Parse (List ℕ × List (List ℕ × Value))
 read_text depth tokens =
     and_then (read_name tokens) (λ title rest.
-        past (behind Assign rest) (λ others.
-            past (behind Rec others) (λ opening.
-                past (behind OpenRound opening) (λ inside. reading_map (λ fields. (title, fields)) (read_fields depth inside)))))
+    past (behind Assign rest) (λ others.
+    past (behind Rec others) (λ opening.
+    past (behind OpenRound opening) (λ inside. reading_map (λ fields. (title, fields)) (read_fields depth inside)))))
 
 -- the tokens behind the semicolon that may come
 abbrev pub skip_semicolon : List Token → List Token

@@ -10,26 +10,22 @@ ghost use Rattle.kb_record.specs.Nesting.{deepest, text_nesting, word_nesting, I
 pub fn a_text_has_one_tree()
     ensures { (bytes : List ℕ) (one other : TextTree) → TextOf bytes one → TextOf bytes other
         → one ≡ other }
-{
-}
+{}
 
 /// Bytes are a word in one way at most.
 pub fn a_word_has_one_tree()
     ensures { (bytes : List ℕ) (one other : Factors) → WordOf bytes one → WordOf bytes other
         → one ≡ other }
-{
-}
+{}
 
 /// A text that nests as deep as it may has no front with too many brackets open.
 pub fn a_shallow_text_is_not_too_deep()
     ensures { (bytes : List ℕ) (text : TextTree) → TextOf bytes text → text_nesting text ≤ deepest
         → ¬ IsTooDeep (λ tokens. (other : TextTree) × IsText tokens other) bytes }
-{
-}
+{}
 
 /// A word that nests as deep as it may has no front with too many brackets open.
 pub fn a_shallow_word_is_not_too_deep()
     ensures { (bytes : List ℕ) (factors : Factors) → WordOf bytes factors → word_nesting factors ≤ deepest
         → ¬ IsTooDeep (λ tokens. (other : Factors) × IsWordText tokens other) bytes }
-{
-}
+{}

@@ -11,9 +11,9 @@ use crate::cursor::{Cursor, Expected, Mark, Stop};
 use crate::error::RecordError;
 use crate::lexer::{Lexed, lex};
 use crate::place::syntax_place;
+use crate::records::fields;
 use crate::token::Lexeme;
 use crate::tree::{Expr, Rec};
-use crate::records::fields;
 use crate::words::word;
 use std::alloc::Global;
 
@@ -65,11 +65,7 @@ fn error_at(bytes: &[u8], lexemes: &[Lexeme<'_>], left: usize, stop: Stop) -> Re
 }
 
 /// Reads a text that goes to the end of the tokens, which are all that the bytes have.
-fn whole_text<'a>(
-    alloc: Global,
-    tokens: &mut Cursor<'_, 'a>,
-    whole: bool,
-) -> Result<Rec<'a>, Stop>
+fn whole_text<'a>(alloc: Global, tokens: &mut Cursor<'_, 'a>, whole: bool) -> Result<Rec<'a>, Stop>
     ensures { ReadsAll (read_ended deepest (remaining tokens.old)) rec_view whole result (remaining tokens.new) }
 {
     let text = text(alloc, tokens)?;
@@ -91,11 +87,7 @@ fn text<'a>(alloc: Global, tokens: &mut Cursor<'_, 'a>) -> Result<Rec<'a>, Stop>
 }
 
 /// Reads a word that goes to the end of the tokens, which are all that the bytes have.
-fn whole_word<'a>(
-    alloc: Global,
-    tokens: &mut Cursor<'_, 'a>,
-    whole: bool,
-) -> Result<Expr<'a>, Stop>
+fn whole_word<'a>(alloc: Global, tokens: &mut Cursor<'_, 'a>, whole: bool) -> Result<Expr<'a>, Stop>
     ensures { ReadsAll (read_word deepest (remaining tokens.old)) word_view whole result (remaining tokens.new) }
 {
     let factors = word(alloc, tokens, DEEPEST)?;

@@ -58,7 +58,10 @@ fn expected_place(bytes: &[u8], rest: &[u8], expected: Expected) -> usize {
         Expected::Rec => common_front(token, b"rec"),
         Expected::Fields | Expected::Mark => 0,
     };
-    bytes.len().saturating_sub(token.len()).saturating_add(begun)
+    bytes
+        .len()
+        .saturating_sub(token.len())
+        .saturating_add(begun)
 }
 
 /// What stands behind the blanks and comments at the front.

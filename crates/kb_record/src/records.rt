@@ -13,11 +13,7 @@ use std::alloc::Global;
 
 /// Reads a value, with brackets in brackets at most `depth` deep.
 #[cycle(values)]
-fn value<'a>(
-    alloc: Global,
-    tokens: &mut Cursor<'_, 'a>,
-    depth: usize,
-) -> Result<Value<'a>, Stop>
+fn value<'a>(alloc: Global, tokens: &mut Cursor<'_, 'a>, depth: usize) -> Result<Value<'a>, Stop>
     ensures reads { Reads (read_value depth (remaining tokens.old)) value_view result (remaining tokens.new) }
     ensures shorter { OnOk result (length (remaining tokens.new) ≤ length (remaining tokens.old)) }
 {
@@ -49,11 +45,7 @@ fn word_value<'a>(
 
 /// Reads a record behind its `rec`.
 #[cycle(values)]
-fn record<'a>(
-    alloc: Global,
-    tokens: &mut Cursor<'_, 'a>,
-    depth: usize,
-) -> Result<Value<'a>, Stop>
+fn record<'a>(alloc: Global, tokens: &mut Cursor<'_, 'a>, depth: usize) -> Result<Value<'a>, Stop>
     ensures reads { Reads (read_record depth (remaining tokens.old)) value_view result (remaining tokens.new) }
     ensures shorter { OnOk result (length (remaining tokens.new) ≤ length (remaining tokens.old)) }
 {
@@ -120,11 +112,7 @@ fn field<'a>(
 
 /// Reads a list or a range behind its open bracket, and the closing bracket.
 #[cycle(values)]
-fn list<'a>(
-    alloc: Global,
-    tokens: &mut Cursor<'_, 'a>,
-    depth: usize,
-) -> Result<Value<'a>, Stop>
+fn list<'a>(alloc: Global, tokens: &mut Cursor<'_, 'a>, depth: usize) -> Result<Value<'a>, Stop>
     ensures reads { Reads (read_list depth (remaining tokens.old)) value_view result (remaining tokens.new) }
     ensures shorter { OnOk result (length (remaining tokens.new) ≤ length (remaining tokens.old)) }
 {

@@ -30,11 +30,7 @@ pub(crate) fn word<'a>(
 
 /// Reads a name or a group, and its power.
 #[cycle(words)]
-fn factor<'a>(
-    alloc: Global,
-    tokens: &mut Cursor<'_, 'a>,
-    depth: usize,
-) -> Result<Factor<'a>, Stop>
+fn factor<'a>(alloc: Global, tokens: &mut Cursor<'_, 'a>, depth: usize) -> Result<Factor<'a>, Stop>
     ensures reads { Reads (read_factor depth (remaining tokens.old)) factor_view result (remaining tokens.new) }
     ensures shorter { OnOk result (length (remaining tokens.new) ≤ length (remaining tokens.old)) }
 {

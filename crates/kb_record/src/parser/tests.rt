@@ -110,7 +110,10 @@ fn a_text_and_its_fronts(rt: HostRuntime) -> Result<(), Fail> {
         let front = bytes.get(..end).ok_or("short")?;
         assert_eq!(&rt; outcome(parse(alloc, front)), syntax(end), "{end}");
     }
-    assert_eq!(&rt; outcome(parse(alloc, bytes.get(..73).ok_or("short")?)), None);
+    assert_eq!(&rt;
+        outcome(parse(alloc, bytes.get(..73).ok_or("short")?)),
+        None
+    );
     Ok(())
 }
 

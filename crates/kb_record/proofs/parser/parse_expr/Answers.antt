@@ -1,4 +1,4 @@
-use Rattle.std.proofs.Common.{◌≡◌, List, Bool, sym, ap, ◌∙◌, subst, Err, arith}
+use Rattle.std.proofs.Common.{◌≡◌, List, sym, ap, ◌∙◌, subst, Err, arith}
 use Rattle.kb_record.specs.Nesting.{deepest}
 use Rattle.kb_record.specs.Token.{Token}
 use Rattle.kb_record.specs.Lexemes.{tokens_view}

@@ -1,13 +1,12 @@
-use Rattle.std.proofs.Common.{◌≡◌, ℕ, ◌+◌, ◌-◌, ◌<◌, ◌≤◌, suc, List, [], ◌∷◌, ◌++◌, Option, Some, None, Err, length, map, Bool, true, false, option_map, sym, ap, ◌∙◌, subst, arith, rules, Vec, Global}
+use Rattle.std.proofs.Common.{◌≡◌, ℕ, ◌-◌, List, [], ◌∷◌, ◌++◌, Option, Some, None, Err, map, Bool, true, false, option_map, sym, ap, ◌∙◌, arith, rules, Vec, Global}
 use Rattle.std.specs.Borrow.{Bor}
-use Rattle.kb_record.specs.Token.{Token, name, number, string, open_round, open_square, rec_word}
-use Rattle.kb_record.specs.Tree.{Value as ValueTree, record_value}
-use Rattle.kb_record.specs.Reading.{Reads, Parse, read, remaining, passes_comma, joined, row, reading_map, read_value, place_with, field_with, field_view, fields_from, value_with, read_list, read_fields, read_word, record_with, past, behind, begins_word, read_scalar}
+use Rattle.kb_record.specs.Tree.{record_value}
+use Rattle.kb_record.specs.Reading.{Reads, read, remaining, passes_comma, joined, reading_map, read_value, place_with, field_with, field_view, fields_from, read_fields, past, behind, begins_word, read_scalar}
 use Rattle.kb_record.specs.View.{value_view}
 use Rattle.kb_record.specs.declared.tree.Value.{Value as ValueType}
 use Rattle.kb_record.specs.declared.cursor.Mark.TheVariants.{CloseRound, CloseSquare, Rec, OpenSquare}
-use Rattle.kb_record.proofs.Rows.{after_items, fails, turn, last, item_fails, comma_fails, as_answered, map_one_more, comma-shorter}
-use Rattle.kb_record.proofs.Depths.{read_value_is, value-word, value-record, value-list, value-scalar, same_reading}
+use Rattle.kb_record.proofs.Rows.{after_items, turn, last, item_fails, comma_fails, as_answered, map_one_more, comma-shorter}
+use Rattle.kb_record.proofs.Depths.{value-word, value-record, value-list, value-scalar, same_reading}
 use Rattle.kb_record.proofs.Views.{fields_alike, view-Record}
 use Rattle.kb_record.proofs.records.+values.Goals as goal
 

@@ -1,9 +1,7 @@
 use Rattle.std.proofs.Common.{◌≡◌, ℕ, ◌+◌, ◌-◌, ◌<◌, ◌≤◌, suc, List, [], ◌∷◌, ◌++◌, Some, None, Err, length, map, Bool, true, false, sym, ap, ◌∙◌, subst, arith, rules}
 use Rattle.std.proofs.Common as prelude
-use Rattle.std.proofs.lemmas.List.{map-append}
-use Rattle.kb_record.specs.Token.{Token}
-use Rattle.kb_record.specs.Tree.{Factors, Factor as FactorTree}
-use Rattle.kb_record.specs.Reading.{Reads, Parse, read, remaining, behind, passes, joined, row, reading_map, read_factor, read_group, read_word, word_with}
+use Rattle.kb_record.specs.Tree.{Factor as FactorTree}
+use Rattle.kb_record.specs.Reading.{Reads, read, remaining, passes, joined, reading_map, read_factor}
 use Rattle.kb_record.specs.View.{factor_view, factors_view, factors_of}
 use Rattle.kb_record.specs.declared.tree.Factor.{Factor as FactorType}
 use Rattle.kb_record.specs.declared.cursor.Mark.TheVariants.{Star}
