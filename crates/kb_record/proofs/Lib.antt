@@ -21,3 +21,4 @@ pub mod OneToken
 pub mod Lexings
 pub mod TokenFronts
 pub mod Shallow
+pub mod WordMeanings

@@ -19,4 +19,6 @@ pub use laws::{
     a_word_has_one_tree,
 };
 pub use parser::{parse, parse_expr};
+pub use meaning::word_of;
+pub use parser::parse;
 pub use tree::{Expr, Factor, Rec, Value};
