@@ -8,3 +8,4 @@ pub mod View
 pub mod Lexemes
 pub mod Faults
 pub mod Reading
+pub mod Refusals
