@@ -5,3 +5,4 @@ pub mod Congruence
 pub mod Rewriting
 pub mod Overlap
 pub mod Relations
+pub mod Comparison

@@ -1,5 +1,5 @@
 -- Overlaps of left sides, critical pairs and confluence.
-use Rattle.std.specs.Prelude.{◌≡◌, ◌≢◌, ℕ, ◌+◌, ◌-◌, ◌<◌, ◌≤◌, List, ◌++◌, length, take, drop, slice_get, Some}
+use Rattle.std.specs.Prelude.{◌≡◌, ◌≢◌, ℕ, ◌+◌, ◌-◌, ◌<◌, List, ◌++◌, length, take, drop, slice_get, Some}
 use Rattle.kb_word.specs.Words.{Pair}
 use Rattle.kb_word.specs.Rewriting.{NormalForm}
 

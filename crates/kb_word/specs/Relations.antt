@@ -1,5 +1,5 @@
 -- Presentations: their defining relations, inverses, and oriented relations.
-use Rattle.std.specs.Prelude.{◌≡◌, ℕ, zero, suc, ◌+◌, ◌<◌, ◌≤◌, ◌⊎◌, List, [], ◌∷◌, ◌++◌, length, All, Option, Some, None, slice_get, option_and_then}
+use Rattle.std.specs.Prelude.{◌≡◌, ℕ, zero, suc, ◌<◌, ◌≤◌, ◌⊎◌, List, [], ◌∷◌, ◌++◌, length, All, Option, Some, None, slice_get, option_and_then}
 use Rattle.std.specs.Option.{option_map}
 use Rattle.kb_word.specs.Words.{Pair, Less, OneOf}
 

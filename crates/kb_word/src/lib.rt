@@ -9,12 +9,16 @@
 //! Nothing stands below; `kb_record`, `kb_rules` and `kb_overlap` stand on it.
 #![tactic(auto)]
 
+mod factor;
 mod letter;
 mod memory;
+mod order;
 mod text;
 mod word;
 
+pub use factor::factor_at;
 pub use letter::Letter;
 pub use memory::Memory;
+pub use order::{less, rank_falls_along_shortlex, shortlex_is_a_reduction_order};
 pub use text::Text;
 pub use word::Word;

@@ -1,7 +1,7 @@
 //! Words, and their shortlex order.
 
 ghost use Rattle.std.specs.Prelude.{◌≡◌, ◌↔◌, ◌<◌, ◌≤◌, ◌^◌, [], ◌∷◌, ◌++◌, IsTrue, IfOk, OnOk, OnErr, IfSome, IfNone, IsNone, length, All, take};
-ghost use Rattle.kb_word.specs.Words.{Less, StandsAt, IsFactor};
+ghost use Rattle.kb_word.specs.Words.{EndsWith};
 
 use crate::letter::Letter;
 use crate::memory::Memory;
@@ -96,6 +96,13 @@ impl Word {
         ensures { self.new ≡ take len self.old }
     {
         self.letters.truncate(len);
+    }
+
+    /// Whether the word ends with these letters. Every word ends with the empty word.
+    pub fn ends_with(&self, suffix: &Word) -> bool
+        ensures { IsTrue result ↔ EndsWith self.now suffix.now }
+    {
+        self.letters().ends_with(suffix.letters())
     }
 
     /// A word of the same letters.

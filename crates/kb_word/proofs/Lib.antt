@@ -1,0 +1,4 @@
+pub mod PathLemmas
+pub mod Places
+pub mod Shortlex
+pub mod ComparisonLemmas

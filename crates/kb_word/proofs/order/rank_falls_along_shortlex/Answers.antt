@@ -1,0 +1,5 @@
+use Rattle.kb_word.proofs.Shortlex.{rank_falls}
+use Rattle.kb_word.proofs.order.rank_falls_along_shortlex.Goals as goal
+
+pub returns : goal.returns
+returns c = rank_falls

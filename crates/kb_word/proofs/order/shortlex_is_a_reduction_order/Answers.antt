@@ -1,0 +1,5 @@
+use Rattle.kb_word.proofs.Shortlex.{shortlex_order}
+use Rattle.kb_word.proofs.order.shortlex_is_a_reduction_order.Goals as goal
+
+pub returns : goal.returns
+returns c = shortlex_order
