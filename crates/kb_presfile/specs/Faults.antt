@@ -5,7 +5,7 @@ use Rattle.kb_record.specs.Tree.{Factors, Value, string_value, list_value, Field
 use Rattle.kb_record.specs.Grammar.{TextOf, IsText}
 use Rattle.kb_record.specs.Nesting.{deepest, text_nesting, IsTooDeep}
 use Rattle.kb_record.specs.Meaning.{WordFault, unknown_generator, no_inverse, too_long, letter_from, word_meaning}
-use Rattle.kb_presfile.specs.Fields.{value_of, bare_name, list_of_names, list_of_places, list_of_equations, HasFieldTwice, StandsTwice, place_count}
+use Rattle.kb_presfile.specs.Fields.{value_of, bare_name, list_of_names, list_of_places, list_of_equations, equation_value, value_at, HasFieldTwice, StandsTwice, place_count}
 use Rattle.kb_presfile.specs.Holds.{most_generators, most_equations, place_at, HoldsPlaces, GivesInverses}
 use Rattle.kb_presfile.specs.declared.error.Field.{Field}
 use Rattle.kb_presfile.specs.declared.error.Field.TheVariants as kinds
@@ -55,10 +55,13 @@ pub record SideHasFault (fields : Fields) (fault : WordFault) : Type 0 where
   pub inverses : List (Option ℕ)
   pub has_places : HasPlaces fields names places
   pub gives : GivesInverses names places inverses
-  pub sides : List (Factors × Factors)
-  pub equations : value_of fields (codes "equations") ≡ Some (list_value (list_of_equations sides))
+  pub equations : Places
+  pub listed : value_of fields (codes "equations") ≡ Some (list_value equations)
+  pub at : ℕ
+  pub sides : Factors × Factors
+  pub stands : value_at equations at ≡ Some (equation_value sides)
   pub side : Factors
-  pub stands : (k : ℕ) × (pair : Factors × Factors) × (slice_get sides k ≡ Some pair) × ((side ≡ pair.0) ⊎ (side ≡ pair.1))
+  pub is_side : (side ≡ sides.0) ⊎ (side ≡ sides.1)
   pub faulty : word_meaning names inverses side ≡ Err fault
 
 -- a place for an inverse has a name that is no generator's
@@ -82,6 +85,12 @@ pub record IsNotMutual (fields : Fields) (name : List ℕ) : Type 0 where
   pub at_k : place_at places k ≡ Some inverse
   pub is_y : letter_from 1 names inverse ≡ Some (suc y)
   pub not_back : (back : List ℕ) → place_at places y ≡ Some back → letter_from 1 names back ≢ Some (suc k)
+
+-- the refusal names a name that a record in the value has twice, or is want of memory
+abbrev pub IsRepeatIn : Value → PresError → Type 0
+IsRepeatIn value (errors.FieldTwice name) = HasFieldTwice value name
+IsRepeatIn value errors.Memory = Unit {0}
+IsRepeatIn value _ = ⊥
 
 -- the fields have the fault
 abbrev pub HasFieldFault : Fields → PresError → Type 0
