@@ -1,3 +1,5 @@
+pub mod InverseLemmas
+pub mod NameLemmas
 pub mod PathLemmas
 pub mod Places
 pub mod Shortlex

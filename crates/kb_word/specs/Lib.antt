@@ -4,5 +4,6 @@ pub mod Order
 pub mod Congruence
 pub mod Rewriting
 pub mod Overlap
+pub mod Names
 pub mod Relations
 pub mod Comparison

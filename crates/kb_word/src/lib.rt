@@ -9,16 +9,24 @@
 //! Nothing stands below; `kb_record`, `kb_rules` and `kb_overlap` stand on it.
 #![tactic(auto)]
 
+mod equations;
 mod factor;
+mod inverses;
 mod letter;
 mod memory;
+mod names;
 mod order;
 mod text;
+mod presentation;
 mod word;
 
+pub use equations::{Equations, copy_pair, copy_pairs};
 pub use factor::factor_at;
+pub use inverses::Inverses;
 pub use letter::Letter;
 pub use memory::Memory;
+pub use names::Names;
 pub use order::{less, rank_falls_along_shortlex, shortlex_is_a_reduction_order};
 pub use text::Text;
+pub use presentation::{Presentation, none_where_a_letter_has_no_inverse};
 pub use word::Word;

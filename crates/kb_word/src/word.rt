@@ -1,6 +1,6 @@
 //! Words, and their shortlex order.
 
-ghost use Rattle.std.specs.Prelude.{◌≡◌, ◌↔◌, ◌<◌, ◌≤◌, ◌^◌, [], ◌∷◌, ◌++◌, IsTrue, IfOk, OnOk, OnErr, IfSome, IfNone, IsNone, length, All, take};
+ghost use Rattle.std.specs.Prelude.{◌≡◌, ◌↔◌, ◌<◌, ◌≤◌, ◌^◌, [], ◌∷◌, ◌++◌, IsTrue, IfOk, OnOk, OnErr, IfSome, IfNone, IsNone, length, All, take, reverse};
 ghost use Rattle.kb_word.specs.Words.{EndsWith};
 
 use crate::letter::Letter;
@@ -96,6 +96,13 @@ impl Word {
         ensures { self.new ≡ take len self.old }
     {
         self.letters.truncate(len);
+    }
+
+    /// Turns the order of the letters round.
+    pub fn reverse(&mut self)
+        ensures { self.new ≡ reverse self.old }
+    {
+        self.letters.reverse();
     }
 
     /// Whether the word ends with these letters. Every word ends with the empty word.

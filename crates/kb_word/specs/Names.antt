@@ -1,0 +1,7 @@
+-- Names of generators.
+use Rattle.std.specs.Prelude.{ℕ, zero, suc, List, Option, None, slice_get}
+
+-- the name of letter x, where place 0 holds that of letter 1
+abbrev pub name_of : List (List ℕ) → ℕ → Option (List ℕ)
+name_of names zero = None
+name_of names (suc place) = slice_get names place
