@@ -1,0 +1,3 @@
+pub mod ViewLemmas
+pub mod ListingLemmas
+pub mod TakenLemmas

@@ -1,11 +1,14 @@
 //! Presentation files.
 #![tactic(auto)]
 
+mod equations;
 mod error;
 mod fields;
+mod generators;
 mod header;
-mod read;
+mod inverses;
+mod reader;
 mod values;
 
-pub use read::no_reader_yet;
+pub use reader::read;
 pub use error::{Field, PresError};
