@@ -1,3 +1,6 @@
 pub mod ViewLemmas
 pub mod ListingLemmas
 pub mod TakenLemmas
+pub mod InverseFacts
+pub mod LetterSteps
+pub mod PlaceLemmas

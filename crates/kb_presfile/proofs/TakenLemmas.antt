@@ -4,10 +4,11 @@ use Rattle.std.specs.Borrow.{Bor}
 use Rattle.std.specs.Option.{option_map}
 use Rattle.std.specs.List.{Contains, list_any}
 use Rattle.std.specs.Str.{bytes_eq}
+use Rattle.std.proofs.lemmas.List.{length-map}
 use Rattle.std.proofs.lemmas.Option.{slice_get-map, slice_get-get_or, slice_get_within, slice_get_read, get_or_from_slice_get}
 use Rattle.std.proofs.lemmas.Slice.Eq.{bytes_eq-Decides}
 use Rattle.kb_presfile.specs.Fields.{StandsTwice}
-use Rattle.kb_presfile.specs.Holds.{IsReserved, IsTaken}
+use Rattle.kb_presfile.specs.Holds.{most_generators, IsReserved, IsTaken, AreGeneratorNames}
 
 some_injective : {A : Type 0} {x y : A} → Some x ≡ Some y → x ≡ y
 some_injective e = cc
@@ -84,3 +85,10 @@ none_is_taken names n all free name (inl twice) =
 none_is_taken names n all free name (inr reserved) =
     let at = slice_get_read names (length names) reserved.0.0 name refl reserved.0.1 (sym reserved.0.2) in
     (free reserved.0.0 (omega (arith, reserved.0.1))).free name at reserved.1
+
+pub are_generator_names : (xs : List (Bor (List ℕ))) (names : List (List ℕ)) → names ≡ texts xs → length xs ≤ most_generators
+    → ((name : List ℕ) → IsTaken (texts xs) name → ⊥) → AreGeneratorNames names
+are_generator_names xs names same few free =
+    let count = length-map xs (λ (name : Bor (List ℕ)). name.now) in
+    let all : length names ≡ length xs = ap length same ∙ count in
+    record { few = omega (arith, all); free = λ name. let P : List (List ℕ) → Type 0 = λ ns. IsTaken ns name → ⊥ in subst P (sym same) (free name) }

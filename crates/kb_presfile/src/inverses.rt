@@ -1,7 +1,8 @@
 //! The field `inverses`: the generators' inverses.
 
-ghost use Rattle.std.specs.Prelude.{◌≡◌, ◌≢◌, ◌↔◌, ◌<◌, ◌≤◌, ℕ, List, map, length, codes, IsTrue, IsSome, IsNone, IfOk, IfErr, IfSome, IfNone, Option, Some, None};
+ghost use Rattle.std.specs.Prelude.{◌≡◌, ◌≢◌, ◌↔◌, ◌⊎◌, ◌≤◌, ℕ, List, map, length, codes, IsTrue, IsSome, IsNone, IfOk, IfErr, IfSome, IfNone, Option, Some, None};
 ghost use Rattle.std.specs.Option.{option_copied};
+ghost use Rattle.kb_word.specs.Relations.{inverse_letter};
 ghost use Rattle.kb_record.specs.Meaning.{letter_from};
 ghost use Rattle.kb_presfile.specs.Fields.{fields_view, value_of};
 ghost use Rattle.kb_presfile.specs.Holds.{HasNames, HasInverses, place_at, HoldsPlaces, StandFor, AreMutual, GivesInverses};
@@ -34,17 +35,25 @@ fn read_places<'a>(alloc: Global, fields: &[(&'a str, Value<'a>)], names: &Names
     let Some(value) = field_named(fields, "inverses") else {
         return Ok(Vec::new(alloc));
     };
-    match places_listed(alloc, value)? {
-        Some(places) if none_past(places.as_slice(), names.len()) => Ok(places),
-        _ => Err(PresError::WrongKind { field: Field::Inverses }),
+    let Some(places) = places_listed(alloc, value)? else {
+        return Err(PresError::WrongKind { field: Field::Inverses });
+    };
+    if !none_past(places.as_slice(), names.len()) {
+        return Err(PresError::WrongKind { field: Field::Inverses });
     }
+    Ok(places)
 }
 
 /// Whether the places from `count` on are empty.
 fn none_past(places: &[Option<&str>], count: usize) -> bool
     ensures { IsTrue result ↔ ((k : ℕ) → count ≤ k → place_at (map option_copied places.now) k ≡ None) }
 {
-    places.iter().skip(count).all(|place| place.is_none())
+    for place in count..places.len() {
+        if name_at(places, place).is_some() {
+            return false;
+        }
+    }
+    true
 }
 
 /// The inverses that names at places give. All names are looked up before it is seen that inverses are mutual.
@@ -80,7 +89,7 @@ fn letter_at(alloc: Global, places: &[Option<&str>], place: usize, names: &Names
     ensures some { (name : List ℕ) → place_at (map option_copied places.now) place ≡ Some name → IfOk result (λ letter. IsSome letter × (letter_from 1 names.now name ≡ letter)) }
     ensures fault { IfErr result (PlacesHaveFault names.now (map option_copied places.now)) }
 {
-    let Some(Some(name)) = places.get(place) else {
+    let Some(name) = name_at(places, place) else {
         return Ok(None);
     };
     match names.number_of(name) {
@@ -91,18 +100,34 @@ fn letter_at(alloc: Global, places: &[Option<&str>], place: usize, names: &Names
     }
 }
 
+/// The name at a place; places that are missing are empty.
+fn name_at<'a>(places: &[Option<&'a str>], place: usize) -> Option<&'a str>
+    ensures { option_copied result ≡ place_at (map option_copied places.now) place }
+{
+    *places.get(place)?
+}
+
 /// The name of the first generator whose inverse hasn't it as its inverse.
 fn first_one_sided<'r>(inverses: &Inverses, names: &'r Names) -> Option<&'r str>
     requires { length inverses.now ≡ length names.now }
     ensures found { IfSome result (λ name. IsOneSided names.now inverses.now name.now) }
     ensures none { IfNone result (AreMutual inverses.now) }
 {
-    for (place, inverse) in inverses.as_slice().iter().enumerate() {
-        if let Some(inverse) = *inverse {
-            if inverses.get(inverse) != Some(Letter::new(place as u16 + 1)) {
-                return names.get(place);
-            }
+    for place in 0..names.len() {
+        if is_one_sided(inverses, Letter::new(place as u16 + 1)) {
+            return names.get(place);
         }
     }
     None
+}
+
+/// Whether the letter's inverse hasn't it as its inverse.
+fn is_one_sided(inverses: &Inverses, letter: Letter) -> bool
+    ensures yes { IsTrue result → (y : ℕ) × (inverse_letter inverses.now letter ≡ Some y) × (inverse_letter inverses.now y ≢ Some letter) }
+    ensures no { IsTrue result ⊎ ((y : ℕ) → inverse_letter inverses.now letter ≡ Some y → inverse_letter inverses.now y ≡ Some letter) }
+{
+    match inverses.get(letter) {
+        Some(inverse) => inverses.get(inverse) != Some(letter),
+        None => false,
+    }
 }
