@@ -4,3 +4,4 @@ pub mod TakenLemmas
 pub mod InverseFacts
 pub mod LetterSteps
 pub mod PlaceLemmas
+pub mod EquationLemmas
