@@ -2,7 +2,7 @@
 use Rattle.std.specs.Prelude.{◌≡◌, ℕ, ◌≤◌, List, Option, Result, Ok, Err}
 use Rattle.kb_record.specs.Tree.{Factors, TextTree}
 use Rattle.kb_record.specs.Grammar.{IsText, IsWordText, TextOf, WordOf}
-use Rattle.kb_record.specs.Nesting.{deepest, text_nesting, word_nesting, IsTooDeep}
+use Rattle.kb_record.specs.Nesting.{deepest, word_nesting, IsTooDeep}
 use Rattle.kb_record.specs.Meaning.{WordFault, unknown_generator, no_inverse, too_long, word_meaning}
 use Rattle.kb_record.specs.declared.error.RecordError.{RecordError}
 use Rattle.kb_record.specs.declared.error.RecordError.TheVariants as record_errors
@@ -14,6 +14,12 @@ abbrev pub HasTextFault : List ℕ → RecordError → Type 0
 HasTextFault bytes (record_errors.Syntax at) = (text : TextTree) → ¬ TextOf bytes text
 HasTextFault bytes (record_errors.TooDeep at) = IsTooDeep (λ tokens. (text : TextTree) × IsText tokens text) bytes
 HasTextFault bytes record_errors.Memory = Unit {0}
+
+-- the same of a word
+abbrev pub HasTreeFault : List ℕ → RecordError → Type 0
+HasTreeFault bytes (record_errors.Syntax at) = (factors : Factors) → ¬ WordOf bytes factors
+HasTreeFault bytes (record_errors.TooDeep at) = IsTooDeep (λ tokens. (factors : Factors) × IsWordText tokens factors) bytes
+HasTreeFault bytes record_errors.Memory = Unit {0}
 
 -- what the bytes mean over a presentation's names and inverses, or the fault of their word, where they are a word
 pub record Meaning (bytes : List ℕ) (names : List (List ℕ)) (inverses : List (Option ℕ)) (meaning : Result (List ℕ) WordFault) : Type 0 where

@@ -1,6 +1,5 @@
 -- The trees of words and records.
-use Rattle.std.specs.Prelude.{ℕ, suc, max, ℤ, List, [], ◌∷◌, ◌++◌, Option, Some, None}
-use Rattle.kb_record.specs.Token.{Token, name, number, string, assign, open_round, close_round, open_square, close_square, comma, semicolon, star, caret, dots, rec_word}
+use Rattle.std.specs.Prelude.{ℕ, ℤ, List, Option}
 
 -- A word is its factors; a factor is a name or a group in round brackets, with its power where it has one.
 mutual

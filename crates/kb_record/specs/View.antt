@@ -1,5 +1,5 @@
 -- The trees of `specs/Tree.antt` that the types of the code stand for.
-use Rattle.std.specs.Prelude.{ℕ, ℤ, List, [], ◌∷◌, Option, Some, None, map}
+use Rattle.std.specs.Prelude.{ℕ, List, [], ◌∷◌, Option, Some, None, map}
 use Rattle.std.specs.Borrow.{Bor}
 use Rattle.kb_record.specs.Tree.{Factor as FactorTree, named, grouped, Factors, no_factors, factor, Value as ValueTree, number_value, string_value, record_value, list_value, range_value, word_value, Fields, no_fields, field, Places, no_places, place, empty_place, TextTree}
 use Rattle.kb_record.specs.declared.tree.Factor.{Factor, fold-Factor}

@@ -1,9 +1,160 @@
 //! From trees of words to words of a presentation.
 
-ghost use Rattle.std.specs.Prelude.{◌≡◌, MatchResult};
-ghost use Rattle.kb_record.specs.Meaning.{word_meaning};
+ghost use Rattle.std.specs.Prelude.{◌≡◌, ℕ, ◌-◌, ◌<◌, [], Some, negsuc, IfOk};
+ghost use Rattle.kb_record.specs.Meaning.{name_meaning, first_without_inverse, repetition, power_meaning, product, factor_meaning, product_meaning, word_meaning};
+ghost use Rattle.kb_record.specs.View.{factor_view, factors_view, word_view};
+ghost use Rattle.kb_record.specs.Faults.{Evaluates};
 
+use crate::error::WordError;
+use crate::tree::{Expr, Factor};
+use kb_word::{Memory, Presentation, Text, Word};
 use std::alloc::Global;
 
-/// Stands until the meaning does.
-pub fn no_meaning_yet(_alloc: Global) {}
+/// The most letters that a word may have, and each factor, group and product in it.
+const MOST_LETTERS: usize = 65_535;
+
+/// The word that a tree stands for: a name is its generator or, as `IdWord`, the empty word, and a power
+/// below 0 repeats the inverse.
+///
+/// The first fault that is met from the left is answered: a name that is no generator's, a letter without
+/// inverse under a power below 0, or more than 65,535 letters.
+pub fn word_of(alloc: Global, tree: &Expr, presentation: &Presentation) -> Result<Word, WordError>
+    ensures { Evaluates (word_meaning presentation.now.names presentation.now.inv (word_view tree.now)) result }
+{
+    product_of(alloc, tree.factors.as_slice(), presentation)
+}
+
+/// The product of factors.
+#[cycle(factors)]
+fn product_of(
+    alloc: Global,
+    factors: &[Factor],
+    presentation: &Presentation,
+) -> Result<Word, WordError>
+    ensures { Evaluates (product_meaning presentation.now.names presentation.now.inv [] (factors_view factors.now)) result }
+{
+    let mut so_far = Word::new(alloc);
+    for factor in factors {
+        let word = factor_of(alloc, factor, presentation)?;
+        so_far = times(so_far, &word)?;
+    }
+    Ok(so_far)
+}
+
+/// The word of one factor.
+#[cycle(factors)]
+fn factor_of(alloc: Global, factor: &Factor, presentation: &Presentation) -> Result<Word, WordError>
+    ensures { Evaluates (factor_meaning presentation.now.names presentation.now.inv (factor_view factor.now)) result }
+{
+    match factor {
+        Factor::Name(name, power) => {
+            let word = name_of(alloc, name, presentation)?;
+            power_of(alloc, word, *power, presentation)
+        }
+        Factor::Group(factors, power) => {
+            let word = product_of(alloc, factors.as_slice(), presentation)?;
+            power_of(alloc, word, *power, presentation)
+        }
+    }
+}
+
+/// The product so far and the next factor, where that isn't too long.
+fn times(mut so_far: Word, next: &Word) -> Result<Word, WordError>
+    ensures { Evaluates (product so_far next.now) result }
+{
+    if so_far.len().saturating_add(next.len()) > MOST_LETTERS {
+        return Err(WordError::WordTooLong);
+    }
+    so_far.append(next)?;
+    Ok(so_far)
+}
+
+/// The empty word for `IdWord`, and the generator for another name.
+fn name_of(alloc: Global, name: &str, presentation: &Presentation) -> Result<Word, WordError>
+    ensures { Evaluates (name_meaning presentation.now.names name.now) result }
+{
+    let mut word = Word::new(alloc);
+    if name == "IdWord" {
+        return Ok(word);
+    }
+    let Some(letter) = presentation.names.number_of(name) else {
+        return Err(WordError::UnknownGenerator {
+            name: Text::from_str(alloc, name)?,
+        });
+    };
+    word.push(letter)?;
+    Ok(word)
+}
+
+/// A word's power; without exponent it is the word.
+fn power_of(
+    alloc: Global,
+    word: Word,
+    exponent: Option<i64>,
+    presentation: &Presentation,
+) -> Result<Word, WordError>
+    ensures { Evaluates (power_meaning presentation.now.names presentation.now.inv exponent word) result }
+{
+    match exponent {
+        None => Ok(word),
+        Some(exponent) if exponent < 0 => negative_power(
+            alloc,
+            &word,
+            exponent.unsigned_abs(),
+            presentation,
+        ),
+        Some(exponent) => repeated(alloc, &word, exponent as u64),
+    }
+}
+
+/// The inverse of a word, so many times.
+fn negative_power(
+    alloc: Global,
+    word: &Word,
+    count: u64,
+    presentation: &Presentation,
+) -> Result<Word, WordError>
+    requires { 0 < count }
+    ensures { Evaluates (power_meaning presentation.now.names presentation.now.inv (Some (negsuc (count - 1))) word.now) result }
+{
+    let Some(inverse) = presentation.inverse_of(alloc, word)? else {
+        return Err(WordError::NoInverse {
+            name: name_without_inverse(alloc, word, presentation)?,
+        });
+    };
+    repeated(alloc, &inverse, count)
+}
+
+/// The name of a word's first letter without inverse.
+fn name_without_inverse(
+    alloc: Global,
+    word: &Word,
+    presentation: &Presentation,
+) -> Result<Text, Memory>
+    ensures { IfOk result (λ name. name ≡ first_without_inverse presentation.now.names presentation.now.inv word.now) }
+{
+    for letter in word.letters() {
+        if presentation.letter_inverse(*letter).is_none() {
+            let place = letter.number().saturating_sub(1) as usize;
+            return Text::from_str(alloc, presentation.names.get(place).unwrap_or(""));
+        }
+    }
+    Text::from_str(alloc, "")
+}
+
+/// The word, so many times, where that isn't too long.
+fn repeated(alloc: Global, word: &Word, count: u64) -> Result<Word, WordError>
+    ensures { Evaluates (repetition count word.now) result }
+{
+    let mut power = Word::new(alloc);
+    if word.is_empty() {
+        return Ok(power);
+    }
+    if count.saturating_mul(word.len() as u64) > MOST_LETTERS as u64 {
+        return Err(WordError::WordTooLong);
+    }
+    for _turn in 0..count {
+        power.append(word)?;
+    }
+    Ok(power)
+}

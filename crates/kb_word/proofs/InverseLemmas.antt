@@ -17,11 +17,11 @@ Any-split P x w zero y within at h = inl (subst P (sym at) h)
 Any-split P x w (suc k) y within at h = inr (k, y, omega arith, at, h)
 
 -- an inverse is missing: that of the first letter, or one further on
-missing : (x : ℕ) (o : Option ℕ) (r : Option (List ℕ)) → IsNone (option_and_then (λ y. option_map (λ v. v ++ y ∷ []) r) o)
+missing : (o : Option ℕ) (r : Option (List ℕ)) → IsNone (option_and_then (λ y. option_map (λ v. v ++ y ∷ []) r) o)
     → (o ≡ None) ⊎ IsNone r
-missing x None r h = inl refl
-missing x (Some y) None h = inr refl
-missing x (Some y) (Some v) h = cc
+missing None r h = inl refl
+missing (Some y) None h = inr refl
+missing (Some y) (Some v) h = cc
 
 missing_first : (o : Option ℕ) (r : Option (List ℕ)) → o ≡ None → IsNone (option_and_then (λ y. option_map (λ v. v ++ y ∷ []) r) o)
 missing_first None r h = refl
@@ -34,7 +34,7 @@ missing_later (Some y) (Some v) h = cc
 
 lacks_forward : (inverses : List (Option ℕ)) (w : List ℕ) → IsNone (inverse_word inverses w) → Any (λ x. inverse_letter inverses x ≡ None) w
 lacks_forward inverses [] h = cc
-lacks_forward inverses (x ∷ w) h = elim (missing x (inverse_letter inverses x) (inverse_word inverses w) h) [
+lacks_forward inverses (x ∷ w) h = elim (missing (inverse_letter inverses x) (inverse_word inverses w) h) [
   | inl first ↦ Any-first (λ y. inverse_letter inverses y ≡ None) x w first
   | inr later ↦ Any-later (λ y. inverse_letter inverses y ≡ None) x w (lacks_forward inverses w later)
 ]
@@ -52,6 +52,7 @@ pub lacks_inverse : (inverses : List (Option ℕ)) (w : List ℕ)
     → IsNone (inverse_word inverses w) ↔ Any (λ x. inverse_letter inverses x ≡ None) w
 lacks_inverse inverses w = (lacks_forward inverses w, lacks_back inverses w)
 
--- what the rest of a word inverts to, before the inverses so far in reverse order
+-- What the rest of a word inverts to, before the inverses so far in reverse order: what the loop of
+-- `inverse_of` keeps.
 abbrev pub inverted : Option (List ℕ) → List ℕ → Option (List ℕ)
 inverted rest so_far = option_map (λ v. v ++ reverse so_far) rest

@@ -1,9 +1,10 @@
 -- Lemmas on paths, on replacements in words, and on the congruence that pairs generate.
 use Rattle.std.proofs.Common.{◌≡◌, List, [], ◌∷◌, ◌++◌, ℕ, refl, sym, ap, ◌∙◌, subst, inl, inr, append_assoc}
 use Rattle.std.proofs.lemmas.List.{append-nil}
-use Rattle.kb_word.specs.Words.{Pair}
+use Rattle.kb_word.specs.Words.{Pair, OneOf}
 use Rattle.kb_word.specs.Path.{Linked, Path}
-use Rattle.kb_word.specs.Congruence.{Replaces, Touches, Congruent}
+use Rattle.kb_word.specs.Congruence.{Replaces, Touches, Congruent, SameCongruence, IsLeast}
+use Rattle.kb_word.specs.Rewriting.{ReducesTo}
 
 -- the path of no steps
 pub path_none : {X : Type 0} {related : X → X → Type 0} (x : X) → Path related x x
@@ -162,3 +163,65 @@ congruent_by_replacement r = path_one (inl r)
 -- the sides of an allowed pair are congruent
 pub congruent_sides : {allowed : Pair → Type 0} (pair : Pair) → allowed pair → Congruent allowed pair.0 pair.1
 congruent_sides pair h = congruent_by_replacement (Replaces-whole pair h)
+
+touches_implied : (allowed more : Pair → Type 0) → ((pair : Pair) → allowed pair → more pair)
+    → (u v : List ℕ) → Touches allowed u v → Touches more u v
+touches_implied allowed more implies u v (inl r) = inl (Replaces-implied implies r)
+touches_implied allowed more implies u v (inr r) = inr (Replaces-implied implies r)
+
+-- a larger set of pairs makes more words congruent
+pub congruent_implied : {allowed more : Pair → Type 0} → ((pair : Pair) → allowed pair → more pair)
+    → {u v : List ℕ} → Congruent allowed u v → Congruent more u v
+congruent_implied {allowed = allowed} {more = more} implies p = path_implied (touches_implied allowed more implies) p
+
+-- replaced by a congruent right side
+replaced_covered : (allowed others : Pair → Type 0) → ((pair : Pair) → allowed pair → Congruent others pair.0 pair.1)
+    → (u v : List ℕ) → Replaces allowed u v → Congruent others u v
+replaced_covered allowed others covered u v r =
+    let sides = congruent_between r.before r.after (covered r.pair r.is_allowed) in
+    congruent_transitive (path_equal u (r.before ++ r.pair.0 ++ r.after) r.from)
+    (congruent_transitive sides (path_equal (r.before ++ r.pair.1 ++ r.after) v (sym r.to)))
+
+touches_covered : (allowed others : Pair → Type 0) → ((pair : Pair) → allowed pair → Congruent others pair.0 pair.1)
+    → (u v : List ℕ) → Touches allowed u v → Congruent others u v
+touches_covered allowed others covered u v (inl r) = replaced_covered allowed others covered u v r
+touches_covered allowed others covered u v (inr r) = congruent_symmetric (replaced_covered allowed others covered v u r)
+
+-- pairs that are congruent by others make no more words congruent than those
+pub congruent_covered : {allowed others : Pair → Type 0} → ((pair : Pair) → allowed pair → Congruent others pair.0 pair.1)
+    → {u v : List ℕ} → Congruent allowed u v → Congruent others u v
+congruent_covered {allowed = allowed} {others = others} covered p =
+    path_joined (λ w. w) (touches_covered allowed others covered) p
+
+pub SameCongruence-itself : (pairs : List Pair) → SameCongruence pairs pairs
+SameCongruence-itself pairs = record { covered = λ pair h. congruent_sides pair h; covers = λ pair h. congruent_sides pair h }
+
+pub SameCongruence-back : {pairs others : List Pair} → SameCongruence pairs others → SameCongruence others pairs
+SameCongruence-back same = record { covered = same.covers; covers = same.covered }
+
+pub SameCongruence-then : {pairs others more : List Pair} → SameCongruence pairs others → SameCongruence others more → SameCongruence pairs more
+SameCongruence-then same next = record {
+  covered = λ pair h. congruent_covered next.covered (same.covered pair h);
+  covers = λ pair h. congruent_covered same.covers (next.covers pair h);
+}
+
+-- the same congruence relates the same words
+pub congruent_same : {pairs others : List Pair} → SameCongruence pairs others → {u v : List ℕ}
+    → Congruent (OneOf pairs) u v → Congruent (OneOf others) u v
+congruent_same same p = congruent_covered same.covered p
+
+-- least words are the same under the same congruence
+pub IsLeast-same : {pairs others : List Pair} → SameCongruence pairs others → (w m : List ℕ) → IsLeast pairs w m → IsLeast others w m
+IsLeast-same same w m least = record {
+  congruent = congruent_same same least.congruent;
+  least = λ v p. least.least v (congruent_same (SameCongruence-back same) p);
+}
+
+-- reduced words are congruent
+pub congruent_by_reduction : {allowed : Pair → Type 0} {u v : List ℕ} → ReducesTo allowed u v → Congruent allowed u v
+congruent_by_reduction p = path_implied (λ x y r. inl r) p
+
+-- a reduction is one in a longer word too
+pub reduces_between : {allowed : Pair → Type 0} (before after : List ℕ) {u v : List ℕ}
+    → ReducesTo allowed u v → ReducesTo allowed (before ++ u ++ after) (before ++ v ++ after)
+reduces_between before after p = path_mapped (λ w. before ++ w ++ after) (λ x y r. Replaces-between before after r) p

@@ -15,7 +15,7 @@ pub record IsReductionOrder (below : List ℕ → List ℕ → Type 0) : Type 0 
   pub kept : (before after u v : List ℕ) → below u v → below (before ++ u ++ after) (before ++ v ++ after)
 
 -- The word's number, where the words over letters below 2^16 are numbered 0, 1, 2, .. in shortlex order.
--- Each letter is a digit, counted from 1. Smullyan, Theory of Formal Systems, 1.9 (n-adic representation).
+-- Each letter is a digit, counted from 1 (the n-adic numerals of Smullyan, Theory of Formal Systems).
 abbrev pub rank : List ℕ → ℕ
 rank [] = 0
 rank (x ∷ w) = (x + 1) * (2 ^ 16) ^ length w + rank w

@@ -9,7 +9,7 @@ use std::alloc::Global;
 use std::marker::Model;
 
 /// Equations, each a pair of words, left side first. Contracts see the list of pairs.
-#[derive(Drop)]
+#[derive(Debug, Drop)]
 pub struct Equations {
     equations: Vec<(Word, Word)>,
 }

@@ -9,7 +9,7 @@ use std::alloc::Global;
 use std::marker::Model;
 
 /// The inverse of each generator that has one, in the order of their letters. Contracts see the list.
-#[derive(Drop)]
+#[derive(Debug, Drop)]
 pub struct Inverses {
     inverses: Vec<Option<Letter>>,
 }

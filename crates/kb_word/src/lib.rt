@@ -3,8 +3,12 @@
 //! A word is seen by contracts as the list of its letters' numbers, a relation or a rule as a pair of
 //! words. The definitions of the shortlex order, of the congruence that relations generate, of rewriting,
 //! overlaps and confluence stand here, in `specs/`, since all crates above cite them. The crate's public
-//! contract: `less` decides the shortlex order, which is a reduction order, `factor_at` finds the first
-//! place of a factor, and `Presentation::relations` lists the defining relations.
+//! contract: `less` decides the shortlex order, which is a reduction order along which `rank` falls,
+//! `factor_at` finds the first place of a factor, and a `Presentation`, with its names, inverses and
+//! equations, lists its defining relations and inverts words. Memory alone is a free answer.
+//!
+//! Lemmas that proofs above may cite stand in `proofs/`: on paths and congruence in `PathLemmas`, on the
+//! order in `Shortlex`, on the places of factors in `Places`.
 //!
 //! Nothing stands below; `kb_record`, `kb_rules` and `kb_overlap` stand on it.
 #![tactic(auto)]
@@ -18,6 +22,8 @@ mod names;
 mod order;
 mod text;
 mod presentation;
+#[cfg(test)]
+mod tests;
 mod word;
 
 pub use equations::{Equations, copy_pair, copy_pairs};

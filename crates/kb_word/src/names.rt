@@ -15,7 +15,7 @@ use std::marker::Model;
 ///
 /// They stay in a `Vec`, so that they are made and given back without taking memory, and a look-up goes
 /// through them in order: a presentation has few.
-#[derive(Drop)]
+#[derive(Debug, Drop)]
 pub struct Names {
     names: Vec<String>,
 }

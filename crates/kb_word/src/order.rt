@@ -1,14 +1,12 @@
-//! The shortlex order of words.
+//! The shortlex order of words, and their equality.
 
-ghost use Rattle.std.specs.Prelude.{nat_eq, length, ◌≡◌, ℕ, ◌<◌, ◌^◌, List, ◌↔◌, IsTrue, All};
-ghost use Rattle.std.proofs.Common.{rules};
+ghost use Rattle.std.specs.Prelude.{◌≡◌, refl, ◌↔◌, ℕ, ◌<◌, ◌^◌, List, nat_eq, IsTrue, All};
 ghost use Rattle.std.specs.Cmp.{partial_equiv_from_equiv};
 ghost use Rattle.std.specs.Cmp.Lexicographic.{pointwise, nat_list_eq_equiv};
 ghost use Rattle.std.specs.Ordering.{as_partial_cmp};
-ghost use Rattle.kb_word.specs.Comparison.{shortlex_cmp_total, shortlex_ties, shortlex_partial_order};
 ghost use Rattle.kb_word.specs.Words.{Less};
 ghost use Rattle.kb_word.specs.Order.{IsReductionOrder, rank};
-ghost use Rattle.kb_word.specs.Comparison.{shortlex_cmp};
+ghost use Rattle.kb_word.specs.Comparison.{shortlex_cmp, shortlex_cmp_total, shortlex_ties, shortlex_partial_order};
 
 use crate::word::Word;
 use std::cmp::Ordering;
@@ -35,7 +33,7 @@ impl Ord for Word {
 
     ghost total = { shortlex_cmp_total };
 
-    ghost matches_partial_cmp = { Prim.search rules };
+    ghost matches_partial_cmp = { λ _ _. refl };
 
     ghost matches_eq = { shortlex_ties };
 
@@ -43,9 +41,8 @@ impl Ord for Word {
         ensures answer { result ≡ shortlex_cmp self.now other.now }
         ensures less { (result ≡ Ordering.Less) ↔ Less self.now other.now }
     {
-        self.len()
-            .cmp(&other.len())
-            .then(self.letters().cmp(other.letters()))
+        let lengths = self.len().cmp(&other.len());
+        lengths.then(self.letters().cmp(other.letters()))
     }
 }
 

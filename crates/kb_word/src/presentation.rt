@@ -13,9 +13,9 @@ use std::alloc::Global;
 
 /// A presentation: generators with their names, inverses, and the equations that hold besides.
 ///
-/// There is one name and one place for an inverse for each generator, inverses are mutual, and each letter of an equation
-/// is one of the generators.
-#[derive(Drop)]
+/// Each generator has one name and at most one inverse, inverses are mutual, and each letter of an equation
+/// is a generator.
+#[derive(Debug, Drop)]
 pub struct Presentation {
     /// How many generators there are: letters 1 to `n`.
     pub n: u16,

@@ -9,7 +9,7 @@ use std::alloc::Global;
 use std::marker::Model;
 
 /// A word: its letters from left to right. The empty word is printed `IdWord`.
-#[derive(Drop)]
+#[derive(Debug, Drop)]
 pub struct Word {
     letters: Vec<Letter>,
 }
