@@ -12,3 +12,6 @@ mod values;
 
 pub use reader::read;
 pub use error::{Field, PresError};
+
+#[cfg(test)]
+mod tests;

@@ -6,4 +6,5 @@ use Rattle.kb_presfile.proofs.generators.read_names.Goals as goal
 
 pub returns-clause-names : goal.returns-clause-names
 returns-clause-names c =
-    are_generator_names c.as_slice.result.now c.from_vec.result ? (omega arith) c.in_default-first_taken.ensures.none
+    let same = c.from_vec.ensures ∙ (c.in_ok-own_names.ensures ∙ ap (map (λ (name : Bor (List ℕ)). name.now)) (c.as_slice-2.ensures.value ∙ sym c.as_slice.ensures.value)) in
+    are_generator_names c.as_slice.result.now c.from_vec.result same (omega arith) c.in_default-first_taken.ensures.none
