@@ -5,8 +5,8 @@ use Rattle.kb_record.specs.Tree.{Factors, Value, string_value, list_value, Field
 use Rattle.kb_record.specs.Grammar.{TextOf, IsText}
 use Rattle.kb_record.specs.Nesting.{deepest, text_nesting, IsTooDeep}
 use Rattle.kb_record.specs.Meaning.{WordFault, unknown_generator, no_inverse, too_long, letter_from, word_meaning}
-use Rattle.kb_presfile.specs.Fields.{value_of, bare_name, list_of_names, list_of_places, list_of_equations, HasFieldTwice, StandsTwice, place_count}
-use Rattle.kb_presfile.specs.Holds.{most_generators, most_equations, place_at, HoldsPlaces, GivesInverses}
+use Rattle.kb_presfile.specs.Fields.{value_of, bare_name, list_of_names, list_of_places, list_of_equations, equation_value, value_at, HasFieldTwice, StandsTwice, place_count}
+use Rattle.kb_presfile.specs.Holds.{most_generators, most_equations, place_at, HoldsPlaces, HasNames, HasInverses, IsTaken}
 use Rattle.kb_presfile.specs.declared.error.Field.{Field}
 use Rattle.kb_presfile.specs.declared.error.Field.TheVariants as kinds
 use Rattle.kb_presfile.specs.declared.error.PresError.{PresError}
@@ -28,10 +28,6 @@ IsNeeded kinds.GeneratorOrder = Unit {0}
 IsNeeded kinds.Inverses = ⊥
 IsNeeded kinds.Equations = Unit {0}
 
--- the text's generators are these names
-abbrev pub HasNames : Fields → List (List ℕ) → Type 0
-HasNames fields names = value_of fields (codes "generatorOrder") ≡ Some (list_value (list_of_names names))
-
 -- The value is of the kind that the field holds: the name `true`; a string; a list of names; a list of names
 -- and empty places, of which those past the last generator are empty; a list of lists of two words.
 abbrev pub IsOfKind : Fields → Field → Value → Type 0
@@ -48,33 +44,14 @@ pub record HasPlaces (fields : Fields) (names : List (List ℕ)) (places : List 
   pub named : HasNames fields names
   pub placed : HoldsPlaces (value_of fields (codes "inverses")) places
 
--- a side of an equation has this fault
-pub record SideHasFault (fields : Fields) (fault : WordFault) : Type 0 where
-  pub names : List (List ℕ)
-  pub places : List (Option (List ℕ))
-  pub inverses : List (Option ℕ)
-  pub has_places : HasPlaces fields names places
-  pub gives : GivesInverses names places inverses
-  pub sides : List (Factors × Factors)
-  pub equations : value_of fields (codes "equations") ≡ Some (list_value (list_of_equations sides))
-  pub side : Factors
-  pub stands : (k : ℕ) × (pair : Factors × Factors) × (slice_get sides k ≡ Some pair) × ((side ≡ pair.0) ⊎ (side ≡ pair.1))
-  pub faulty : word_meaning names inverses side ≡ Err fault
-
 -- a place for an inverse has a name that is no generator's
-pub record PlaceIsUnknown (fields : Fields) (name : List ℕ) : Type 0 where
-  pub names : List (List ℕ)
-  pub places : List (Option (List ℕ))
-  pub has_places : HasPlaces fields names places
+pub record PlaceIsUnknown (names : List (List ℕ)) (places : List (Option (List ℕ))) (name : List ℕ) : Type 0 where
   pub place : ℕ
   pub stands : place_at places place ≡ Some name
   pub unknown : letter_from 1 names name ≡ None
 
 -- the name at place k stands for y, and at y's place no name stands for k's generator
-pub record IsNotMutual (fields : Fields) (name : List ℕ) : Type 0 where
-  pub names : List (List ℕ)
-  pub places : List (Option (List ℕ))
-  pub has_places : HasPlaces fields names places
+pub record IsNotMutual (names : List (List ℕ)) (places : List (Option (List ℕ))) (name : List ℕ) : Type 0 where
   pub k : ℕ
   pub is_name : slice_get names k ≡ Some name
   pub inverse : List ℕ
@@ -83,20 +60,86 @@ pub record IsNotMutual (fields : Fields) (name : List ℕ) : Type 0 where
   pub is_y : letter_from 1 names inverse ≡ Some (suc y)
   pub not_back : (back : List ℕ) → place_at places y ≡ Some back → letter_from 1 names back ≢ Some (suc k)
 
+-- the names at the places for inverses have the fault
+abbrev pub PlacesHaveFault : List (List ℕ) → List (Option (List ℕ)) → PresError → Type 0
+PlacesHaveFault names places (errors.UnknownGenerator name) = PlaceIsUnknown names places name
+PlacesHaveFault names places (errors.InverseNotMutual name) = IsNotMutual names places name
+PlacesHaveFault names places errors.Memory = Unit {0}
+PlacesHaveFault names places _ = ⊥
+
+-- the generator's inverse hasn't it as its inverse
+pub record IsOneSided (names : List (List ℕ)) (inverses : List (Option ℕ)) (name : List ℕ) : Type 0 where
+  pub k : ℕ
+  pub y : ℕ
+  pub is_name : slice_get names k ≡ Some name
+  pub inverse : inverse_letter inverses (suc k) ≡ Some y
+  pub not_back : inverse_letter inverses y ≢ Some (suc k)
+
+-- the text's places for inverses have the fault
+pub record InversesHaveFault (fields : Fields) (error : PresError) : Type 0 where
+  pub names : List (List ℕ)
+  pub places : List (Option (List ℕ))
+  pub has_places : HasPlaces fields names places
+  pub fault : PlacesHaveFault names places error
+
+-- the word's meaning is the fault
+abbrev pub IsFaultOf : Result (List ℕ) WordFault → PresError → Type 0
+IsFaultOf meaning (errors.UnknownGenerator name) = meaning ≡ Err (unknown_generator name)
+IsFaultOf meaning (errors.NoInverse name) = meaning ≡ Err (no_inverse name)
+IsFaultOf meaning errors.WordTooLong = meaning ≡ Err too_long
+IsFaultOf meaning errors.Memory = Unit {0}
+IsFaultOf meaning _ = ⊥
+
+-- a side has the fault
+abbrev pub SidesHaveFault : List (List ℕ) → List (Option ℕ) → Factors × Factors → PresError → Type 0
+SidesHaveFault names inverses sides error =
+    IsFaultOf (word_meaning names inverses sides.0) error ⊎ IsFaultOf (word_meaning names inverses sides.1) error
+
+-- what stands at a place isn't an equation, or has a side with the fault
+abbrev pub PlaceHasFault : List (List ℕ) → List (Option ℕ) → Option Value → PresError → Type 0
+PlaceHasFault names inverses place (errors.WrongKind kinds.Equations) = (sides : Factors × Factors) → place ≢ Some (equation_value sides)
+PlaceHasFault names inverses place errors.Memory = Unit {0}
+PlaceHasFault names inverses place error = (sides : Factors × Factors) × (place ≡ Some (equation_value sides)) × SidesHaveFault names inverses sides error
+
+-- some place of the list has the fault
+pub record SomePlaceHasFault (names : List (List ℕ)) (inverses : List (Option ℕ)) (places : Places) (error : PresError) : Type 0 where
+  pub at : ℕ
+  pub within : at < place_count places
+  pub fault : PlaceHasFault names inverses (value_at places at) error
+
+-- some place of the list has the fault, or want of memory
+abbrev pub PlacesOfEquationsHaveFault : List (List ℕ) → List (Option ℕ) → Places → PresError → Type 0
+PlacesOfEquationsHaveFault names inverses list errors.Memory = Unit {0}
+PlacesOfEquationsHaveFault names inverses list error = SomePlaceHasFault names inverses list error
+
+-- some equation of the text has a side with the fault
+pub record EquationHasFault (fields : Fields) (error : PresError) : Type 0 where
+  pub names : List (List ℕ)
+  pub inverses : List (Option ℕ)
+  pub named : HasNames fields names
+  pub inverted : HasInverses fields names inverses
+  pub places : Places
+  pub listed : value_of fields (codes "equations") ≡ Some (list_value places)
+  pub fault : SomePlaceHasFault names inverses places error
+
+-- the refusal names a name that a record in the value has twice, or is want of memory
+abbrev pub IsRepeatIn : Value → PresError → Type 0
+IsRepeatIn value (errors.FieldTwice name) = HasFieldTwice value name
+IsRepeatIn value errors.Memory = Unit {0}
+IsRepeatIn value _ = ⊥
+
 -- the fields have the fault
 abbrev pub HasFieldFault : Fields → PresError → Type 0
 HasFieldFault given (errors.MissingField field) = IsNeeded field × (value_of given (name_of field) ≡ None)
 HasFieldFault given (errors.WrongKind field) = (value : Value) × (value_of given (name_of field) ≡ Some value) × ¬ IsOfKind given field value
 HasFieldFault given (errors.FieldTwice name) = HasFieldTwice (record_value given) name
 HasFieldFault given errors.OtherOrdering = (text : List ℕ) × (value_of given (codes "ordering") ≡ Some (string_value text)) × (text ≢ codes "shortlex")
-HasFieldFault given (errors.NameTaken name) =
-    (names : List (List ℕ)) × HasNames given names × Contains names name
-    × (StandsTwice names name ⊎ ((name ≡ codes "IdWord") ⊎ (name ≡ codes "_")))
+HasFieldFault given (errors.NameTaken name) = (names : List (List ℕ)) × HasNames given names × IsTaken names name
 HasFieldFault given errors.TooManyGenerators = (names : List (List ℕ)) × HasNames given names × (most_generators < length names)
-HasFieldFault given (errors.UnknownGenerator name) = PlaceIsUnknown given name ⊎ SideHasFault given (unknown_generator name)
-HasFieldFault given (errors.NoInverse name) = SideHasFault given (no_inverse name)
-HasFieldFault given (errors.InverseNotMutual name) = IsNotMutual given name
-HasFieldFault given errors.WordTooLong = SideHasFault given too_long
+HasFieldFault given (errors.UnknownGenerator name) = InversesHaveFault given (errors.UnknownGenerator name) ⊎ EquationHasFault given (errors.UnknownGenerator name)
+HasFieldFault given (errors.NoInverse name) = EquationHasFault given (errors.NoInverse name)
+HasFieldFault given (errors.InverseNotMutual name) = InversesHaveFault given (errors.InverseNotMutual name)
+HasFieldFault given errors.WordTooLong = EquationHasFault given errors.WordTooLong
 HasFieldFault given errors.TooManyEquations =
     (places : Places) × (value_of given (codes "equations") ≡ Some (list_value places)) × (most_equations < place_count places)
 HasFieldFault given (errors.Syntax at) = ⊥

@@ -1,7 +1,19 @@
 -- Fields of records, and the kinds of values that a presentation's fields hold.
-use Rattle.std.specs.Prelude.{◌≡◌, ◌≢◌, ℕ, suc, ◌⊎◌, nat_eq, if◌then◌else◌, List, [], ◌∷◌, ◌++◌, codes, Option, Some, None, IsNone}
+use Rattle.std.specs.Prelude.{◌≡◌, ◌≢◌, ℕ, zero, suc, ◌<◌, ◌⊎◌, nat_eq, if◌then◌else◌, List, [], ◌∷◌, ◌++◌, map, codes, slice_get, Option, Some, None, IsNone}
+use Rattle.std.specs.Borrow.{Bor}
+use Rattle.std.specs.Option.{option_map}
 use lib.Pointwise.{pointwise}
+use Rattle.kb_record.specs.View.{fields_of, places_of, value_view}
+use Rattle.kb_record.specs.declared.tree.Value as code
 use Rattle.kb_record.specs.Tree.{Factor, named, grouped, Factors, no_factors, factor, Value, number_value, string_value, record_value, list_value, range_value, word_value, Fields, no_fields, field, Places, no_places, place, empty_place, TextTree}
+
+-- the fields as the code has them, as a tree
+abbrev pub fields_view : List (Bor (List ℕ) × code.Value) → Fields
+fields_view fields = fields_of (map (λ (f : Bor (List ℕ) × code.Value). (f.0, value_view f.1)) fields)
+
+-- the places of a list as the code has them, as a tree
+abbrev pub places_view : List (Option code.Value) → Places
+places_view places = places_of (map (option_map value_view) places)
 
 -- the value of the first field with this name
 abbrev pub value_of : Fields → List ℕ → Option Value
@@ -13,12 +25,13 @@ abbrev pub field_names : Fields → List (List ℕ)
 field_names no_fields = []
 field_names (field text value others) = text ∷ field_names others
 
--- the name stands again after a place where it stands
+-- the name stands at two places
 pub record StandsTwice (names : List (List ℕ)) (name : List ℕ) : Type 0 where
-  pub before : List (List ℕ)
-  pub between : List (List ℕ)
-  pub behind : List (List ℕ)
-  pub whole : names ≡ before ++ name ∷ between ++ name ∷ behind
+  pub first : ℕ
+  pub again : ℕ
+  pub later : first < again
+  pub at_first : slice_get names first ≡ Some name
+  pub at_again : slice_get names again ≡ Some name
 
 -- the name stands twice among the fields of some record in the value, nested ones too
 abbrev mutual
@@ -54,11 +67,26 @@ list_of_places [] = no_places
 list_of_places (Some name ∷ names) = place (bare_name name) (list_of_places names)
 list_of_places (None ∷ names) = empty_place (list_of_places names)
 
+-- the places of these two words
+abbrev pub two_places : Factors × Factors → Places
+two_places sides = place (word_value sides.0) (place (word_value sides.1) no_places)
+
+-- a list of two words
+abbrev pub equation_value : Factors × Factors → Value
+equation_value sides = list_value (two_places sides)
+
 -- a list of lists of two words
 abbrev pub list_of_equations : List (Factors × Factors) → Places
 list_of_equations [] = no_places
-list_of_equations (sides ∷ others) =
-    place (list_value (place (word_value sides.0) (place (word_value sides.1) no_places))) (list_of_equations others)
+list_of_equations (sides ∷ others) = place (equation_value sides) (list_of_equations others)
+
+-- the value at a place that isn't empty
+abbrev pub value_at : Places → ℕ → Option Value
+value_at no_places k = None
+value_at (place value others) zero = Some value
+value_at (place value others) (suc k) = value_at others k
+value_at (empty_place others) zero = None
+value_at (empty_place others) (suc k) = value_at others k
 
 -- how many places there are
 abbrev pub place_count : Places → ℕ

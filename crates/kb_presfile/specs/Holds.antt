@@ -1,13 +1,14 @@
 -- What a text of a presentation holds.
-use Rattle.std.specs.Prelude.{◌≡◌, ◌≢◌, ℕ, suc, ◌+◌, ◌<◌, ◌≤◌, ◌⊎◌, List, [], ◌∷◌, ◌++◌, length, codes, drop, All, Contains, Option, Some, None, IsNone, slice_get, option_and_then, Result, Ok, Err}
+use Rattle.std.specs.Prelude.{◌≡◌, ◌≢◌, ℕ, suc, ◌+◌, ◌<◌, ◌≤◌, ◌⊎◌, List, [], ◌∷◌, ◌++◌, length, codes, Contains, Option, Some, None, IsNone, slice_get, option_and_then, Result, Ok, Err}
 use Rattle.std.specs.Option.{option_map}
 use Rattle.kb_word.specs.Words.{Pair}
-use Rattle.kb_word.specs.Relations.{inverse_letter, IsPresentation}
-use Rattle.kb_record.specs.Tree.{Factors, Value, string_value, list_value, Fields, TextTree, record_value}
+use Rattle.kb_word.specs.Relations.{inverse_letter}
+use Rattle.kb_word.specs.declared.presentation.Presentation.{Presentation}
+use Rattle.kb_record.specs.Tree.{Factors, Value, string_value, list_value, Fields, Places, TextTree, record_value}
 use Rattle.kb_record.specs.Grammar.{TextOf}
 use Rattle.kb_record.specs.Nesting.{deepest, text_nesting}
 use Rattle.kb_record.specs.Meaning.{letter_from, word_meaning}
-use Rattle.kb_presfile.specs.Fields.{value_of, bare_name, list_of_names, list_of_places, list_of_equations, HasFieldTwice, StandsTwice}
+use Rattle.kb_presfile.specs.Fields.{value_of, bare_name, list_of_names, list_of_places, list_of_equations, equation_value, place_count, HasFieldTwice, StandsTwice}
 
 -- a presentation has at most so many generators, and so many equations
 abbrev pub most_generators : ℕ
@@ -16,11 +17,16 @@ most_generators = 126
 abbrev pub most_equations : ℕ
 most_equations = 65535
 
--- a presentation as contracts see it
+-- a presentation as files say it
 pub record Parts : Type 0 where
   pub names : List (List ℕ)
   pub inverses : List (Option ℕ)
   pub equations : List Pair
+
+-- the ordering is absent or shortlex
+abbrev pub IsShortlex : Option Value → Type 0
+IsShortlex None = Unit {0}
+IsShortlex (Some value) = value ≡ string_value (codes "shortlex")
 
 -- the field is absent or holds this list of names and empty places
 abbrev pub HoldsPlaces : Option Value → List (Option (List ℕ)) → Type 0
@@ -31,21 +37,43 @@ HoldsPlaces (Some value) places = value ≡ list_value (list_of_places places)
 abbrev pub place_at : List (Option (List ℕ)) → ℕ → Option (List ℕ)
 place_at places k = option_and_then (λ found. found) (slice_get places k)
 
+-- the name stands for the empty word or for padding
+abbrev pub IsReserved : List ℕ → Type 0
+IsReserved name = (name ≡ codes "IdWord") ⊎ (name ≡ codes "_")
+
+-- a generator can't have the name: it stands twice, or is `IdWord` or `_`
+abbrev pub IsTaken : List (List ℕ) → List ℕ → Type 0
+IsTaken names name = StandsTwice names name ⊎ (Contains names name × IsReserved name)
+
 -- no name is `IdWord` or `_`, and none stands twice
 pub record AreGeneratorNames (names : List (List ℕ)) : Type 0 where
   pub few : length names ≤ most_generators
-  pub free : All (λ name. (name ≢ codes "IdWord") × (name ≢ codes "_")) names
-  pub distinct : (name : List ℕ) → ¬ StandsTwice names name
+  pub free : (name : List ℕ) → ¬ IsTaken names name
 
--- The inverses that names at places give: each generator's is the letter of the name at its place, places
--- past the last generator are empty, and an inverse's inverse is the generator.
+-- The letters that names at places stand for: each generator's is that of the name at its place.
+pub record StandFor (names : List (List ℕ)) (places : List (Option (List ℕ))) (letters : List (Option ℕ)) : Type 0 where
+  pub one_each : length letters ≡ length names
+  pub some : (k : ℕ) (name : List ℕ) → place_at places k ≡ Some name → k < length names
+      → (x : ℕ) × (letter_from 1 names name ≡ Some x) × (slice_get letters k ≡ Some (Some x))
+  pub empty : (k : ℕ) → k < length names → place_at places k ≡ None → slice_get letters k ≡ Some None
+
+-- each letter with an inverse is the inverse of that
+abbrev pub AreMutual : List (Option ℕ) → Type 0
+AreMutual inverses = (x y : ℕ) → inverse_letter inverses x ≡ Some y → inverse_letter inverses y ≡ Some x
+
+-- The inverses that names at places give: those letters, where places past the last generator are empty and
+-- an inverse's inverse is the generator.
 pub record GivesInverses (names : List (List ℕ)) (places : List (Option (List ℕ))) (inverses : List (Option ℕ)) : Type 0 where
-  pub one_each : length inverses ≡ length names
+  pub letters : StandFor names places inverses
   pub none_past : (k : ℕ) → length names ≤ k → place_at places k ≡ None
-  pub some : (k : ℕ) (name : List ℕ) → place_at places k ≡ Some name
-      → (x : ℕ) × (letter_from 1 names name ≡ Some x) × (slice_get inverses k ≡ Some (Some x))
-  pub empty : (k : ℕ) → k < length names → place_at places k ≡ None → slice_get inverses k ≡ Some None
-  pub both_ways : (x y : ℕ) → inverse_letter inverses x ≡ Some y → inverse_letter inverses y ≡ Some x
+  pub both_ways : AreMutual inverses
+
+-- what stands at a place is an equation whose sides mean the pair's words
+pub record IsEquation (names : List (List ℕ)) (inverses : List (Option ℕ)) (place : Option Value) (pair : Pair) : Type 0 where
+  pub sides : Factors × Factors
+  pub stands : place ≡ Some (equation_value sides)
+  pub left : word_meaning names inverses sides.0 ≡ Ok pair.0
+  pub right : word_meaning names inverses sides.1 ≡ Ok pair.1
 
 -- each equation's sides mean the pair's words
 abbrev pub AreMeanings : List (List ℕ) → List (Option ℕ) → List (Factors × Factors) → List Pair → Type 0
@@ -55,20 +83,38 @@ AreMeanings names inverses (sides ∷ others) (pair ∷ pairs) =
     (word_meaning names inverses sides.0 ≡ Ok pair.0) × (word_meaning names inverses sides.1 ≡ Ok pair.1)
     × AreMeanings names inverses others pairs
 
+-- the places hold equations, which mean these pairs of words
+pub record AreEquations (names : List (List ℕ)) (inverses : List (Option ℕ)) (places : Places) (equations : List Pair) : Type 0 where
+  pub sides : List (Factors × Factors)
+  pub listed : places ≡ list_of_equations sides
+  pub meanings : AreMeanings names inverses sides equations
+
+-- the text's generators are these names
+abbrev pub HasNames : Fields → List (List ℕ) → Type 0
+HasNames fields names = value_of fields (codes "generatorOrder") ≡ Some (list_value (list_of_names names))
+
+-- the text gives the generators these inverses
+pub record HasInverses (fields : Fields) (names : List (List ℕ)) (inverses : List (Option ℕ)) : Type 0 where
+  pub places : List (Option (List ℕ))
+  pub placed : HoldsPlaces (value_of fields (codes "inverses")) places
+  pub gives : GivesInverses names places inverses
+
+-- the text's equations are these pairs of words
+pub record HasEquations (fields : Fields) (names : List (List ℕ)) (inverses : List (Option ℕ)) (equations : List Pair) : Type 0 where
+  pub places : Places
+  pub listed : value_of fields (codes "equations") ≡ Some (list_value places)
+  pub few : place_count places ≤ most_equations
+  pub read : AreEquations names inverses places equations
+
 -- the fields of a text say this presentation
 pub record HoldsPresentation (fields : Fields) (parts : Parts) : Type 0 where
   pub once : (name : List ℕ) → ¬ HasFieldTwice (record_value fields) name
   pub is_rws : value_of fields (codes "isRWS") ≡ Some (bare_name (codes "true"))
-  pub ordering : (value_of fields (codes "ordering") ≡ None) ⊎ (value_of fields (codes "ordering") ≡ Some (string_value (codes "shortlex")))
-  pub generators : value_of fields (codes "generatorOrder") ≡ Some (list_value (list_of_names parts.names))
+  pub ordering : IsShortlex (value_of fields (codes "ordering"))
+  pub named : HasNames fields parts.names
   pub names : AreGeneratorNames parts.names
-  pub places : List (Option (List ℕ))
-  pub placed : HoldsPlaces (value_of fields (codes "inverses")) places
-  pub inverses : GivesInverses parts.names places parts.inverses
-  pub sides : List (Factors × Factors)
-  pub equations : value_of fields (codes "equations") ≡ Some (list_value (list_of_equations sides))
-  pub few : length sides ≤ most_equations
-  pub meanings : AreMeanings parts.names parts.inverses sides parts.equations
+  pub inverses : HasInverses fields parts.names parts.inverses
+  pub equations : HasEquations fields parts.names parts.inverses parts.equations
 
 -- the bytes are a text that says this presentation
 pub record PresentationOf (bytes : List ℕ) (parts : Parts) : Type 0 where
@@ -76,3 +122,7 @@ pub record PresentationOf (bytes : List ℕ) (parts : Parts) : Type 0 where
   pub formed : TextOf bytes text
   pub shallow : text_nesting text ≤ deepest
   pub holds : HoldsPresentation text.fields parts
+
+-- what a presentation of the code says
+abbrev pub parts_of : Presentation → Parts
+parts_of presentation = record { names = presentation.names; inverses = presentation.inv; equations = presentation.eqs }

@@ -1,9 +1,11 @@
 //! What a presentation file is refused for.
 
+ghost use Rattle.kb_presfile.specs.Faults.{name_of};
 ghost use Rattle.kb_presfile.specs.declared.error.PresError.TheVariants as errors;
 ghost use Rattle.std.specs.Prelude.{◌≡◌};
 
 use kb_word::{Memory, Text};
+use std::alloc::{AllocError, AllocFailed};
 use std::fmt;
 use thiserror::Error;
 
@@ -17,15 +19,24 @@ pub enum Field {
     Equations,
 }
 
-impl fmt::Display for Field {
-    fn fmt<W: fmt::Write>(&self, f: &mut fmt::Formatter<W>) -> fmt::Result {
-        f.write_str(match self {
+impl Field {
+    /// The field's name in a file.
+    pub fn name(self) -> &'static str
+        ensures { result.now ≡ name_of self }
+    {
+        match self {
             Field::IsRws => "isRWS",
             Field::Ordering => "ordering",
             Field::GeneratorOrder => "generatorOrder",
             Field::Inverses => "inverses",
             Field::Equations => "equations",
-        })
+        }
+    }
+}
+
+impl fmt::Display for Field {
+    fn fmt<W: fmt::Write>(&self, f: &mut fmt::Formatter<W>) -> fmt::Result {
+        f.write_str(self.name())
     }
 }
 
@@ -80,6 +91,22 @@ impl From<Memory> for PresError {
     ghost from_gives = { λ _ error. error ≡ errors.Memory };
 
     fn from(_: Memory) -> PresError {
+        PresError::Memory
+    }
+}
+
+impl From<AllocError> for PresError {
+    ghost from_gives = { λ _ error. error ≡ errors.Memory };
+
+    fn from(_: AllocError) -> PresError {
+        PresError::Memory
+    }
+}
+
+impl<T: Drop> From<AllocFailed<T>> for PresError {
+    ghost from_gives = { λ _ error. error ≡ errors.Memory };
+
+    fn from(_: AllocFailed<T>) -> PresError {
         PresError::Memory
     }
 }

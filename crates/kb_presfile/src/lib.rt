@@ -1,8 +1,17 @@
 //! Presentation files.
 #![tactic(auto)]
 
+mod equations;
 mod error;
-mod read;
+mod fields;
+mod generators;
+mod header;
+mod inverses;
+mod reader;
+mod values;
 
-pub use read::no_reader_yet;
+pub use reader::read;
 pub use error::{Field, PresError};
+
+#[cfg(test)]
+mod tests;

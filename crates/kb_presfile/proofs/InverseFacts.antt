@@ -1,0 +1,102 @@
+-- The letters of names at places, and whether they are mutual.
+use Rattle.std.proofs.Common.{◌≡◌, ◌≢◌, ℕ, zero, suc, ◌+◌, ◌<◌, ◌≤◌, Bool, true, false, nat_eq, if◌then◌else◌, List, [], ◌∷◌, ◌++◌, length, slice_get, Option, Some, None, option_and_then, refl, sym, ap, subst, ◌∙◌, arith}
+use Rattle.std.specs.List.{Contains}
+use Rattle.std.specs.Cmp.Lexicographic.{pointwise}
+use Rattle.std.proofs.lemmas.Option.{slice_get_within, slice_get_read, get_or_from_slice_get}
+use Rattle.std.proofs.lemmas.Slice.Eq.{bytes_eq-Decides}
+use Rattle.kb_word.specs.Names.{name_of}
+use Rattle.kb_word.specs.Relations.{inverse_letter}
+use Rattle.kb_record.specs.Meaning.{letter_from}
+use Rattle.kb_presfile.specs.Holds.{place_at, StandFor, AreMutual, GivesInverses}
+use Rattle.kb_presfile.specs.Faults.{PlaceIsUnknown, IsNotMutual, IsOneSided}
+
+same_name : (a b : List ℕ) → a ≡ b → pointwise nat_eq a b ≡ true
+same_name a b e = (bytes_eq-Decides a b).1 e
+
+other_name : (a b : List ℕ) → (a ≡ b → ⊥) → pointwise nat_eq a b ≡ false
+other_name a b e = go (pointwise nat_eq a b) refl
+  where
+    go : (t : Bool) → pointwise nat_eq a b ≡ t → pointwise nat_eq a b ≡ false
+    go true is = absurd (e ((bytes_eq-Decides a b).0 is))
+    go false is = is
+
+-- the letter of the first place with the name
+letter_of_first : (b x : ℕ) (names : List (List ℕ)) (name : List ℕ) (k : ℕ) → x ≡ k + b → slice_get names k ≡ Some name
+    → ((e : ℕ) → e < k → slice_get names e ≢ Some name) → letter_from b names name ≡ Some x
+letter_of_first b x [] name k is at new = cc
+letter_of_first b x (n ∷ names) name zero is at new =
+    let same = same_name n name cc in let here : b ≡ x = omega arith in rw same (ap Some here)
+letter_of_first b x (n ∷ names) name (suc k) is at new =
+    let other = other_name n name (λ e. new 0 (omega arith) (ap Some e)) in
+    rw other (letter_of_first (suc b) x names name k (omega arith) at (λ e h. new (suc e) (omega arith)))
+
+no_letter : (b : ℕ) (names : List (List ℕ)) (name : List ℕ) → ((k : ℕ) → slice_get names k ≢ Some name) → letter_from b names name ≡ None
+no_letter b [] name none = refl
+no_letter b (n ∷ names) name none =
+    let other = other_name n name (λ e. none 0 (ap Some e)) in
+    rw other (no_letter (suc b) names name (λ k. none (suc k)))
+
+pub letter_found : (names : List (List ℕ)) (name : List ℕ) (x : ℕ) → name_of names x ≡ Some name
+    → ((e : ℕ) → e < x → name_of names e ≢ Some name) → letter_from 1 names name ≡ Some x
+letter_found names name zero at new = cc
+letter_found names name (suc k) at new = letter_of_first 1 (suc k) names name k (omega arith) at (λ e h. new (suc e) (omega arith))
+
+pub letter_missed : (names : List (List ℕ)) (name : List ℕ) → ¬ Contains names name → letter_from 1 names name ≡ None
+letter_missed names name none =
+    no_letter 1 names name (λ k at. none (k, slice_get_within names k name at, get_or_from_slice_get names k name name at))
+
+pub same_text : {a b : List ℕ} → Some a ≡ Some b → a ≡ b
+same_text e = cc
+
+some_same : {a b : ℕ} → Some a ≡ Some b → a ≡ b
+some_same e = cc
+
+twice_some : {a b : ℕ} → Some (Some a) ≡ Some (Some b) → a ≡ b
+twice_some e = cc
+
+twice_none : {b : ℕ} → Some None ≡ Some (Some b) → ⊥
+twice_none e = cc
+
+-- a name's letter is one of the generators
+pub letter_within : (b : ℕ) (names : List (List ℕ)) (name : List ℕ) (x : ℕ) → letter_from b names name ≡ Some x → (b ≤ x) × (x < b + length names)
+letter_within b [] name x e = cc
+letter_within b (n ∷ names) name x e = go (pointwise nat_eq n name) e (letter_within (suc b) names name x)
+  where
+    go : (t : Bool) → (if t then Some b else letter_from (suc b) names name) ≡ Some x
+        → (letter_from (suc b) names name ≡ Some x → (suc b ≤ x) × (x < suc b + length names)) → (b ≤ x) × (x < b + length (n ∷ names))
+    go true here later = let is : b ≡ x = some_same here in (omega (arith, is), omega (arith, is))
+    go false here later = let rest = later here in (omega (arith, rest.0), omega (arith, rest.1))
+
+pub inverse_read : (inverses : List (Option ℕ)) (k y : ℕ) → inverse_letter inverses (suc k) ≡ Some y → slice_get inverses k ≡ Some (Some y)
+inverse_read inverses k y e = go (slice_get inverses k) refl e
+  where
+    go : (o : Option (Option ℕ)) → slice_get inverses k ≡ o → option_and_then (λ inverse. inverse) o ≡ Some y → slice_get inverses k ≡ Some (Some y)
+    go None is e = cc
+    go (Some o) is e = is ∙ ap Some e
+
+pub inverse_is : (inverses : List (Option ℕ)) (k y : ℕ) → slice_get inverses k ≡ Some (Some y) → inverse_letter inverses (suc k) ≡ Some y
+inverse_is inverses k y e = ap (option_and_then (λ inverse. inverse)) e
+
+-- a generator whose inverse doesn't have it as its inverse, as the places say
+pub not_mutual : (names : List (List ℕ)) (places : List (Option (List ℕ))) (inverses : List (Option ℕ)) (name : List ℕ)
+    → StandFor names places inverses → IsOneSided names inverses name → IsNotMutual names places name
+not_mutual names places inverses name stand sided = at_place (place_at places sided.k) refl
+  where
+    within : sided.k < length names
+    within = slice_get_within names sided.k name sided.is_name
+    stands : slice_get inverses sided.k ≡ Some (Some sided.y)
+    stands = inverse_read inverses sided.k sided.y sided.inverse
+    at_letter : (inverse : List ℕ) (x y : ℕ) → place_at places sided.k ≡ Some inverse → letter_from 1 names inverse ≡ Some x → x ≡ y → inverse_letter inverses y ≢ Some (suc sided.k) → IsNotMutual names places name
+    at_letter inverse x zero at letter same not_back = absurd (omega (arith, same, (letter_within 1 names inverse x letter).0))
+    at_letter inverse x (suc y) at letter same not_back = record {
+        k = sided.k; is_name = sided.is_name; inverse = inverse; y = y; at_k = at; is_y = letter ∙ ap Some same;
+        not_back = λ back at_y is_k.
+          let inside : y < length names = omega (arith, same, (letter_within 1 names inverse x letter).1) in
+          let found = stand.some y back at_y inside in
+          not_back (inverse_is inverses y (suc sided.k) (found.2 ∙ ap Some (sym found.1 ∙ is_k))) }
+    at_name : (inverse : List ℕ) → place_at places sided.k ≡ Some inverse
+        → (x : ℕ) × (letter_from 1 names inverse ≡ Some x) × (slice_get inverses sided.k ≡ Some (Some x)) → IsNotMutual names places name
+    at_name inverse at found = at_letter inverse found.0 sided.y at found.1 (twice_some (sym found.2 ∙ stands)) sided.not_back
+    at_place : (o : Option (List ℕ)) → place_at places sided.k ≡ o → IsNotMutual names places name
+    at_place None at = absurd (twice_none (sym (stand.empty sided.k within at) ∙ stands))
+    at_place (Some inverse) at = at_name inverse at (stand.some sided.k inverse at within)

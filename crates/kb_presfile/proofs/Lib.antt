@@ -1,0 +1,7 @@
+pub mod ViewLemmas
+pub mod ListingLemmas
+pub mod TakenLemmas
+pub mod InverseFacts
+pub mod LetterSteps
+pub mod PlaceLemmas
+pub mod EquationLemmas

@@ -1,0 +1,57 @@
+//! From bytes to presentations.
+
+ghost use Rattle.std.specs.Prelude.{◌≡◌, ◌≤◌, IfOk, IfErr};
+ghost use Rattle.kb_record.specs.Grammar.{TextOf};
+ghost use Rattle.kb_record.specs.Nesting.{deepest, text_nesting};
+ghost use Rattle.kb_record.specs.View.{text_view};
+ghost use Rattle.kb_presfile.specs.Fields.{fields_view};
+ghost use Rattle.kb_presfile.specs.Holds.{HoldsPresentation, PresentationOf, parts_of};
+ghost use Rattle.kb_presfile.specs.Faults.{HasFieldFault, HasPresFault};
+
+use crate::equations::read_equations;
+use crate::error::PresError;
+use crate::fields::check_once;
+use crate::generators::read_names;
+use crate::header::{check_is_rws, check_ordering};
+use crate::inverses::read_inverses;
+use kb_record::{Rec, RecordError, Value, parse};
+use kb_word::{Equations, Presentation};
+use std::alloc::Global;
+
+/// Reads a presentation file.
+pub fn read(alloc: Global, bytes: &[u8]) -> Result<Presentation, PresError>
+    ensures read { IfOk result (λ presentation. PresentationOf bytes.now (parts_of presentation)) }
+    ensures fault { IfErr result (HasPresFault bytes.now) }
+{
+    let text = text_of(alloc, bytes)?;
+    presentation_of(alloc, text.fields.as_slice())
+}
+
+/// The tree of the bytes, which are a text of a record.
+fn text_of<'a>(alloc: Global, bytes: &'a [u8]) -> Result<Rec<'a>, PresError>
+    ensures read { IfOk result (λ text. TextOf bytes.now (text_view text)) }
+    ensures shallow { IfOk result (λ text. text_nesting (text_view text) ≤ deepest) }
+    ensures fault { IfErr result (HasPresFault bytes.now) }
+{
+    match parse(alloc, bytes) {
+        Ok(text) => Ok(text),
+        Err(RecordError::Syntax { at }) => Err(PresError::Syntax { at }),
+        Err(RecordError::TooDeep { at }) => Err(PresError::TooDeep { at }),
+        Err(RecordError::Memory) => Err(PresError::Memory),
+    }
+}
+
+/// The presentation that fields say. Field by field, in the order in which a file is refused.
+fn presentation_of<'a>(alloc: Global, fields: &[(&'a str, Value<'a>)]) -> Result<Presentation, PresError>
+    ensures read { IfOk result (λ presentation. HoldsPresentation (fields_view fields.now) (parts_of presentation)) }
+    ensures fault { IfErr result (HasFieldFault (fields_view fields.now)) }
+{
+    check_once(alloc, fields)?;
+    check_is_rws(fields)?;
+    check_ordering(fields)?;
+    let names = read_names(alloc, fields)?;
+    let inverses = read_inverses(alloc, fields, &names)?;
+    let generators = Presentation::new(names.len() as u16, names, inverses, Equations::from_vec(Vec::new(alloc)));
+    let equations = read_equations(alloc, fields, &generators)?;
+    Ok(Presentation::new(generators.n, generators.names, generators.inv, equations))
+}
