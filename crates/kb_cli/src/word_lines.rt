@@ -61,7 +61,7 @@ pub(crate) fn answer_line<R: Reducer>(
     ensures given { OnOk result (Gives (parts_of presentation.now) line.now pending.old.items pending.new.items) }
     ensures stops { IfErr result (StopsAt (parts_of presentation.now) line.now pending.old.items pending.new.items) }
 {
-    if is_blank(line)? {
+    if is_blank(line) {
         return Ok(());
     }
     let word = match parse_word(alloc, line, presentation) {

@@ -1,6 +1,6 @@
 //! From bytes to tokens.
 
-ghost use Rattle.std.specs.Prelude.{◌≡◌, ◌≢◌, ◌↔◌, ℕ, ◌+◌, ◌<◌, ◌≤◌, false, IsTrue, IfOk, pos, List, ◌++◌, Some, length, slice_get, slice_index, take, drop, take_while};
+ghost use Rattle.std.specs.Prelude.{◌≡◌, ◌≢◌, ◌↔◌, ℕ, ◌+◌, ◌<◌, ◌≤◌, false, IsTrue, [], IfOk, pos, List, ◌++◌, Some, length, slice_get, slice_index, take, drop, take_while};
 ghost use Rattle.std.specs.Char.{is_ascii_digit};
 ghost use Rattle.std.specs.List.{AllByRecursion};
 ghost use Rattle.kb_record.specs.Token.{Token as TreeToken};
@@ -56,6 +56,13 @@ pub(crate) fn lex<'a>(alloc: Global, bytes: &'a [u8]) -> Result<Lexed<'a>, Memor
         end = start + len;
         lexemes.push(Lexeme { token, start, end })?;
     }
+}
+
+/// Whether the bytes are blanks and comments alone.
+pub fn is_blank(bytes: &[u8]) -> bool
+    ensures { IsTrue result ↔ (after_gap bytes.now ≡ []) }
+{
+    gap_end(bytes, 0) == bytes.len()
 }
 
 /// The place behind the blanks and comments that stand at a place.

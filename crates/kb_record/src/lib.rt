@@ -39,20 +39,18 @@ mod laws;
 mod lexer;
 mod meaning;
 mod parser;
-mod stub;
 mod place;
 mod records;
 mod token;
 mod tree;
 mod words;
 
-pub use parser::parse;
-pub use stub::{is_blank, parse_word};
 pub use error::{RecordError, WordError};
 pub use laws::{
     a_shallow_text_is_not_too_deep, a_shallow_word_is_not_too_deep, a_text_has_one_tree,
     a_word_has_one_tree,
 };
+pub use lexer::is_blank;
 pub use meaning::word_of;
 pub use parser::{parse, parse_expr, parse_word};
 pub use tree::{Expr, Factor, Rec, Value};
