@@ -15,6 +15,12 @@ HasTextFault bytes (record_errors.Syntax at) = (text : TextTree) → ¬ TextOf b
 HasTextFault bytes (record_errors.TooDeep at) = IsTooDeep (λ tokens. (text : TextTree) × IsText tokens text) bytes
 HasTextFault bytes record_errors.Memory = Unit {0}
 
+-- the same of a word
+abbrev pub HasTreeFault : List ℕ → RecordError → Type 0
+HasTreeFault bytes (record_errors.Syntax at) = (factors : Factors) → ¬ WordOf bytes factors
+HasTreeFault bytes (record_errors.TooDeep at) = IsTooDeep (λ tokens. (factors : Factors) × IsWordText tokens factors) bytes
+HasTreeFault bytes record_errors.Memory = Unit {0}
+
 -- what the bytes mean over a presentation's names and inverses, or the fault of their word, where they are a word
 pub record Meaning (bytes : List ℕ) (names : List (List ℕ)) (inverses : List (Option ℕ)) (meaning : Result (List ℕ) WordFault) : Type 0 where
   pub factors : Factors

@@ -7,3 +7,5 @@ pub mod Nesting
 pub mod View
 pub mod Lexemes
 pub mod Faults
+pub mod Reading
+pub mod Refusals

@@ -60,3 +60,17 @@ impl From<Memory> for WordError {
         WordError::Memory
     }
 }
+
+impl From<RecordError> for WordError {
+    ghost use Rattle.kb_record.specs.Refusals.{SameRefusal};
+
+    ghost from_gives = { λ refusal error. SameRefusal refusal error };
+
+    fn from(refusal: RecordError) -> WordError {
+        match refusal {
+            RecordError::Syntax { at } => WordError::Syntax { at },
+            RecordError::TooDeep { at } => WordError::TooDeep { at },
+            RecordError::Memory => WordError::Memory,
+        }
+    }
+}

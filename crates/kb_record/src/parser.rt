@@ -3,20 +3,121 @@
 ghost use Rattle.std.specs.Prelude.{◌≡◌, ◌≤◌, IfOk, IfErr, OnErr};
 ghost use Rattle.kb_record.specs.Grammar.{TextOf, WordOf};
 ghost use Rattle.kb_record.specs.Nesting.{deepest, text_nesting, word_nesting};
-ghost use Rattle.kb_record.specs.Faults.{HasTextFault};
+ghost use Rattle.kb_record.specs.Faults.{HasTextFault, HasTreeFault, HasWordFault, Meaning};
+ghost use Rattle.kb_record.specs.Reading.{Reads, ReadsAll, Says, remaining, read_text, read_ended, read_word, rec_view};
 ghost use Rattle.kb_record.specs.View.{text_view, word_view};
 
-use crate::error::RecordError;
-use crate::tree::Rec;
+use crate::cursor::{Cursor, Expected, Mark, Stop};
+use crate::error::{RecordError, WordError};
+use crate::lexer::{Lexed, lex};
+use crate::meaning::word_of;
+use crate::place::syntax_place;
+use crate::records::fields;
+use crate::token::Lexeme;
+use crate::tree::{Expr, Rec};
+use crate::words::word;
+use kb_word::{Presentation, Word};
 use std::alloc::Global;
 
-/// Reads a text: a name, `:=` and a record.
+/// Brackets in brackets may stand this deep.
+const DEEPEST: usize = 64;
+
+/// Reads a text: a name, `:=` and a record, with `;` behind it or nothing.
+///
+/// The tree borrows its names and strings from the bytes. The bytes are refused exactly where they have
+/// a fault, but for want of memory: by `a_text_has_one_tree` the tree that is answered is the only one, and by
+/// `a_shallow_text_is_not_too_deep` bytes with a tree that nests no more than 64 deep have neither fault.
+/// `Syntax` and `TooDeep` name the place up to which the bytes begin some text, and that of the 65th bracket.
 pub fn parse<'a>(alloc: Global, bytes: &'a [u8]) -> Result<Rec<'a>, RecordError>
     ensures read { IfOk result (λ text. TextOf bytes.now (text_view text)) }
     ensures shallow { IfOk result (λ text. text_nesting (text_view text) ≤ deepest) }
     ensures fault { IfErr result (HasTextFault bytes.now) }
 {
-    let _alloc = alloc;
-    let _len = bytes.len();
-    Err(RecordError::Memory)
+    let lexed = lex(alloc, bytes)?;
+    let mut tokens = Cursor::new(&lexed.lexemes);
+    match whole_text(alloc, &mut tokens, lexed.whole) {
+        Ok(text) => Ok(text),
+        Err(stop) => Err(error_at(bytes, &lexed.lexemes, tokens.left(), stop)),
+    }
 }
+
+/// Reads a word, alone or as a line of its own.
+///
+/// As with [`parse`], the bytes are refused exactly where they have a fault, but for want of memory.
+pub fn parse_expr<'a>(alloc: Global, bytes: &'a [u8]) -> Result<Expr<'a>, RecordError>
+    ensures read { IfOk result (λ word. WordOf bytes.now (word_view word)) }
+    ensures shallow { IfOk result (λ word. word_nesting (word_view word) ≤ deepest) }
+    ensures fault { IfErr result (HasTreeFault bytes.now) }
+{
+    let lexed = lex(alloc, bytes)?;
+    let mut tokens = Cursor::new(&lexed.lexemes);
+    match whole_word(alloc, &mut tokens, lexed.whole) {
+        Ok(word) => Ok(word),
+        Err(stop) => Err(error_at(bytes, &lexed.lexemes, tokens.left(), stop)),
+    }
+}
+
+/// Reads a word of a presentation: the word that the bytes stand for, or the refusal of the bytes or of the
+/// first fault that is met from the left.
+pub fn parse_word(
+    alloc: Global,
+    bytes: &[u8],
+    presentation: &Presentation,
+) -> Result<Word, WordError>
+    ensures read { IfOk result
+        (λ word. Meaning bytes.now presentation.now.names presentation.now.inv (Ok word)) }
+    ensures fault { IfErr result (HasWordFault bytes.now presentation.now.names presentation.now.inv) }
+{
+    let tree = parse_expr(alloc, bytes)?;
+    word_of(alloc, &tree, presentation)
+}
+
+/// The refusal of a text whose reading stops before so many of its last lexemes.
+fn error_at(bytes: &[u8], lexemes: &[Lexeme<'_>], left: usize, stop: Stop) -> RecordError
+    ensures { Says stop result }
+{
+    let good = &lexemes[..lexemes.len().saturating_sub(left)];
+    match stop {
+        Stop::Unexpected(expected) => RecordError::Syntax {
+            at: syntax_place(bytes, good, expected),
+        },
+        Stop::TooDeep => RecordError::TooDeep {
+            at: good.last().map_or(0, |bracket| bracket.start),
+        },
+        Stop::Memory => RecordError::Memory,
+    }
+}
+
+/// Reads a text that goes to the end of the tokens, which are all that the bytes have.
+fn whole_text<'a>(alloc: Global, tokens: &mut Cursor<'_, 'a>, whole: bool) -> Result<Rec<'a>, Stop>
+    ensures { ReadsAll (read_ended deepest (remaining tokens.old)) rec_view whole result (remaining tokens.new) }
+{
+    let text = text(alloc, tokens)?;
+    let _semicolon = tokens.take(Mark::Semicolon);
+    tokens.end(whole)?;
+    Ok(text)
+}
+
+/// Reads a name, `:=` and a record.
+fn text<'a>(alloc: Global, tokens: &mut Cursor<'_, 'a>) -> Result<Rec<'a>, Stop>
+    ensures { Reads (read_text deepest (remaining tokens.old)) rec_view result (remaining tokens.new) }
+{
+    let name = tokens.name()?;
+    tokens.expect(Mark::Assign, Expected::Assign)?;
+    tokens.expect(Mark::Rec, Expected::Rec)?;
+    tokens.expect(Mark::OpenRound, Expected::Mark)?;
+    let fields = fields(alloc, tokens, DEEPEST)?;
+    Ok(Rec { name, fields })
+}
+
+/// Reads a word that goes to the end of the tokens, which are all that the bytes have.
+fn whole_word<'a>(alloc: Global, tokens: &mut Cursor<'_, 'a>, whole: bool) -> Result<Expr<'a>, Stop>
+    ensures { ReadsAll (read_word deepest (remaining tokens.old)) word_view whole result (remaining tokens.new) }
+{
+    let factors = word(alloc, tokens, DEEPEST)?;
+    tokens.end(whole)?;
+    Ok(Expr { factors })
+}
+
+#[cfg(test)]
+mod tests;

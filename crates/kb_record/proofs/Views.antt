@@ -1,0 +1,15 @@
+-- The views of values, a level at a time.
+use Rattle.std.proofs.Common.{◌≡◌, ℕ, List, [], ◌∷◌, map, refl, ap, rules, Vec, Global}
+use Rattle.std.specs.Borrow.{Bor}
+use Rattle.kb_record.specs.Tree.{field, record_value}
+use Rattle.kb_record.specs.View.{value_view, fields_of}
+use Rattle.kb_record.specs.Reading.{fields_from, field_view}
+use Rattle.kb_record.specs.declared.tree.Value.{Value, Record, the_lemmas}
+
+-- the fields in two ways
+pub fields_alike : (fs : List (Bor (List ℕ) × Value)) → fields_from (map field_view fs) ≡ fields_of (map (λ (f : Bor (List ℕ) × Value). (f.0, value_view f.1)) fs)
+fields_alike [] = refl
+fields_alike (f ∷ fs) = ap (field f.0.now (value_view f.1)) (fields_alike fs)
+
+pub view-Record : (v : Vec (Bor (List ℕ) × Value) Global) → value_view (Record v) ≡ record_value (fields_of (map (λ (f : Bor (List ℕ) × Value). (f.0, value_view f.1)) v.items))
+view-Record v = search (rules, the_lemmas)

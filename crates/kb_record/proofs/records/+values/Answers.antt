@@ -1,0 +1,145 @@
+use Rattle.std.proofs.Common.{◌≡◌, ℕ, ◌-◌, List, [], ◌∷◌, ◌++◌, Option, Some, None, Err, map, Bool, true, false, option_map, sym, ap, ◌∙◌, arith, rules, Vec, Global}
+use Rattle.std.specs.Borrow.{Bor}
+use Rattle.kb_record.specs.Tree.{record_value}
+use Rattle.kb_record.specs.Reading.{Reads, read, remaining, passes_comma, joined, reading_map, read_value, place_with, field_with, field_view, fields_from, read_fields, past, behind, begins_word, read_scalar}
+use Rattle.kb_record.specs.View.{value_view}
+use Rattle.kb_record.specs.declared.tree.Value.{Value as ValueType}
+use Rattle.kb_record.specs.declared.cursor.Mark.TheVariants.{CloseRound, CloseSquare, Rec, OpenSquare}
+use Rattle.kb_record.proofs.Rows.{after_items, turn, last, item_fails, comma_fails, as_answered, map_one_more, comma-shorter}
+use Rattle.kb_record.proofs.Depths.{value-word, value-record, value-list, value-scalar, same_reading}
+use Rattle.kb_record.proofs.Views.{fields_alike, view-Record}
+use Rattle.kb_record.proofs.records.+values.Goals as goal
+
+pub places-returns-in_err-place-clause-reads : goal.places-returns-in_err-place-clause-reads
+places-returns-in_err-place-clause-reads t c =
+    let l = c.loop-places in
+    let stop = c.in_err-place.field-0.0 in
+    let rest = remaining c.place.new.tokens in
+    let failed : Reads (place_with (read_value c.args.depth) (remaining l.tokens)) (option_map value_view) (Err stop) rest = c.in_err-place.ensures.reads in
+    let answered : c.from_residual.result ≡ Err stop = search rules in
+    as_answered _ _ _ _ stop rest l.invariant.3 answered
+    (item_fails (place_with (read_value c.args.depth)) (passes_comma CloseSquare) {D = Vec (Option ValueType) Global} (map (option_map value_view) l.places.items) l.invariant.0 (remaining l.tokens) rest (option_map value_view) (λ v. map (option_map value_view) v.items) stop (omega (arith, l.invariant.1)) failed)
+
+pub places-returns-in_err-passes_comma-clause-reads : goal.places-returns-in_err-passes_comma-clause-reads
+places-returns-in_err-passes_comma-clause-reads t c =
+    let l = c.loop-places in
+    let x = c.in_ok-place.field-0 in
+    let stop = c.in_err-passes_comma.field-0.0 in
+    let rest = remaining c.passes_comma.new.self in
+    let item : place_with (read_value c.args.depth) (remaining l.tokens) ≡ read ((option_map value_view) x) (remaining c.place.new.tokens) = c.in_ok-place.ensures.reads in
+    let failed : Reads (passes_comma CloseSquare (remaining c.place.new.tokens)) (λ more. more) (Err stop) rest = c.in_err-passes_comma.ensures in
+    let answered : c.from_residual-in_err-passes_comma.result ≡ Err stop = search rules in
+    as_answered _ _ _ _ stop rest l.invariant.3 answered
+    (comma_fails (place_with (read_value c.args.depth)) (passes_comma CloseSquare) {B = Bool} {D = Vec (Option ValueType) Global} (map (option_map value_view) l.places.items) l.invariant.0 (remaining l.tokens) (remaining c.place.new.tokens) rest ((option_map value_view) x) (λ more. more) (λ v. map (option_map value_view) v.items) stop (omega (arith, l.invariant.1)) item failed)
+
+pub places-returns-then-not-branch-clause-reads : goal.places-returns-then-not-branch-clause-reads
+places-returns-then-not-branch-clause-reads t c =
+    let l = c.loop-places in
+    let x = c.in_ok-place.field-0 in
+    let item : place_with (read_value c.args.depth) (remaining l.tokens) ≡ read ((option_map value_view) x) (remaining c.place.new.tokens) = c.in_ok-place.ensures.reads in
+    let comma : passes_comma CloseSquare (remaining c.place.new.tokens) ≡ read false (remaining c.passes_comma.new.self) = c.in_ok-passes_comma.ensures ∙ ap (λ b. read b (remaining c.passes_comma.new.self)) c.if-not-branch.true in
+    let pushed : c.push.new.self.items ≡ l.places.items ++ x ∷ [] = search rules in
+    let read_all = last (place_with (read_value c.args.depth)) (passes_comma CloseSquare) (map (option_map value_view) l.places.items) l.invariant.0 (remaining l.tokens) (remaining c.place.new.tokens) (remaining c.passes_comma.new.self) ((option_map value_view) x) (omega (arith, l.invariant.1)) item comma in
+    l.invariant.3 ∙ read_all ∙ ap (λ fs. read fs (remaining c.passes_comma.new.self)) (map_one_more (option_map value_view) l.places.items _ x pushed)
+
+pub places-loop-places-preserved : goal.places-loop-places-preserved
+places-loop-places-preserved t c =
+    let l = c.loop-places in
+    let x = c.in_ok-place.field-0 in
+    let item : place_with (read_value c.args.depth) (remaining l.tokens) ≡ read ((option_map value_view) x) (remaining c.place.new.tokens) = c.in_ok-place.ensures.reads in
+    let comma : passes_comma CloseSquare (remaining c.place.new.tokens) ≡ read true (remaining c.passes_comma.new.self) = c.in_ok-passes_comma.ensures ∙ ap (λ b. read b (remaining c.passes_comma.new.self)) c.if-not-branch.false in
+    let pushed : c.push.new.self.items ≡ l.places.items ++ x ∷ [] = search rules in
+    let next = turn (place_with (read_value c.args.depth)) (passes_comma CloseSquare) (map (option_map value_view) l.places.items) l.invariant.0 (remaining l.tokens) (remaining c.place.new.tokens) (remaining c.passes_comma.new.self) ((option_map value_view) x) (omega (arith, l.invariant.1)) item comma in
+    let shorter = comma-shorter CloseSquare (remaining c.place.new.tokens) (remaining c.passes_comma.new.self) true comma in
+    let fewer = c.in_ok-place.ensures.shorter in (
+      l.invariant.0 - 1,
+      omega (arith, l.invariant.1),
+      omega (arith, l.invariant.2),
+      l.invariant.3 ∙ next ∙ ap (λ fs. after_items fs (joined (place_with (read_value c.args.depth)) (passes_comma CloseSquare) (l.invariant.0 - 1) (remaining c.passes_comma.new.self))) (map_one_more (option_map value_view) l.places.items _ x pushed),
+    )
+
+pub some_fields-returns-in_err-field-clause-reads : goal.some_fields-returns-in_err-field-clause-reads
+some_fields-returns-in_err-field-clause-reads t c =
+    let l = c.loop-fields in
+    let stop = c.in_err-field.field-0.0 in
+    let rest = remaining c.field.new.tokens in
+    let failed : Reads (field_with (read_value c.args.depth) (remaining l.tokens)) field_view (Err stop) rest = c.in_err-field.ensures.reads in
+    let answered : c.from_residual.result ≡ Err stop = search rules in
+    as_answered _ _ _ _ stop rest l.invariant.3 answered
+    (item_fails (field_with (read_value c.args.depth)) (passes_comma CloseRound) {D = Vec (Bor (List ℕ) × ValueType) Global} (map field_view l.fields.items) l.invariant.0 (remaining l.tokens) rest field_view (λ v. map field_view v.items) stop (omega (arith, l.invariant.1)) failed)
+
+pub some_fields-returns-in_err-passes_comma-clause-reads : goal.some_fields-returns-in_err-passes_comma-clause-reads
+some_fields-returns-in_err-passes_comma-clause-reads t c =
+    let l = c.loop-fields in
+    let x = c.in_ok-field.field-0 in
+    let stop = c.in_err-passes_comma.field-0.0 in
+    let rest = remaining c.passes_comma.new.self in
+    let item : field_with (read_value c.args.depth) (remaining l.tokens) ≡ read (field_view x) (remaining c.field.new.tokens) = c.in_ok-field.ensures.reads in
+    let failed : Reads (passes_comma CloseRound (remaining c.field.new.tokens)) (λ more. more) (Err stop) rest = c.in_err-passes_comma.ensures in
+    let answered : c.from_residual-in_err-passes_comma.result ≡ Err stop = search rules in
+    as_answered _ _ _ _ stop rest l.invariant.3 answered
+    (comma_fails (field_with (read_value c.args.depth)) (passes_comma CloseRound) {B = Bool} {D = Vec (Bor (List ℕ) × ValueType) Global} (map field_view l.fields.items) l.invariant.0 (remaining l.tokens) (remaining c.field.new.tokens) rest (field_view x) (λ more. more) (λ v. map field_view v.items) stop (omega (arith, l.invariant.1)) item failed)
+
+pub some_fields-returns-then-not-branch-clause-reads : goal.some_fields-returns-then-not-branch-clause-reads
+some_fields-returns-then-not-branch-clause-reads t c =
+    let l = c.loop-fields in
+    let x = c.in_ok-field.field-0 in
+    let item : field_with (read_value c.args.depth) (remaining l.tokens) ≡ read (field_view x) (remaining c.field.new.tokens) = c.in_ok-field.ensures.reads in
+    let comma : passes_comma CloseRound (remaining c.field.new.tokens) ≡ read false (remaining c.passes_comma.new.self) = c.in_ok-passes_comma.ensures ∙ ap (λ b. read b (remaining c.passes_comma.new.self)) c.if-not-branch.true in
+    let pushed : c.push.new.self.items ≡ l.fields.items ++ x ∷ [] = search rules in
+    let read_all = last (field_with (read_value c.args.depth)) (passes_comma CloseRound) (map field_view l.fields.items) l.invariant.0 (remaining l.tokens) (remaining c.field.new.tokens) (remaining c.passes_comma.new.self) (field_view x) (omega (arith, l.invariant.1)) item comma in
+    l.invariant.3 ∙ read_all ∙ ap (λ fs. read fs (remaining c.passes_comma.new.self)) (map_one_more field_view l.fields.items _ x pushed)
+
+pub some_fields-loop-fields-preserved : goal.some_fields-loop-fields-preserved
+some_fields-loop-fields-preserved t c =
+    let l = c.loop-fields in
+    let x = c.in_ok-field.field-0 in
+    let item : field_with (read_value c.args.depth) (remaining l.tokens) ≡ read (field_view x) (remaining c.field.new.tokens) = c.in_ok-field.ensures.reads in
+    let comma : passes_comma CloseRound (remaining c.field.new.tokens) ≡ read true (remaining c.passes_comma.new.self) = c.in_ok-passes_comma.ensures ∙ ap (λ b. read b (remaining c.passes_comma.new.self)) c.if-not-branch.false in
+    let pushed : c.push.new.self.items ≡ l.fields.items ++ x ∷ [] = search rules in
+    let next = turn (field_with (read_value c.args.depth)) (passes_comma CloseRound) (map field_view l.fields.items) l.invariant.0 (remaining l.tokens) (remaining c.field.new.tokens) (remaining c.passes_comma.new.self) (field_view x) (omega (arith, l.invariant.1)) item comma in
+    let shorter = comma-shorter CloseRound (remaining c.field.new.tokens) (remaining c.passes_comma.new.self) true comma in
+    let fewer = c.in_ok-field.ensures.shorter in (
+      l.invariant.0 - 1,
+      omega (arith, l.invariant.1),
+      omega (arith, l.invariant.2),
+      l.invariant.3 ∙ next ∙ ap (λ fs. after_items fs (joined (field_with (read_value c.args.depth)) (passes_comma CloseRound) (l.invariant.0 - 1) (remaining c.passes_comma.new.self))) (map_one_more field_view l.fields.items _ x pushed),
+    )
+
+pub record-returns-clause-reads : goal.record-returns-clause-reads
+record-returns-clause-reads t c =
+    let found = c.in_ok-fields.fields in
+    let opening = c.in_ok-expect.ensures in
+    let fields : read_fields c.args.depth (remaining c.expect.new.self) ≡ read (map field_view found.items) (remaining c.fields.new.tokens) = c.in_ok-fields.ensures.reads in
+    ap (λ o. past o (λ rest. reading_map (λ fs. record_value (fields_from fs)) (read_fields c.args.depth rest))) opening
+    ∙ ap (reading_map (λ fs. record_value (fields_from fs))) fields ∙ ap (λ v. read v (remaining c.fields.new.tokens)) (ap record_value (fields_alike found.items) ∙ sym (view-Record found))
+
+pub value-returns-then-begins_word-clause-reads : goal.value-returns-then-begins_word-clause-reads
+value-returns-then-begins_word-clause-reads t c =
+    let tokens = remaining c.args.tokens.now in
+    let word : begins_word tokens ≡ true = grind arith in
+    same_reading _ _ value_view c.word_value.result _ (value-word c.args.depth tokens word) c.word_value.ensures.reads
+
+pub value-returns-then-take-clause-reads : goal.value-returns-then-take-clause-reads
+value-returns-then-take-clause-reads t c =
+    let tokens = remaining c.args.tokens.now in
+    let word : begins_word tokens ≡ false = grind arith in
+    let opened : behind Rec tokens ≡ Some (remaining c.take.new.self) = grind arith in
+    same_reading _ _ value_view c.record.result _ (value-record c.args.depth tokens _ word opened) c.record.ensures.reads
+
+pub value-returns-then-take-2-clause-reads : goal.value-returns-then-take-2-clause-reads
+value-returns-then-take-2-clause-reads t c =
+    let tokens = remaining c.args.tokens.now in
+    let word : begins_word tokens ≡ false = grind arith in
+    let no_record : (behind Rec tokens ≡ None) × (remaining c.take.new.self ≡ tokens) = grind arith in
+    let opened : behind OpenSquare (remaining c.take.new.self) ≡ Some (remaining c.take-2.new.self) = grind arith in
+    same_reading _ _ value_view c.list.result _ (value-list c.args.depth tokens _ word no_record.0 (ap (behind OpenSquare) (sym no_record.1) ∙ opened)) c.list.ensures.reads
+
+pub value-returns-clause-reads : goal.value-returns-clause-reads
+value-returns-clause-reads t c =
+    let tokens = remaining c.args.tokens.now in
+    let word : begins_word tokens ≡ false = grind arith in
+    let no_record : (behind Rec tokens ≡ None) × (remaining c.take.new.self ≡ tokens) = grind arith in
+    let no_list : (behind OpenSquare (remaining c.take.new.self) ≡ None) × (remaining c.take-2.new.self ≡ remaining c.take.new.self) = grind arith in
+    same_reading _ _ value_view c.scalar.result _
+    (value-scalar c.args.depth tokens word no_record.0 (ap (behind OpenSquare) (sym no_record.1) ∙ no_list.0) ∙ ap read_scalar (sym (no_list.1 ∙ no_record.1))) c.scalar.ensures

@@ -1,0 +1,48 @@
+use Rattle.std.proofs.Common.{◌≡◌, ℕ, ◌+◌, ◌*◌, ◌<◌, ◌≤◌, suc, map, length, option_map}
+use Rattle.kb_record.specs.Reading.{remaining, passes_comma, joined, read_value, place_with, field_with, field_view}
+use Rattle.kb_record.specs.View.{value_view}
+use Rattle.kb_record.specs.declared.cursor.Mark.TheVariants.{CloseRound, CloseSquare}
+use Rattle.kb_record.proofs.Rows.{after_items}
+use Rattle.kb_record.proofs.records.+values.Given as goal
+
+abbrev pub decreases-value : goal.decreases-value
+decreases-value l = 6 * l.depth + 4
+
+abbrev pub decreases-record : goal.decreases-record
+decreases-record l = 6 * l.depth + 3
+
+abbrev pub decreases-fields : goal.decreases-fields
+decreases-fields l = 6 * l.depth + 2
+
+abbrev pub decreases-list : goal.decreases-list
+decreases-list l = 6 * l.depth + 2
+
+abbrev pub decreases-some_fields : goal.decreases-some_fields
+decreases-some_fields l = 6 * l.depth + 6
+
+abbrev pub decreases-places : goal.decreases-places
+decreases-places l = 6 * l.depth + 6
+
+abbrev pub decreases-field : goal.decreases-field
+decreases-field l = 6 * l.depth + 5
+
+abbrev pub decreases-place : goal.decreases-place
+decreases-place l = 6 * l.depth + 5
+
+abbrev pub invariant-some_fields-loop-fields : goal.invariant-some_fields-loop-fields
+invariant-some_fields-loop-fields l =
+    (n : ℕ) × (length (remaining l.tokens) < n) × (length (remaining l.tokens) ≤ length (remaining l.initial.tokens))
+    × (joined (field_with (read_value l.depth)) (passes_comma CloseRound) (suc (length (remaining l.initial.tokens))) (remaining l.initial.tokens)
+    ≡ after_items (map field_view l.fields.items) (joined (field_with (read_value l.depth)) (passes_comma CloseRound) n (remaining l.tokens)))
+
+abbrev pub decreases-some_fields-loop-fields : goal.decreases-some_fields-loop-fields
+decreases-some_fields-loop-fields l = length (remaining l.tokens)
+
+abbrev pub invariant-places-loop-places : goal.invariant-places-loop-places
+invariant-places-loop-places l =
+    (n : ℕ) × (length (remaining l.tokens) < n) × (length (remaining l.tokens) ≤ length (remaining l.initial.tokens))
+    × (joined (place_with (read_value l.depth)) (passes_comma CloseSquare) (suc (length (remaining l.initial.tokens))) (remaining l.initial.tokens)
+    ≡ after_items (map (option_map value_view) l.places.items) (joined (place_with (read_value l.depth)) (passes_comma CloseSquare) n (remaining l.tokens)))
+
+abbrev pub decreases-places-loop-places : goal.decreases-places-loop-places
+decreases-places-loop-places l = length (remaining l.tokens)

@@ -1,0 +1,31 @@
+//! Laws of the grammar: trees are unique, and no text is both read and refused.
+
+ghost use Rattle.std.specs.Prelude.{◌≡◌, ◌≤◌, ℕ, List};
+ghost use Rattle.kb_record.specs.Token.{Token};
+ghost use Rattle.kb_record.specs.Tree.{Factors, TextTree};
+ghost use Rattle.kb_record.specs.Grammar.{IsText, IsWordText, TextOf, WordOf};
+ghost use Rattle.kb_record.specs.Nesting.{deepest, text_nesting, word_nesting, IsTooDeep};
+
+/// Bytes are a text in one way at most.
+pub fn a_text_has_one_tree()
+    ensures { (bytes : List ℕ) (one other : TextTree) → TextOf bytes one → TextOf bytes other
+        → one ≡ other }
+{}
+
+/// Bytes are a word in one way at most.
+pub fn a_word_has_one_tree()
+    ensures { (bytes : List ℕ) (one other : Factors) → WordOf bytes one → WordOf bytes other
+        → one ≡ other }
+{}
+
+/// A text that nests as deep as it may has no front with too many brackets open.
+pub fn a_shallow_text_is_not_too_deep()
+    ensures { (bytes : List ℕ) (text : TextTree) → TextOf bytes text → text_nesting text ≤ deepest
+        → ¬ IsTooDeep (λ tokens. (other : TextTree) × IsText tokens other) bytes }
+{}
+
+/// A word that nests as deep as it may has no front with too many brackets open.
+pub fn a_shallow_word_is_not_too_deep()
+    ensures { (bytes : List ℕ) (factors : Factors) → WordOf bytes factors → word_nesting factors ≤ deepest
+        → ¬ IsTooDeep (λ tokens. (other : Factors) × IsWordText tokens other) bytes }
+{}

@@ -1,0 +1,178 @@
+//! Values: from tokens to the trees of what fields and lists hold.
+
+ghost use Rattle.std.specs.Prelude.{◌≡◌, ◌≤◌, length, map, OnOk, option_map};
+ghost use Rattle.kb_record.specs.declared.cursor.Mark.TheVariants as marks;
+ghost use Rattle.kb_record.specs.Tree.{word_value};
+ghost use Rattle.kb_record.specs.Reading.{Reads, remaining, row, passes_comma, place_with, field_with, range_from, read_list, read_fields, read_record, read_word, reading_map, read_value, field_view};
+ghost use Rattle.kb_record.specs.View.{value_view};
+
+use crate::cursor::{Cursor, Expected, Mark, Stop};
+use crate::tree::{Expr, Value};
+use crate::words::word;
+use std::alloc::Global;
+
+/// Reads a value, with brackets in brackets at most `depth` deep.
+#[cycle(values)]
+fn value<'a>(alloc: Global, tokens: &mut Cursor<'_, 'a>, depth: usize) -> Result<Value<'a>, Stop>
+    ensures reads { Reads (read_value depth (remaining tokens.old)) value_view result (remaining tokens.new) }
+    ensures shorter { OnOk result (length (remaining tokens.new) ≤ length (remaining tokens.old)) }
+{
+    if tokens.begins_word() {
+        return word_value(alloc, tokens, depth);
+    }
+    if tokens.take(Mark::Rec) {
+        return record(alloc, tokens, depth);
+    }
+    if tokens.take(Mark::OpenSquare) {
+        return list(alloc, tokens, depth);
+    }
+    tokens.scalar()
+}
+
+/// Reads a word as a value.
+fn word_value<'a>(
+    alloc: Global,
+    tokens: &mut Cursor<'_, 'a>,
+    depth: usize,
+) -> Result<Value<'a>, Stop>
+    ensures reads { Reads (reading_map word_value (read_word depth (remaining tokens.old))) value_view
+        result (remaining tokens.new) }
+    ensures shorter { OnOk result (length (remaining tokens.new) ≤ length (remaining tokens.old)) }
+{
+    let factors = word(alloc, tokens, depth)?;
+    Ok(Value::Word(Expr { factors }))
+}
+
+/// Reads a record behind its `rec`.
+#[cycle(values)]
+fn record<'a>(alloc: Global, tokens: &mut Cursor<'_, 'a>, depth: usize) -> Result<Value<'a>, Stop>
+    ensures reads { Reads (read_record depth (remaining tokens.old)) value_view result (remaining tokens.new) }
+    ensures shorter { OnOk result (length (remaining tokens.new) ≤ length (remaining tokens.old)) }
+{
+    tokens.expect(Mark::OpenRound, Expected::Fields)?;
+    let fields = fields(alloc, tokens, depth)?;
+    Ok(Value::Record(fields))
+}
+
+/// Reads the fields of a record behind its open bracket, and the closing bracket.
+#[cycle(values)]
+pub(crate) fn fields<'a>(
+    alloc: Global,
+    tokens: &mut Cursor<'_, 'a>,
+    depth: usize,
+) -> Result<Vec<(&'a str, Value<'a>)>, Stop>
+    ensures reads { Reads (read_fields depth (remaining tokens.old)) (λ fields. map field_view fields.items)
+        result (remaining tokens.new) }
+    ensures shorter { OnOk result (length (remaining tokens.new) ≤ length (remaining tokens.old)) }
+{
+    if depth == 0 {
+        return Err(Stop::TooDeep);
+    }
+    if tokens.take(Mark::CloseRound) {
+        return Ok(Vec::new(alloc));
+    }
+    some_fields(alloc, tokens, depth - 1)
+}
+
+/// Reads fields joined by `,`, of which there is at least one, and the closing bracket.
+#[cycle(values)]
+fn some_fields<'a>(
+    alloc: Global,
+    tokens: &mut Cursor<'_, 'a>,
+    depth: usize,
+) -> Result<Vec<(&'a str, Value<'a>)>, Stop>
+    ensures reads { Reads (row (field_with (read_value depth)) (passes_comma marks.CloseRound) (remaining tokens.old))
+        (λ fields. map field_view fields.items) result (remaining tokens.new) }
+    ensures shorter { OnOk result (length (remaining tokens.new) ≤ length (remaining tokens.old)) }
+{
+    let mut fields = Vec::new(alloc);
+    loop {
+        fields.push(field(alloc, tokens, depth)?)?;
+        if !tokens.passes_comma(Mark::CloseRound)? {
+            return Ok(fields);
+        }
+    }
+}
+
+/// Reads a field: its name, `:=` and its value.
+#[cycle(values)]
+fn field<'a>(
+    alloc: Global,
+    tokens: &mut Cursor<'_, 'a>,
+    depth: usize,
+) -> Result<(&'a str, Value<'a>), Stop>
+    ensures reads { Reads (field_with (read_value depth) (remaining tokens.old)) field_view result (remaining tokens.new) }
+    ensures shorter { OnOk result (length (remaining tokens.new) ≤ length (remaining tokens.old)) }
+{
+    let name = tokens.name()?;
+    tokens.expect(Mark::Assign, Expected::Assign)?;
+    let value = value(alloc, tokens, depth)?;
+    Ok((name, value))
+}
+
+/// Reads a list or a range behind its open bracket, and the closing bracket.
+#[cycle(values)]
+fn list<'a>(alloc: Global, tokens: &mut Cursor<'_, 'a>, depth: usize) -> Result<Value<'a>, Stop>
+    ensures reads { Reads (read_list depth (remaining tokens.old)) value_view result (remaining tokens.new) }
+    ensures shorter { OnOk result (length (remaining tokens.new) ≤ length (remaining tokens.old)) }
+{
+    if depth == 0 {
+        return Err(Stop::TooDeep);
+    }
+    if tokens.take(Mark::CloseSquare) {
+        return Ok(Value::List(Vec::new(alloc)));
+    }
+    if let Some(from) = tokens.begin_range() {
+        return range(tokens, from);
+    }
+    let places = places(alloc, tokens, depth - 1)?;
+    Ok(Value::List(places))
+}
+
+/// Reads places joined by `,`, and the closing bracket.
+#[cycle(values)]
+fn places<'a>(
+    alloc: Global,
+    tokens: &mut Cursor<'_, 'a>,
+    depth: usize,
+) -> Result<Vec<Option<Value<'a>>>, Stop>
+    ensures reads { Reads (row (place_with (read_value depth)) (passes_comma marks.CloseSquare) (remaining tokens.old))
+        (λ places. map (option_map value_view) places.items) result (remaining tokens.new) }
+    ensures shorter { OnOk result (length (remaining tokens.new) ≤ length (remaining tokens.old)) }
+{
+    let mut places = Vec::new(alloc);
+    loop {
+        places.push(place(alloc, tokens, depth)?)?;
+        if !tokens.passes_comma(Mark::CloseSquare)? {
+            return Ok(places);
+        }
+    }
+}
+
+/// Reads a value, or nothing where a place is empty.
+#[cycle(values)]
+fn place<'a>(
+    alloc: Global,
+    tokens: &mut Cursor<'_, 'a>,
+    depth: usize,
+) -> Result<Option<Value<'a>>, Stop>
+    ensures reads { Reads (place_with (read_value depth) (remaining tokens.old)) (option_map value_view)
+        result (remaining tokens.new) }
+    ensures shorter { OnOk result (length (remaining tokens.new) ≤ length (remaining tokens.old)) }
+{
+    if tokens.ends_place() {
+        return Ok(None);
+    }
+    let value = value(alloc, tokens, depth)?;
+    Ok(Some(value))
+}
+
+/// Reads the rest of a range behind its dots, and the closing bracket.
+fn range<'a>(tokens: &mut Cursor<'_, 'a>, from: i64) -> Result<Value<'a>, Stop>
+    ensures reads { Reads (range_from from (remaining tokens.old)) value_view result (remaining tokens.new) }
+    ensures shorter { OnOk result (length (remaining tokens.new) ≤ length (remaining tokens.old)) }
+{
+    let to = tokens.number()?;
+    tokens.expect(Mark::CloseSquare, Expected::Mark)?;
+    Ok(Value::Range(from, to))
+}

@@ -1,0 +1,73 @@
+//! Words: from tokens to the trees of words.
+
+ghost use Rattle.std.specs.Prelude.{◌≡◌, ◌≤◌, length, map, OnOk};
+ghost use Rattle.kb_record.specs.Reading.{Reads, remaining, row, passes, read_power, read_factor, read_group, read_word};
+ghost use Rattle.kb_record.specs.View.{factor_view, factors_view};
+
+use crate::cursor::{Cursor, Expected, Mark, Stop};
+use crate::tree::Factor;
+use std::alloc::Global;
+
+/// Reads factors joined by `*`, with brackets in brackets at most `depth` deep.
+#[cycle(words)]
+pub(crate) fn word<'a>(
+    alloc: Global,
+    tokens: &mut Cursor<'_, 'a>,
+    depth: usize,
+) -> Result<Vec<Factor<'a>>, Stop>
+    ensures reads { Reads (read_word depth (remaining tokens.old)) (λ factors. factors_view factors.items)
+        result (remaining tokens.new) }
+    ensures shorter { OnOk result (length (remaining tokens.new) ≤ length (remaining tokens.old)) }
+{
+    let mut factors = Vec::new(alloc);
+    loop {
+        factors.push(factor(alloc, tokens, depth)?)?;
+        if !tokens.take(Mark::Star) {
+            return Ok(factors);
+        }
+    }
+}
+
+/// Reads a name or a group, and its power.
+#[cycle(words)]
+fn factor<'a>(alloc: Global, tokens: &mut Cursor<'_, 'a>, depth: usize) -> Result<Factor<'a>, Stop>
+    ensures reads { Reads (read_factor depth (remaining tokens.old)) factor_view result (remaining tokens.new) }
+    ensures shorter { OnOk result (length (remaining tokens.new) ≤ length (remaining tokens.old)) }
+{
+    if tokens.take(Mark::OpenRound) {
+        let factors = group(alloc, tokens, depth)?;
+        return Ok(Factor::Group(factors, power(tokens)?));
+    }
+    let name = tokens.name()?;
+    Ok(Factor::Name(name, power(tokens)?))
+}
+
+/// Reads the word behind an open bracket, and the closing bracket.
+#[cycle(words)]
+fn group<'a>(
+    alloc: Global,
+    tokens: &mut Cursor<'_, 'a>,
+    depth: usize,
+) -> Result<Vec<Factor<'a>>, Stop>
+    ensures reads { Reads (read_group depth (remaining tokens.old)) (λ factors. factors_view factors.items)
+        result (remaining tokens.new) }
+    ensures shorter { OnOk result (length (remaining tokens.new) ≤ length (remaining tokens.old)) }
+{
+    if depth == 0 {
+        return Err(Stop::TooDeep);
+    }
+    let factors = word(alloc, tokens, depth - 1)?;
+    tokens.expect(Mark::CloseRound, Expected::Mark)?;
+    Ok(factors)
+}
+
+/// Reads `^` and a number, if there is a power.
+fn power(tokens: &mut Cursor<'_, '_>) -> Result<Option<i64>, Stop>
+    ensures reads { Reads (read_power (remaining tokens.old)) (λ power. power) result (remaining tokens.new) }
+    ensures shorter { OnOk result (length (remaining tokens.new) ≤ length (remaining tokens.old)) }
+{
+    if !tokens.take(Mark::Caret) {
+        return Ok(None);
+    }
+    Ok(Some(tokens.number()?))
+}
