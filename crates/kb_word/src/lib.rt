@@ -18,12 +18,12 @@ mod factor;
 mod inverses;
 mod letter;
 mod memory;
-mod text;
 mod names;
 mod order;
 mod presentation;
 #[cfg(test)]
 mod tests;
+mod text;
 mod word;
 
 pub use equations::{Equations, copy_pair, copy_pairs};
@@ -31,8 +31,8 @@ pub use factor::factor_at;
 pub use inverses::Inverses;
 pub use letter::Letter;
 pub use memory::Memory;
-pub use text::Text;
 pub use names::Names;
 pub use order::{less, rank_falls_along_shortlex, shortlex_is_a_reduction_order};
 pub use presentation::{Presentation, none_where_a_letter_has_no_inverse};
+pub use text::Text;
 pub use word::Word;
