@@ -5,3 +5,4 @@ pub mod InverseFacts
 pub mod LetterSteps
 pub mod PlaceLemmas
 pub mod EquationLemmas
+pub mod RepeatLemmas
