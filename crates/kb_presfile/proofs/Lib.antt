@@ -6,3 +6,4 @@ pub mod LetterSteps
 pub mod PlaceLemmas
 pub mod EquationLemmas
 pub mod RepeatLemmas
+pub mod OverLemmas
