@@ -27,7 +27,8 @@ fn add_relation(rules: &mut Rules, left: Word, right: Word) -> Result<(), Memory
     ensures { OnOk result ((added : List Pair) × Orients rules.old ((left, right) ∷ []) added × (rules.new ≡ rules.old ++ added)) }
 {
     if let Some(rule) = orientation(left, right) {
-        if !rules.contains(&rule) {
+        let stands = rules.contains(&rule);
+        if !stands {
             rules.push(rule)?;
         }
     }
@@ -62,3 +63,6 @@ pub fn oriented_relations_are_one_list()
 pub fn oriented_rules_decrease()
     ensures { (relations rules : List Pair) → AreOriented relations rules → AreDecreasing rules }
 {}
+
+#[cfg(test)]
+mod tests;
