@@ -3,8 +3,8 @@ use Rattle.kb_cli.specs.WordLines.{LineGives, blank, word, newline}
 use Rattle.kb_cli.specs.Printed.{text_of_word}
 use Rattle.kb_cli.proofs.word_lines.answer_line.Goals as goal
 
-pub returns-then-branch-clause-given : goal.returns-then-branch-clause-given
-returns-then-branch-clause-given g c = ([], blank (search rules), sym (append-nil _))
+pub returns-then-is_blank-clause-given : goal.returns-then-is_blank-clause-given
+returns-then-is_blank-clause-given g c = ([], blank (search rules), sym (append-nil _))
 
 pub returns-clause-given : goal.returns-clause-given
 returns-clause-given g c = (
