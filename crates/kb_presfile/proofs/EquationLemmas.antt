@@ -48,7 +48,7 @@ place_fault names inverses ps k p error within at fault =
     let P : Option Value → Type 0 = λ v. PlaceHasFault names inverses v error in
     record { at = k; within = seen.1; fault = subst P (sym seen.0) fault }
 
-list_of_equations-places_of : (sides : List (Factors × Factors)) → list_of_equations sides ≡ places_of (map (λ (s : Factors × Factors). Some (equation_value s)) sides)
+pub list_of_equations-places_of : (sides : List (Factors × Factors)) → list_of_equations sides ≡ places_of (map (λ (s : Factors × Factors). Some (equation_value s)) sides)
 list_of_equations-places_of [] = refl
 list_of_equations-places_of (s ∷ sides) = ap (place (equation_value s)) (list_of_equations-places_of sides)
 
@@ -103,7 +103,7 @@ equation_at (s ∷ sides) zero within = record { sides = s; stands = refl }
 equation_at (s ∷ sides) (suc k) within =
     let rest = equation_at sides k (omega (arith, within)) in record { sides = rest.sides; stands = rest.stands }
 
-list_same : {p q : Places} → list_value p ≡ list_value q → p ≡ q
+pub list_same : {p q : Places} → list_value p ≡ list_value q → p ≡ q
 list_same e = cc
 
 -- a place that isn't an equation: the value is of another kind

@@ -7,3 +7,4 @@ pub mod PlaceLemmas
 pub mod EquationLemmas
 pub mod RepeatLemmas
 pub mod OverLemmas
+pub mod UniqueParts
