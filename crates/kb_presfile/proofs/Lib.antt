@@ -8,3 +8,4 @@ pub mod EquationLemmas
 pub mod RepeatLemmas
 pub mod OverLemmas
 pub mod UniqueParts
+pub mod NoFault
