@@ -12,6 +12,9 @@ use crate::token::{Lexeme, Token};
 use kb_word::Memory;
 use std::alloc::Global;
 
+#[cfg(test)]
+mod tests;
+
 /// The tokens of a text up to its end, or up to the first byte that belongs to none.
 #[derive(Debug, Drop)]
 pub(crate) struct Lexed<'a> {

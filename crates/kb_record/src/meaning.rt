@@ -10,6 +10,9 @@ use crate::tree::{Expr, Factor};
 use kb_word::{Memory, Presentation, Text, Word};
 use std::alloc::Global;
 
+#[cfg(test)]
+mod tests;
+
 /// The most letters that a word may have, and each factor, group and product in it.
 const MOST_LETTERS: usize = 65_535;
 
@@ -52,8 +55,8 @@ fn factor_of(alloc: Global, factor: &Factor, presentation: &Presentation) -> Res
             power_of(alloc, word, *power, presentation)
         }
         Factor::Group(factors, power) => {
-            let word = product_of(alloc, factors.as_slice(), presentation)?;
-            power_of(alloc, word, *power, presentation)
+            let group = product_of(alloc, factors.as_slice(), presentation)?;
+            power_of(alloc, group, *power, presentation)
         }
     }
 }
@@ -78,9 +81,8 @@ fn name_of(alloc: Global, name: &str, presentation: &Presentation) -> Result<Wor
         return Ok(word);
     }
     let Some(letter) = presentation.names.number_of(name) else {
-        return Err(WordError::UnknownGenerator {
-            name: Text::from_str(alloc, name)?,
-        });
+        let name = Text::from_str(alloc, name)?;
+        return Err(WordError::UnknownGenerator { name });
     };
     word.push(letter)?;
     Ok(word)
@@ -118,9 +120,8 @@ fn negative_power(
     ensures { Evaluates (power_meaning presentation.now.names presentation.now.inv (Some (negsuc (count - 1))) word.now) result }
 {
     let Some(inverse) = presentation.inverse_of(alloc, word)? else {
-        return Err(WordError::NoInverse {
-            name: name_without_inverse(alloc, word, presentation)?,
-        });
+        let name = name_without_inverse(alloc, word, presentation)?;
+        return Err(WordError::NoInverse { name });
     };
     repeated(alloc, &inverse, count)
 }

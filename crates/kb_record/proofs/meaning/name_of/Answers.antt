@@ -9,7 +9,7 @@ pub returns-in_default : goal.returns-in_default
 returns-in_default c =
     let text = c.args.name.now in
     let other : pointwise nat_eq text (codes "IdWord") ≡ false = sym c.eq.ensures ∙ c.if-eq.false in
-    name_unknown _ text other (letter_unknown _ text c.in_default.ensures.none) ∙ ap (λ x. Err (unknown_generator x)) (sym c.in_ok-from_str.ensures)
+    name_unknown _ text other (letter_unknown _ text c.in_default.ensures.none) ∙ ap (λ x. Err (unknown_generator x)) (sym c.in_ok-name.ensures)
 
 pub returns : goal.returns
 returns c =
