@@ -15,7 +15,7 @@ use Rattle.kb_presfile.specs.Faults.{name_of, IsOfKind, IsFaultOf, SidesHaveFaul
 use Rattle.kb_presfile.specs.declared.error.Field.TheVariants as kinds
 use Rattle.kb_presfile.specs.declared.error.PresError.{PresError}
 use Rattle.kb_presfile.specs.declared.error.PresError.TheVariants as errors
-use Rattle.kb_presfile.proofs.InverseFacts.{letter_within, inverse_read, inverse_is}
+use Rattle.kb_presfile.proofs.InverseLemmas.{letter_within, inverse_read, inverse_is}
 use Rattle.kb_presfile.proofs.PlaceLemmas.{some_value, one_list_of_names}
 use Rattle.kb_presfile.proofs.EquationLemmas.{list_same}
 use Rattle.kb_presfile.proofs.UniqueParts.{one_list_of_places, one_list_of_inverses, sides_same}
@@ -69,8 +69,10 @@ none_one_sided names places inverses name gives fault = at_letter (gives.letters
   where
     within : fault.k < length names
     within = slice_get_within names fault.k name fault.is_name
+
     inside : fault.y < length names
     inside = let bounds = letter_within 1 names fault.inverse (suc fault.y) fault.is_y in omega (arith, bounds.1)
+
     at_place : (o : Option (List ℕ)) → place_at places fault.y ≡ o → slice_get inverses fault.y ≡ Some (Some (suc fault.k)) → ⊥
     at_place None at is = let never = sym (gives.letters.empty fault.y inside at) ∙ is in cc
     at_place (Some back) at is =
@@ -80,6 +82,7 @@ none_one_sided names places inverses name gives fault = at_letter (gives.letters
       where
         inner : {a b : Option ℕ} → Some a ≡ Some b → a ≡ b
         inner e = cc
+
     at_letter : (x : ℕ) × (letter_from 1 names fault.inverse ≡ Some x) × (slice_get inverses fault.k ≡ Some (Some x)) → ⊥
     at_letter x =
         let same : slice_get inverses fault.k ≡ Some (Some (suc fault.y)) = x.2 ∙ ap Some (sym x.1 ∙ fault.is_y) in

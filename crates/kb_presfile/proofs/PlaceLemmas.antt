@@ -21,6 +21,7 @@ bares_injective (x ∷ xs) (y ∷ ys) e =
   where
     behind : {v w : Option Value} {p q : List (Option Value)} → v ∷ p ≡ w ∷ q → p ≡ q
     behind h = cc
+
     front : {v w : Value} {p q : List (Option Value)} → Some v ∷ p ≡ Some w ∷ q → v ≡ w
     front h = cc
 
@@ -42,6 +43,7 @@ optionals_injective (x ∷ xs) (y ∷ ys) e =
   where
     behind : {v w : Option Value} {p q : List (Option Value)} → v ∷ p ≡ w ∷ q → p ≡ q
     behind h = cc
+
     front : {v w : Option Value} {p q : List (Option Value)} → v ∷ p ≡ w ∷ q → v ≡ w
     front h = cc
 

@@ -28,6 +28,7 @@ one_list_of_letters names places xs ys a b = same_lists xs ys (a.one_each ∙ sy
   where
     at_letter : (k : ℕ) (d : Option ℕ) (x y : ℕ) → slice_get xs k ≡ Some (Some x) → slice_get ys k ≡ Some (Some y) → x ≡ y → get_or xs k d ≡ get_or ys k d
     at_letter k d x y at_x at_y same = get_or_from_slice_get xs k (Some x) d at_x ∙ (ap Some same ∙ sym (get_or_from_slice_get ys k (Some y) d at_y))
+
     at_place : (k : ℕ) (d : Option ℕ) → k < length names → (o : Option (List ℕ)) → place_at places k ≡ o → get_or xs k d ≡ get_or ys k d
     at_place k d h None at = get_or_from_slice_get xs k None d (a.empty k h at) ∙ sym (get_or_from_slice_get ys k None d (b.empty k h at))
     at_place k d h (Some name) at =
@@ -53,6 +54,7 @@ factors_same e = (left e, right e)
   where
     left : {u v x y : Factors} → Some (equation_value (u, v)) ≡ Some (equation_value (x, y)) → u ≡ x
     left e = cc
+
     right : {u v x y : Factors} → Some (equation_value (u, v)) ≡ Some (equation_value (x, y)) → v ≡ y
     right e = cc
 
@@ -70,6 +72,7 @@ sides_injective (s ∷ ss) (t ∷ ts) e =
   where
     behind : {v w : Option Value} {p q : List (Option Value)} → v ∷ p ≡ w ∷ q → p ≡ q
     behind h = cc
+
     front : {v w : Option Value} {p q : List (Option Value)} → v ∷ p ≡ w ∷ q → v ≡ w
     front h = cc
 
@@ -97,16 +100,22 @@ one_presentation given a b h k = joined names inverses equations
   where
     names : a.names ≡ b.names
     names = one_list_of_names given a.names b.names h.named k.named
+
     N : List (List ℕ) → Type 0
     N names = HasInverses given names a.inverses
+
     inverses : a.inverses ≡ b.inverses
     inverses = one_list_of_inverses given b.names a.inverses b.inverses (subst N names h.inverses) k.inverses
+
     E : List (List ℕ) → Type 0
     E names = HasEquations given names a.inverses a.equations
+
     F : List (Option ℕ) → Type 0
     F inverses = HasEquations given b.names inverses a.equations
+
     equations : a.equations ≡ b.equations
     equations = one_list_of_equations given b.names b.inverses a.equations b.equations (subst F inverses (subst E names h.equations)) k.equations
+
     joined : a.names ≡ b.names → a.inverses ≡ b.inverses → a.equations ≡ b.equations → a ≡ b
     joined p q r =
         ap (λ (x : List (List ℕ)). record { names = x; inverses = a.inverses; equations = a.equations }) p
