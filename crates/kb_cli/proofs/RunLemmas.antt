@@ -60,15 +60,15 @@ pub no-undecided : (parts : Parts) (rules : List Pair) (when_yes : Type 0) (i j 
 no-undecided parts rules when_yes zero j place u v oriented first counterexample = absurd first
 no-undecided parts rules when_yes (suc i) zero place u v oriented first counterexample = absurd first
 no-undecided parts rules when_yes (suc i) (suc j) place u v oriented first counterexample = record {
-    rules = rules;
-    oriented = oriented;
-    i = i;
-    j = j;
-    place = place;
-    first = first;
-    counterexample = counterexample;
-    congruent = congruent_covered {allowed = OneOf rules} {others = OneOf (relations_of parts.inverses parts.equations)} (rules_covered oriented) counterexample.congruent;
-  }
+  rules = rules;
+  oriented = oriented;
+  i = i;
+  j = j;
+  place = place;
+  first = first;
+  counterexample = counterexample;
+  congruent = congruent_covered {allowed = OneOf rules} {others = OneOf (relations_of parts.inverses parts.equations)} (rules_covered oriented) counterexample.congruent;
+}
 
 -- a fact of an error from another
 pub on-error : {T E : Type 0} (P Q : E → Type 0) (r : Result T E) → ((e : E) → P e → Q e) → IfErr r P → IfErr r Q

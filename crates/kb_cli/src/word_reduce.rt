@@ -9,9 +9,7 @@ ghost use Rattle.kb_cli.specs.Headline.{FileSays, FileStops, AnswersSay, WordRed
 ghost use Rattle.kb_cli.specs.declared.status.Status.TheVariants as Status;
 ghost use Rattle.kb_cli.specs.declared.status.Refusal.TheVariants as Refusal;
 
-use crate::orienting::{
-    oriented, oriented_relations_keep_the_congruence, oriented_rules_decrease,
-};
+use crate::orienting::{oriented, oriented_relations_keep_the_congruence, oriented_rules_decrease};
 use crate::printed::print_word;
 use crate::status::{Cert, FileFault, Refusal, Status, Which};
 use crate::word_lines::{Stop, answer_input};

@@ -8,7 +8,7 @@ returns-then-is_blank-clause-given g c = ([], blank (search rules), sym (append-
 
 pub returns-clause-given : goal.returns-clause-given
 returns-clause-given g c = (
-    text_of_word c.args.presentation.now.names c.in_ok-least.least ++ newline ∷ [],
-    word c.in-Ok.ensures.read (c.requires.least _ _ c.in_ok-least.ensures),
-    c.in_ok-push.ensures.items ∙ ap (λ (out : List ℕ). out ++ newline ∷ []) c.in_ok-print_word.ensures.printed ∙ append_assoc c.args.pending.now.items (text_of_word c.args.presentation.now.names c.in_ok-least.least) (newline ∷ []),
+  text_of_word c.args.presentation.now.names c.in_ok-least.least ++ newline ∷ [],
+  word c.in-Ok.ensures.read (c.requires.least _ _ c.in_ok-least.ensures),
+  c.in_ok-push.ensures.items ∙ ap (λ (out : List ℕ). out ++ newline ∷ []) c.in_ok-print_word.ensures.printed ∙ append_assoc c.args.pending.now.items (text_of_word c.args.presentation.now.names c.in_ok-least.least) (newline ∷ []),
 )

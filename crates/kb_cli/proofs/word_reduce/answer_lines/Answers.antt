@@ -8,10 +8,10 @@ answer_input-requires g c =
     let rules = c.args.rules.now in
     let relations = relations_of c.args.presentation.now.inv c.args.presentation.now.eqs in
     record {
-        least = λ w m normal. c.least_by_the_same_congruence.ensures rules relations w m
-            (c.oriented_relations_keep_the_congruence.ensures relations rules c.requires.oriented)
-            (c.normal_forms_by_confluent_rules_are_least.ensures rules w m (c.oriented_rules_decrease.ensures relations rules c.requires.oriented) c.requires.confluent
-                (rw c.requires.scan at normal));
+      least = λ w m normal. c.least_by_the_same_congruence.ensures rules relations w m
+          (c.oriented_relations_keep_the_congruence.ensures relations rules c.requires.oriented)
+          (c.normal_forms_by_confluent_rules_are_least.ensures rules w m (c.oriented_rules_decrease.ensures relations rules c.requires.oriented) c.requires.confluent
+          (rw c.requires.scan at normal));
     }
 
 pub returns-in-Err-clause-says : goal.returns-in-Err-clause-says
