@@ -4,3 +4,4 @@ pub mod OrientLemmas
 pub mod PrintLemmas
 pub mod ProgressLemmas
 pub mod RunLemmas
+pub mod AnswerLemmas

@@ -1,12 +1,12 @@
 -- How the answers to word lines come on.
-use Rattle.std.proofs.Common.{◌≡◌, ◌≢◌, ℕ, suc, ◌+◌, ◌<◌, ◌≤◌, List, [], ◌∷◌, ◌++◌, length, refl, sym, ◌∙◌, ap, subst, append_assoc, append-nil, arith, length-append, take, drop, get_or, drop-cons, add-one}
+use Rattle.std.proofs.Common.{◌≡◌, ◌≢◌, ℕ, ◌+◌, ◌<◌, ◌≤◌, List, [], ◌∷◌, ◌++◌, length, refl, sym, ◌∙◌, ap, subst, append_assoc, append-nil, arith, length-append, take, drop, get_or, drop-cons, add-one}
 use Rattle.std.proofs.lemmas.List.{take-append-drop, take-take}
 use Rattle.std.proofs.Math.Seq.{take-append_seam}
 use Rattle.std.specs.List.{AllByRecursion}
 use Rattle.kb_io.specs.Bytes.{AppendsPrefix}
 use Rattle.kb_record.specs.declared.error.WordError.{WordError}
 use Rattle.kb_presfile.specs.Holds.{Parts}
-use Rattle.kb_cli.specs.WordLines.{newline, IsOneLine, ended, Cuts, LineGives, LineHasFault, Answers, BeginsWith, AnswersFront}
+use Rattle.kb_cli.specs.WordLines.{newline, IsOneLine, ended, LineGives, LineHasFault, Answers}
 use Rattle.kb_cli.specs.Progress.{Standing, AllSent, FrontSent, EndsLine, RefusedAt, AllAnswered, Reading}
 use Rattle.kb_cli.specs.LineFaults.{Gives}
 use Rattle.kb_cli.specs.Stops.{StopCounts, StopSays, StopsWith}

@@ -1,5 +1,5 @@
 -- What a run says, from what its parts say.
-use Rattle.std.proofs.Common.{◌≡◌, ℕ, zero, suc, ◌+◌, ◌<◌, ◌≤◌, List, [], ◌∷◌, ◌++◌, length, Option, Some, None, Result, Ok, Err, IfErr, refl, sym, ◌∙◌, ap, arith, length-append}
+use Rattle.std.proofs.Common.{◌≡◌, ℕ, zero, suc, ◌<◌, ◌≤◌, List, [], ◌∷◌, length, Option, Some, None, Result, Ok, Err, IfErr, refl, ap, arith, length-append}
 use Rattle.kb_word.specs.Words.{Pair, OneOf}
 use Rattle.kb_word.specs.Relations.{relations_of, inverse_relations, AreOriented, Orients, none_left, equal_sides, repeated, added}
 use Rattle.kb_word.proofs.PathLemmas.{congruent_covered}

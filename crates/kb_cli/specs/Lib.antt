@@ -6,3 +6,4 @@ pub mod LineFaults
 pub mod Stops
 pub mod Exits
 pub mod Headline
+pub mod Answering

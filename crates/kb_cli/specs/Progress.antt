@@ -1,9 +1,9 @@
 -- How far the answers to word lines have come.
-use Rattle.std.specs.Prelude.{◌≡◌, ◌≢◌, ℕ, suc, ◌+◌, ◌≤◌, ◌⊎◌, List, [], ◌∷◌, ◌++◌, length}
+use Rattle.std.specs.Prelude.{◌≡◌, ℕ, suc, List, [], ◌∷◌, ◌++◌, length}
 use Rattle.std.specs.List.{AllByRecursion}
 use Rattle.kb_record.specs.declared.error.WordError.{WordError}
 use Rattle.kb_presfile.specs.Holds.{Parts}
-use Rattle.kb_cli.specs.WordLines.{newline, IsOneLine, ended, Cuts, LineGives, LineHasFault, Answers, BeginsWith, AnswersFront}
+use Rattle.kb_cli.specs.WordLines.{newline, IsOneLine, ended, Cuts, LineHasFault, Answers, AnswersFront}
 
 -- The bytes taken are `number` lines, each answered, and what has come of the next line. The answers are
 -- what was sent since `before` stood written, and what is still pending.

@@ -1,5 +1,5 @@
 -- Lines of words, and the answers to them.
-use Rattle.std.specs.Prelude.{◌≡◌, ◌≢◌, ℕ, ◌+◌, ◌<◌, ◌⊎◌, List, [], ◌∷◌, ◌++◌, length, Result, Ok}
+use Rattle.std.specs.Prelude.{◌≡◌, ◌≢◌, ℕ, List, [], ◌∷◌, ◌++◌, Ok}
 use Rattle.std.specs.List.{AllByRecursion}
 use Rattle.kb_word.specs.Relations.{relations_of}
 use Rattle.kb_word.specs.Congruence.{IsLeast}

@@ -21,6 +21,7 @@
 #![tactic(auto)]
 
 mod command_line;
+mod laws;
 mod orienting;
 mod printed;
 mod program;
@@ -31,6 +32,9 @@ mod word_reduce;
 
 pub use command_line::{
     Command, UsageError, a_line_is_not_faulty, a_line_says_one_command, read_words,
+};
+pub use laws::{
+    no_presentation_is_decided_and_undecided, where_nothing_is_refused_there_is_an_answer,
 };
 pub use orienting::{
     oriented, oriented_relations_are_one_list, oriented_relations_keep_the_congruence,

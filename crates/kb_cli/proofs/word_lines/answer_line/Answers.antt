@@ -1,5 +1,5 @@
-use Rattle.std.proofs.Common.{◌≡◌, List, ℕ, [], ◌∷◌, ◌++◌, append-nil, append_assoc, sym, rules, ◌∙◌, ap}
-use Rattle.kb_cli.specs.WordLines.{LineGives, blank, word, newline}
+use Rattle.std.proofs.Common.{List, ℕ, [], ◌∷◌, ◌++◌, append-nil, append_assoc, sym, rules, ◌∙◌, ap}
+use Rattle.kb_cli.specs.WordLines.{blank, word, newline}
 use Rattle.kb_cli.specs.Printed.{text_of_word}
 use Rattle.kb_cli.proofs.word_lines.answer_line.Goals as goal
 

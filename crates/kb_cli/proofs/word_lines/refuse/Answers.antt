@@ -1,4 +1,4 @@
-use Rattle.std.proofs.Common.{List, ℕ, ap}
+use Rattle.std.proofs.Common.{ap}
 use Rattle.kb_cli.proofs.ProgressLemmas.{standing-refused}
 use Rattle.kb_cli.proofs.word_lines.refuse.Goals as goal
 

@@ -1,4 +1,4 @@
-use Rattle.std.proofs.Common.{◌≡◌, List, ℕ, ◌++◌, ◌∙◌, ap}
+use Rattle.std.proofs.Common.{List, ℕ, ◌++◌, ◌∙◌, ap}
 use Rattle.kb_cli.proofs.ProgressLemmas.{standing-answered, standing-last_front}
 use Rattle.kb_cli.proofs.word_lines.send_last.Goals as goal
 

@@ -1,4 +1,4 @@
-use Rattle.std.proofs.Common.{List, ℕ, ◌∷◌}
+use Rattle.std.proofs.Common.{◌∷◌}
 use Rattle.kb_cli.proofs.ProgressLemmas.{standing-stopped}
 use Rattle.kb_cli.proofs.word_lines.take_byte.Goals as goal
 

@@ -1,4 +1,4 @@
-use Rattle.std.proofs.Common.{◌≡◌, List, ℕ, ◌++◌, take, drop, ◌+◌, get_or, refl}
+use Rattle.std.proofs.Common.{List, ℕ, ◌++◌, take, drop, ◌+◌, get_or, refl}
 use Rattle.kb_cli.proofs.ProgressLemmas.{taken-back}
 use Rattle.kb_cli.proofs.word_lines.take_bytes.Goals as goal
 

@@ -1,4 +1,4 @@
-use Rattle.std.proofs.Common.{◌≡◌, List, ℕ, ◌++◌, ◌+◌, ◌<◌, take, drop, append_assoc, length, ◌-◌, arith, length-take, length-append, subst, sym, ap, ◌∙◌}
+use Rattle.std.proofs.Common.{◌≡◌, List, ℕ, ◌++◌, ◌+◌, ◌<◌, take, drop, length, ◌-◌, arith, length-take, length-append, subst, sym, ap, ◌∙◌}
 use Rattle.kb_presfile.specs.Holds.{parts_of}
 use Rattle.kb_cli.specs.Stops.{StopSays}
 use Rattle.kb_cli.proofs.ProgressLemmas.{reading-took, whole-again, split-on, counts-widen}

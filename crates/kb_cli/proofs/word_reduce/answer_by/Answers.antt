@@ -1,4 +1,4 @@
-use Rattle.std.proofs.Common.{List, ℕ, length, ◌<◌, arith}
+use Rattle.std.proofs.Common.{length, ◌<◌, arith}
 use Rattle.kb_word.specs.Overlap.{IsConfluent}
 use Rattle.kb_presfile.specs.Holds.{parts_of}
 use Rattle.kb_cli.proofs.RunLemmas.{rules-few, no-undecided}

@@ -1,4 +1,3 @@
-use Rattle.std.proofs.Common.{List, ℕ}
 use Rattle.kb_word.specs.Relations.{relations_of}
 use Rattle.kb_presfile.specs.Holds.{parts_of}
 use Rattle.kb_cli.proofs.word_reduce.answer_lines.Goals as goal

@@ -1,4 +1,4 @@
-use Rattle.std.proofs.Common.{◌≡◌, List, ℕ, Some, ◌∙◌, ap, sym}
+use Rattle.std.proofs.Common.{ℕ, Some, ◌∙◌, ap, sym}
 use Rattle.kb_cli.proofs.RunLemmas.{on-error}
 use Rattle.kb_cli.proofs.word_reduce.load_presentation.Goals as goal
 

@@ -1,4 +1,3 @@
-use Rattle.std.proofs.Common.{ℕ}
 use Rattle.kb_cli.proofs.RunLemmas.{faults-widen}
 use Rattle.kb_cli.proofs.word_reduce.word_reduce.Goals as goal
 
