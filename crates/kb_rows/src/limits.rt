@@ -80,7 +80,10 @@ fn limits_of_files(rt: HostRuntime) -> Result<(), Fail> {
 #[test]
 fn limits_of_the_input(rt: HostRuntime) -> Result<(), Fail> {
     let alloc = rt.alloc();
-    for (count, exit, err) in [(4_194_304, 0, "")] {
+    for (count, exit, err) in [
+        (67_108_864, 0, ""),
+        (67_108_865, 1, "kb: E24 InputTooLong\n"),
+    ] {
         let input = vec![in alloc; b'\n'; count]?;
         check(
             alloc,
