@@ -122,8 +122,19 @@ pub(crate) fn check_over<R: Abort + Wait>(
     row: Row,
 ) -> Result<(), Fail> {
     let outcome = run_over(alloc, rt, devices, row.words, row.file, row.input)?;
-    assert_eq!(rt; text(outcome.out.as_slice()), row.out, "out: {}", row.shows);
-    assert_eq!(rt; text(outcome.err.as_slice()), row.err, "err: {}", row.shows);
+    let (out, err) = (outcome.out.as_slice(), outcome.err.as_slice());
+    assert!(rt;
+        out == row.out.as_bytes(),
+        "out: {}: {}",
+        row.shows,
+        text(out)
+    );
+    assert!(rt;
+        err == row.err.as_bytes(),
+        "err: {}: {}",
+        row.shows,
+        text(err)
+    );
     assert_eq!(rt; outcome.exit, row.exit, "status: {}", row.shows);
     Ok(())
 }
