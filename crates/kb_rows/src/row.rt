@@ -123,19 +123,10 @@ pub(crate) fn check_over<R: Abort + Wait>(
 ) -> Result<(), Fail> {
     let outcome = run_over(alloc, rt, devices, row.words, row.file, row.input)?;
     let (out, err) = (outcome.out.as_slice(), outcome.err.as_slice());
-    assert!(rt;
-        out == row.out.as_bytes(),
-        "out: {}: {}",
-        row.shows,
-        text(out)
-    );
-    assert!(rt;
-        err == row.err.as_bytes(),
-        "err: {}: {}",
-        row.shows,
-        text(err)
-    );
-    assert_eq!(rt; outcome.exit, row.exit, "status: {}", row.shows);
+    let (exit, shows) = (outcome.exit, row.shows);
+    assert!(rt; out == row.out.as_bytes(), "out: {shows}: {}", text(out));
+    assert!(rt; err == row.err.as_bytes(), "err: {shows}: {}", text(err));
+    assert!(rt; exit == row.exit, "status: {shows}: {exit}");
     Ok(())
 }
 
