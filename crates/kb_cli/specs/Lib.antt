@@ -2,7 +2,6 @@ pub mod Printed
 pub mod CommandLine
 pub mod WordLines
 pub mod Progress
-pub mod PartsOf
 pub mod LineFaults
 pub mod Stops
 pub mod Exits

@@ -63,3 +63,6 @@ pub fn oriented_relations_are_one_list()
 pub fn oriented_rules_decrease()
     ensures { (relations rules : List Pair) → AreOriented relations rules → AreDecreasing rules }
 {}
+
+#[cfg(test)]
+mod tests;

@@ -8,7 +8,7 @@ ghost use Rattle.std.specs.Prelude.{◌≡◌, ◌<◌, ◌≤◌, ◌+◌, ◌^
 ghost use Rattle.kb_word.specs.Rewriting.{NormalForm};
 ghost use Rattle.kb_word.specs.Relations.{relations_of};
 ghost use Rattle.kb_word.specs.Congruence.{IsLeast};
-ghost use Rattle.kb_cli.specs.PartsOf.{parts_of};
+ghost use Rattle.kb_presfile.specs.Holds.{parts_of};
 ghost use Rattle.kb_cli.specs.LineFaults.{Gives, StopsAt};
 ghost use Rattle.kb_cli.specs.WordLines.{newline, LineHasFault};
 ghost use Rattle.kb_cli.specs.Progress.{Standing, EndsLine, AllAnswered, Reading};

@@ -1,10 +1,13 @@
 //! `wordreduce FILE`: the least words of word lines, by a presentation whose oriented relations are confluent.
 
-ghost use Rattle.std.specs.Prelude.{◌≡◌, ◌≤◌, ◌<◌, List, ℕ, length, IfOk, IfErr, OnOk, OnErr};
+ghost use Rattle.std.specs.Prelude.{◌≡◌, ◌≤◌, List, ℕ, Option, Some, length, IfOk, IfErr};
 ghost use Rattle.kb_word.specs.Relations.{relations_of, AreOriented};
 ghost use Rattle.kb_word.specs.Overlap.{IsConfluent};
-ghost use Rattle.kb_cli.specs.PartsOf.{parts_of};
-ghost use Rattle.kb_cli.specs.Headline.{FileSays, FileStops, AnswersSay, WordReduceSays, FaultCounts, IsUndecided, FrontOfNo, no_line};
+ghost use Rattle.kb_presfile.specs.Holds.{Parts, PresentationOf, parts_of};
+ghost use Rattle.kb_cli.specs.Stops.{StopsWith, StopCounts};
+ghost use Rattle.kb_cli.specs.Headline.{FileSays, FileStops, AnswersSay, WordReduceSays, FaultCounts, IsDecided, IsUndecided, no_line};
+ghost use Rattle.kb_cli.specs.declared.status.Status.TheVariants as Status;
+ghost use Rattle.kb_cli.specs.declared.status.Refusal.TheVariants as Refusal;
 
 use crate::orienting::oriented;
 use crate::printed::print_word;
@@ -73,7 +76,12 @@ fn load_presentation<F: Shelf>(
 }
 
 /// The presentation that the bytes of a file say, or the refusal of the file.
-fn presentation_of(alloc: Global, name: Text, bytes: &[u8]) -> Result<Presentation, Status> {
+fn presentation_of(alloc: Global, name: Text, bytes: &[u8]) -> Result<Presentation, Status>
+    ensures says { IfOk result (λ presentation. PresentationOf bytes.now (parts_of presentation)) }
+    ensures few { IfOk result (λ presentation. length presentation.eqs ≤ 65535) }
+    ensures stops { (holds : List ℕ → Option (List ℕ)) → holds name ≡ Some bytes.now → length bytes.now ≤ MOST_FILE → IfErr result (FileStops holds name) }
+    ensures faults { IfErr result (λ status. (loads input output : ℕ) → FaultCounts loads loads input input output output status) }
+{
     match read(alloc, bytes) {
         Ok(presentation) => Ok(presentation),
         Err(PresError::Memory) => Err(Status::Memory),
@@ -82,7 +90,9 @@ fn presentation_of(alloc: Global, name: Text, bytes: &[u8]) -> Result<Presentati
 }
 
 /// The file is refused.
-fn refused(name: Text, fault: FileFault) -> Status {
+fn refused(name: Text, fault: FileFault) -> Status
+    ensures { result ≡ Status.Refused (Refusal.File name fault) }
+{
     Status::Refused(Refusal::File { name, fault })
 }
 
@@ -93,7 +103,15 @@ fn answer_by<I: Source, O: Sink>(
     workers: u32,
     input: &mut I,
     out: &mut O,
-) -> Status {
+) -> Status
+    requires workers { (1 ≤ workers) × (workers ≤ 64) }
+    requires few { length presentation.now.eqs ≤ 65535 }
+    ensures says { I.tells input.old → O.tells out.old → AnswersSay (parts_of presentation.now)
+        (record { input = I.left input.old; left = I.left input.new; before = O.written out.old; written = O.written out.new }) result }
+    ensures faults { (loads : ℕ) → FaultCounts loads loads (I.faults input.old) (I.faults input.new) (O.faults out.old) (O.faults out.new) result }
+    ensures input_count { I.faults input.old ≤ I.faults input.new }
+    ensures output_count { O.faults out.old ≤ O.faults out.new }
+{
     let rules = match oriented(alloc, presentation) {
         Ok(rules) => rules,
         Err(Memory) => return Status::Memory,
@@ -103,7 +121,7 @@ fn answer_by<I: Source, O: Sink>(
         Err(Memory) => return Status::Memory,
     };
     match check(alloc, &rules, &scan, workers) {
-        Ok(Verdict::Yes) => answer_lines(alloc, presentation, &scan, input, out),
+        Ok(Verdict::Yes) => answer_lines(alloc, presentation, &rules, &scan, input, out),
         Ok(Verdict::No { u, v, .. }) => say_no(alloc, presentation, u, v, out),
         Err(Memory) => Status::Memory,
     }
@@ -113,17 +131,39 @@ fn answer_by<I: Source, O: Sink>(
 fn answer_lines<I: Source, O: Sink>(
     alloc: Global,
     presentation: &Presentation,
+    rules: &Rules,
     scan: &Scan,
     input: &mut I,
     out: &mut O,
-) -> Status {
+) -> Status
+    requires oriented { AreOriented (relations_of presentation.now.inv presentation.now.eqs) rules.now }
+    requires confluent { IsConfluent rules.now }
+    requires scan { scan.now ≡ rules.now }
+    ensures says { I.tells input.old → O.tells out.old → AnswersSay (parts_of presentation.now)
+        (record { input = I.left input.old; left = I.left input.new; before = O.written out.old; written = O.written out.new }) result }
+    ensures faults { (loads : ℕ) → FaultCounts loads loads (I.faults input.old) (I.faults input.new) (O.faults out.old) (O.faults out.new) result }
+    ensures input_count { I.faults input.old ≤ I.faults input.new }
+    ensures output_count { O.faults out.old ≤ O.faults out.new }
+{
     match answer_input(alloc, presentation, scan, input, out) {
         Ok(()) => Status::Yes,
-        Err(Stop::Refused { number, fault }) => Status::Refused(Refusal::Line { number, fault }),
-        Err(Stop::TooLong) => Status::Refused(Refusal::InputTooLong),
-        Err(Stop::Input) => Status::Fault(Which::Input),
-        Err(Stop::Output) => Status::Fault(Which::Output),
-        Err(Stop::Memory) => Status::Memory,
+        Err(stop) => status_of(stop),
+    }
+}
+
+/// The status of a run that a stop ends.
+fn status_of(stop: Stop) -> Status
+    ensures says { (parts : Parts) (before written input left : List ℕ) → IsDecided parts → StopsWith parts before written input left stop
+        → AnswersSay parts (record { input = input; left = left; before = before; written = written }) result }
+    ensures faults { (loads input_before input_after output_before output_after : ℕ) → StopCounts input_before input_after output_before output_after stop
+        → FaultCounts loads loads input_before input_after output_before output_after result }
+{
+    match stop {
+        Stop::Refused { number, fault } => Status::Refused(Refusal::Line { number, fault }),
+        Stop::TooLong => Status::Refused(Refusal::InputTooLong),
+        Stop::Input => Status::Fault(Which::Input),
+        Stop::Output => Status::Fault(Which::Output),
+        Stop::Memory => Status::Memory,
     }
 }
 
@@ -134,8 +174,14 @@ fn say_no<O: Sink>(
     u: Word,
     v: Word,
     out: &mut O,
-) -> Status {
-    let line = match no_line(alloc, &presentation.names, &u, &v) {
+) -> Status
+    requires { IsUndecided (parts_of presentation.now) u v }
+    ensures says { (input : List ℕ) → O.tells out.old → AnswersSay (parts_of presentation.now)
+        (record { input = input; left = input; before = O.written out.old; written = O.written out.new }) result }
+    ensures faults { (loads input : ℕ) → FaultCounts loads loads input input (O.faults out.old) (O.faults out.new) result }
+    ensures output_count { O.faults out.old ≤ O.faults out.new }
+{
+    let line = match line_of_no(alloc, &presentation.names, &u, &v) {
         Ok(line) => line,
         Err(Memory) => return Status::Memory,
     };
@@ -146,7 +192,9 @@ fn say_no<O: Sink>(
 }
 
 /// `no confluent U V` and a newline.
-fn no_line(alloc: Global, names: &Names, u: &Word, v: &Word) -> Result<Vec<u8>, Memory> {
+fn line_of_no(alloc: Global, names: &Names, u: &Word, v: &Word) -> Result<Vec<u8>, Memory>
+    ensures { IfOk result (λ line. line.items ≡ no_line names.now u.now v.now) }
+{
     let mut line = Vec::from_slice(alloc, b"no confluent ")?;
     print_word(names, u, &mut line)?;
     line.push(b' ')?;

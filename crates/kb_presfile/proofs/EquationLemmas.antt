@@ -107,9 +107,9 @@ list_same : {p q : Places} → list_value p ≡ list_value q → p ≡ q
 list_same e = cc
 
 -- a place that isn't an equation: the value is of another kind
-other_kind : (fields : Fields) (list : Places) (k : ℕ) → k < place_count list → ((sides : Factors × Factors) → value_at list k ≡ Some (equation_value sides) → ⊥)
-    → IsOfKind fields kinds.Equations (list_value list) → ⊥
-other_kind fields list k within other kind =
+other_kind : (given : Fields) (list : Places) (k : ℕ) → k < place_count list → ((sides : Factors × Factors) → value_at list k ≡ Some (equation_value sides) → ⊥)
+    → IsOfKind given kinds.Equations (list_value list) → ⊥
+other_kind given list k within other kind =
     let same : list ≡ list_of_equations kind.0 = list_same kind.1 in
     let Within : Places → Type 0 = λ ps. k < place_count ps in
     let found = equation_at kind.0 k (subst Within same within) in
@@ -120,19 +120,19 @@ neither (inl f) = f
 neither (inr f) = f
 
 -- the list's fault is the text's
-pub list_fault : (fields : Fields) (names : List (List ℕ)) (inverses : List (Option ℕ)) (list : Places) (error : PresError)
-    → HasNames fields names → HasInverses fields names inverses → value_of fields (name_of kinds.Equations) ≡ Some (list_value list)
-    → PlacesOfEquationsHaveFault names inverses list error → HasFieldFault fields error
-list_fault fields names inverses list errors.Memory named inverted listed fault = tt
-list_fault fields names inverses list (errors.WrongKind kinds.Equations) named inverted listed fault =
-    (list_value list, listed, other_kind fields list fault.at fault.within fault.fault)
-list_fault fields names inverses list (errors.UnknownGenerator name) named inverted listed fault =
+pub list_fault : (given : Fields) (names : List (List ℕ)) (inverses : List (Option ℕ)) (list : Places) (error : PresError)
+    → HasNames given names → HasInverses given names inverses → value_of given (name_of kinds.Equations) ≡ Some (list_value list)
+    → PlacesOfEquationsHaveFault names inverses list error → HasFieldFault given error
+list_fault given names inverses list errors.Memory named inverted listed fault = tt
+list_fault given names inverses list (errors.WrongKind kinds.Equations) named inverted listed fault =
+    (list_value list, listed, other_kind given list fault.at fault.within fault.fault)
+list_fault given names inverses list (errors.UnknownGenerator name) named inverted listed fault =
     inr (record { names = names; inverses = inverses; named = named; inverted = inverted; places = list; listed = listed; fault = fault })
-list_fault fields names inverses list (errors.NoInverse name) named inverted listed fault =
+list_fault given names inverses list (errors.NoInverse name) named inverted listed fault =
     record { names = names; inverses = inverses; named = named; inverted = inverted; places = list; listed = listed; fault = fault }
-list_fault fields names inverses list errors.WordTooLong named inverted listed fault =
+list_fault given names inverses list errors.WordTooLong named inverted listed fault =
     record { names = names; inverses = inverses; named = named; inverted = inverted; places = list; listed = listed; fault = fault }
-list_fault fields names inverses list error named inverted listed fault = absurd (neither fault.fault.2)
+list_fault given names inverses list error named inverted listed fault = absurd (neither fault.fault.2)
 
 pub IfErr_then : {X Y : Type 0} (r : Result X Y) {P Q : Y → Type 0} → IfErr r P → ((y : Y) → P y → Q y) → IfErr r Q
 IfErr_then r p f = MatchResult-weaker r p (λ x t. t) f

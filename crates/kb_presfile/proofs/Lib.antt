@@ -5,3 +5,5 @@ pub mod InverseFacts
 pub mod LetterSteps
 pub mod PlaceLemmas
 pub mod EquationLemmas
+pub mod RepeatLemmas
+pub mod OverLemmas

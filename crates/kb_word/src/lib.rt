@@ -20,10 +20,10 @@ mod letter;
 mod memory;
 mod names;
 mod order;
-mod text;
 mod presentation;
 #[cfg(test)]
 mod tests;
+mod text;
 mod word;
 
 pub use equations::{Equations, copy_pair, copy_pairs};
@@ -33,6 +33,6 @@ pub use letter::Letter;
 pub use memory::Memory;
 pub use names::Names;
 pub use order::{less, rank_falls_along_shortlex, shortlex_is_a_reduction_order};
-pub use text::Text;
 pub use presentation::{Presentation, none_where_a_letter_has_no_inverse};
+pub use text::Text;
 pub use word::Word;

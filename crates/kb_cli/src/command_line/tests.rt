@@ -2,12 +2,27 @@ use crate::{Command, UsageError, read_words};
 use std::alloc::Global;
 use std::test::Fail;
 
-/// What the words of a line say, or the kind of its fault.
-fn reading(alloc: Global, line: &str) -> Result<String, Fail> {
+fn words_of(alloc: Global, line: &str) -> Result<Vec<String>, Fail> {
     let mut words = Vec::new(alloc);
     for word in line.split_ascii_whitespace() {
         words.push(String::from_str(alloc, word)?)?;
     }
+    Ok(words)
+}
+
+/// The text for the user where the line is faulty.
+fn fault_text(alloc: Global, line: &str) -> Result<String, Fail> {
+    let words = words_of(alloc, line)?;
+    match read_words(alloc, words.as_slice()) {
+        Ok(_command) => Ok(String::new(alloc)),
+        Err(UsageError::Memory) => Ok(String::new(alloc)),
+        Err(UsageError::Usage { kind: _kind, text }) => Ok(text),
+    }
+}
+
+/// What the words of a line say, or the kind of its fault.
+fn reading(alloc: Global, line: &str) -> Result<String, Fail> {
+    let words = words_of(alloc, line)?;
     match read_words(alloc, words.as_slice()) {
         Ok(Command::WordReduce { file, workers }) => Ok(format!(in alloc; "{file}, {workers}")?),
         Err(UsageError::Usage { kind, .. }) => Ok(format!(in alloc; "{kind:?}")?),
@@ -45,5 +60,19 @@ fn lines_say_commands_or_faults(rt: HostRuntime) -> Result<(), Fail> {
         let got = reading(rt.alloc(), line)?;
         assert_eq!(rt; got.as_str(), want, "at {line}");
     }
+    Ok(())
+}
+
+#[test]
+fn a_faulty_number_is_explained(rt: HostRuntime) -> Result<(), Fail> {
+    let want =
+        "error: a number is written in digits, with neither a sign nor a zero before another digit
+
+Usage: kb wordreduce [OPTIONS] <FILE>
+
+For more information, try '--help'.
+";
+    let text = fault_text(rt.alloc(), "wordreduce P --workers=08")?;
+    assert_eq!(rt; text.as_str(), want);
     Ok(())
 }

@@ -1,6 +1,6 @@
 use Rattle.std.proofs.Common.{◌≡◌, List, ℕ, [], ◌∷◌, ◌++◌, subst, append_assoc}
 use Rattle.std.specs.Prelude.{IfErr}
-use Rattle.kb_cli.specs.PartsOf.{parts_of}
+use Rattle.kb_presfile.specs.Holds.{parts_of}
 use Rattle.kb_cli.specs.WordLines.{newline}
 use Rattle.kb_cli.specs.Stops.{StopSays}
 use Rattle.kb_cli.proofs.ProgressLemmas.{standing-ended, standing-stopped}

@@ -1,5 +1,5 @@
 use Rattle.std.proofs.Common.{◌≡◌, List, ℕ, [], ◌++◌, append-nil, sym, subst}
-use Rattle.kb_cli.specs.PartsOf.{parts_of}
+use Rattle.kb_presfile.specs.Holds.{parts_of}
 use Rattle.kb_cli.specs.Progress.{Standing}
 use Rattle.kb_cli.specs.WordLines.{LineHasFault}
 use Rattle.kb_cli.proofs.ProgressLemmas.{standing-stopped}

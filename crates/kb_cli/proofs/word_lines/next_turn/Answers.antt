@@ -1,5 +1,5 @@
 use Rattle.std.proofs.Common.{List, ℕ}
-use Rattle.kb_cli.specs.PartsOf.{parts_of}
+use Rattle.kb_presfile.specs.Holds.{parts_of}
 use Rattle.kb_cli.proofs.ProgressLemmas.{reading-stopped}
 use Rattle.kb_cli.proofs.word_lines.next_turn.Goals as goal
 

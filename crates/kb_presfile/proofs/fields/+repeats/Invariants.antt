@@ -1,0 +1,16 @@
+use Rattle.std.proofs.Common.{◌≡◌, ℕ, ◌<◌, List, map, slice_get, Option, Some}
+use Rattle.std.specs.Borrow.{Bor}
+use Rattle.kb_record.specs.View.{value_view}
+use Rattle.kb_record.specs.declared.tree.Value.{Value}
+use Rattle.kb_presfile.specs.Fields.{HasFieldTwice}
+use Rattle.kb_presfile.proofs.RepeatLemmas.{HasSeen}
+use Rattle.kb_presfile.proofs.fields.+repeats.Given as goal
+
+abbrev pub invariant-check_once-loop-name : goal.invariant-check_once-loop-name
+invariant-check_once-loop-name l = record {
+    seen : HasSeen (map (λ (f : Bor (List ℕ) × Value). f.0.now) l.fields) l.name-index l.seen;
+    within : (k : ℕ) (f : Bor (List ℕ) × Value) → k < l.name-index → slice_get l.fields k ≡ Some f → (q : List ℕ) → HasFieldTwice (value_view f.1) q → ⊥ }
+
+abbrev pub invariant-check_once_within-loop-place : goal.invariant-check_once_within-loop-place
+invariant-check_once_within-loop-place l =
+    (k : ℕ) (v : Value) → k < l.place-index → slice_get l.place-items k ≡ Some (Some v) → (q : List ℕ) → HasFieldTwice (value_view v) q → ⊥
