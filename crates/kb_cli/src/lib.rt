@@ -5,7 +5,7 @@ mod command_line;
 mod orienting;
 mod printed;
 mod report;
-mod run;
+mod program;
 mod status;
 mod word_lines;
 mod word_reduce;
@@ -17,6 +17,6 @@ pub use orienting::{
     oriented, oriented_relations_are_one_list, oriented_relations_keep_the_congruence,
     oriented_rules_decrease,
 };
-pub use run::run;
+pub use program::run;
 pub use printed::print_word;
 pub use status::{Cert, FileFault, Refusal, Status, Which};
