@@ -3,3 +3,4 @@ pub mod Line
 pub mod OrientLemmas
 pub mod PrintLemmas
 pub mod ProgressLemmas
+pub mod RunLemmas

@@ -29,27 +29,31 @@ pub answers-snoc : (parts : Parts) (lines : List (List ℕ)) (line given here : 
     → Answers parts (lines ++ line ∷ []) (given ++ here)
 answers-snoc parts [] line given here none gives =
     (here, [], gives, refl, ap (λ g. g ++ here) none ∙ sym (append-nil here))
-answers-snoc parts (first ∷ lines) line given here (one, others, first_gives, rest, whole) gives =
-    (one, others ++ here, first_gives, answers-snoc parts lines line others here rest gives,
-        ap (λ g. g ++ here) whole ∙ append_assoc one others here)
+answers-snoc parts (first ∷ lines) line given here (one, others, first_gives, rest, whole) gives = (
+  one,
+  others ++ here,
+  first_gives,
+  answers-snoc parts lines line others here rest gives,
+  ap (λ g. g ++ here) whole ∙ append_assoc one others here,
+)
 
 -- a byte of the line that has begun
 pub standing-byte : {parts : Parts} {before written taken line pending : List ℕ} {number : ℕ} (byte : ℕ) → byte ≢ newline
     → Standing parts before written taken line pending number
     → Standing parts before written (taken ++ byte ∷ []) (line ++ byte ∷ []) pending number
 standing-byte {line = line} byte other standing = record {
-    lines = standing.lines;
-    cuts = record {
-        whole = ap (λ t. t ++ byte ∷ []) standing.cuts.whole ∙ append_assoc (ended standing.lines) line (byte ∷ []);
-        each = standing.cuts.each;
-        open_line = all-snoc (λ b. b ≢ newline) line byte standing.cuts.open_line other;
-    };
-    counted = standing.counted;
-    given = standing.given;
-    answered = standing.answered;
-    sent = standing.sent;
-    appended = standing.appended;
-    held = standing.held;
+  lines = standing.lines;
+  cuts = record {
+    whole = ap (λ t. t ++ byte ∷ []) standing.cuts.whole ∙ append_assoc (ended standing.lines) line (byte ∷ []);
+    each = standing.cuts.each;
+    open_line = all-snoc (λ b. b ≢ newline) line byte standing.cuts.open_line other;
+  };
+  counted = standing.counted;
+  given = standing.given;
+  answered = standing.answered;
+  sent = standing.sent;
+  appended = standing.appended;
+  held = standing.held;
 }
 
 -- the newline behind a line that is answered
@@ -57,19 +61,19 @@ pub standing-line : {parts : Parts} {before written taken line pending : List �
     → Standing parts before written taken line pending number → LineGives parts line here
     → Standing parts before written (taken ++ newline ∷ []) [] (pending ++ here) (number + 1)
 standing-line {parts} {before} {written} {taken} {line} {pending} here standing gives = record {
-    lines = standing.lines ++ line ∷ [];
-    cuts = record {
-        whole = ap (λ t. t ++ newline ∷ []) standing.cuts.whole ∙ append_assoc (ended standing.lines) line (newline ∷ [])
-            ∙ sym (ended-snoc standing.lines line) ∙ sym (append-nil (ended (standing.lines ++ line ∷ [])));
-        each = all-snoc IsOneLine standing.lines line standing.cuts.each standing.cuts.open_line;
-        open_line = tt;
-    };
-    counted = omega (arith, standing.counted, length-append standing.lines (line ∷ []));
-    given = standing.given ++ here;
-    answered = answers-snoc parts standing.lines line standing.given here standing.answered gives;
-    sent = standing.sent;
-    appended = standing.appended;
-    held = ap (λ g. g ++ here) standing.held ∙ append_assoc standing.sent pending here;
+  lines = standing.lines ++ line ∷ [];
+  cuts = record {
+    whole = ap (λ t. t ++ newline ∷ []) standing.cuts.whole ∙ append_assoc (ended standing.lines) line (newline ∷ [])
+        ∙ sym (ended-snoc standing.lines line) ∙ sym (append-nil (ended (standing.lines ++ line ∷ [])));
+    each = all-snoc IsOneLine standing.lines line standing.cuts.each standing.cuts.open_line;
+    open_line = tt;
+  };
+  counted = omega (arith, standing.counted, length-append standing.lines (line ∷ []));
+  given = standing.given ++ here;
+  answered = answers-snoc parts standing.lines line standing.given here standing.answered gives;
+  sent = standing.sent;
+  appended = standing.appended;
+  held = ap (λ g. g ++ here) standing.held ∙ append_assoc standing.sent pending here;
 }
 
 -- where a front of what is pending was sent, a front of what the lines give was
@@ -77,31 +81,36 @@ pub standing-front : {parts : Parts} {before written taken line pending : List �
     → Standing parts before written taken line pending number → AppendsPrefix written now pending
     → FrontSent parts before now (taken ++ left)
 standing-front {parts} {before} {written} {taken} {line} {pending} now left standing appends = record {
-    sent = standing.sent ++ appends.prefix;
-    appended = appends.appends ∙ ap (λ w. w ++ appends.prefix) standing.appended ∙ append_assoc before standing.sent appends.prefix;
-    front = record {
-        lines = standing.lines;
-        at_front = (line ++ (left ++ newline ∷ []),
-            ap (λ t. (t ++ left) ++ newline ∷ []) standing.cuts.whole
-            ∙ append_assoc (ended standing.lines ++ line) left (newline ∷ [])
-            ∙ append_assoc (ended standing.lines) line (left ++ newline ∷ []));
-        answers = standing.given;
-        answered = standing.answered;
-        front = (appends.rest, standing.held ∙ ap (λ p. standing.sent ++ p) appends.splits
-            ∙ sym (append_assoc standing.sent appends.prefix appends.rest));
-    };
+  sent = standing.sent ++ appends.prefix;
+  appended = appends.appends ∙ ap (λ w. w ++ appends.prefix) standing.appended ∙ append_assoc before standing.sent appends.prefix;
+  front = record {
+    lines = standing.lines;
+    at_front = (
+      line ++ (left ++ newline ∷ []),
+      ap (λ t. (t ++ left) ++ newline ∷ []) standing.cuts.whole
+          ∙ append_assoc (ended standing.lines ++ line) left (newline ∷ [])
+          ∙ append_assoc (ended standing.lines) line (left ++ newline ∷ []),
+    );
+    answers = standing.given;
+    answered = standing.answered;
+    front = (
+      appends.rest,
+      standing.held ∙ ap (λ p. standing.sent ++ p) appends.splits
+          ∙ sym (append_assoc standing.sent appends.prefix appends.rest),
+    );
+  };
 }
 
 -- where nothing is pending, all that ended was answered and sent
 pub standing-sent : {parts : Parts} {before written taken line pending : List ℕ} {number : ℕ}
     → Standing parts before written taken line pending number → pending ≡ [] → AllSent parts before written taken
 standing-sent {parts} {line = line} standing none = record {
-    lines = standing.lines;
-    line = line;
-    cuts = standing.cuts;
-    sent = standing.sent;
-    answered = subst (λ g. Answers parts standing.lines g) (standing.held ∙ ap (λ p. standing.sent ++ p) none ∙ append-nil standing.sent) standing.answered;
-    appended = standing.appended;
+  lines = standing.lines;
+  line = line;
+  cuts = standing.cuts;
+  sent = standing.sent;
+  answered = subst (λ g. Answers parts standing.lines g) (standing.held ∙ ap (λ p. standing.sent ++ p) none ∙ append-nil standing.sent) standing.answered;
+  appended = standing.appended;
 }
 
 -- where nothing is pending and the line that has come is refused
@@ -109,18 +118,18 @@ pub standing-refused : {parts : Parts} {before written taken line pending : List
     → Standing parts before written taken line pending number → pending ≡ [] → line ≡ text → LineHasFault parts text fault → EndsLine left
     → RefusedAt parts before written (taken ++ left) (number + 1) fault
 standing-refused {parts} {line = line} text left fault standing none same faulty ends = record {
-    lines = standing.lines;
-    line = line;
-    behind = left;
-    whole = ap (λ t. t ++ left) standing.cuts.whole;
-    each = standing.cuts.each;
-    one = standing.cuts.open_line;
-    ends = ends;
-    counted = omega (arith, standing.counted);
-    faulty = subst (λ l. LineHasFault parts l fault) (sym same) faulty;
-    sent = standing.sent;
-    answered = subst (λ g. Answers parts standing.lines g) (standing.held ∙ ap (λ p. standing.sent ++ p) none ∙ append-nil standing.sent) standing.answered;
-    appended = standing.appended;
+  lines = standing.lines;
+  line = line;
+  behind = left;
+  whole = ap (λ t. t ++ left) standing.cuts.whole;
+  each = standing.cuts.each;
+  one = standing.cuts.open_line;
+  ends = ends;
+  counted = omega (arith, standing.counted);
+  faulty = subst (λ l. LineHasFault parts l fault) (sym same) faulty;
+  sent = standing.sent;
+  answered = subst (λ g. Answers parts standing.lines g) (standing.held ∙ ap (λ p. standing.sent ++ p) none ∙ append-nil standing.sent) standing.answered;
+  appended = standing.appended;
 }
 
 -- the newline behind a line that is answered, where what it gives was added to what was pending
@@ -143,26 +152,26 @@ pub standing-answered : {parts : Parts} {before written taken line pending : Lis
     → Standing parts before written taken line pending number → LineGives parts line here → now ≡ written ++ (pending ++ here)
     → AllAnswered parts before now taken
 standing-answered {parts} {before} {written} {taken} {line} {pending} here now standing gives sent = record {
-    lines = standing.lines;
-    last = line;
-    cuts = standing.cuts;
-    given = standing.given ++ here;
-    answered = answers-snoc parts standing.lines line standing.given here standing.answered gives;
-    appended = sent ∙ ap (λ w. w ++ (pending ++ here)) standing.appended ∙ append_assoc before standing.sent (pending ++ here)
-        ∙ ap (λ g. before ++ g) (sym (append_assoc standing.sent pending here) ∙ ap (λ g. g ++ here) (sym standing.held));
+  lines = standing.lines;
+  last = line;
+  cuts = standing.cuts;
+  given = standing.given ++ here;
+  answered = answers-snoc parts standing.lines line standing.given here standing.answered gives;
+  appended = sent ∙ ap (λ w. w ++ (pending ++ here)) standing.appended ∙ append_assoc before standing.sent (pending ++ here)
+      ∙ ap (λ g. before ++ g) (sym (append_assoc standing.sent pending here) ∙ ap (λ g. g ++ here) (sym standing.held));
 }
 
 -- nothing has come, and nothing is pending
 pub standing-start : (parts : Parts) (before : List ℕ) → Standing parts before before [] [] [] 0
 standing-start parts before = record {
-    lines = [];
-    cuts = record { whole = refl; each = tt; open_line = tt };
-    counted = refl;
-    given = [];
-    answered = refl;
-    sent = [];
-    appended = sym (append-nil before);
-    held = refl;
+  lines = [];
+  cuts = record { whole = refl; each = tt; open_line = tt };
+  counted = refl;
+  given = [];
+  answered = refl;
+  sent = [];
+  appended = sym (append-nil before);
+  held = refl;
 }
 
 -- where a front of what is pending with the last line's answer was sent
@@ -170,19 +179,25 @@ pub standing-last_front : {parts : Parts} {before written taken line pending : L
     → Standing parts before written taken line pending number → LineGives parts line here → pending' ≡ pending ++ here
     → AppendsPrefix written now pending' → FrontSent parts before now taken
 standing-last_front {parts} {before} {written} {taken} {line} {pending} here pending' now standing gives more appends = record {
-    sent = standing.sent ++ appends.prefix;
-    appended = appends.appends ∙ ap (λ w. w ++ appends.prefix) standing.appended ∙ append_assoc before standing.sent appends.prefix;
-    front = record {
-        lines = standing.lines ++ line ∷ [];
-        at_front = ([], ap (λ t. t ++ newline ∷ []) standing.cuts.whole
-            ∙ append_assoc (ended standing.lines) line (newline ∷ [])
-            ∙ sym (ended-snoc standing.lines line) ∙ sym (append-nil (ended (standing.lines ++ line ∷ []))));
-        answers = standing.given ++ here;
-        answered = answers-snoc parts standing.lines line standing.given here standing.answered gives;
-        front = (appends.rest, ap (λ g. g ++ here) standing.held ∙ append_assoc standing.sent pending here
-            ∙ ap (λ p. standing.sent ++ p) (sym more ∙ appends.splits)
-            ∙ sym (append_assoc standing.sent appends.prefix appends.rest));
-    };
+  sent = standing.sent ++ appends.prefix;
+  appended = appends.appends ∙ ap (λ w. w ++ appends.prefix) standing.appended ∙ append_assoc before standing.sent appends.prefix;
+  front = record {
+    lines = standing.lines ++ line ∷ [];
+    at_front = (
+      [],
+      ap (λ t. t ++ newline ∷ []) standing.cuts.whole
+          ∙ append_assoc (ended standing.lines) line (newline ∷ [])
+          ∙ sym (ended-snoc standing.lines line) ∙ sym (append-nil (ended (standing.lines ++ line ∷ []))),
+    );
+    answers = standing.given ++ here;
+    answered = answers-snoc parts standing.lines line standing.given here standing.answered gives;
+    front = (
+      appends.rest,
+      ap (λ g. g ++ here) standing.held ∙ append_assoc standing.sent pending here
+          ∙ ap (λ p. standing.sent ++ p) (sym more ∙ appends.splits)
+          ∙ sym (append_assoc standing.sent appends.prefix appends.rest),
+    );
+  };
 }
 
 -- what was taken up to a byte, the byte, and what follows it
@@ -191,8 +206,8 @@ pub taken-back : (taken bytes left : List ℕ) (i : ℕ) (byte : ℕ) → i < le
 taken-back taken bytes left i byte within here =
     append_assoc taken (take i bytes) (byte ∷ (drop (i + 1) bytes ++ left))
     ∙ ap (λ r. taken ++ r) (sym (append_assoc (take i bytes) (byte ∷ drop (i + 1) bytes) left)
-        ∙ ap (λ b. b ++ left) (ap (λ b. take i bytes ++ (b ∷ drop (i + 1) bytes)) (sym here)
-            ∙ ap (λ d. take i bytes ++ d) (rw add-one (sym (drop-cons bytes i 0 within))) ∙ take-append-drop i bytes))
+    ∙ ap (λ b. b ++ left) (ap (λ b. take i bytes ++ (b ∷ drop (i + 1) bytes)) (sym here)
+    ∙ ap (λ d. take i bytes ++ d) (rw add-one (sym (drop-cons bytes i 0 within))) ∙ take-append-drop i bytes))
 
 -- where as many bytes were taken as may be, all that ended in them is answered and sent
 pub standing-most : {parts : Parts} {before written line pending : List ℕ} {number : ℕ} (taken last left : List ℕ) (most : ℕ)
@@ -201,7 +216,7 @@ pub standing-most : {parts : Parts} {before written line pending : List ℕ} {nu
 standing-most {parts} {before} {written} taken last left most standing none full =
     subst (λ t. AllSent parts before written t)
     (sym (ap (λ n. take n (taken ++ (last ++ left))) (sym (length-append taken last ∙ full))
-        ∙ ap (λ b. take (length (taken ++ last)) b) (sym (append_assoc taken last left)) ∙ take-append_seam (taken ++ last) left))
+    ∙ ap (λ b. take (length (taken ++ last)) b) (sym (append_assoc taken last left)) ∙ take-append_seam (taken ++ last) left))
     (standing-sent standing none)
 
 -- bytes were taken of what was left
@@ -212,10 +227,10 @@ pub reading-took : {parts : Parts} {before written input left line pending : Lis
     → Standing parts before written' (reading.taken ++ read) line' pending' number'
     → Reading parts before written' input left' line' pending' number' (count + more)
 reading-took read left' more reading moved size standing = record {
-    taken = reading.taken ++ read;
-    split = reading.split ∙ ap (λ l. reading.taken ++ l) moved ∙ sym (append_assoc reading.taken read left');
-    counted = omega (arith, reading.counted, size, length-append reading.taken read);
-    standing = standing;
+  taken = reading.taken ++ read;
+  split = reading.split ∙ ap (λ l. reading.taken ++ l) moved ∙ sym (append_assoc reading.taken read left');
+  counted = omega (arith, reading.counted, size, length-append reading.taken read);
+  standing = standing;
 }
 
 -- what may be taken of what was read, the rest of it, and what is left
@@ -223,8 +238,8 @@ pub whole-again : (taken buffer rest whole left : List ℕ) (most more : ℕ) �
     → taken ++ (take most buffer ++ (drop most (take more buffer) ++ rest)) ≡ whole
 whole-again taken buffer rest whole left most more less moved split =
     ap (λ b. taken ++ b) (sym (append_assoc (take most buffer) (drop most (take more buffer)) rest)
-        ∙ ap (λ f. (f ++ drop most (take more buffer)) ++ rest) (sym (take-take most more buffer less))
-        ∙ ap (λ b. b ++ rest) (take-append-drop most (take more buffer)) ∙ sym moved)
+    ∙ ap (λ f. (f ++ drop most (take more buffer)) ++ rest) (sym (take-take most more buffer less))
+    ∙ ap (λ b. b ++ rest) (take-append-drop most (take more buffer)) ∙ sym moved)
     ∙ sym split
 
 -- the input is what was taken and read, and what is left

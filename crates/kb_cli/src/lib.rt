@@ -1,11 +1,30 @@
-//! The program as one call over the outside.
+//! The program `kb` as one call over the outside.
+//!
+//! The one public contract is that of [`run`]: by its status a run says what `specs/Headline.antt` states of the
+//! words it was given, the files that the shelf held, the input that it read and the bytes that it wrote.
+//! Status 0 of `wordreduce` says that the file is a presentation whose oriented relations are confluent, that the
+//! input was read to its end, and that each line written is the shortlex least word congruent to the line
+//! read. Every other status has its cause there: the file that is refused and its fault, the first line that
+//! is refused, the overlap that doesn't join, the device whose count of failures rose, the fault of the words.
+//! Want of memory alone is free.
+//!
+//! # How it is made
+//!
+//! - `command_line` reads the words by `clap`, whose own definition of a faultless line is part of the contract.
+//! - `word_reduce` loads the presentation, orients its relations (`orienting`), has them checked for
+//!   confluence, and answers.
+//! - `word_lines` cuts the input into lines in a stream, answers each, and sends the answers.
+//! - `printed` prints words, `report` the messages to err, of which no clause speaks.
+//!
+//! Below stand all other libraries; above stands the program `kb`, which makes the real outside and calls
+//! `run`, and `kb_rows`, whose tests run it over memory.
 #![tactic(auto)]
 
 mod command_line;
 mod orienting;
 mod printed;
-mod report;
 mod program;
+mod report;
 mod status;
 mod word_lines;
 mod word_reduce;
@@ -17,6 +36,6 @@ pub use orienting::{
     oriented, oriented_relations_are_one_list, oriented_relations_keep_the_congruence,
     oriented_rules_decrease,
 };
-pub use program::run;
 pub use printed::print_word;
+pub use program::run;
 pub use status::{Cert, FileFault, Refusal, Status, Which};

@@ -413,7 +413,14 @@ pub(crate) fn answer_input<R: Reducer, I: Source, O: Sink>(
         Ok(buffer) => buffer,
         Err(_) => return Err(Stop::Memory),
     };
-    answer_turns(alloc, presentation, reducer, buffer.as_mut_slice(), input, out)
+    answer_turns(
+        alloc,
+        presentation,
+        reducer,
+        buffer.as_mut_slice(),
+        input,
+        out,
+    )
 }
 
 /// Answers the word lines of the input in turns, each of at most one buffer.
@@ -488,7 +495,16 @@ fn next_turn<R: Reducer, I: Source, O: Sink>(
     ensures input_count { I.faults input.old ≤ I.faults input.new }
     ensures output_count { O.faults out.old ≤ O.faults out.new }
 {
-    match take_turn(alloc, presentation, reducer, progress, count, buffer, input, out) {
+    match take_turn(
+        alloc,
+        presentation,
+        reducer,
+        progress,
+        count,
+        buffer,
+        input,
+        out,
+    ) {
         Ok(Turn::Took(more)) => match send(progress, out) {
             Ok(()) => Ok(Turn::Took(more)),
             Err(stop) => Err(stop),

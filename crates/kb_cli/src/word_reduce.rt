@@ -9,11 +9,13 @@ ghost use Rattle.kb_cli.specs.Headline.{FileSays, FileStops, AnswersSay, WordRed
 ghost use Rattle.kb_cli.specs.declared.status.Status.TheVariants as Status;
 ghost use Rattle.kb_cli.specs.declared.status.Refusal.TheVariants as Refusal;
 
-use crate::orienting::oriented;
+use crate::orienting::{oriented, oriented_relations_keep_the_congruence, oriented_rules_decrease};
 use crate::printed::print_word;
 use crate::status::{Cert, FileFault, Refusal, Status, Which};
 use crate::word_lines::{Stop, answer_input};
-use kb_confluence::{Verdict, check};
+use kb_confluence::{
+    Verdict, check, least_by_the_same_congruence, normal_forms_by_confluent_rules_are_least,
+};
 use kb_io::{Failed, Load, Shelf, ShelfFault, Sink, Source, write_all};
 use kb_presfile::{PresError, read};
 use kb_rules::{Reducer, Rules, Scan};
@@ -80,7 +82,7 @@ fn presentation_of(alloc: Global, name: Text, bytes: &[u8]) -> Result<Presentati
     ensures says { IfOk result (λ presentation. PresentationOf bytes.now (parts_of presentation)) }
     ensures few { IfOk result (λ presentation. length presentation.eqs ≤ 65535) }
     ensures stops { (holds : List ℕ → Option (List ℕ)) → holds name ≡ Some bytes.now → length bytes.now ≤ MOST_FILE → IfErr result (FileStops holds name) }
-    ensures faults { IfErr result (λ status. (loads input output : ℕ) → FaultCounts loads loads input input output output status) }
+    ensures faults { IfErr result (λ status. (a b c d e f : ℕ) → FaultCounts a b c d e f status) }
 {
     match read(alloc, bytes) {
         Ok(presentation) => Ok(presentation),
@@ -112,6 +114,8 @@ fn answer_by<I: Source, O: Sink>(
     ensures input_count { I.faults input.old ≤ I.faults input.new }
     ensures output_count { O.faults out.old ≤ O.faults out.new }
 {
+    // Its range bounds how many rules there are.
+    let _generators = presentation.n;
     let rules = match oriented(alloc, presentation) {
         Ok(rules) => rules,
         Err(Memory) => return Status::Memory,
@@ -145,6 +149,10 @@ fn answer_lines<I: Source, O: Sink>(
     ensures input_count { I.faults input.old ≤ I.faults input.new }
     ensures output_count { O.faults out.old ≤ O.faults out.new }
 {
+    oriented_rules_decrease();
+    oriented_relations_keep_the_congruence();
+    normal_forms_by_confluent_rules_are_least();
+    least_by_the_same_congruence();
     match answer_input(alloc, presentation, scan, input, out) {
         Ok(()) => Status::Yes,
         Err(stop) => status_of(stop),

@@ -1,8 +1,7 @@
 -- Faults of sides, of equations and of lists of equations.
-use Rattle.std.proofs.Common.{◌≡◌, ℕ, zero, suc, ◌+◌, ◌<◌, ◌≤◌, List, [], ◌∷◌, ◌++◌, map, length, take, drop, get_or, slice_get, Option, Some, None, Result, Ok, IfOk, IfErr, ◌⊎◌, inl, inr, refl, sym, ap, subst, ◌∙◌, arith}
+use Rattle.std.proofs.Common.{◌≡◌, ℕ, zero, suc, ◌+◌, ◌<◌, ◌≤◌, List, [], ◌∷◌, ◌++◌, map, length, take, drop, get_or, slice_get, Option, Some, None, Ok, ◌⊎◌, inl, inr, refl, sym, ap, subst, ◌∙◌, arith}
 use Rattle.std.specs.Option.{option_map}
 use Rattle.std.proofs.lemmas.List.{length-map, map-append, map_more}
-use Rattle.std.proofs.lemmas.Result.{MatchResult-weaker}
 use Rattle.std.proofs.lemmas.Option.{slice_get-map, slice_get_read}
 use Rattle.kb_word.specs.Words.{Pair}
 use Rattle.kb_record.specs.Meaning.{word_meaning}
@@ -48,7 +47,7 @@ place_fault names inverses ps k p error within at fault =
     let P : Option Value → Type 0 = λ v. PlaceHasFault names inverses v error in
     record { at = k; within = seen.1; fault = subst P (sym seen.0) fault }
 
-list_of_equations-places_of : (sides : List (Factors × Factors)) → list_of_equations sides ≡ places_of (map (λ (s : Factors × Factors). Some (equation_value s)) sides)
+pub list_of_equations-places_of : (sides : List (Factors × Factors)) → list_of_equations sides ≡ places_of (map (λ (s : Factors × Factors). Some (equation_value s)) sides)
 list_of_equations-places_of [] = refl
 list_of_equations-places_of (s ∷ sides) = ap (place (equation_value s)) (list_of_equations-places_of sides)
 
@@ -69,16 +68,20 @@ pub equations_more : (names : List (List ℕ)) (inverses : List (Option ℕ)) (p
     → k < length ps → p ≡ get_or ps k p → AreEquations names inverses (places_view (take k ps)) equations
     → IsEquation names inverses (option_map value_view p) pair → AreEquations names inverses (places_view (take (k + 1) ps)) (equations ++ pair ∷ [])
 equations_more names inverses ps k p equations pair within at are is = record {
-    sides = are.sides ++ is.sides ∷ [];
-    listed = ap places_of whole ∙ sym (list_of_equations-places_of (are.sides ++ is.sides ∷ []));
-    meanings = meanings_more names inverses are.sides equations is.sides pair are.meanings is.left is.right }
+  sides = are.sides ++ is.sides ∷ [];
+  listed = ap places_of whole ∙ sym (list_of_equations-places_of (are.sides ++ is.sides ∷ []));
+  meanings = meanings_more names inverses are.sides equations is.sides pair are.meanings is.left is.right;
+}
   where
     seen : List (Option Value)
     seen = map (option_map value_view) (take k ps)
+
     first : seen ≡ map (λ (s : Factors × Factors). Some (equation_value s)) are.sides
     first = places_of-injective seen (map (λ (s : Factors × Factors). Some (equation_value s)) are.sides) (are.listed ∙ list_of_equations-places_of are.sides)
+
     last : option_map value_view (get_or ps k p) ≡ Some (equation_value is.sides)
     last = ap (option_map value_view) (sym at) ∙ is.stands
+
     whole : map (option_map value_view) (take (k + 1) ps) ≡ map (λ (s : Factors × Factors). Some (equation_value s)) (are.sides ++ is.sides ∷ [])
     whole = map_more (option_map value_view) ps k p within
         ∙ (ap (λ (v : Option Value). seen ++ v ∷ []) last ∙ (ap (λ (vs : List (Option Value)). vs ++ Some (equation_value is.sides) ∷ []) first
@@ -103,7 +106,7 @@ equation_at (s ∷ sides) zero within = record { sides = s; stands = refl }
 equation_at (s ∷ sides) (suc k) within =
     let rest = equation_at sides k (omega (arith, within)) in record { sides = rest.sides; stands = rest.stands }
 
-list_same : {p q : Places} → list_value p ≡ list_value q → p ≡ q
+pub list_same : {p q : Places} → list_value p ≡ list_value q → p ≡ q
 list_same e = cc
 
 -- a place that isn't an equation: the value is of another kind
@@ -133,9 +136,3 @@ list_fault given names inverses list (errors.NoInverse name) named inverted list
 list_fault given names inverses list errors.WordTooLong named inverted listed fault =
     record { names = names; inverses = inverses; named = named; inverted = inverted; places = list; listed = listed; fault = fault }
 list_fault given names inverses list error named inverted listed fault = absurd (neither fault.fault.2)
-
-pub IfErr_then : {X Y : Type 0} (r : Result X Y) {P Q : Y → Type 0} → IfErr r P → ((y : Y) → P y → Q y) → IfErr r Q
-IfErr_then r p f = MatchResult-weaker r p (λ x t. t) f
-
-pub IfOk_then : {X Y : Type 0} (r : Result X Y) {P Q : X → Type 0} → IfOk r P → ((x : X) → P x → Q x) → IfOk r Q
-IfOk_then r p f = MatchResult-weaker r p f (λ y t. t)

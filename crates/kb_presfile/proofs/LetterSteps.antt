@@ -31,8 +31,9 @@ none_yet names places = record { count = refl; each = λ k letter at. cc }
 pub one_more : (names : List (List ℕ)) (places : List (Option (List ℕ))) (letters : List (Option ℕ)) (n : ℕ) (letter : Option ℕ)
     → StandForFirst names places letters n → IsLetterOf names (place_at places n) letter → StandForFirst names places (letters ++ letter ∷ []) (n + 1)
 one_more names places letters n letter first is = record {
-    count = omega (arith, length-append letters (letter ∷ []), first.count);
-    each = λ k other at. more k other (at_end letters letter k other at) }
+  count = omega (arith, length-append letters (letter ∷ []), first.count);
+  each = λ k other at. more k other (at_end letters letter k other at);
+}
   where
     more : (k : ℕ) (other : Option ℕ) → (slice_get letters k ≡ Some other) ⊎ ((k ≡ length letters) × (letter ≡ other)) → IsLetterOf names (place_at places k) other
     more k other (inl at) = first.each k other at
@@ -45,16 +46,19 @@ one_more names places letters n letter first is = record {
 pub all_stand : (names : List (List ℕ)) (places : List (Option (List ℕ))) (letters : List (Option ℕ)) (n : ℕ) → length names ≡ n
     → StandForFirst names places letters n → StandFor names places letters
 all_stand names places letters n whole first = record {
-    one_each = first.count ∙ sym whole;
-    some = λ k name at within. some k name _ at (here k within) ((first.each k _ (here k within)).some name at);
-    empty = λ k within at. empty k _ (here k within) ((first.each k _ (here k within)).empty at) }
+  one_each = first.count ∙ sym whole;
+  some = λ k name at within. some k name _ at (here k within) ((first.each k _ (here k within)).some name at);
+  empty = λ k within at. empty k _ (here k within) ((first.each k _ (here k within)).empty at);
+}
   where
     here : (k : ℕ) → k < length names → slice_get letters k ≡ Some (get_or letters k None)
     here k within = let inside : k < length letters = omega (arith, first.count) in slice_get-get_or letters k None inside
+
     some : (k : ℕ) (name : List ℕ) (letter : Option ℕ) → place_at places k ≡ Some name → slice_get letters k ≡ Some letter
         → IsSome letter × (letter_from 1 names name ≡ letter) → (x : ℕ) × (letter_from 1 names name ≡ Some x) × (slice_get letters k ≡ Some (Some x))
     some k name None at is given = cc
     some k name (Some x) at is given = (x, given.1, is)
+
     empty : (k : ℕ) (letter : Option ℕ) → slice_get letters k ≡ Some letter → IsNone letter → slice_get letters k ≡ Some None
     empty k None is none = is
     empty k (Some x) is none = cc

@@ -39,6 +39,7 @@ places_of-injective (Some x ∷ xs) (Some y ∷ ys) e =
   where
     behind : {v w : Value} {p q : Places} → place v p ≡ place w q → p ≡ q
     behind h = cc
+
     front : {v w : Value} {p q : Places} → place v p ≡ place w q → v ≡ w
     front h = cc
 

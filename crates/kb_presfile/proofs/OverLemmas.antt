@@ -12,7 +12,7 @@ use Rattle.kb_record.specs.Tree.{Factor, named, grouped, Factors, no_factors, fa
 use Rattle.kb_record.specs.Meaning.{WordFault, too_long, most_letters, letter_from, name_meaning, repeated, repetition, power_meaning, and_then, product, factor_meaning, product_meaning, word_meaning}
 use Rattle.kb_record.proofs.WordMeanings.{name_known, name_unknown}
 use Rattle.kb_presfile.specs.Holds.{AreMutual, AreMeanings, AreEquations}
-use Rattle.kb_presfile.proofs.InverseFacts.{letter_within, inverse_read}
+use Rattle.kb_presfile.proofs.InverseLemmas.{letter_within, inverse_read}
 
 over_none : (n : ℕ) → IsOver n []
 over_none n = All-nil (λ x. (0 < x) × (x ≤ n))
@@ -46,8 +46,10 @@ name_over names text v e = go (pointwise nat_eq text (codes "IdWord")) refl (let
   where
     P : List ℕ → Type 0
     P w = IsOver (length names) w
+
     is_letter : (x : ℕ) → letter_from 1 names text ≡ Some x → IsOver (length names) (x ∷ [])
     is_letter x letter = let within = letter_within 1 names text x letter in over_one (length names) x (omega (arith, within.0)) (omega (arith, within.1))
+
     go : (empty : Bool) → pointwise nat_eq text (codes "IdWord") ≡ empty → (o : Option ℕ) → letter_from 1 names text ≡ o → IsOver (length names) v
     go true is o letter = subst P (ok_same (rw is at e)) (over_none (length names))
     go false other None letter = let never = sym (name_unknown names text other letter) ∙ e in cc
@@ -82,6 +84,7 @@ inverse_over inverses (x ∷ w) u back_again e = at_letter (inverse_letter inver
     at_rest y within (Some v) over h =
         let P : List ℕ → Type 0 = λ z. IsOver (length inverses) z in
         subst P (some_word h) (All-push (λ z. (0 < z) × (z ≤ length inverses)) v y (over v refl) within)
+
     at_letter : (o : Option ℕ) → inverse_letter inverses x ≡ o → option_and_then (λ y. option_map (λ v. v ++ y ∷ []) (inverse_word inverses w)) o ≡ Some u
         → ((v : List ℕ) → inverse_word inverses w ≡ Some v → IsOver (length inverses) v) → IsOver (length inverses) u
     at_letter None is h over = cc
@@ -116,7 +119,7 @@ module _ (names : List (List ℕ)) (inverses : List (Option ℕ)) (both_ways : A
         let P : List ℕ → Type 0 = λ u. IsOver (length names) u in
         let joined = All-append (λ x. (0 < x) × (x ≤ length names)) so_far last.between over (factor_over next last.between last.was) in
         product_over others whole.between v
-          (subst P (unless_long (nat_lt most_letters (length so_far + length last.between)) (so_far ++ last.between) whole.between last.gave) joined) whole.gave
+        (subst P (unless_long (nat_lt most_letters (length so_far + length last.between)) (so_far ++ last.between) whole.between last.gave) joined) whole.gave
 
   pairs_over : (sides : List (Factors × Factors)) (pairs : List Pair) → AreMeanings names inverses sides pairs → (pair : Pair) → OneOf pairs pair
       → IsOver (length names) pair.0 × IsOver (length names) pair.1
@@ -138,5 +141,8 @@ module _ (names : List (List ℕ)) (inverses : List (Option ℕ)) (both_ways : A
   pub equations_over : (n : ℕ) (list : Places) (equations : List Pair) → n ≡ length names → AreEquations names inverses list equations
       → IsPresentation n names inverses equations
   equations_over n list equations count are = record {
-      one_name_each = sym count; one_inverse_each = one_each ∙ sym count; mutual_inverses = both_ways;
-      letters = λ pair at. let P : ℕ → Type 0 = λ m. IsOver m pair.0 × IsOver m pair.1 in subst P (sym count) (pairs_over are.sides equations are.meanings pair at) }
+    one_name_each = sym count;
+    one_inverse_each = one_each ∙ sym count;
+    mutual_inverses = both_ways;
+    letters = λ pair at. let P : ℕ → Type 0 = λ m. IsOver m pair.0 × IsOver m pair.1 in subst P (sym count) (pairs_over are.sides equations are.meanings pair at);
+  }

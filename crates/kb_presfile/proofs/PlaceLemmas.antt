@@ -21,6 +21,7 @@ bares_injective (x ∷ xs) (y ∷ ys) e =
   where
     behind : {v w : Option Value} {p q : List (Option Value)} → v ∷ p ≡ w ∷ q → p ≡ q
     behind h = cc
+
     front : {v w : Value} {p q : List (Option Value)} → Some v ∷ p ≡ Some w ∷ q → v ≡ w
     front h = cc
 
@@ -42,14 +43,15 @@ optionals_injective (x ∷ xs) (y ∷ ys) e =
   where
     behind : {v w : Option Value} {p q : List (Option Value)} → v ∷ p ≡ w ∷ q → p ≡ q
     behind h = cc
+
     front : {v w : Option Value} {p q : List (Option Value)} → v ∷ p ≡ w ∷ q → v ≡ w
     front h = cc
 
 listed : {p q : Places} → list_value p ≡ list_value q → p ≡ q
 listed e = cc
 
-given : {v w : Value} → Some v ≡ Some w → v ≡ w
-given e = cc
+pub some_value : {v w : Value} → Some v ≡ Some w → v ≡ w
+some_value e = cc
 
 pub names_injective : (xs ys : List (List ℕ)) → list_value (list_of_names xs) ≡ list_value (list_of_names ys) → xs ≡ ys
 names_injective xs ys e =
@@ -60,13 +62,13 @@ places_injective xs ys e =
     optionals_injective xs ys (places_of-injective _ _ (sym (list_of_places-places_of xs) ∙ (listed e ∙ list_of_places-places_of ys)))
 
 -- the text has one list of names
-pub one_list_of_names : (fields : Fields) (names others : List (List ℕ)) → HasNames fields names → HasNames fields others → names ≡ others
-one_list_of_names fields names others a b = names_injective names others (given (sym a ∙ b))
+pub one_list_of_names : (given : Fields) (names others : List (List ℕ)) → HasNames given names → HasNames given others → names ≡ others
+one_list_of_names given names others a b = names_injective names others (some_value (sym a ∙ b))
 
-pub past_the_end : (fields : Fields) (names : List (List ℕ)) (value : Value) (places : List (Option (List ℕ))) → HasNames fields names
+pub past_the_end : (given : Fields) (names : List (List ℕ)) (value : Value) (places : List (Option (List ℕ))) → HasNames given names
     → value ≡ list_value (list_of_places places) → (((k : ℕ) → length names ≤ k → place_at places k ≡ None) → ⊥)
-    → IsOfKind fields kinds.Inverses value → ⊥
-past_the_end fields names value places named is past kind =
+    → IsOfKind given kinds.Inverses value → ⊥
+past_the_end given names value places named is past kind =
     let found = kind names named in
     let same = places_injective found.0 places (sym found.1 ∙ is) in
     past (λ k h. ap (λ ps. place_at ps k) (sym same) ∙ found.2 k h)

@@ -35,9 +35,10 @@ pub record HasSeen (names : List (List ℕ)) (n : ℕ) (seen : BTreeSet (Bor (Li
 
 pub seen_none : (names : List (List ℕ)) (seen : BTreeSet (Bor (List ℕ))) → seen.keys ≡ [] → HasSeen names 0 seen
 seen_none names seen empty = record {
-    old = λ q e. cc;
-    all = λ q j h. absurd (omega (arith, h));
-    apart = λ q j k h i. absurd (omega (arith, i)) }
+  old = λ q e. cc;
+  all = λ q j h. absurd (omega (arith, h));
+  apart = λ q j k h i. absurd (omega (arith, i));
+}
 
 text_same : {a b : List ℕ} → Some a ≡ Some b → a ≡ b
 text_same e = cc
@@ -65,19 +66,22 @@ cond_same false = refl
 pub seen_more : (names : List (List ℕ)) (n : ℕ) (seen new : BTreeSet (Bor (List ℕ))) (k : Bor (List ℕ)) → HasSeen names n seen → slice_get names n ≡ Some k.now
     → has seen k.now ≡ false → Updates text_cmp seen new k true → HasSeen names (n + 1) new
 seen_more names n seen new k first at absent updates = record {
-    old = λ q e. old q (bytes_eq k.now q) refl (sym (has_after seen new k updates q) ∙ e);
-    all = λ q j h is. has_after seen new k updates q ∙ all q j (cases_lt j n) h is;
-    apart = λ q i j h within at_i at_j. apart q i j (cases_lt j n) h within at_i at_j }
+  old = λ q e. old q (bytes_eq k.now q) refl (sym (has_after seen new k updates q) ∙ e);
+  all = λ q j h is. has_after seen new k updates q ∙ all q j (cases_lt j n) h is;
+  apart = λ q i j h within at_i at_j. apart q i j (cases_lt j n) h within at_i at_j;
+}
   where
     old : (q : List ℕ) (b : Bool) → bytes_eq k.now q ≡ b → cond (bytes_eq k.now q) true (has seen q) ≡ true → (j : ℕ) × (j < n + 1) × (slice_get names j ≡ Some q)
     old q true same e = (n, omega arith, at ∙ ap Some ((bytes_eq-Decides k.now q).0 same))
     old q false other e = let before = first.old q (sym (ap (λ b. cond b true (has seen q)) other) ∙ e) in (before.0, omega (arith, before.1), before.2)
+
     all : (q : List ℕ) (j : ℕ) → (j < n) ⊎ (n ≤ j) → j < n + 1 → slice_get names j ≡ Some q → cond (bytes_eq k.now q) true (has seen q) ≡ true
     all q j (inl before) h is = ap (cond (bytes_eq k.now q) true) (first.all q j before is) ∙ cond_same (bytes_eq k.now q)
     all q j (inr here) h is =
         let same : j ≡ n = omega (arith, here, h) in
         let named : k.now ≡ q = text_same (sym at ∙ (ap (slice_get names) (sym same) ∙ is)) in
         ap (λ b. cond b true (has seen q)) ((bytes_eq-Decides k.now q).1 named)
+
     apart : (q : List ℕ) (i j : ℕ) → (j < n) ⊎ (n ≤ j) → i < j → j < n + 1 → slice_get names i ≡ Some q → slice_get names j ≡ Some q → ⊥
     apart q i j (inl before) h within at_i at_j = first.apart q i j h before at_i at_j
     apart q i j (inr here) h within at_i at_j =
@@ -162,6 +166,7 @@ none_twice fs n seen whole first within q (inl twice) = apart (subst P (names_of
   where
     P : List (List ℕ) → Type 0
     P names = StandsTwice names q
+
     apart : StandsTwice (names_in fs) q → ⊥
     apart t =
         let inside = slice_get_within (names_in fs) t.again q t.at_again in

@@ -38,6 +38,7 @@ one_taken name (x ∷ xs) (suc k) e = head (is_name name x) refl e (one_taken na
   where
     tail : StandsBefore (texts xs) k name → StandsBefore (texts (x ∷ xs)) (suc k) name
     tail found = record { j = suc found.j; before = omega arith; at = found.at }
+
     head : (b : Bool) → is_name name x ≡ b → (b || list_any (is_name name) (take k xs)) ≡ true
         → (list_any (is_name name) (take k xs) ≡ true → StandsBefore (texts xs) k name) → StandsBefore (texts (x ∷ xs)) (suc k) name
     head true is e later = record { j = 0; before = omega arith; at = ap Some ((bytes_eq-Decides x.now name).0 is) }
@@ -75,7 +76,8 @@ module _ (xs : List (Bor (List ℕ))) (k : ℕ) (d : Bor (List ℕ)) (within : k
   pub free_more : ¬ IsReserved (get_or xs k d).now → list_any (is_name (get_or xs k d).now) (take k xs) ≡ false → IsFreeAt (texts xs) k
   free_more free e = record {
     free = λ name at. let same : (get_or xs k d).now ≡ name = some_injective (sym text_at ∙ at) in let P : List ℕ → Type 0 = λ n. ¬ IsReserved n in subst P same free;
-    new = λ name at j h is. let same : (get_or xs k d).now ≡ name = some_injective (sym text_at ∙ at) in none_taken (get_or xs k d).now xs k e j h (is ∙ ap Some (sym same)) }
+    new = λ name at j h is. let same : (get_or xs k d).now ≡ name = some_injective (sym text_at ∙ at) in none_taken (get_or xs k d).now xs k e j h (is ∙ ap Some (sym same));
+  }
 
 -- where each place is free no name is taken
 pub none_is_taken : (names : List (List ℕ)) (n : ℕ) → length names ≤ n → ((k : ℕ) → k < n → IsFreeAt names k) → (name : List ℕ) → IsTaken names name → ⊥

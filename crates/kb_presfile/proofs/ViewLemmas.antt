@@ -1,5 +1,5 @@
 -- The trees of the code's values, variant by variant.
-use Rattle.std.proofs.Common.{◌≡◌, ℕ, ◌+◌, ◌<◌, ◌≤◌, ℤ, List, [], ◌∷◌, map, length, get_or, Option, IfNone, Some, None, Vec, Global, sym, refl, ap, ◌∙◌, arith}
+use Rattle.std.proofs.Common.{◌≡◌, ℕ, ◌+◌, ◌<◌, ◌≤◌, ℤ, List, [], ◌∷◌, map, length, get_or, Option, Some, None, Vec, Global, sym, refl, ap, ◌∙◌, arith}
 use Rattle.std.proofs.Math.ListN.{length-map}
 use Rattle.std.specs.Borrow.{Bor}
 use Rattle.std.specs.Option.{option_map}
@@ -29,6 +29,7 @@ places_same f g none some ps = ap (λ (qs : List (Option Value)). list_value (pl
     same : (p : Option code.Value) → f p ≡ g p
     same None = none
     same (Some v) = some v
+
     map_same : (ps : List (Option code.Value)) → map f ps ≡ map g ps
     map_same [] = refl
     map_same (p ∷ ps) = let head = same p in let tail = map_same ps in cc
@@ -84,7 +85,3 @@ word_of_one value word f is one e =
 
 pub one_name : {f g : Factor} → word_value (factor f no_factors) ≡ word_value (factor g no_factors) → f ≡ g
 one_name e = cc
-
-pub IfNone_then : {X P Q : Type 0} (r : Option X) → IfNone r P → (P → Q) → IfNone r Q
-IfNone_then None p f = f p
-IfNone_then (Some x) p f = p

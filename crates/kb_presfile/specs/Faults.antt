@@ -36,7 +36,7 @@ IsOfKind given kinds.Ordering value = (text : List ℕ) × (value ≡ string_val
 IsOfKind given kinds.GeneratorOrder value = (names : List (List ℕ)) × (value ≡ list_value (list_of_names names))
 IsOfKind given kinds.Inverses value = (names : List (List ℕ)) → HasNames given names
     → (places : List (Option (List ℕ))) × (value ≡ list_value (list_of_places places))
-      × ((k : ℕ) → length names ≤ k → place_at places k ≡ None)
+    × ((k : ℕ) → length names ≤ k → place_at places k ≡ None)
 IsOfKind given kinds.Equations value = (sides : List (Factors × Factors)) × (value ≡ list_value (list_of_equations sides))
 
 -- the text's names, and the names at its places for inverses

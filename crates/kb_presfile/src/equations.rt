@@ -20,14 +20,20 @@ use std::alloc::Global;
 pub const MOST_EQUATIONS: usize = 65535;
 
 /// The equations, over a presentation that has the text's names and inverses.
-pub fn read_equations<'a>(alloc: Global, fields: &[(&'a str, Value<'a>)], presentation: &Presentation) -> Result<Equations, PresError>
+pub fn read_equations<'a>(
+    alloc: Global,
+    fields: &[(&'a str, Value<'a>)],
+    presentation: &Presentation,
+) -> Result<Equations, PresError>
     requires named { HasNames (fields_view fields.now) presentation.now.names }
     requires inverted { HasInverses (fields_view fields.now) presentation.now.names presentation.now.inv }
     ensures read { IfOk result (HasEquations (fields_view fields.now) presentation.now.names presentation.now.inv) }
     ensures fault { IfErr result (HasFieldFault (fields_view fields.now)) }
 {
     let Value::List(places) = needed(fields, Field::Equations)? else {
-        return Err(PresError::WrongKind { field: Field::Equations });
+        return Err(PresError::WrongKind {
+            field: Field::Equations,
+        });
     };
     if places.len() > MOST_EQUATIONS {
         return Err(PresError::TooManyEquations);
@@ -36,7 +42,11 @@ pub fn read_equations<'a>(alloc: Global, fields: &[(&'a str, Value<'a>)], presen
 }
 
 /// The equations at the places of a list, each with its sides' words before the next.
-fn equations_at<'a>(alloc: Global, places: &[Option<Value<'a>>], presentation: &Presentation) -> Result<Equations, PresError>
+fn equations_at<'a>(
+    alloc: Global,
+    places: &[Option<Value<'a>>],
+    presentation: &Presentation,
+) -> Result<Equations, PresError>
     ensures read { IfOk result (AreEquations presentation.now.names presentation.now.inv (places_view places.now)) }
     ensures fault { IfErr result (PlacesOfEquationsHaveFault presentation.now.names presentation.now.inv (places_view places.now)) }
 {
@@ -48,12 +58,18 @@ fn equations_at<'a>(alloc: Global, places: &[Option<Value<'a>>], presentation: &
 }
 
 /// The equation at a place of the list, its left side first.
-fn read_equation<'a>(alloc: Global, place: &Option<Value<'a>>, presentation: &Presentation) -> Result<(Word, Word), PresError>
+fn read_equation<'a>(
+    alloc: Global,
+    place: &Option<Value<'a>>,
+    presentation: &Presentation,
+) -> Result<(Word, Word), PresError>
     ensures read { IfOk result (IsEquation presentation.now.names presentation.now.inv (option_map value_view place.now)) }
     ensures fault { IfErr result (PlaceHasFault presentation.now.names presentation.now.inv (option_map value_view place.now)) }
 {
     let Some((left, right)) = sides_at(place) else {
-        return Err(PresError::WrongKind { field: Field::Equations });
+        return Err(PresError::WrongKind {
+            field: Field::Equations,
+        });
     };
     let left = read_side(alloc, left, presentation)?;
     let right = read_side(alloc, right, presentation)?;
@@ -61,7 +77,11 @@ fn read_equation<'a>(alloc: Global, place: &Option<Value<'a>>, presentation: &Pr
 }
 
 /// The word that a side of an equation means.
-fn read_side<'a>(alloc: Global, side: &Expr<'a>, presentation: &Presentation) -> Result<Word, PresError>
+fn read_side<'a>(
+    alloc: Global,
+    side: &Expr<'a>,
+    presentation: &Presentation,
+) -> Result<Word, PresError>
     ensures read { IfOk result (λ word. word_meaning presentation.now.names presentation.now.inv (word_view side.now) ≡ Ok word) }
     ensures fault { IfErr result (IsFaultOf (word_meaning presentation.now.names presentation.now.inv (word_view side.now))) }
 {

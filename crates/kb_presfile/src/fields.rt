@@ -26,7 +26,10 @@ pub fn field_named<'r, 'a>(fields: &'r [(&'a str, Value<'a>)], name: &str) -> Op
 }
 
 /// The value of a field that a presentation file has.
-pub fn needed<'r, 'a>(fields: &'r [(&'a str, Value<'a>)], field: Field) -> Result<&'r Value<'a>, PresError>
+pub fn needed<'r, 'a>(
+    fields: &'r [(&'a str, Value<'a>)],
+    field: Field,
+) -> Result<&'r Value<'a>, PresError>
     requires { IsNeeded field }
     ensures found { IfOk result (λ value. value_of (fields_view fields.now) (name_of field) ≡ Some (value_view value.now)) }
     ensures fault { IfErr result (HasFieldFault (fields_view fields.now)) }

@@ -18,7 +18,9 @@ pub fn check_is_rws<'a>(fields: &[(&'a str, Value<'a>)]) -> Result<(), PresError
     let value = needed(fields, Field::IsRws)?;
     match values::bare_name(value) {
         Some("true") => Ok(()),
-        _ => Err(PresError::WrongKind { field: Field::IsRws }),
+        _ => Err(PresError::WrongKind {
+            field: Field::IsRws,
+        }),
     }
 }
 
@@ -31,6 +33,8 @@ pub fn check_ordering<'a>(fields: &[(&'a str, Value<'a>)]) -> Result<(), PresErr
         None => Ok(()),
         Some(Value::String(text)) if *text == "shortlex" => Ok(()),
         Some(Value::String(_)) => Err(PresError::OtherOrdering),
-        Some(_) => Err(PresError::WrongKind { field: Field::Ordering }),
+        Some(_) => Err(PresError::WrongKind {
+            field: Field::Ordering,
+        }),
     }
 }

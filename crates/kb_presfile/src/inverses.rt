@@ -16,7 +16,11 @@ use kb_word::{Inverses, Letter, Names, Text};
 use std::alloc::Global;
 
 /// The generators' inverses.
-pub fn read_inverses<'a>(alloc: Global, fields: &[(&'a str, Value<'a>)], names: &Names) -> Result<Inverses, PresError>
+pub fn read_inverses<'a>(
+    alloc: Global,
+    fields: &[(&'a str, Value<'a>)],
+    names: &Names,
+) -> Result<Inverses, PresError>
     requires { HasNames (fields_view fields.now) names.now }
     ensures read { IfOk result (HasInverses (fields_view fields.now) names.now) }
     ensures fault { IfErr result (HasFieldFault (fields_view fields.now)) }
@@ -26,7 +30,11 @@ pub fn read_inverses<'a>(alloc: Global, fields: &[(&'a str, Value<'a>)], names: 
 }
 
 /// The names at the places for inverses; none where the field is absent.
-fn read_places<'a>(alloc: Global, fields: &[(&'a str, Value<'a>)], names: &Names) -> Result<Vec<Option<&'a str>>, PresError>
+fn read_places<'a>(
+    alloc: Global,
+    fields: &[(&'a str, Value<'a>)],
+    names: &Names,
+) -> Result<Vec<Option<&'a str>>, PresError>
     requires { HasNames (fields_view fields.now) names.now }
     ensures placed { IfOk result (λ places. HoldsPlaces (value_of (fields_view fields.now) (codes "inverses")) (map option_copied places.items)) }
     ensures none_past { IfOk result (λ places. (k : ℕ) → length names.now ≤ k → place_at (map option_copied places.items) k ≡ None) }
@@ -36,10 +44,14 @@ fn read_places<'a>(alloc: Global, fields: &[(&'a str, Value<'a>)], names: &Names
         return Ok(Vec::new(alloc));
     };
     let Some(places) = places_listed(alloc, value)? else {
-        return Err(PresError::WrongKind { field: Field::Inverses });
+        return Err(PresError::WrongKind {
+            field: Field::Inverses,
+        });
     };
     if !none_past(places.as_slice(), names.len()) {
-        return Err(PresError::WrongKind { field: Field::Inverses });
+        return Err(PresError::WrongKind {
+            field: Field::Inverses,
+        });
     }
     Ok(places)
 }
@@ -72,7 +84,11 @@ fn inverses_at(alloc: Global, places: &[Option<&str>], names: &Names) -> Result<
 }
 
 /// The letters of the names at the generators' places.
-fn letters_at(alloc: Global, places: &[Option<&str>], names: &Names) -> Result<Vec<Option<Letter>>, PresError>
+fn letters_at(
+    alloc: Global,
+    places: &[Option<&str>],
+    names: &Names,
+) -> Result<Vec<Option<Letter>>, PresError>
     ensures read { IfOk result (λ letters. StandFor names.now (map option_copied places.now) letters.items) }
     ensures fault { IfErr result (PlacesHaveFault names.now (map option_copied places.now)) }
 {
@@ -84,7 +100,12 @@ fn letters_at(alloc: Global, places: &[Option<&str>], names: &Names) -> Result<V
 }
 
 /// The letter of the name at a place, and `None` where it is empty or missing.
-fn letter_at(alloc: Global, places: &[Option<&str>], place: usize, names: &Names) -> Result<Option<Letter>, PresError>
+fn letter_at(
+    alloc: Global,
+    places: &[Option<&str>],
+    place: usize,
+    names: &Names,
+) -> Result<Option<Letter>, PresError>
     ensures empty { place_at (map option_copied places.now) place ≡ None → IfOk result IsNone }
     ensures some { (name : List ℕ) → place_at (map option_copied places.now) place ≡ Some name → IfOk result (λ letter. IsSome letter × (letter_from 1 names.now name ≡ letter)) }
     ensures fault { IfErr result (PlacesHaveFault names.now (map option_copied places.now)) }

@@ -1,4 +1,46 @@
-//! Presentation files.
+//! Presentation files: from bytes to presentations.
+//!
+//! A file is the text of a record, `NAME := rec( FIELDS )`. Its own name is free, and of its fields these
+//! count; others are read and ignored.
+//!
+//! - `isRWS`: the Name `true`.
+//! - `ordering`: the string `"shortlex"`, which stands where the field is absent.
+//! - `generatorOrder`: a list of at most 126 Names, none of them twice and none `IdWord` or `_`.
+//! - `inverses`: a list of Names and empty places, one place for each generator. Places that are missing are
+//!   empty, and so are all where the field is absent; places past the last generator must be empty. The
+//!   Name at a generator's place is its inverse, whose inverse is the generator.
+//! - `equations`: a list of at most 65,535 lists of two words.
+//!
+//! # The public contract
+//!
+//! [`read`] answers the presentation that the bytes say (`PresentationOf` of `specs/Holds.antt`): the names in
+//! the order of the letters, the inverses as letters, and each equation as the two words that its sides mean.
+//! A refusal names a fault that the bytes have (`HasPresFault` of `specs/Faults.antt`). The laws complete that:
+//! by [`a_presentation_file_has_no_fault`] no text is both read and refused, and by
+//! [`a_text_says_one_presentation`] a text is read in one way at most. So, want of memory apart, a text is
+//! refused exactly where it has a fault.
+//!
+//! A text may have several faults. Which of them is named is shown by tests and not proved: `E1` or `E2`;
+//! `E6`, by the place of the repeated name; `isRWS` `E4`, `E5`; `ordering` `E5`, `E7`; `generatorOrder` `E4`,
+//! `E5`, `E9`, `E8`; `inverses` `E5` of the whole list, then `E10` place by place, then `E12` generator by
+//! generator; `equations` `E4`, `E5` of the list, `E14`; then equation by equation `E5`, and word by word `E10`,
+//! `E11`, `E13`. Each step is a function of its own, called in that order.
+//!
+//! # How it is made
+//!
+//! - `fields` looks up fields, and finds names that stand twice in a record, nested ones too, by a set of the
+//!   names seen. It recurses into values, whose nesting the parser bounds.
+//! - `values` tells the kinds of values apart: Names, lists of Names, lists of places, pairs of words.
+//! - `header`, `generators`, `inverses` and `equations` read a field each. Words are evaluated over the presentation
+//!   that has the names and the inverses, and no equations yet.
+//! - `reader` joins them.
+//!
+//! Definitions speak of the tree of the text (`specs/Tree.antt` of `kb_record`): `specs/Fields.antt` of fields and of
+//! the kinds of values, `specs/Holds.antt` of what a text says, `specs/Faults.antt` of what each refusal means.
+//! Where a field's name stands twice, "the value of the field" is that of the first.
+//!
+//! Below stand `kb_record`, which reads trees and evaluates words, and `kb_word`, whose presentations are the
+//! answers. Above stand the commands that load a presentation.
 #![tactic(auto)]
 
 mod equations;
@@ -7,11 +49,15 @@ mod fields;
 mod generators;
 mod header;
 mod inverses;
+mod laws;
 mod reader;
 mod values;
 
-pub use reader::read;
 pub use error::{Field, PresError};
+pub use laws::{
+    a_presentation_file_has_no_fault, a_presentation_has_no_fault, a_text_says_one_presentation,
+};
+pub use reader::read;
 
 #[cfg(test)]
 mod tests;

@@ -19,6 +19,12 @@ use kb_word::{Equations, Presentation};
 use std::alloc::Global;
 
 /// Reads a presentation file.
+///
+/// The bytes are a text of a record with the fields that the head of the crate lists. A refusal names a fault
+/// that they have, and bytes that say a presentation have none
+/// ([`a_presentation_file_has_no_fault`](crate::a_presentation_file_has_no_fault)): so bytes are refused exactly
+/// where they have a fault, or memory runs out. Of several faults the one comes that stands first in the
+/// order at the head of the crate.
 pub fn read(alloc: Global, bytes: &[u8]) -> Result<Presentation, PresError>
     ensures read { IfOk result (λ presentation. PresentationOf bytes.now (parts_of presentation)) }
     ensures fault { IfErr result (HasPresFault bytes.now) }
@@ -42,7 +48,10 @@ fn text_of<'a>(alloc: Global, bytes: &'a [u8]) -> Result<Rec<'a>, PresError>
 }
 
 /// The presentation that fields say. Field by field, in the order in which a file is refused.
-fn presentation_of<'a>(alloc: Global, fields: &[(&'a str, Value<'a>)]) -> Result<Presentation, PresError>
+fn presentation_of<'a>(
+    alloc: Global,
+    fields: &[(&'a str, Value<'a>)],
+) -> Result<Presentation, PresError>
     ensures read { IfOk result (λ presentation. HoldsPresentation (fields_view fields.now) (parts_of presentation)) }
     ensures fault { IfErr result (HasFieldFault (fields_view fields.now)) }
 {
@@ -51,7 +60,12 @@ fn presentation_of<'a>(alloc: Global, fields: &[(&'a str, Value<'a>)]) -> Result
     check_ordering(fields)?;
     let names = read_names(alloc, fields)?;
     let inverses = read_inverses(alloc, fields, &names)?;
-    let generators = Presentation::new(names.len() as u16, names, inverses, Equations::from_vec(Vec::new(alloc)));
+    let generators = Presentation::new(
+        names.len() as u16,
+        names,
+        inverses,
+        Equations::from_vec(Vec::new(alloc)),
+    );
     let equations = read_equations(alloc, fields, &generators)?;
     Ok(Presentation::new(generators.n, generators.names, generators.inv, equations))
 }

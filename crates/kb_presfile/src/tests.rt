@@ -19,11 +19,18 @@ fn answer(alloc: Global, fields: &str) -> Result<String, AllocError> {
 }
 
 /// The fields of a presentation with these generators, inverses and equations.
-fn fields(alloc: Global, generators: &str, inverses: &str, equations: &str) -> Result<String, AllocError> {
-    format!(in alloc; "isRWS := true, generatorOrder := [{generators}], inverses := [{inverses}], equations := [{equations}]")
+fn fields(
+    alloc: Global,
+    generators: &str,
+    inverses: &str,
+    equations: &str,
+) -> Result<String, AllocError> {
+    format!(in alloc;
+        "isRWS := true, generatorOrder := [{generators}], inverses := [{inverses}], equations := [{equations}]"
+    )
 }
 
-/// The fields that stand before `generatorOrder`, and those of a presentation without generators.
+/// The fields of a presentation without generators.
 const NONE: &str = "isRWS := true, generatorOrder := [], equations := []";
 
 #[test]
@@ -33,20 +40,44 @@ fn headers(rt: HostRuntime) -> Result<(), Fail> {
         (NONE, "0 generators, 0 equations"),
         ("", "E4 MissingField isRWS"),
         ("isRWS := true", "E4 MissingField generatorOrder"),
-        ("isRWS := true, generatorOrder := []", "E4 MissingField equations"),
+        (
+            "isRWS := true, generatorOrder := []",
+            "E4 MissingField equations",
+        ),
         ("isRWS := false", "E5 WrongKind isRWS"),
         ("isRWS := (true)", "E5 WrongKind isRWS"),
         ("isRWS := true^1", "E5 WrongKind isRWS"),
         ("isRWS := true*true", "E5 WrongKind isRWS"),
         ("isRWS := \"true\"", "E5 WrongKind isRWS"),
-        ("isRWS := true, ordering := shortlex", "E5 WrongKind ordering"),
-        ("isRWS := true, ordering := \"recursive\"", "E7 OtherOrdering"),
-        ("isRWS := true, generatorOrder := a", "E5 WrongKind generatorOrder"),
-        ("isRWS := true, generatorOrder := [1..2]", "E5 WrongKind generatorOrder"),
-        ("isRWS := true, generatorOrder := [a,]", "E5 WrongKind generatorOrder"),
-        ("isRWS := true, generatorOrder := [a*b]", "E5 WrongKind generatorOrder"),
+        (
+            "isRWS := true, ordering := shortlex",
+            "E5 WrongKind ordering",
+        ),
+        (
+            "isRWS := true, ordering := \"recursive\"",
+            "E7 OtherOrdering",
+        ),
+        (
+            "isRWS := true, generatorOrder := a",
+            "E5 WrongKind generatorOrder",
+        ),
+        (
+            "isRWS := true, generatorOrder := [1..2]",
+            "E5 WrongKind generatorOrder",
+        ),
+        (
+            "isRWS := true, generatorOrder := [a,]",
+            "E5 WrongKind generatorOrder",
+        ),
+        (
+            "isRWS := true, generatorOrder := [a*b]",
+            "E5 WrongKind generatorOrder",
+        ),
         ("isRWS := true, isRWS := true", "E6 FieldTwice isRWS"),
-        ("other := rec(x := 1, y := [rec(z := 1, z := 2)])", "E6 FieldTwice z"),
+        (
+            "other := rec(x := 1, y := [rec(z := 1, z := 2)])",
+            "E6 FieldTwice z",
+        ),
         // Of two faults the one comes first that stands earlier in the order.
         ("isRWS := true, isRWS", "E1 Syntax at 29"),
         ("x := rec(y := 1, y := 1), x := 1", "E6 FieldTwice y"),
@@ -54,9 +85,18 @@ fn headers(rt: HostRuntime) -> Result<(), Fail> {
         ("x := 1, x := 1, isRWS := 1", "E6 FieldTwice x"),
         ("isRWS := 1, ordering := 1", "E5 WrongKind isRWS"),
         ("ordering := 1", "E4 MissingField isRWS"),
-        ("isRWS := true, ordering := \"wtlex\", generatorOrder := 1", "E7 OtherOrdering"),
-        ("isRWS := true, generatorOrder := [a,1], inverses := 1", "E5 WrongKind generatorOrder"),
-        ("isRWS := true, inverses := 1, equations := 1", "E4 MissingField generatorOrder"),
+        (
+            "isRWS := true, ordering := \"wtlex\", generatorOrder := 1",
+            "E7 OtherOrdering",
+        ),
+        (
+            "isRWS := true, generatorOrder := [a,1], inverses := 1",
+            "E5 WrongKind generatorOrder",
+        ),
+        (
+            "isRWS := true, inverses := 1, equations := 1",
+            "E4 MissingField generatorOrder",
+        ),
     ] {
         assert_eq!(rt; answer(alloc, text)?.as_str(), want, "{text}");
     }
@@ -67,7 +107,12 @@ fn headers(rt: HostRuntime) -> Result<(), Fail> {
 fn bodies(rt: HostRuntime) -> Result<(), Fail> {
     let alloc = rt.alloc();
     for (generators, inverses, equations, want) in [
-        ("a,A", "A,a", "[a*A,IdWord],[a^-2,A^2]", "2 generators, 2 equations"),
+        (
+            "a,A",
+            "A,a",
+            "[a*A,IdWord],[a^-2,A^2]",
+            "2 generators, 2 equations",
+        ),
         ("a,b", "", "", "2 generators, 0 equations"),
         ("a,b", ",", "", "2 generators, 0 equations"),
         ("a,b", "a", "", "2 generators, 0 equations"),
@@ -165,7 +210,10 @@ fn whole_text(rt: HostRuntime) -> Result<(), Fail> {
     let presentation = read(rt.alloc(), WHOLE.as_bytes())?;
     assert_eq!(rt; presentation.n, 4);
     assert_eq!(rt; presentation.names.get(3), Some("B.1"));
-    assert_eq!(rt; presentation.letter_inverse(Letter::new(3)), Some(Letter::new(4)));
+    assert_eq!(rt;
+        presentation.letter_inverse(Letter::new(3)),
+        Some(Letter::new(4))
+    );
     let equations = presentation.eqs.as_slice();
     assert_eq!(rt; equations.len(), 2);
     let (left, right) = &equations[1];

@@ -66,7 +66,10 @@ fn name_at<'a>(place: &Option<Value<'a>>) -> Option<&'a str>
 }
 
 /// The names at the places of a value that is a list of Names and empty places.
-pub fn places_listed<'a>(alloc: Global, value: &Value<'a>) -> Result<Option<Vec<Option<&'a str>>>, Memory>
+pub fn places_listed<'a>(
+    alloc: Global,
+    value: &Value<'a>,
+) -> Result<Option<Vec<Option<&'a str>>>, Memory>
     ensures listed { IfOk result (λ places. IfSome places (λ places. value_view value.now ≡ list_value (list_of_places (map option_copied places.items)))) }
     ensures other { IfOk result (λ places. IfNone places ((places : List (Option (List ℕ))) → value_view value.now ≢ list_value (list_of_places places))) }
 {

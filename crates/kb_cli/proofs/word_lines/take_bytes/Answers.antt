@@ -8,4 +8,4 @@ returns-in-Err-clause-stops g c = λ before taken left ever tells standing.
     let bytes : List ℕ = c.args.bytes.now in
     rw (taken-back taken bytes left i (get_or bytes i 0) c.loop-byte-test.true refl)
     at (c.in-Err.ensures.stops before (taken ++ take i bytes) (drop (i + 1) bytes ++ left) ever (c.loop-byte.invariant.still_tells tells)
-        (c.loop-byte.invariant.stands before taken tells standing))
+    (c.loop-byte.invariant.stands before taken tells standing))

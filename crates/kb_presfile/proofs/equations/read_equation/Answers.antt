@@ -9,10 +9,10 @@ pub returns-in_err-left-clause-fault : goal.returns-in_err-left-clause-fault
 returns-in_err-left-clause-fault c =
     let p = err_from_is_err_and c.from_residual.result c.from_residual.ensures.1 in
     rw (p.1, p.2) (side_fault c.args.presentation.now.names c.args.presentation.now.inv (option_map value_view c.args.place.now)
-      (word_view c.in-Some.left.now, word_view c.in-Some.right.now) _ c.in-Some.ensures.found (inl c.in_err-left.ensures.fault))
+    (word_view c.in-Some.left.now, word_view c.in-Some.right.now) _ c.in-Some.ensures.found (inl c.in_err-left.ensures.fault))
 
 pub returns-in_err-right-clause-fault : goal.returns-in_err-right-clause-fault
 returns-in_err-right-clause-fault c =
     let p = err_from_is_err_and c.from_residual-in_err-right.result c.from_residual-in_err-right.ensures.1 in
     rw (p.1, p.2) (side_fault c.args.presentation.now.names c.args.presentation.now.inv (option_map value_view c.args.place.now)
-      (word_view c.in-Some.left.now, word_view c.in-Some.right.now) _ c.in-Some.ensures.found (inr c.in_err-right.ensures.fault))
+    (word_view c.in-Some.left.now, word_view c.in-Some.right.now) _ c.in-Some.ensures.found (inr c.in_err-right.ensures.fault))

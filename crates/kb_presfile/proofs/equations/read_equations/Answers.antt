@@ -7,7 +7,8 @@ use Rattle.kb_presfile.specs.Holds.{AreEquations}
 use Rattle.kb_presfile.specs.Faults.{name_of, PlacesOfEquationsHaveFault}
 use Rattle.kb_presfile.specs.declared.error.Field.TheVariants as kinds
 use Rattle.kb_presfile.proofs.ViewLemmas.{view-List}
-use Rattle.kb_presfile.proofs.EquationLemmas.{count_view, list_fault, IfErr_then, IfOk_then}
+use Rattle.kb_presfile.proofs.EquationLemmas.{count_view, list_fault}
+use Rattle.kb_presfile.proofs.Outcomes.{IfErr_then, IfOk_then}
 use Rattle.kb_presfile.proofs.equations.read_equations.Goals as goal
 use Rattle.kb_presfile.proofs.equations.read_equations.Goals.{In-List}
 
@@ -26,13 +27,13 @@ returns-clause-read c =
     let count = count_view c.in-List.places.items in
     let few : place_count list ≤ 65535 = omega (arith, count) in
     IfOk_then c.equations_at.result c.equations_at.ensures.read (λ equations are.
-        let P : List (Option Value) → Type 0 = λ ps. AreEquations c.args.presentation.now.names c.args.presentation.now.inv (places_view ps) equations in
-        record { places = list; listed = listed (goal.at.returns-clause-read c).In-List; few = few; read = subst P c.as_slice.ensures.value are })
+    let P : List (Option Value) → Type 0 = λ ps. AreEquations c.args.presentation.now.names c.args.presentation.now.inv (places_view ps) equations in
+    record { places = list; listed = listed (goal.at.returns-clause-read c).In-List; few = few; read = subst P c.as_slice.ensures.value are })
 
 pub returns-clause-fault : goal.returns-clause-fault
 returns-clause-fault c =
     let list = places_view c.in-List.places.items in
     IfErr_then c.equations_at.result c.equations_at.ensures.fault (λ error fault.
-        let P : List (Option Value) → Type 0 = λ ps. PlacesOfEquationsHaveFault c.args.presentation.now.names c.args.presentation.now.inv (places_view ps) error in
-        list_fault (fields_view c.args.fields.now) c.args.presentation.now.names c.args.presentation.now.inv list error c.requires.named c.requires.inverted
-        (listed (goal.at.returns-clause-fault c).In-List) (subst P c.as_slice.ensures.value fault))
+    let P : List (Option Value) → Type 0 = λ ps. PlacesOfEquationsHaveFault c.args.presentation.now.names c.args.presentation.now.inv (places_view ps) error in
+    list_fault (fields_view c.args.fields.now) c.args.presentation.now.names c.args.presentation.now.inv list error c.requires.named c.requires.inverted
+    (listed (goal.at.returns-clause-fault c).In-List) (subst P c.as_slice.ensures.value fault))

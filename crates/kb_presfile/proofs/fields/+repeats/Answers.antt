@@ -9,8 +9,8 @@ use Rattle.kb_record.specs.declared.tree.Value.{Value}
 use Rattle.kb_presfile.specs.Fields.{fields_view, places_view, HasFieldTwice}
 use Rattle.kb_presfile.specs.Faults.{IsRepeatIn}
 use Rattle.kb_presfile.proofs.ViewLemmas.{view-Record, view-List}
-use Rattle.kb_presfile.proofs.EquationLemmas.{IfErr_then, IfOk_then}
-use Rattle.kb_presfile.proofs.RepeatLemmas.{not_false, not_true, again, field_at, name_at, field_error, none_twice, seen_more, within_more, place_error, no_place_twice, places_more, at_value}
+use Rattle.kb_presfile.proofs.Outcomes.{IfErr_then, IfOk_then}
+use Rattle.kb_presfile.proofs.RepeatLemmas.{has, not_false, not_true, again, field_at, name_at, field_error, none_twice, seen_more, within_more, place_error, no_place_twice, places_more, at_value}
 use Rattle.kb_presfile.proofs.fields.+repeats.Goals as goal
 use Rattle.kb_presfile.proofs.fields.+repeats.Goals.{check_once_within-in-Some+in_ok-check_once_within-in-List, check_once_within-in_default-place}
 
@@ -26,18 +26,19 @@ pub check_once-returns-in_err-check_once_within-clause-fault : goal.check_once-r
 check_once-returns-in_err-check_once_within-clause-fault t c =
     let p = err_from_is_err_and c.from_residual-in_err-check_once_within.result c.from_residual-in_err-check_once_within.ensures.1 in
     rw (p.1, p.2) (field_error c.args.fields.now c.loop-name.name-index c.loop-name-item.result (omega arith) c.loop-name-item.is _
-      c.in_err-check_once_within.ensures.fault)
+    c.in_err-check_once_within.ensures.fault)
 
 pub check_once-loop-name-preserved : goal.check_once-loop-name-preserved
 check_once-loop-name-preserved t c =
     let f = c.loop-name-item.result in
-    let absent = not_true _ (sym c.in_ok-insert.ensures.added ∙ c.if-not-branch.false) in
+    let absent : has c.loop-name.seen c.loop-name-item.result.0.now ≡ false = not_true _ (sym c.in_ok-insert.ensures.added ∙ c.if-not-branch.false) in
     let at = field_at c.args.fields.now c.loop-name.name-index f (omega arith) c.loop-name-item.is in
     let named = name_at c.args.fields.now c.loop-name.name-index f (omega arith) c.loop-name-item.is in
     record {
       seen = seen_more (map (λ (g : Bor (List ℕ) × Value). g.0.now) c.args.fields.now) c.loop-name.name-index c.loop-name.seen c.insert.new.self f.0
-        c.loop-name.invariant.seen named absent c.in_ok-insert.ensures.updates;
-      within = within_more c.args.fields.now c.loop-name.name-index f at c.loop-name.invariant.within c.in_ok-check_once_within.ensures.once }
+          c.loop-name.invariant.seen named absent c.in_ok-insert.ensures.updates;
+      within = within_more c.args.fields.now c.loop-name.name-index f at c.loop-name.invariant.within c.in_ok-check_once_within.ensures.once;
+    }
 
 pub check_once-returns-clause-once : goal.check_once-returns-clause-once
 check_once-returns-clause-once t c =
@@ -56,10 +57,11 @@ pub check_once_within-loop-place-preserved : goal.check_once_within-loop-place-p
 check_once_within-loop-place-preserved t c =
     let at = slice_get_read c.deref-place-items.result.now _ c.loop-place.place-index c.place-item.result refl (omega arith) c.place-item.is in
     places_more c.deref-place-items.result.now c.loop-place.place-index c.place-item.result at c.loop-place.invariant (
-      elim c.match-place.branch [
-        check_once_within-in-Some+in_ok-check_once_within-in-List w ↦
+    elim c.match-place.branch [
+      | check_once_within-in-Some+in_ok-check_once_within-in-List w ↦
           at_value c.place-item.result w.in-Some.value w.in-Some.is w.in_ok-check_once_within-in-List.ensures.once
-      | check_once_within-in_default-place w ↦ λ v is q twice. w.in_default-place.not-Some v is ])
+      | check_once_within-in_default-place w ↦ λ v is q twice. w.in_default-place.not-Some v is
+    ])
 
 pub check_once_within-returns-in-Record-clause-once : goal.check_once_within-returns-in-Record-clause-once
 check_once_within-returns-in-Record-clause-once t c =
@@ -72,9 +74,9 @@ pub check_once_within-returns-in-Record-clause-fault : goal.check_once_within-re
 check_once_within-returns-in-Record-clause-fault t c =
     let seen : value_view c.args.value.now ≡ record_value (fields_view c.in-Record.fields.items) = ap value_view c.in-Record.is ∙ view-Record c.in-Record.fields in
     IfErr_then c.check_once.result c.check_once.ensures.fault (λ error fault.
-        let P : List (Bor (List ℕ) × Value) → Type 0 = λ fs. IsRepeatIn (record_value (fields_view fs)) error in
-        let Q : tree.Value → Type 0 = λ v. IsRepeatIn v error in
-        subst Q (sym seen) (subst P c.as_slice.ensures.value fault))
+    let P : List (Bor (List ℕ) × Value) → Type 0 = λ fs. IsRepeatIn (record_value (fields_view fs)) error in
+    let Q : tree.Value → Type 0 = λ v. IsRepeatIn v error in
+    subst Q (sym seen) (subst P c.as_slice.ensures.value fault))
 
 pub check_once_within-returns-after-loop-place-clause-once : goal.check_once_within-returns-after-loop-place-clause-once
 check_once_within-returns-after-loop-place-clause-once t c =

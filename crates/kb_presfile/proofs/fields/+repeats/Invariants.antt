@@ -8,8 +8,9 @@ use Rattle.kb_presfile.proofs.fields.+repeats.Given as goal
 
 abbrev pub invariant-check_once-loop-name : goal.invariant-check_once-loop-name
 invariant-check_once-loop-name l = record {
-    seen : HasSeen (map (λ (f : Bor (List ℕ) × Value). f.0.now) l.fields) l.name-index l.seen;
-    within : (k : ℕ) (f : Bor (List ℕ) × Value) → k < l.name-index → slice_get l.fields k ≡ Some f → (q : List ℕ) → HasFieldTwice (value_view f.1) q → ⊥ }
+  seen : HasSeen (map (λ (f : Bor (List ℕ) × Value). f.0.now) l.fields) l.name-index l.seen;
+  within : (k : ℕ) (f : Bor (List ℕ) × Value) → k < l.name-index → slice_get l.fields k ≡ Some f → (q : List ℕ) → HasFieldTwice (value_view f.1) q → ⊥;
+}
 
 abbrev pub invariant-check_once_within-loop-place : goal.invariant-check_once_within-loop-place
 invariant-check_once_within-loop-place l =

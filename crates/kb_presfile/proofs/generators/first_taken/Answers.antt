@@ -9,15 +9,16 @@ use Rattle.kb_presfile.proofs.generators.first_taken.Goals.{then-is_reserved-via
 pub returns-then-is_reserved-clause-taken : goal.returns-then-is_reserved-clause-taken
 returns-then-is_reserved-clause-taken c =
     elim c.then-is_reserved.branch [
-        then-is_reserved-via-then-is_reserved w ↦
+      | then-is_reserved-via-then-is_reserved w ↦
           taken_reserved c.args.names.now c.loop-place.place _ (omega arith) (c.is_reserved.ensures.0 w.if-is_reserved.true)
       | then-is_reserved-via-else-is_reserved+then-contains w ↦
-          taken_again c.args.names.now c.loop-place.place _ (omega arith) (sym w.contains.ensures.value ∙ w.if-contains.true) ]
+          taken_again c.args.names.now c.loop-place.place _ (omega arith) (sym w.contains.ensures.value ∙ w.if-contains.true)
+    ]
 
 pub loop-place-preserved : goal.loop-place-preserved
 loop-place-preserved c =
     let free = free_more c.args.names.now c.loop-place.place _ (omega arith) (λ reserved. false≢true (sym c.if-is_reserved.false ∙ c.is_reserved.ensures.1 reserved))
-        (sym c.contains.ensures.value ∙ c.if-contains.false) in
+    (sym c.contains.ensures.value ∙ c.if-contains.false) in
     below_more (λ k. IsFreeAt (map (λ (name : Bor (List ℕ)). name.now) c.args.names.now) k) c.loop-place.place c.loop-place.invariant free
 
 pub returns-clause-none : goal.returns-clause-none

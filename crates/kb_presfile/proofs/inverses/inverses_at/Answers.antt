@@ -2,7 +2,7 @@ use Rattle.std.proofs.Common.{◌≡◌, ℕ, List, Option, map, sym, subst}
 use Rattle.std.specs.Option.{option_copied}
 use Rattle.kb_presfile.specs.Holds.{StandFor}
 use Rattle.kb_presfile.specs.Faults.{IsNotMutual}
-use Rattle.kb_presfile.proofs.InverseFacts.{not_mutual}
+use Rattle.kb_presfile.proofs.InverseLemmas.{not_mutual}
 use Rattle.kb_presfile.proofs.inverses.inverses_at.Goals as goal
 
 pub returns-in_ok-from_str-in-Some-clause-fault : goal.returns-in_ok-from_str-in-Some-clause-fault

@@ -1,6 +1,7 @@
 use Rattle.std.proofs.Common.{◌≡◌, ℕ, List, None, Some, refl, sym, ap, subst, ◌∙◌}
 use Rattle.kb_record.specs.Meaning.{letter_from}
-use Rattle.kb_presfile.proofs.InverseFacts.{letter_found, letter_missed, same_text}
+use Rattle.kb_record.proofs.WordMeanings.{letter_found, letter_unknown}
+use Rattle.kb_presfile.proofs.InverseLemmas.{same_text}
 use Rattle.kb_presfile.proofs.inverses.letter_at.Goals as goal
 
 pub returns-in-Some-number_of-clause-some : goal.returns-in-Some-number_of-clause-some
@@ -11,7 +12,7 @@ returns-in-Some-number_of-clause-some c = λ name at.
 
 pub returns-in_ok-from_str-in-None-clause-fault : goal.returns-in_ok-from_str-in-None-clause-fault
 returns-in_ok-from_str-in-None-clause-fault c =
-    let missed = letter_missed c.args.names.now c.in-Some.name.now c.in-None.ensures.none in
+    let missed = letter_unknown c.args.names.now c.in-Some.name.now c.in-None.ensures.none in
     let copied = c.in_ok-from_str-in-None.ensures in
     let P : List ℕ → Type 0 = λ text. letter_from 1 c.args.names.now text ≡ None in
     record { place = c.args.place; stands = sym c.in-Some.ensures ∙ ap Some (sym copied); unknown = subst P (sym copied) missed }

@@ -15,6 +15,9 @@ returns-then-not-none_past-clause-fault c =
     let places = map option_copied c.as_slice.result.now in
     let listed = rw c.in-Some-2.is at c.in_ok-places.ensures.listed in
     let is : value ≡ list_value (list_of_places places) =
-        listed ∙ ap (λ (items : List (Option (Bor (List ℕ)))). list_value (list_of_places (map option_copied items))) (sym c.as_slice.ensures.value) in
-    (value, c.in-Some.ensures, past_the_end (fields_view c.args.fields.now) c.args.names.now value places c.requires is
-      (λ none. false≢true (sym c.if-not-none_past.true ∙ c.none_past.ensures.1 (λ k h. none k (omega arith)))))
+    listed ∙ ap (λ (items : List (Option (Bor (List ℕ)))). list_value (list_of_places (map option_copied items))) (sym c.as_slice.ensures.value) in (
+      value,
+      c.in-Some.ensures,
+      past_the_end (fields_view c.args.fields.now) c.args.names.now value places c.requires is
+          (λ none. false≢true (sym c.if-not-none_past.true ∙ c.none_past.ensures.1 (λ k h. none k (omega arith)))),
+    )

@@ -2,7 +2,8 @@ use Rattle.std.proofs.Common.{◌≡◌, ℕ, List, None, sym, ◌∙◌, ap, ar
 use Rattle.std.proofs.lemmas.Option.{IfSome_then}
 use Rattle.kb_record.specs.Tree.{no_factors, factor, named, word_value}
 use Rattle.kb_presfile.specs.Fields as kinds
-use Rattle.kb_presfile.proofs.ViewLemmas.{word_is_no_name, word_of_one, one_name, IfNone_then}
+use Rattle.kb_presfile.proofs.ViewLemmas.{word_is_no_name, word_of_one, one_name}
+use Rattle.kb_presfile.proofs.Outcomes.{IfNone_then}
 use Rattle.kb_presfile.proofs.values.bare_name.Goals as goal
 
 pub returns-then-len-ne1-clause-none : goal.returns-then-len-ne1-clause-none

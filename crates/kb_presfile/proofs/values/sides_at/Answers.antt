@@ -12,4 +12,4 @@ returns-in-Some-List-clause-found c =
     let listed = rw c.in-Some-List.is at c.in-Some-List.field-0-is in
     let seen = ap (option_map value_view) c.in-Some-List.is ∙ ap Some (ap value_view listed ∙ view-List c.in-Some-List.places) in
     IfSome_then c.two_words.result c.two_words.ensures.found (λ sides is.
-        seen ∙ ap (λ (ps : Places). Some (list_value ps)) (ap places_view (sym c.as_slice.ensures.value) ∙ is))
+    seen ∙ ap (λ (ps : Places). Some (list_value ps)) (ap places_view (sym c.as_slice.ensures.value) ∙ is))

@@ -10,41 +10,6 @@ use Rattle.kb_record.specs.Meaning.{letter_from}
 use Rattle.kb_presfile.specs.Holds.{place_at, StandFor, AreMutual, GivesInverses}
 use Rattle.kb_presfile.specs.Faults.{PlaceIsUnknown, IsNotMutual, IsOneSided}
 
-same_name : (a b : List ℕ) → a ≡ b → pointwise nat_eq a b ≡ true
-same_name a b e = (bytes_eq-Decides a b).1 e
-
-other_name : (a b : List ℕ) → (a ≡ b → ⊥) → pointwise nat_eq a b ≡ false
-other_name a b e = go (pointwise nat_eq a b) refl
-  where
-    go : (t : Bool) → pointwise nat_eq a b ≡ t → pointwise nat_eq a b ≡ false
-    go true is = absurd (e ((bytes_eq-Decides a b).0 is))
-    go false is = is
-
--- the letter of the first place with the name
-letter_of_first : (b x : ℕ) (names : List (List ℕ)) (name : List ℕ) (k : ℕ) → x ≡ k + b → slice_get names k ≡ Some name
-    → ((e : ℕ) → e < k → slice_get names e ≢ Some name) → letter_from b names name ≡ Some x
-letter_of_first b x [] name k is at new = cc
-letter_of_first b x (n ∷ names) name zero is at new =
-    let same = same_name n name cc in let here : b ≡ x = omega arith in rw same (ap Some here)
-letter_of_first b x (n ∷ names) name (suc k) is at new =
-    let other = other_name n name (λ e. new 0 (omega arith) (ap Some e)) in
-    rw other (letter_of_first (suc b) x names name k (omega arith) at (λ e h. new (suc e) (omega arith)))
-
-no_letter : (b : ℕ) (names : List (List ℕ)) (name : List ℕ) → ((k : ℕ) → slice_get names k ≢ Some name) → letter_from b names name ≡ None
-no_letter b [] name none = refl
-no_letter b (n ∷ names) name none =
-    let other = other_name n name (λ e. none 0 (ap Some e)) in
-    rw other (no_letter (suc b) names name (λ k. none (suc k)))
-
-pub letter_found : (names : List (List ℕ)) (name : List ℕ) (x : ℕ) → name_of names x ≡ Some name
-    → ((e : ℕ) → e < x → name_of names e ≢ Some name) → letter_from 1 names name ≡ Some x
-letter_found names name zero at new = cc
-letter_found names name (suc k) at new = letter_of_first 1 (suc k) names name k (omega arith) at (λ e h. new (suc e) (omega arith))
-
-pub letter_missed : (names : List (List ℕ)) (name : List ℕ) → ¬ Contains names name → letter_from 1 names name ≡ None
-letter_missed names name none =
-    no_letter 1 names name (λ k at. none (k, slice_get_within names k name at, get_or_from_slice_get names k name name at))
-
 pub same_text : {a b : List ℕ} → Some a ≡ Some b → a ≡ b
 same_text e = cc
 
@@ -84,19 +49,29 @@ not_mutual names places inverses name stand sided = at_place (place_at places si
   where
     within : sided.k < length names
     within = slice_get_within names sided.k name sided.is_name
+
     stands : slice_get inverses sided.k ≡ Some (Some sided.y)
     stands = inverse_read inverses sided.k sided.y sided.inverse
+
     at_letter : (inverse : List ℕ) (x y : ℕ) → place_at places sided.k ≡ Some inverse → letter_from 1 names inverse ≡ Some x → x ≡ y → inverse_letter inverses y ≢ Some (suc sided.k) → IsNotMutual names places name
     at_letter inverse x zero at letter same not_back = absurd (omega (arith, same, (letter_within 1 names inverse x letter).0))
     at_letter inverse x (suc y) at letter same not_back = record {
-        k = sided.k; is_name = sided.is_name; inverse = inverse; y = y; at_k = at; is_y = letter ∙ ap Some same;
-        not_back = λ back at_y is_k.
+      k = sided.k;
+      is_name = sided.is_name;
+      inverse = inverse;
+      y = y;
+      at_k = at;
+      is_y = letter ∙ ap Some same;
+      not_back = λ back at_y is_k.
           let inside : y < length names = omega (arith, same, (letter_within 1 names inverse x letter).1) in
           let found = stand.some y back at_y inside in
-          not_back (inverse_is inverses y (suc sided.k) (found.2 ∙ ap Some (sym found.1 ∙ is_k))) }
+          not_back (inverse_is inverses y (suc sided.k) (found.2 ∙ ap Some (sym found.1 ∙ is_k)));
+    }
+
     at_name : (inverse : List ℕ) → place_at places sided.k ≡ Some inverse
         → (x : ℕ) × (letter_from 1 names inverse ≡ Some x) × (slice_get inverses sided.k ≡ Some (Some x)) → IsNotMutual names places name
     at_name inverse at found = at_letter inverse found.0 sided.y at found.1 (twice_some (sym found.2 ∙ stands)) sided.not_back
+
     at_place : (o : Option (List ℕ)) → place_at places sided.k ≡ o → IsNotMutual names places name
     at_place None at = absurd (twice_none (sym (stand.empty sided.k within at) ∙ stands))
     at_place (Some inverse) at = at_name inverse at (stand.some sided.k inverse at within)
