@@ -18,13 +18,13 @@ const EXAMPLES: [(&str, u8); 12] = [
     ("dihedral-4", 0),
     ("free-2", 0),
     ("free-abelian-2", 0),
-    ("free-commutative-3", 0),
     ("infinite-dihedral", 0),
     ("not-confluent", 3),
     ("plactic-2", 0),
     ("quaternion", 0),
     ("symmetric-3", 0),
     ("symmetric-4", 0),
+    ("two-idempotents", 0),
 ];
 
 /// A file of an example has at most so many bytes.
