@@ -160,7 +160,7 @@ fn workers_option<'a>(alloc: Global) -> Arg<'a>
         .default_value("4")
         .action(ArgAction::Set)
         .value_parser(value_parser!(u32).range(1..=64))
-        .help("Threads that work side by side, 1 to 64; the answers don't depend on their number")
+        .help("Threads that may work side by side, 1 to 64; today one does all the work")
 }
 
 /// `wordreduce FILE`.

@@ -16,8 +16,8 @@
 //! - `word_lines` cuts the input into lines in a stream, answers each, and sends the answers.
 //! - `printed` prints words, `report` the messages to err, of which no clause speaks.
 //!
-//! Below stand all other libraries; above stands the program `kb`, which makes the real outside and calls
-//! `run`, and `kb_rows`, whose tests run it over memory.
+//! Below stand all other libraries; above stand the program `kb`, which makes the real outside and calls
+//! `run`, `kb_rows`, whose tests run it over memory, and `kb_examples`, which runs the examples.
 #![tactic(auto)]
 
 mod command_line;
