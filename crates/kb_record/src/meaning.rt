@@ -22,7 +22,8 @@ const MOST_LETTERS: usize = 65_535;
 /// The first fault that is met from the left is answered: a name that is no generator's, a letter without
 /// inverse under a power below 0, or more than 65,535 letters.
 pub fn word_of(alloc: Global, tree: &Expr, presentation: &Presentation) -> Result<Word, WordError>
-    ensures { Evaluates (word_meaning presentation.now.names presentation.now.inv (word_view tree.now)) result }
+    ensures { Evaluates
+        (word_meaning presentation.now.names presentation.now.inv (word_view tree.now)) result }
 {
     product_of(alloc, tree.factors.as_slice(), presentation)
 }
@@ -34,7 +35,8 @@ fn product_of(
     factors: &[Factor],
     presentation: &Presentation,
 ) -> Result<Word, WordError>
-    ensures { Evaluates (product_meaning presentation.now.names presentation.now.inv [] (factors_view factors.now)) result }
+    ensures { Evaluates
+        (product_meaning presentation.now.names presentation.now.inv [] (factors_view factors.now)) result }
 {
     let mut so_far = Word::new(alloc);
     for factor in factors {
@@ -47,7 +49,8 @@ fn product_of(
 /// The word of one factor.
 #[cycle(factors)]
 fn factor_of(alloc: Global, factor: &Factor, presentation: &Presentation) -> Result<Word, WordError>
-    ensures { Evaluates (factor_meaning presentation.now.names presentation.now.inv (factor_view factor.now)) result }
+    ensures { Evaluates
+        (factor_meaning presentation.now.names presentation.now.inv (factor_view factor.now)) result }
 {
     match factor {
         Factor::Name(name, power) => {
@@ -95,7 +98,8 @@ fn power_of(
     exponent: Option<i64>,
     presentation: &Presentation,
 ) -> Result<Word, WordError>
-    ensures { Evaluates (power_meaning presentation.now.names presentation.now.inv exponent word) result }
+    ensures { Evaluates
+        (power_meaning presentation.now.names presentation.now.inv exponent word) result }
 {
     match exponent {
         None => Ok(word),
@@ -117,7 +121,9 @@ fn negative_power(
     presentation: &Presentation,
 ) -> Result<Word, WordError>
     requires { 0 < count }
-    ensures { Evaluates (power_meaning presentation.now.names presentation.now.inv (Some (negsuc (count - 1))) word.now) result }
+    ensures { Evaluates
+        (power_meaning presentation.now.names presentation.now.inv (Some (negsuc (count - 1))) word.now)
+        result }
 {
     let Some(inverse) = presentation.inverse_of(alloc, word)? else {
         let name = name_without_inverse(alloc, word, presentation)?;
@@ -132,7 +138,8 @@ fn name_without_inverse(
     word: &Word,
     presentation: &Presentation,
 ) -> Result<Text, Memory>
-    ensures { IfOk result (λ name. name ≡ first_without_inverse presentation.now.names presentation.now.inv word.now) }
+    ensures { IfOk result
+        (λ name. name ≡ first_without_inverse presentation.now.names presentation.now.inv word.now) }
 {
     for letter in word.letters() {
         if presentation.letter_inverse(*letter).is_none() {

@@ -24,6 +24,7 @@ mod text;
 mod presentation;
 #[cfg(test)]
 mod tests;
+mod text;
 mod word;
 
 pub use equations::{Equations, copy_pair, copy_pairs};
@@ -35,4 +36,5 @@ pub use names::Names;
 pub use order::{less, rank_falls_along_shortlex, shortlex_is_a_reduction_order};
 pub use text::Text;
 pub use presentation::{Presentation, none_where_a_letter_has_no_inverse};
+pub use text::Text;
 pub use word::Word;
