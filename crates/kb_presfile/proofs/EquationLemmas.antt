@@ -1,16 +1,16 @@
 -- Faults of sides, of equations and of lists of equations.
-use Rattle.std.proofs.Common.{◌≡◌, ℕ, zero, suc, ◌+◌, ◌<◌, ◌≤◌, List, [], ◌∷◌, ◌++◌, map, length, take, drop, get_or, slice_get, Option, Some, None, Ok, ◌⊎◌, inl, inr, refl, sym, ap, subst, ◌∙◌, arith}
+use Rattle.std.proofs.Common.{◌≡◌, ℕ, zero, suc, ◌+◌, ◌<◌, List, [], ◌∷◌, ◌++◌, map, length, take, get_or, slice_get, Option, Some, None, Ok, ◌⊎◌, inl, inr, refl, sym, ap, subst, ◌∙◌, arith}
 use Rattle.std.specs.Option.{option_map}
 use Rattle.std.proofs.lemmas.List.{length-map, map-append, map_more}
 use Rattle.std.proofs.lemmas.Option.{slice_get-map, slice_get_read}
 use Rattle.kb_word.specs.Words.{Pair}
 use Rattle.kb_record.specs.Meaning.{word_meaning}
-use Rattle.kb_record.specs.Tree.{Factors, Value, list_value, Fields, Places, no_places, place, empty_place}
+use Rattle.kb_record.specs.Tree.{Factors, Value, list_value, Fields, Places, no_places, place}
 use Rattle.kb_record.specs.View.{places_of, value_view}
 use Rattle.kb_record.specs.declared.tree.Value as code
 use Rattle.kb_presfile.specs.Fields.{value_of, equation_value, list_of_equations, places_view, value_at, place_count}
 use Rattle.kb_presfile.specs.Holds.{IsEquation, AreMeanings, AreEquations, HasNames, HasInverses}
-use Rattle.kb_presfile.specs.Faults.{name_of, SidesHaveFault, PlaceHasFault, SomePlaceHasFault, PlacesOfEquationsHaveFault, EquationHasFault, IsOfKind, HasFieldFault}
+use Rattle.kb_presfile.specs.Faults.{name_of, SidesHaveFault, PlaceHasFault, PlacesOfEquationsHaveFault, IsOfKind, HasFieldFault}
 use Rattle.kb_presfile.proofs.ListingLemmas.{places_of-injective}
 use Rattle.kb_presfile.specs.declared.error.Field.TheVariants as kinds
 use Rattle.kb_presfile.specs.declared.error.PresError.{PresError}

@@ -1,14 +1,11 @@
 -- The letters of names at places, and whether they are mutual.
-use Rattle.std.proofs.Common.{◌≡◌, ◌≢◌, ℕ, zero, suc, ◌+◌, ◌<◌, ◌≤◌, Bool, true, false, nat_eq, if◌then◌else◌, List, [], ◌∷◌, ◌++◌, length, slice_get, Option, Some, None, option_and_then, refl, sym, ap, subst, ◌∙◌, arith}
-use Rattle.std.specs.List.{Contains}
+use Rattle.std.proofs.Common.{◌≡◌, ◌≢◌, ℕ, zero, suc, ◌+◌, ◌<◌, ◌≤◌, Bool, true, false, nat_eq, if◌then◌else◌, List, [], ◌∷◌, length, slice_get, Option, Some, None, option_and_then, refl, sym, ap, ◌∙◌, arith}
 use Rattle.std.specs.Cmp.Lexicographic.{pointwise}
-use Rattle.std.proofs.lemmas.Option.{slice_get_within, slice_get_read, get_or_from_slice_get}
-use Rattle.std.proofs.lemmas.Slice.Eq.{bytes_eq-Decides}
-use Rattle.kb_word.specs.Names.{name_of}
+use Rattle.std.proofs.lemmas.Option.{slice_get_within}
 use Rattle.kb_word.specs.Relations.{inverse_letter}
 use Rattle.kb_record.specs.Meaning.{letter_from}
-use Rattle.kb_presfile.specs.Holds.{place_at, StandFor, AreMutual, GivesInverses}
-use Rattle.kb_presfile.specs.Faults.{PlaceIsUnknown, IsNotMutual, IsOneSided}
+use Rattle.kb_presfile.specs.Holds.{place_at, StandFor}
+use Rattle.kb_presfile.specs.Faults.{IsNotMutual, IsOneSided}
 
 pub same_text : {a b : List ℕ} → Some a ≡ Some b → a ≡ b
 same_text e = cc

@@ -1,17 +1,16 @@
 -- Fields that say a presentation have no fault.
-use Rattle.std.proofs.Common.{◌≡◌, ◌≢◌, ℕ, zero, suc, ◌<◌, ◌≤◌, ◌⊎◌, inl, inr, List, [], ◌∷◌, length, slice_get, Option, None, Some, Result, Ok, Err, refl, sym, ap, subst, ◌∙◌, arith}
+use Rattle.std.proofs.Common.{◌≡◌, ℕ, zero, suc, ◌<◌, ◌≤◌, ◌⊎◌, inl, inr, List, [], ◌∷◌, length, slice_get, Option, None, Some, Result, Ok, refl, sym, ap, subst, ◌∙◌, arith}
 use Rattle.std.specs.Prelude.{codes}
 use Rattle.std.proofs.lemmas.Bool.{cases_lt}
 use Rattle.std.proofs.lemmas.Option.{slice_get_within}
 use Rattle.kb_word.specs.Words.{Pair}
-use Rattle.kb_word.specs.Relations.{inverse_letter}
 use Rattle.kb_record.specs.Tree.{Factors, Value, string_value, list_value, Fields, Places, TextTree}
 use Rattle.kb_record.specs.Grammar.{TextOf, IsText}
 use Rattle.kb_record.specs.Nesting.{deepest, text_nesting, IsTooDeep}
 use Rattle.kb_record.specs.Meaning.{WordFault, letter_from, word_meaning}
-use Rattle.kb_presfile.specs.Fields.{value_of, bare_name, equation_value, list_of_equations, list_of_places, value_at, place_count}
-use Rattle.kb_presfile.specs.Holds.{Parts, place_at, IsShortlex, HoldsPlaces, StandFor, AreMutual, GivesInverses, IsTaken, HasNames, HasInverses, AreMeanings, HoldsPresentation, PresentationOf}
-use Rattle.kb_presfile.specs.Faults.{name_of, IsOfKind, IsFaultOf, SidesHaveFault, SomePlaceHasFault, PlaceIsUnknown, IsNotMutual, InversesHaveFault, EquationHasFault, HasFieldFault, HasPresFault}
+use Rattle.kb_presfile.specs.Fields.{value_of, equation_value, list_of_equations, list_of_places, value_at, place_count}
+use Rattle.kb_presfile.specs.Holds.{Parts, place_at, IsShortlex, HoldsPlaces, GivesInverses, IsTaken, HasNames, HasInverses, AreMeanings, HoldsPresentation, PresentationOf}
+use Rattle.kb_presfile.specs.Faults.{IsFaultOf, SidesHaveFault, PlaceIsUnknown, IsNotMutual, InversesHaveFault, HasFieldFault, HasPresFault}
 use Rattle.kb_presfile.specs.declared.error.Field.TheVariants as kinds
 use Rattle.kb_presfile.specs.declared.error.PresError.{PresError}
 use Rattle.kb_presfile.specs.declared.error.PresError.TheVariants as errors

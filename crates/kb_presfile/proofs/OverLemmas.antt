@@ -1,7 +1,6 @@
 -- The letters of a word's meaning are generators.
-use Rattle.std.proofs.Common.{◌≡◌, ℕ, zero, suc, ◌+◌, ◌*◌, ◌<◌, ◌≤◌, Bool, true, false, nat_lt, nat_eq, if◌then◌else◌, ℤ, pos, negsuc, List, [], ◌∷◌, ◌++◌, length, slice_get, Option, None, Some, option_and_then, Result, Ok, Err, refl, sym, ap, subst, ◌∙◌, arith}
+use Rattle.std.proofs.Common.{◌≡◌, ℕ, zero, suc, ◌+◌, ◌*◌, ◌<◌, ◌≤◌, Bool, true, false, nat_lt, nat_eq, if◌then◌else◌, ℤ, pos, negsuc, List, [], ◌∷◌, ◌++◌, length, slice_get, Option, None, Some, option_and_then, Result, Ok, Err, refl, sym, subst, ◌∙◌, arith}
 use Rattle.std.specs.Prelude.{codes}
-use Rattle.std.specs.List.{All}
 use Rattle.std.specs.Option.{option_map}
 use Rattle.std.specs.Cmp.Lexicographic.{pointwise}
 use Rattle.std.proofs.lemmas.List.Elements.{All-nil, All-push, All-append}
@@ -9,7 +8,7 @@ use Rattle.std.proofs.lemmas.Option.{slice_get_within}
 use Rattle.kb_word.specs.Relations.{inverse_letter, inverse_word, IsOver, IsPresentation}
 use Rattle.kb_word.specs.Words.{Pair, OneOf}
 use Rattle.kb_record.specs.Tree.{Factor, named, grouped, Factors, no_factors, factor, Places}
-use Rattle.kb_record.specs.Meaning.{WordFault, too_long, most_letters, letter_from, name_meaning, repeated, repetition, power_meaning, and_then, product, factor_meaning, product_meaning, word_meaning}
+use Rattle.kb_record.specs.Meaning.{WordFault, too_long, most_letters, letter_from, name_meaning, repeated, repetition, power_meaning, and_then, product, factor_meaning, product_meaning}
 use Rattle.kb_record.proofs.WordMeanings.{name_known, name_unknown}
 use Rattle.kb_presfile.specs.Holds.{AreMutual, AreMeanings, AreEquations}
 use Rattle.kb_presfile.proofs.InverseLemmas.{letter_within, inverse_read}

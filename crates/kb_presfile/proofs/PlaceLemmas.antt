@@ -2,10 +2,9 @@
 use Rattle.std.proofs.Common.{◌≡◌, ℕ, ◌≤◌, List, [], ◌∷◌, map, length, Option, Some, None, refl, sym, ap, ◌∙◌}
 use Rattle.std.specs.Option.{option_map}
 use Rattle.kb_record.specs.Tree.{Value, list_value, Fields, Places}
-use Rattle.kb_record.specs.View.{places_of}
-use Rattle.kb_presfile.specs.Fields.{value_of, bare_name, list_of_names, list_of_places}
+use Rattle.kb_presfile.specs.Fields.{bare_name, list_of_names, list_of_places}
 use Rattle.kb_presfile.specs.Holds.{HasNames, place_at}
-use Rattle.kb_presfile.specs.Faults.{name_of, IsOfKind}
+use Rattle.kb_presfile.specs.Faults.{IsOfKind}
 use Rattle.kb_presfile.specs.declared.error.Field.TheVariants as kinds
 use Rattle.kb_presfile.proofs.ListingLemmas.{list_of_names-places_of, list_of_places-places_of, places_of-injective}
 

@@ -1,9 +1,8 @@
 -- Names that stand twice among the fields of records, field by field.
-use Rattle.std.proofs.Common.{◌≡◌, ℕ, zero, suc, ◌+◌, ◌<◌, ◌≤◌, Bool, true, false, not, cond, List, [], ◌∷◌, map, take, length, get_or, slice_get, Option, Some, None, Ordering, ◌⊎◌, inl, inr, refl, sym, ap, subst, ◌∙◌, arith}
+use Rattle.std.proofs.Common.{◌≡◌, ℕ, zero, suc, ◌+◌, ◌<◌, ◌≤◌, Bool, true, false, not, cond, List, [], ◌∷◌, map, length, get_or, slice_get, Option, Some, None, Ordering, ◌⊎◌, inl, inr, refl, sym, ap, subst, ◌∙◌, arith}
 use Rattle.std.specs.Borrow.{Bor}
 use Rattle.std.specs.BTreeSet.{BTreeSet, contains, Updates}
-use Rattle.std.specs.BTreeMap.{is_at}
-use Rattle.std.specs.Ordering.{nat_cmp, is_eq}
+use Rattle.std.specs.Ordering.{nat_cmp}
 use Rattle.std.specs.Cmp.Lexicographic.{slice_cmp}
 use Rattle.std.specs.Str.{bytes_eq}
 use Rattle.std.specs.Option.{option_map}
@@ -12,8 +11,8 @@ use Rattle.std.proofs.lemmas.Option.{slice_get-map, slice_get_read, slice_get_wi
 use Rattle.std.proofs.lemmas.Bool.{cases_lt, false≢true}
 use Rattle.std.proofs.lemmas.Slice.Eq.{bytes_eq-Decides}
 use Rattle.std.proofs.lemmas.Map.Text.{is_eq-slice_cmp}
-use Rattle.kb_record.specs.Tree.{Value, record_value, list_value, Fields, no_fields, field, Places, no_places, place, empty_place}
-use Rattle.kb_record.specs.View.{fields_of, places_of, value_view}
+use Rattle.kb_record.specs.Tree.{record_value, list_value}
+use Rattle.kb_record.specs.View.{value_view}
 use Rattle.kb_record.specs.declared.tree.Value as code
 use Rattle.kb_presfile.specs.Fields.{fields_view, places_view, field_names, StandsTwice, HasFieldTwice, SomeFieldHasTwice, SomePlaceHasTwice}
 use Rattle.kb_presfile.specs.Faults.{IsRepeatIn}

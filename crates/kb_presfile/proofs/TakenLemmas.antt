@@ -7,7 +7,6 @@ use Rattle.std.specs.Str.{bytes_eq}
 use Rattle.std.proofs.lemmas.List.{length-map}
 use Rattle.std.proofs.lemmas.Option.{slice_get-map, slice_get-get_or, slice_get_within, slice_get_read, get_or_from_slice_get}
 use Rattle.std.proofs.lemmas.Slice.Eq.{bytes_eq-Decides}
-use Rattle.kb_presfile.specs.Fields.{StandsTwice}
 use Rattle.kb_presfile.specs.Holds.{most_generators, IsReserved, IsTaken, AreGeneratorNames}
 
 some_injective : {A : Type 0} {x y : A} → Some x ≡ Some y → x ≡ y

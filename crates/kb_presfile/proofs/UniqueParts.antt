@@ -1,14 +1,12 @@
 -- A text's fields say one presentation.
-use Rattle.std.proofs.Common.{◌≡◌, ℕ, zero, suc, ◌<◌, ◌≤◌, List, [], ◌∷◌, map, length, slice_get, get_or, Option, None, Some, Result, Ok, Err, refl, sym, ap, subst, ◌∙◌, arith}
+use Rattle.std.proofs.Common.{◌≡◌, ℕ, ◌<◌, List, [], ◌∷◌, map, length, slice_get, get_or, Option, None, Some, Result, Ok, refl, sym, ap, subst, ◌∙◌, arith}
 use Rattle.std.proofs.lemmas.List.{same_lists}
-use Rattle.std.proofs.lemmas.Option.{slice_get-get_or, get_or_from_slice_get}
+use Rattle.std.proofs.lemmas.Option.{get_or_from_slice_get}
 use Rattle.kb_word.specs.Words.{Pair}
-use Rattle.kb_word.specs.Relations.{inverse_letter}
-use Rattle.kb_record.specs.Tree.{Factors, Value, list_value, word_value, Fields, Places, no_places, place}
-use Rattle.kb_record.specs.View.{places_of}
-use Rattle.kb_record.specs.Meaning.{WordFault, letter_from, word_meaning}
-use Rattle.kb_presfile.specs.Fields.{value_of, equation_value, list_of_equations, list_of_places}
-use Rattle.kb_presfile.specs.Holds.{Parts, place_at, HoldsPlaces, StandFor, GivesInverses, HasNames, HasInverses, AreMeanings, AreEquations, HasEquations, HoldsPresentation}
+use Rattle.kb_record.specs.Tree.{Factors, Value, Fields}
+use Rattle.kb_record.specs.Meaning.{WordFault}
+use Rattle.kb_presfile.specs.Fields.{equation_value, list_of_equations}
+use Rattle.kb_presfile.specs.Holds.{Parts, place_at, HoldsPlaces, StandFor, HasInverses, AreMeanings, HasEquations, HoldsPresentation}
 use Rattle.kb_presfile.proofs.PlaceLemmas.{some_value, places_injective, one_list_of_names}
 use Rattle.kb_presfile.proofs.ListingLemmas.{places_of-injective}
 use Rattle.kb_presfile.proofs.EquationLemmas.{list_of_equations-places_of, list_same}

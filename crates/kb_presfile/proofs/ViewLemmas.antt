@@ -1,15 +1,15 @@
 -- The trees of the code's values, variant by variant.
-use Rattle.std.proofs.Common.{◌≡◌, ℕ, ◌+◌, ◌<◌, ◌≤◌, ℤ, List, [], ◌∷◌, map, length, get_or, Option, Some, None, Vec, Global, sym, refl, ap, ◌∙◌, arith}
+use Rattle.std.proofs.Common.{◌≡◌, ℕ, ℤ, List, [], ◌∷◌, map, length, get_or, Option, Some, None, Vec, Global, sym, refl, ap, ◌∙◌, arith}
 use Rattle.std.proofs.Math.ListN.{length-map}
 use Rattle.std.specs.Borrow.{Bor}
 use Rattle.std.specs.Option.{option_map}
-use Rattle.kb_record.specs.Tree.{Factor, named, Factors, no_factors, factor, Value, number_value, string_value, record_value, list_value, range_value, word_value, Fields, Places, no_places, place, empty_place}
+use Rattle.kb_record.specs.Tree.{Factor, named, Factors, no_factors, factor, Value, number_value, string_value, record_value, list_value, word_value, no_places, place}
 use Rattle.kb_record.specs.View.{factor_view, factors_view, factors_of, word_view, value_step, value_view, places_of}
 use Rattle.kb_record.specs.declared.tree.Expr.{Expr}
 use Rattle.kb_record.specs.declared.tree.Factor as code_factor
 use Rattle.kb_record.specs.declared.tree.Value as code
 use Rattle.kb_record.specs.declared.tree.Value.{Value-F, fold-roll-Value}
-use Rattle.kb_record.specs.declared.tree.Value.TheVariants.{Number, String, Record, List as Listed, Range, Word, rolls-Number, rolls-String, rolls-Record, rolls-List, rolls-Range, rolls-Word}
+use Rattle.kb_record.specs.declared.tree.Value.TheVariants.{Number, String, Record, List as Listed, Word, rolls-Number, rolls-String, rolls-Record, rolls-List, rolls-Word}
 use Rattle.kb_presfile.specs.Fields.{fields_view, places_view, bare_name, two_places}
 
 pub view-Number : (z : ℤ) → value_view (Number z) ≡ number_value z

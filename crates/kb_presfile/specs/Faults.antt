@@ -1,11 +1,11 @@
 -- When each refusal of a presentation file comes: the fault that it names is there.
-use Rattle.std.specs.Prelude.{◌≡◌, ◌≢◌, ℕ, suc, ◌<◌, ◌≤◌, ◌⊎◌, List, [], ◌∷◌, length, codes, Contains, Option, Some, None, IsNone, slice_get, Result, Err}
+use Rattle.std.specs.Prelude.{◌≡◌, ◌≢◌, ℕ, suc, ◌<◌, ◌≤◌, ◌⊎◌, List, length, codes, Option, Some, None, slice_get, Result, Err}
 use Rattle.kb_word.specs.Relations.{inverse_letter}
 use Rattle.kb_record.specs.Tree.{Factors, Value, string_value, list_value, Fields, Places, TextTree, record_value}
 use Rattle.kb_record.specs.Grammar.{TextOf, IsText}
 use Rattle.kb_record.specs.Nesting.{deepest, text_nesting, IsTooDeep}
 use Rattle.kb_record.specs.Meaning.{WordFault, unknown_generator, no_inverse, too_long, letter_from, word_meaning}
-use Rattle.kb_presfile.specs.Fields.{value_of, bare_name, list_of_names, list_of_places, list_of_equations, equation_value, value_at, HasFieldTwice, StandsTwice, place_count}
+use Rattle.kb_presfile.specs.Fields.{value_of, bare_name, list_of_names, list_of_places, list_of_equations, equation_value, value_at, HasFieldTwice, place_count}
 use Rattle.kb_presfile.specs.Holds.{most_generators, most_equations, place_at, HoldsPlaces, HasNames, HasInverses, IsTaken}
 use Rattle.kb_presfile.specs.declared.error.Field.{Field}
 use Rattle.kb_presfile.specs.declared.error.Field.TheVariants as kinds

@@ -1,6 +1,5 @@
 -- What a text of a presentation holds.
-use Rattle.std.specs.Prelude.{◌≡◌, ◌≢◌, ℕ, suc, ◌+◌, ◌<◌, ◌≤◌, ◌⊎◌, List, [], ◌∷◌, ◌++◌, length, codes, Contains, Option, Some, None, IsNone, slice_get, option_and_then, Result, Ok, Err}
-use Rattle.std.specs.Option.{option_map}
+use Rattle.std.specs.Prelude.{◌≡◌, ℕ, ◌<◌, ◌≤◌, ◌⊎◌, List, [], ◌∷◌, length, codes, Contains, Option, Some, None, slice_get, option_and_then, Ok}
 use Rattle.kb_word.specs.Words.{Pair}
 use Rattle.kb_word.specs.Relations.{inverse_letter}
 use Rattle.kb_word.specs.declared.presentation.Presentation.{Presentation}

@@ -166,22 +166,30 @@ fn names(alloc: Global, count: u32) -> Result<String, AllocError> {
     Ok(text)
 }
 
+/// The piece, so many times.
+fn repeated(alloc: Global, piece: &str, count: u32) -> Result<String, AllocError> {
+    let mut text = String::new(alloc);
+    for _ in 0..count {
+        text.push_str(piece)?;
+    }
+    Ok(text)
+}
+
 #[test]
 fn limits(rt: HostRuntime) -> Result<(), Fail> {
     let alloc = rt.alloc();
     let most = names(alloc, 126)?;
     let more = names(alloc, 127)?;
     let taken = format!(in alloc; "{most},a0")?;
-    let commas = vec![in alloc; b','; 65535]?;
-    let empty = String::from_utf8(commas).map_err(|_| AllocError)?;
-    let open = vec![in alloc; b'['; 65]?;
-    let brackets = String::from_utf8(open).map_err(|_| AllocError)?;
+    let full = repeated(alloc, ",", 65534)?;
+    let fuller = repeated(alloc, ",", 65535)?;
+    let brackets = repeated(alloc, "[", 65)?;
     for (generators, equations, want) in [
         (most.as_str(), "", "126 generators, 0 equations"),
         (more.as_str(), "", "E9 TooManyGenerators"),
         (taken.as_str(), "", "E9 TooManyGenerators"),
-        ("", empty.as_str(), "E14 TooManyEquations"),
-        ("", &empty.as_str()[1..], "E5 WrongKind equations"),
+        ("", full.as_str(), "E5 WrongKind equations"),
+        ("", fuller.as_str(), "E14 TooManyEquations"),
         ("", brackets.as_str(), "E2 TooDeep at 138"),
     ] {
         let text = fields(alloc, generators, "", equations)?;

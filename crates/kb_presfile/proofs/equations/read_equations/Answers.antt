@@ -1,4 +1,4 @@
-use Rattle.std.proofs.Common.{◌≡◌, ◌<◌, ◌≤◌, length, List, Option, Some, sym, ap, subst, ◌∙◌, arith}
+use Rattle.std.proofs.Common.{◌≡◌, ◌<◌, ◌≤◌, List, Option, Some, ap, subst, ◌∙◌, arith}
 use Rattle.kb_record.specs.declared.tree.Value.{Value}
 use Rattle.kb_record.specs.Tree.{list_value}
 use Rattle.kb_record.specs.View.{value_view}

@@ -1,4 +1,4 @@
-use Rattle.std.proofs.Common.{◌≡◌, ℕ, ◌<◌, List, map, slice_get, Option, Some}
+use Rattle.std.proofs.Common.{◌≡◌, ℕ, ◌<◌, List, map, slice_get, Some}
 use Rattle.std.specs.Borrow.{Bor}
 use Rattle.kb_record.specs.View.{value_view}
 use Rattle.kb_record.specs.declared.tree.Value.{Value}

@@ -1,6 +1,5 @@
-use Rattle.std.proofs.Common.{sym, ap, ◌∙◌, arith, ℕ, List, map, subst}
+use Rattle.std.proofs.Common.{sym, ap, ◌∙◌, arith, ℕ, List, map}
 use Rattle.std.specs.Borrow.{Bor}
-use Rattle.kb_presfile.specs.Holds.{IsTaken}
 use Rattle.kb_presfile.proofs.TakenLemmas.{are_generator_names}
 use Rattle.kb_presfile.proofs.generators.read_names.Goals as goal
 

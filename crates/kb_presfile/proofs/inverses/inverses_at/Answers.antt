@@ -1,4 +1,4 @@
-use Rattle.std.proofs.Common.{◌≡◌, ℕ, List, Option, map, sym, subst}
+use Rattle.std.proofs.Common.{ℕ, List, Option, map, sym, subst}
 use Rattle.std.specs.Option.{option_copied}
 use Rattle.kb_presfile.specs.Holds.{StandFor}
 use Rattle.kb_presfile.specs.Faults.{IsNotMutual}

@@ -1,11 +1,10 @@
-use Rattle.std.proofs.Common.{◌≡◌, ℕ, ◌≤◌, List, Option, Some, None, map, length, sym, ap, ◌∙◌, arith}
+use Rattle.std.proofs.Common.{◌≡◌, ℕ, List, Option, map, sym, ap, ◌∙◌, arith}
 use Rattle.std.proofs.lemmas.Bool.{false≢true}
 use Rattle.std.specs.Borrow.{Bor}
 use Rattle.std.specs.Option.{option_copied}
 use Rattle.kb_record.specs.Tree.{list_value}
 use Rattle.kb_record.specs.View.{value_view}
 use Rattle.kb_presfile.specs.Fields.{fields_view, list_of_places}
-use Rattle.kb_presfile.specs.Holds.{place_at}
 use Rattle.kb_presfile.proofs.PlaceLemmas.{past_the_end}
 use Rattle.kb_presfile.proofs.inverses.read_places.Goals as goal
 

@@ -1,4 +1,4 @@
-use Rattle.std.proofs.Common.{sym, subst}
+use Rattle.std.proofs.Common.{subst}
 use Rattle.kb_record.specs.Tree.{TextTree}
 use Rattle.kb_presfile.specs.Holds.{HoldsPresentation}
 use Rattle.kb_presfile.proofs.UniqueParts.{one_presentation}

@@ -1,7 +1,6 @@
-use Rattle.std.proofs.Common.{◌≡◌, ℕ, List, None, sym, ◌∙◌, ap, arith}
+use Rattle.std.proofs.Common.{sym, ◌∙◌, ap, arith}
 use Rattle.std.proofs.lemmas.Option.{IfSome_then}
-use Rattle.kb_record.specs.Tree.{no_factors, factor, named, word_value}
-use Rattle.kb_presfile.specs.Fields as kinds
+use Rattle.kb_record.specs.Tree.{no_factors, factor, word_value}
 use Rattle.kb_presfile.proofs.ViewLemmas.{word_is_no_name, word_of_one, one_name}
 use Rattle.kb_presfile.proofs.Outcomes.{IfNone_then}
 use Rattle.kb_presfile.proofs.values.bare_name.Goals as goal

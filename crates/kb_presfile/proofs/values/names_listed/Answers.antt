@@ -1,5 +1,4 @@
-use Rattle.std.proofs.Common.{◌≡◌, ℕ, ◌<◌, List, map, length, Some, sym, ◌∙◌, ap, arith}
-use Rattle.std.specs.Borrow.{Bor}
+use Rattle.std.proofs.Common.{ℕ, ◌<◌, List, map, length, Some, sym, ◌∙◌, ap, arith}
 use Rattle.std.specs.Option.{option_map}
 use Rattle.kb_record.specs.View.{value_view}
 use Rattle.kb_presfile.specs.Fields.{bare_name, list_of_names}

@@ -1,4 +1,4 @@
-use Rattle.std.proofs.Common.{◌≡◌, take, map, Some, Option}
+use Rattle.std.proofs.Common.{◌≡◌, take, map, Option}
 use Rattle.std.specs.Borrow.{Bor}
 use Rattle.std.proofs.Common.{ℕ, List}
 use Rattle.std.specs.Option.{option_map, option_copied}
