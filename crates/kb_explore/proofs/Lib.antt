@@ -1,0 +1,11 @@
+pub mod CountingLemmas
+pub mod ExplorationLemmas
+mod Lists
+mod Continuations
+mod Inserting
+mod Leading
+mod Steps
+mod Rows
+mod Traces
+mod Starting
+mod Finishing

@@ -1,0 +1,4 @@
+pub mod Machine
+pub mod Exploration
+pub mod Progress
+pub mod Tracing

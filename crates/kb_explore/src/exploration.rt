@@ -1,0 +1,115 @@
+//! The exploration.
+
+ghost use Rattle.std.specs.Prelude.{◌≡◌, ◌<◌, ◌≤◌, Err, [], ◌∷◌, ◌++◌, length, map, IsOk, IfOk, OnOk};
+ghost use Rattle.kb_fsa.specs.Table.{HasSymbols};
+ghost use Rattle.kb_explore.specs.Machine.{HasMoreStates};
+ghost use Rattle.kb_explore.specs.Exploration.{AreFromEarlier, IsExploration, IsTraced};
+ghost use Rattle.kb_explore.specs.Progress.{Progress};
+ghost use Rattle.kb_explore.specs.declared.det.Det.TheVariants.{TooManyStates};
+
+use crate::det::Det;
+use crate::machine::Machine;
+use crate::seen::{Seen, number, start};
+use indexmap::IndexSet;
+use kb_fsa::{Row, Table};
+use kb_word::Memory;
+use std::alloc::Global;
+use std::hash::Hash;
+
+/// The states of a machine, numbered from 1 in the order in which they were first seen.
+#[derive(Drop)]
+pub struct Exploration<S: Eq + Hash + Drop> {
+    /// The numbered states' moves.
+    pub table: Table,
+    /// The machine's states, by ascending numbers.
+    pub states: IndexSet<S>,
+    /// For each state, the number of the state from which it was first seen, and the symbol that led to it; (0, 0)
+    /// for the initial state.
+    pub origins: Vec<(u32, u32)>,
+}
+
+/// All states that texts lead to in the machine, breadth first.
+pub fn explore<M: Machine>(
+    alloc: Global,
+    machine: &M,
+    limit: u32,
+) -> Result<Exploration<M::State>, Det>
+    ensures explored { IfOk result (λ e. IsExploration (M.machine machine.now) e.table e.states.keys e.origins.items) }
+    ensures symbols { IfOk result (λ e. HasSymbols (M.symbols machine.now) e.table) }
+    ensures few { IsOk result → ¬ HasMoreStates (M.machine machine.now) limit }
+    ensures many { (most : Rattle.std.specs.Prelude.ℕ) → result ≡ Err (TooManyStates most)
+        → (most ≡ limit) × HasMoreStates (M.machine machine.now) limit }
+{
+    let mut seen = start(alloc, machine, limit)?;
+    let mut rows = Vec::new(alloc);
+    while rows.len() < seen.states.len() {
+        let row = next_row(alloc, machine, limit, &mut seen, &rows)?;
+        rows.push(row)?;
+    }
+    let accepting = answers(alloc, machine, &seen.states)?;
+    // The initial state, where there is one, was seen first.
+    let initial = rows.len().min(1) as u32;
+    Ok(Exploration {
+        table: Table::new(initial, rows, accepting),
+        states: seen.states,
+        origins: seen.origins,
+    })
+}
+
+/// The row after these, of the state at their end: its moves with the numbers of the states where they lead.
+fn next_row<M: Machine>(
+    alloc: Global,
+    machine: &M,
+    limit: u32,
+    seen: &mut Seen<M::State>,
+    rows: &[Row],
+) -> Result<Row, Det>
+    requires progress { Progress (M.machine machine.now) (M.symbols machine.now) seen.old.states.keys seen.old.origins.items rows.now }
+    requires more { length rows.now < length seen.old.states.keys }
+    requires room { length seen.old.states.keys ≤ limit }
+    ensures progress { IfOk result (λ row. Progress (M.machine machine.now) (M.symbols machine.now)
+        seen.new.states.keys seen.new.origins.items (rows.now ++ row ∷ [])) }
+    ensures room { OnOk result (length seen.new.states.keys ≤ limit) }
+    ensures many { (most : Rattle.std.specs.Prelude.ℕ) → result ≡ Err (TooManyStates most)
+        → (most ≡ limit) × HasMoreStates (M.machine machine.now) limit }
+{
+    let moves = machine.moves(alloc, &seen.states[rows.len()])?;
+    let mut row = Vec::new(alloc);
+    for (symbol, state) in moves {
+        let origin = (rows.len() as u32 + 1, symbol);
+        let number = number::<M>(limit, seen, state, origin)?;
+        row.push((symbol, number))?;
+    }
+    Ok(Row::from_vec(row))
+}
+
+/// For each state whether it accepts.
+fn answers<M: Machine>(
+    alloc: Global,
+    machine: &M,
+    states: &IndexSet<M::State>,
+) -> Result<Vec<bool>, Memory>
+    ensures { IfOk result (λ answers. answers.items ≡ map (M.machine machine.now).accepts states.now.keys) }
+{
+    let mut answers = Vec::with_capacity(alloc, states.len())?;
+    for state in states.as_slice() {
+        answers.push(machine.accepts(state))?;
+    }
+    Ok(answers)
+}
+
+/// The text by which a state was first seen, which is the least that leads to it: its symbols in order.
+pub fn text_to(alloc: Global, origins: &[(u32, u32)], state: u32) -> Result<Vec<u32>, Memory>
+    requires traced { (text : Rattle.std.specs.Prelude.List Rattle.std.specs.Prelude.ℕ) × IsTraced origins.now state text }
+    requires from_earlier { AreFromEarlier origins.now }
+    ensures { IfOk result (λ text. IsTraced origins.now state text.items) }
+{
+    let mut text = Vec::new(alloc);
+    let (mut parent, mut symbol) = origins[state as usize - 1];
+    while parent != 0 {
+        text.push(symbol)?;
+        (parent, symbol) = origins[parent as usize - 1];
+    }
+    text.reverse();
+    Ok(text)
+}

@@ -1,0 +1,9 @@
+use Rattle.std.proofs.Common.{◌≡◌, arith, rules}
+use Rattle.kb_fsa.specs.Table.{step}
+use Rattle.kb_fsa.proofs.Lookups.{step_within}
+use Rattle.kb_fsa.proofs.table.Table.step.Goals as goal
+
+pub returns-in-Some-clause-within : goal.returns-in-Some-clause-within
+returns-in-Some-clause-within c =
+    let is : c.target.result ≡ step c.args.self.now c.args.state c.args.symbol = search rules in
+    omega (arith, step_within c.args.self.now c.args.state c.args.symbol c.row.ensures.table)

@@ -1,0 +1,5 @@
+pub mod RowMerges
+pub mod ProductLemmas
+pub mod Differences
+pub mod PaddedRuns
+pub mod ComplementLemmas

@@ -1,0 +1,34 @@
+//! Boolean operations on automata, and the comparison of their languages.
+//!
+//! The public contract: `and`, `or` and `not` give an automaton of exactly the stated language, `not` for pairs
+//! among the padded texts, and `equal` says that two languages are the same or gives the shortlex least text in
+//! exactly one. Each answers `TooManyStates` exactly where its construction counts more states than the limit,
+//! by the definitions in `specs/Counted.antt` of `kb_fsa`.
+//!
+//! Each operation is a machine that `kb_explore` explores: pairs of states, or a state with which words of a
+//! pair have ended. Rows are merged move by move, so that nothing costs states times symbols, but for `not`,
+//! whose answer has a move by each symbol.
+//!
+//! `kb_fsa` and `kb_explore` stand below; the programs stand above.
+#![tactic(auto)]
+
+mod comparison;
+mod complement;
+mod connective;
+mod ended;
+mod equality;
+mod intersection;
+mod merging;
+mod product;
+mod symbols;
+#[cfg(test)]
+mod tests;
+mod union;
+
+pub use comparison::equal;
+pub use complement::not;
+pub use equality::Equality;
+pub use intersection::and;
+pub use kb_explore::Det;
+pub use symbols::Symbols;
+pub use union::or;

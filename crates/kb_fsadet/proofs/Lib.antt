@@ -1,0 +1,9 @@
+pub mod Sets
+pub mod Targets
+pub mod Groups
+pub mod Determinised
+pub mod FirstWordLemmas
+pub mod Endings
+pub mod FirstWordTexts
+pub mod Projections
+pub mod PlainTexts

@@ -1,0 +1,39 @@
+use Rattle.std.proofs.Common.{◌≡◌, ℕ, leb, map, take, sym, ap, ◌∙◌, arith, rules}
+use Rattle.std.proofs.lemmas.List.Sorted.{IsPartitionPoint-from_clause, IsPartitionedBy-leb}
+use Rattle.kb_fsa.specs.Table.{Moves}
+use Rattle.kb_fsadet.specs.SubsetConstruction.{set_of}
+use Rattle.kb_fsadet.proofs.Groups.{AreParted, parted, grouped_none, grouped_more, grouped_all}
+use Rattle.kb_fsadet.proofs.subset.grouped.Goals as goal
+
+parts : (c : goal.In_ok-push) → AreParted c.loop-first.rest.now c.in-Some.first.now.0 c.partition_point-count.result
+parts c =
+    let rest = c.loop-first.rest.now in
+    let first = c.in-Some.first.now in
+    let count = c.partition_point-count.result in
+    let in_order = c.loop-first.invariant.in_order in
+    let point = IsPartitionPoint-from_clause (λ move. leb move.0 first.0) rest count c.partition_point-count.ensures.partitioned
+    (IsPartitionedBy-leb (λ move. move.0) rest first.0 in_order) (λ a r q k. search rules) in
+    parted first rest count (sym c.in-Some.ensures.value) in_order c.partition_point-count.ensures.bound point
+
+pub loop-first-init : goal.loop-first-init
+loop-first-init c = rw c.new-groups.ensures.items (grouped_none c.args.moves.now c.requires)
+
+pub loop-first-smaller : goal.loop-first-smaller
+loop-first-smaller c =
+    let some = (parts c).some in
+    omega (arith, c.split_at.ensures.back_len)
+
+pub loop-first-preserved : goal.loop-first-preserved
+loop-first-preserved c =
+    let rest = c.loop-first.rest.now in
+    let symbol = c.in-Some.first.now.0 in
+    let count = c.partition_point-count.result in
+    let groups = c.loop-first.groups.items in
+    let more = grouped_more c.args.moves.now rest groups c.loop-first.invariant symbol count (parts c) in
+    let targets = map (λ (move : ℕ × ℕ). move.1) (take count rest) in
+    let set : c.of.result ≡ set_of targets =
+    c.of.ensures ∙ ap set_of (c.in_ok-targets.ensures ∙ ap (λ (moves : Moves). map (λ move. move.1) moves) c.split_at.ensures.front) in
+    rw (c.in_ok-push.ensures.items, c.split_at.ensures.back, set) more
+
+pub returns : goal.returns
+returns c = grouped_all c.args.moves.now c.loop-first.rest.now c.loop-first.groups.items c.loop-first.invariant (sym c.in_default.ensures.value)

@@ -1,0 +1,4 @@
+pub mod Nondeterministic
+pub mod SubsetConstruction
+pub mod Projection
+pub mod FirstWords

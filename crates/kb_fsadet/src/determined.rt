@@ -1,0 +1,24 @@
+//! The subset construction. Rabin, Scott, Finite Automata and Their Decision Problems (1959).
+
+ghost use Rattle.std.specs.Prelude.{◌≡◌, ◌↔◌, ℕ, List, Err, IsOk, IfOk};
+ghost use Rattle.kb_fsa.specs.Language.{AcceptsText};
+ghost use Rattle.kb_fsa.specs.Counted.{MoreSetsThan};
+ghost use Rattle.kb_explore.specs.declared.det.Det.TheVariants.{TooManyStates};
+ghost use Rattle.kb_fsadet.specs.Nondeterministic.{IsAmong, AcceptsSomehow};
+
+use crate::nfa::Nfa;
+use crate::subset::Subsets;
+use kb_explore::{Det, explore};
+use kb_fsa::Fsa;
+use std::alloc::Global;
+
+/// A deterministic automaton of the same language, whose states are the sets of states to which texts lead.
+pub fn determinise(alloc: Global, nfa: &Nfa, limit: u32) -> Result<Fsa, Det>
+    ensures language { IfOk result (λ fsa. (text : List ℕ) → AcceptsText fsa text ↔ AcceptsSomehow nfa.now text) }
+    ensures alphabet { IfOk result (λ fsa. fsa.alphabet ≡ nfa.now.alphabet) }
+    ensures few { IsOk result → ¬ MoreSetsThan (IsAmong nfa.now) limit }
+    ensures many { (most : ℕ) → result ≡ Err (TooManyStates most) → (most ≡ limit) × MoreSetsThan (IsAmong nfa.now) limit }
+{
+    let exploration = explore(alloc, &Subsets { nfa }, limit)?;
+    Ok(Fsa::new(nfa.alphabet(), exploration.table))
+}

@@ -1,0 +1,16 @@
+pub mod Uniqueness
+pub mod Represented
+pub mod RepresentedMoves
+pub mod Reduced
+pub mod Nothing
+pub mod RoundSteps
+pub mod Signatures
+pub mod ClassRows
+pub mod Classings
+pub mod Growth
+pub mod Beginnings
+pub mod PartLemmas
+pub mod Openings
+pub mod Walks
+pub mod Numberings
+pub mod Splittings

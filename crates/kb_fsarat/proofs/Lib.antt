@@ -1,0 +1,12 @@
+pub mod MoveLists
+pub mod TableMoves
+pub mod Nondeterminism
+pub mod Determinising
+pub mod Turning
+pub mod Reversing
+pub mod Restarting
+pub mod Chaining
+pub mod LayerLemmas
+pub mod SuccessorLemmas
+pub mod EnumerationLemmas
+pub mod Repeating

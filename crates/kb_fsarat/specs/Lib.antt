@@ -1,0 +1,9 @@
+pub mod Products
+pub mod Reversal
+pub mod Restarts
+pub mod Chains
+pub mod Repetitions
+pub mod Layers
+pub mod Successors
+pub mod Enumeration
+pub mod Enumerating

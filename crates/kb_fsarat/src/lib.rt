@@ -1,0 +1,25 @@
+//! Rational operations on plain automata, and the enumeration of their words.
+//!
+//! The public contract: `concat`, `star` and `reverse` give an automaton of exactly the stated language, and answer
+//! `TooManyStates` exactly where their construction counts more states than the limit. `Enumerate` gives the accepted
+//! words of the lengths that are asked for, each once, in the shortlex order.
+//!
+//! The operations make nondeterministic automata, which `kb_fsadet` determinises.
+//!
+//! `kb_fsa`, `kb_explore` and `kb_fsadet` stand below; the programs stand above.
+#![tactic(auto)]
+
+mod answers;
+mod concatenation;
+mod enumeration;
+mod iteration;
+mod layers;
+mod restarts;
+mod reversal;
+mod successor;
+
+pub use concatenation::concat;
+pub use enumeration::Enumerate;
+pub use iteration::star;
+pub use kb_explore::Det;
+pub use reversal::reverse;

@@ -1,0 +1,3 @@
+pub mod LinkLemmas
+pub mod Reaching
+pub mod MoveLemmas

@@ -1,0 +1,14 @@
+use Rattle.std.proofs.Common.{◌≡◌, suc}
+use Rattle.kb_reach.specs.Moves.{AreBackward}
+use Rattle.kb_reach.proofs.moves.reversed.Given as goal
+
+-- the moves of the states before the row are taken
+abbrev pub invariant-loop-row : goal.invariant-loop-row
+invariant-loop-row l = record {
+  backward : AreBackward l.table (suc l.row-index) 0 l.edges.items l.symbols.items;
+  state : l.state ≡ l.row-index;
+}
+
+-- and of its state those before the symbol
+abbrev pub invariant-loop-symbol : goal.invariant-loop-symbol
+invariant-loop-symbol l = AreBackward l.table l.state l.symbol-index l.edges.items l.symbols.items

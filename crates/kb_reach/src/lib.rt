@@ -1,0 +1,16 @@
+//! What the edges of a graph lead to, and which states of a table lead to acceptance.
+//!
+//! The public contract: `reached` marks exactly the things to which a path of edges leads from a seed, in time that
+//! grows with the edges; `reversed` gives a table's moves backwards; and `live` marks exactly the states from which
+//! some text is accepted. `link` finds the edges from each thing, for programs that go over them.
+//!
+//! `kb_fsa` stands below; the canonical form, the projection of pairs and the reader of automaton files stand above.
+#![tactic(auto)]
+
+mod links;
+mod moves;
+mod reach;
+
+pub use links::{Links, link};
+pub use moves::{Backward, live, reversed};
+pub use reach::reached;

@@ -1,0 +1,48 @@
+//! The moves of a table, taken backwards.
+
+ghost use Rattle.std.specs.Prelude.{◌≡◌, ◌↔◌, ◌+◌, ℕ, suc, length, get_or, IfOk};
+ghost use Rattle.kb_fsa.specs.Table.{IsLive};
+ghost use Rattle.kb_reach.specs.Graphs.{IsMarked};
+ghost use Rattle.kb_reach.specs.Moves.{AreBackward};
+
+use crate::reach::reached;
+use kb_fsa::Table;
+use kb_word::Memory;
+use std::alloc::Global;
+
+/// All moves of a table, each from its target to the state that has it, with its symbol.
+#[derive(Drop)]
+pub struct Backward {
+    /// For each move, its target and the state that has it.
+    pub edges: Vec<(u32, u32)>,
+    /// For each move, its symbol.
+    pub symbols: Vec<u32>,
+}
+
+/// The moves of the table, taken backwards.
+pub fn reversed(alloc: Global, table: &Table) -> Result<Backward, Memory>
+    ensures { IfOk result (λ moves. AreBackward table.now (suc (length table.now.rows)) 0 moves.edges.items moves.symbols.items) }
+{
+    let mut edges = Vec::new(alloc);
+    let mut symbols = Vec::new(alloc);
+    let mut state = 0;
+    for row in table.rows() {
+        state += 1;
+        for (symbol, target) in row.as_slice() {
+            edges.push((*target, state))?;
+            symbols.push(*symbol)?;
+        }
+    }
+    Ok(Backward { edges, symbols })
+}
+
+/// For state 0, that is no state, and the states from 1 on, whether they lead to acceptance.
+pub fn live(alloc: Global, table: &Table, moves: &Backward) -> Result<Vec<bool>, Memory>
+    requires { AreBackward table.now (suc (length table.now.rows)) 0 moves.now.edges.items moves.now.symbols.items }
+    ensures one_each { IfOk result (λ marks. length marks.items ≡ length table.now.rows + 1) }
+    ensures live { IfOk result (λ marks. (state : ℕ) → IsMarked marks.items state ↔ IsLive table.now state) }
+{
+    let mut seeds = vec![in alloc; false]?;
+    seeds.extend_from_slice(table.accepting())?;
+    reached(alloc, moves.edges.as_slice(), seeds.as_slice())
+}
