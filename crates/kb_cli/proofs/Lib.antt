@@ -1,7 +1,14 @@
 pub mod Read
 pub mod Line
+pub mod SaidLemmas
+pub mod AddLemmas
 pub mod OrientLemmas
 pub mod PrintLemmas
 pub mod ProgressLemmas
+pub mod CountLemmas
+pub mod LoadLemmas
+pub mod MakeLemmas
+pub mod CompareLemmas
+pub mod ListLemmas
 pub mod RunLemmas
 pub mod AnswerLemmas

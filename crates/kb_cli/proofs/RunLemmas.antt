@@ -1,18 +1,16 @@
 -- What a run says, from what its parts say.
-use Rattle.std.proofs.Common.{◌≡◌, ℕ, zero, suc, ◌<◌, ◌≤◌, List, [], ◌∷◌, length, Option, Some, None, Result, Ok, Err, IfErr, refl, ap, arith, length-append}
+use Rattle.std.proofs.Common.{◌≡◌, ℕ, zero, suc, ◌<◌, ◌≤◌, List, [], ◌∷◌, length, Option, Some, None, refl, ap, arith, length-append}
 use Rattle.kb_word.specs.Words.{Pair, OneOf}
 use Rattle.kb_word.specs.Relations.{relations_of, inverse_relations, AreOriented, Orients, none_left, equal_sides, repeated, added}
 use Rattle.kb_word.proofs.PathLemmas.{congruent_covered}
 use Rattle.kb_record.specs.Tree.{Factors, Fields}
-use Rattle.kb_presfile.specs.Fields.{place_count, list_of_equations}
+use Rattle.kb_fields.specs.Fields.{place_count}
+use Rattle.kb_presfile.specs.Kinds.{list_of_equations}
 use Rattle.kb_confluence.specs.Answers.{MatchVerdict}
 use Rattle.kb_confluence.specs.Unjoined.{IsCounterexample}
 use Rattle.kb_confluence.specs.declared.confluence.Verdict.TheVariants as verdicts
 use Rattle.kb_presfile.specs.Holds.{Parts, AreMeanings, HasEquations}
-use Rattle.kb_cli.specs.Headline.{IsUndecided, FaultCounts}
-use Rattle.kb_cli.specs.declared.status.Status.{Status}
-use Rattle.kb_cli.specs.declared.status.Status.TheVariants.{Yes, Refused, No, Memory, Fault, Usage}
-use Rattle.kb_cli.specs.declared.status.Which.TheVariants.{Load, Input, Output}
+use Rattle.kb_cli.specs.Headline.{IsUndecided}
 use Rattle.kb_cli.proofs.OrientLemmas.{rules_covered}
 
 -- as many pairs as equations
@@ -69,19 +67,3 @@ no-undecided parts rules when_yes (suc i) (suc j) place u v oriented first count
   counterexample = counterexample;
   congruent = congruent_covered {allowed = OneOf rules} {others = OneOf (relations_of parts.inverses parts.equations)} (rules_covered oriented) counterexample.congruent;
 }
-
--- a fact of an error from another
-pub on-error : {T E : Type 0} (P Q : E → Type 0) (r : Result T E) → ((e : E) → P e → Q e) → IfErr r P → IfErr r Q
-on-error P Q (Ok x) more fact = fact
-on-error P Q (Err e) more fact = more e fact
-
--- where no load failed
-pub faults-widen : (a b l c d e f : ℕ) (status : Status) → FaultCounts l l c d e f status → FaultCounts a b c d e f status
-faults-widen a b l c d e f (Fault (Load file)) counts = absurd (omega arith)
-faults-widen a b l c d e f (Fault Input) counts = counts
-faults-widen a b l c d e f (Fault Output) counts = counts
-faults-widen a b l c d e f Yes counts = tt
-faults-widen a b l c d e f (No cert) counts = tt
-faults-widen a b l c d e f (Refused refusal) counts = tt
-faults-widen a b l c d e f Memory counts = tt
-faults-widen a b l c d e f (Usage kind) counts = tt

@@ -1,11 +1,12 @@
 -- Statuses that answer the question of a run.
 use Rattle.kb_cli.specs.declared.status.Status.{Status}
-use Rattle.kb_cli.specs.declared.status.Status.TheVariants.{Yes, Refused, No, Memory, Fault, Usage}
+use Rattle.kb_cli.specs.declared.status.Status.TheVariants.{Yes, Refused, Undecided, No, Memory, Fault, Usage}
 
--- the run said yes or no, or memory ran out
+-- the run said yes or no, reached a limit, or memory ran out
 abbrev pub IsAnswer : Status → Type 0
 IsAnswer Yes = Unit {0}
 IsAnswer (No cert) = Unit {0}
+IsAnswer (Undecided limit) = Unit {0}
 IsAnswer Memory = Unit {0}
 IsAnswer (Refused refusal) = ⊥
 IsAnswer (Fault which) = ⊥
@@ -16,6 +17,7 @@ abbrev pub IsFaultless : Status → Type 0
 IsFaultless (Fault which) = ⊥
 IsFaultless Yes = Unit {0}
 IsFaultless (No cert) = Unit {0}
+IsFaultless (Undecided limit) = Unit {0}
 IsFaultless Memory = Unit {0}
 IsFaultless (Refused refusal) = Unit {0}
 IsFaultless (Usage kind) = Unit {0}

@@ -1,7 +1,10 @@
 -- What a run says by its status: the program's one promise.
 --
 -- Status 0 means that each line written is the shortlex least word equal, in the presented monoid or group, to the
--- line read, and that the oriented relations are that presentation's own and confluent. Status 3 shows why they are not.
+-- line read, and that the oriented relations are that presentation's own and confluent; that each automaton stored is
+-- the canonical one of the stated language; and that the words listed are the accepted ones. Status 3 shows why the
+-- relations are not confluent, or the languages not the same. Status 2 comes exactly where a construction counts more
+-- states than the limit.
 use Rattle.std.specs.Prelude.{◌≡◌, ◌≢◌, ℕ, ◌<◌, ◌≤◌, ◌⊎◌, List, [], ◌∷◌, ◌++◌, length, take, codes, Option, Some, None}
 use Rattle.kb_word.specs.Words.{Pair, OneOf}
 use Rattle.kb_word.specs.Relations.{relations_of, AreOriented}
@@ -11,63 +14,43 @@ use Rattle.kb_confluence.specs.Unjoined.{IsFirstUnjoined, IsCounterexample}
 use Rattle.kb_presfile.specs.Holds.{Parts, PresentationOf}
 use Rattle.kb_presfile.specs.Faults.{HasPresFault}
 use Rattle.kb_presfile.specs.declared.error.PresError.TheVariants as pres_errors
+use Rattle.kb_cli.specs.Outside.{Streams, World, IsUntouched, IsUnchanged, IsKept, most_file}
+use Rattle.kb_cli.specs.Loads.{IsHeld, IsNoText, LoadStops}
+use Rattle.kb_cli.specs.Automata.{CombineSays, TransformSays, MinimiseSays, CompareSays, EnumerateSays}
 use Rattle.kb_cli.specs.Printed.{text_of_word}
 use Rattle.kb_cli.specs.WordLines.{newline, BeginsWith}
 use Rattle.kb_cli.specs.Progress.{AllAnswered, AllSent, FrontSent, RefusedAt}
 use Rattle.kb_cli.specs.Stops.{most_input}
 use Rattle.kb_cli.specs.CommandLine.{IsLine, IsNoLine}
-use Rattle.kb_cli.specs.declared.command_line.Command.TheVariants.{WordReduce}
+use Rattle.kb_cli.specs.declared.command_line.Command.{Command}
+use Rattle.kb_cli.specs.declared.command_line.Command.TheVariants.{WordReduce, Combine, Transform, Minimise, Compare, Enumerate}
 use Rattle.kb_cli.specs.declared.status.Status.{Status}
-use Rattle.kb_cli.specs.declared.status.Status.TheVariants.{Yes, Refused, No, Memory, Fault, Usage}
+use Rattle.kb_cli.specs.declared.status.Status.TheVariants.{Yes, Refused, Undecided, No, Memory, Fault, Usage}
 use Rattle.kb_cli.specs.declared.status.Refusal.TheVariants.{File, Line, InputTooLong}
 use Rattle.kb_cli.specs.declared.status.FileFault.{FileFault}
-use Rattle.kb_cli.specs.declared.status.FileFault.TheVariants.{Missing, TooLong, Presentation}
-use Rattle.kb_cli.specs.declared.status.Cert.TheVariants.{NotConfluent}
-use Rattle.kb_cli.specs.declared.status.Which.TheVariants.{Load, Input, Output}
-
--- a file has at most so many bytes
-abbrev pub most_file : ℕ
-most_file = 16777216
-
--- The streams before and after a run, where they tell their bytes: the input that was left before, what is
--- left of it, and what stood and stands written on the output.
-pub record Streams : Type 0 where
-  pub input : List ℕ
-  pub left : List ℕ
-  pub before : List ℕ
-  pub written : List ℕ
-
--- nothing was read of the input, and nothing was written
-pub record IsUntouched (streams : Streams) : Type 0 where
-  pub unread : streams.left ≡ streams.input
-  pub unwritten : streams.written ≡ streams.before
+use Rattle.kb_cli.specs.declared.status.FileFault.TheVariants.{Missing, TooLong, Presentation, Automaton, NotPlain, NotPairs, AlphabetsDiffer}
+use Rattle.kb_cli.specs.declared.status.Cert.TheVariants.{NotConfluent, NotEqual}
+use Rattle.kb_cli.specs.declared.status.Which.TheVariants.{Load, Store, Input, Output}
 
 -- the file of this name says this presentation
 pub record FileSays (holds : List ℕ → Option (List ℕ)) (name : List ℕ) (parts : Parts) : Type 0 where
   pub bytes : List ℕ
-  pub held : holds name ≡ Some bytes
-  pub short : length bytes ≤ most_file
+  pub held : IsHeld holds name bytes
   pub says : PresentationOf bytes parts
 
 -- why the file of this name is refused: it isn't there, is too long, or has the fault that is named
 abbrev pub IsFileFault : (List ℕ → Option (List ℕ)) → List ℕ → FileFault → Type 0
-IsFileFault holds name Missing = holds name ≡ None
-IsFileFault holds name TooLong = (bytes : List ℕ) × (holds name ≡ Some bytes) × (most_file < length bytes)
-IsFileFault holds name (Presentation fault) =
-    (bytes : List ℕ) × (holds name ≡ Some bytes) × (length bytes ≤ most_file) × HasPresFault bytes fault × (fault ≢ pres_errors.Memory)
+IsFileFault holds name Missing = IsNoText holds name Missing
+IsFileFault holds name TooLong = IsNoText holds name TooLong
+IsFileFault holds name (Presentation fault) = (bytes : List ℕ) × IsHeld holds name bytes × HasPresFault bytes fault × (fault ≢ pres_errors.Memory)
+IsFileFault holds name (Automaton fault) = ⊥
+IsFileFault holds name NotPlain = ⊥
+IsFileFault holds name NotPairs = ⊥
+IsFileFault holds name AlphabetsDiffer = ⊥
 
 -- what ends a run before its file is read
 abbrev pub FileStops : (List ℕ → Option (List ℕ)) → List ℕ → Status → Type 0
-FileStops holds name (Refused (File file fault)) = (file ≡ name) × IsFileFault holds name fault
-FileStops holds name (Fault (Load file)) = file ≡ name
-FileStops holds name Memory = Unit {0}
-FileStops holds name (Refused (Line number fault)) = ⊥
-FileStops holds name (Refused InputTooLong) = ⊥
-FileStops holds name (Fault Input) = ⊥
-FileStops holds name (Fault Output) = ⊥
-FileStops holds name Yes = ⊥
-FileStops holds name (No cert) = ⊥
-FileStops holds name (Usage kind) = ⊥
+FileStops holds name = LoadStops (IsFileFault holds name) name
 
 -- the oriented relations of the presentation are confluent
 pub record IsDecided (parts : Parts) : Type 0 where
@@ -126,6 +109,9 @@ AnswersSay parts streams (Fault Output) = FrontOfNo parts streams ⊎ FrontOfAns
 AnswersSay parts streams Memory = IsUntouched streams ⊎ FrontOfAnswers parts streams
 AnswersSay parts streams (Refused (File file fault)) = ⊥
 AnswersSay parts streams (Fault (Load file)) = ⊥
+AnswersSay parts streams (Fault (Store file)) = ⊥
+AnswersSay parts streams (Undecided limit) = ⊥
+AnswersSay parts streams (No (NotEqual text)) = ⊥
 AnswersSay parts streams (Usage kind) = ⊥
 
 -- what ends a run before its command is known
@@ -133,6 +119,7 @@ abbrev pub WordsStop : List (List ℕ) → Status → Type 0
 WordsStop words (Usage kind) = IsNoLine words kind
 WordsStop words Memory = Unit {0}
 WordsStop words Yes = ⊥
+WordsStop words (Undecided limit) = ⊥
 WordsStop words (No cert) = ⊥
 WordsStop words (Refused refusal) = ⊥
 WordsStop words (Fault which) = ⊥
@@ -143,19 +130,40 @@ WordReduceSays holds name streams status =
     (FileStops holds name status × IsUntouched streams)
     ⊎ ((parts : Parts) × FileSays holds name parts × AnswersSay parts streams status)
 
--- What a run on these words says by its status, where the shelf holds these files.
-abbrev pub Headline : List (List ℕ) → (List ℕ → Option (List ℕ)) → Streams → Status → Type 0
-Headline words holds streams status =
-    (WordsStop words status × IsUntouched streams)
-    ⊎ ((file : List ℕ) × (workers : ℕ) × IsLine words (WordReduce file workers) × WordReduceSays holds file streams status)
+-- what a command says by its status
+abbrev pub CommandSays : Command → World → Status → Type 0
+CommandSays (WordReduce file workers) world status = WordReduceSays world.holds file world.streams status × IsKept world
+CommandSays (Combine operation one two out most) world status = CombineSays operation one two out most world status
+CommandSays (Transform operation file out most) world status = TransformSays operation file out most world status
+CommandSays (Minimise file out) world status = MinimiseSays file out world status
+CommandSays (Compare one two most) world status = CompareSays one two most world status
+CommandSays (Enumerate least most file) world status = EnumerateSays least most file world status
 
--- a fault comes only where its count rose: of the loads, of the input, of the output
-abbrev pub FaultCounts : ℕ → ℕ → ℕ → ℕ → ℕ → ℕ → Status → Type 0
-FaultCounts loads_before loads_after input_before input_after output_before output_after (Fault (Load file)) = loads_before < loads_after
-FaultCounts loads_before loads_after input_before input_after output_before output_after (Fault Input) = input_before < input_after
-FaultCounts loads_before loads_after input_before input_after output_before output_after (Fault Output) = output_before < output_after
-FaultCounts loads_before loads_after input_before input_after output_before output_after Yes = Unit {0}
-FaultCounts loads_before loads_after input_before input_after output_before output_after (No cert) = Unit {0}
-FaultCounts loads_before loads_after input_before input_after output_before output_after (Refused refusal) = Unit {0}
-FaultCounts loads_before loads_after input_before input_after output_before output_after Memory = Unit {0}
-FaultCounts loads_before loads_after input_before input_after output_before output_after (Usage kind) = Unit {0}
+-- What a run on these words says by its status.
+abbrev pub Headline : List (List ℕ) → World → Status → Type 0
+Headline words world status =
+    (WordsStop words status × IsUnchanged world)
+    ⊎ ((command : Command) × IsLine words command × CommandSays command world status)
+
+-- every file stays as it was, but the one that the command may store
+abbrev pub StaysBut : Command → (List ℕ → Option (List ℕ)) → (List ℕ → Option (List ℕ)) → Type 0
+StaysBut (WordReduce file workers) holds after = (name : List ℕ) → after name ≡ holds name
+StaysBut (Combine operation one two out most) holds after = (name : List ℕ) → name ≢ out → after name ≡ holds name
+StaysBut (Transform operation file out most) holds after = (name : List ℕ) → name ≢ out → after name ≡ holds name
+StaysBut (Minimise file out) holds after = (name : List ℕ) → name ≢ out → after name ≡ holds name
+StaysBut (Compare one two most) holds after = (name : List ℕ) → after name ≡ holds name
+StaysBut (Enumerate least most file) holds after = (name : List ℕ) → after name ≡ holds name
+
+-- also where the outside doesn't tell its bytes, every file stays but the one that the words' command may store
+abbrev pub FilesStay : List (List ℕ) → (List ℕ → Option (List ℕ)) → (List ℕ → Option (List ℕ)) → Type 0
+FilesStay words holds after =
+    ((name : List ℕ) → after name ≡ holds name) ⊎ ((command : Command) × IsLine words command × StaysBut command holds after)
+
+-- the number of workers that a command has been given
+abbrev pub IsReadCommand : Command → Type 0
+IsReadCommand (WordReduce file workers) = (1 ≤ workers) × (workers ≤ 64)
+IsReadCommand (Combine operation one two out most) = Unit {0}
+IsReadCommand (Transform operation file out most) = Unit {0}
+IsReadCommand (Minimise file out) = Unit {0}
+IsReadCommand (Compare one two most) = Unit {0}
+IsReadCommand (Enumerate least most file) = Unit {0}

@@ -5,5 +5,10 @@ pub mod Progress
 pub mod LineFaults
 pub mod Stops
 pub mod Exits
+pub mod Outside
+pub mod Loads
+pub mod FaultCounts
+pub mod Automata
+pub mod Listed
 pub mod Headline
 pub mod Answering

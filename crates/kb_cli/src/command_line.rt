@@ -2,11 +2,21 @@
 //!
 //! The words are read by `clap`, whose definition of what a command takes is part of the contract.
 
-ghost use Rattle.std.specs.Prelude.{◌≡◌, ◌≢◌, ◌<◌, ◌^◌, ℕ, List, Bool, false, map, string_bytes, IfOk, IfErr, IfSome, None};
+ghost use Rattle.std.specs.Prelude.{◌≡◌, ◌≢◌, ℕ, List, Some, false, codes, map, string_bytes, IfOk, IfErr};
 ghost use Rattle.clap.specs.Words.{app_of, found_of, kind_of, rows_of, rule_of, subcommand_rows_of};
 ghost use Rattle.clap.specs.declared.builder.command.Command.TheViews.{out-Command as fields_of};
-ghost use Rattle.kb_cli.specs.CommandLine.{line_app, wordreduce_app, file_rule, workers_rule, IsNumber, IsWorkers, IsLine, IsNoLine, Says, SaysWordReduce, Explains, IsUsageOf};
+ghost use Rattle.kb_cli.specs.CommandLine.{line_app, wordreduce_app, file_rule, workers_rule, subcommand_name, IsLine, IsNoLine, IsReading, Explains, IsUsageOf};
 
+mod automata;
+mod given;
+mod subcommand;
+
+use self::automata::{
+    add_automata, combine_command, combine_of, compare_command, compare_of, enumerate_command,
+    enumerate_of, minimise_command, minimise_of, transform_command, transform_of,
+};
+use self::given::{number_given, text_given};
+use self::subcommand::Subcommand;
 use clap::error::ErrorKind;
 use clap::{Arg, ArgAction, ArgMatches, value_parser};
 use kb_word::{Memory, Text};
@@ -22,6 +32,79 @@ pub enum Command {
         /// How many threads may work side by side, 1 to 64.
         workers: u32,
     },
+    /// Store the automaton that an operation makes of the automata in two files.
+    Combine {
+        /// What is made of them.
+        operation: Combination,
+        /// The name of the first file.
+        one: Text,
+        /// The name of the second file.
+        two: Text,
+        /// The name under which the automaton is stored.
+        out: Text,
+        /// The most states that the construction may have, 1 to 4,000,000.
+        max_states: u32,
+    },
+    /// Store the automaton that an operation makes of the automaton in a file.
+    Transform {
+        /// What is made of it.
+        operation: Transformation,
+        /// The name of the file.
+        file: Text,
+        /// The name under which the automaton is stored.
+        out: Text,
+        /// The most states that the construction may have, 1 to 4,000,000.
+        max_states: u32,
+    },
+    /// Store the canonical automaton of the language of the automaton in a file.
+    Minimise {
+        /// The name of the file.
+        file: Text,
+        /// The name under which the automaton is stored.
+        out: Text,
+    },
+    /// Say whether the automata in two files have one language.
+    Compare {
+        /// The name of the first file.
+        one: Text,
+        /// The name of the second file.
+        two: Text,
+        /// The most states that the construction may have, 1 to 4,000,000.
+        max_states: u32,
+    },
+    /// Print the words that the automaton in a file accepts.
+    Enumerate {
+        /// The least length.
+        min: u16,
+        /// The greatest length.
+        max: u16,
+        /// The name of the file.
+        file: Text,
+    },
+}
+
+/// What is made of two automata.
+#[derive(Clone, Copy, Debug, PartialEq, Eq)]
+pub enum Combination {
+    /// What both accept.
+    And,
+    /// What either accepts.
+    Or,
+    /// The products of a word of the first and a word of the second.
+    Concat,
+}
+
+/// What is made of one automaton.
+#[derive(Clone, Copy, Debug, PartialEq, Eq)]
+pub enum Transformation {
+    /// What it doesn't accept.
+    Not,
+    /// The first words of the pairs that it accepts.
+    Exists,
+    /// The products of any number of its words.
+    Star,
+    /// Its words read backwards.
+    Reverse,
 }
 
 /// Why words give no command.
@@ -72,7 +155,7 @@ pub fn read_words(alloc: Global, words: &[String]) -> Result<Command, UsageError
     };
     match command_of(alloc, &matches)? {
         Some(command) => Ok(command),
-        None => Err(number_error(alloc)?),
+        None => Err(number_error(alloc, &matches)?),
     }
 }
 
@@ -88,29 +171,49 @@ pub fn a_line_says_one_command()
 
 /// The command that the matches say.
 fn command_of(alloc: Global, matches: &ArgMatches<'_>) -> Result<Option<Command>, Memory>
-    ensures some { IfOk result (λ found. IfSome found (λ command. Says (subcommand_rows_of matches.now) command)) }
-    ensures none { IfOk result (λ found. found ≡ None → (command : Command) → ¬ Says (subcommand_rows_of matches.now) command) }
+    ensures { IfOk result (IsReading (subcommand_rows_of matches.now)) }
 {
-    let Some(inner) = matches.subcommand_matches("wordreduce") else {
+    let Some((name, inner)) = matches.subcommand() else {
         return Ok(None);
     };
-    let Some((file, workers)) = wordreduce_of(inner) else {
+    let Some(subcommand) = Subcommand::named(name) else {
+        return Ok(None);
+    };
+    entered_command(alloc, subcommand, inner)
+}
+
+/// The command that the matches of a subcommand say.
+fn entered_command(
+    alloc: Global,
+    subcommand: Subcommand,
+    matches: &ArgMatches<'_>,
+) -> Result<Option<Command>, Memory>
+    ensures { IfOk result (IsReading (Some (subcommand_name subcommand, rows_of (found_of matches.now)))) }
+{
+    match subcommand {
+        Subcommand::WordReduce => wordreduce_of(alloc, matches),
+        Subcommand::Combine(operation) => combine_of(alloc, operation, matches),
+        Subcommand::Transform(operation) => transform_of(alloc, operation, matches),
+        Subcommand::Minimise => minimise_of(alloc, matches),
+        Subcommand::Compare => compare_of(alloc, matches),
+        Subcommand::Enumerate => enumerate_of(alloc, matches),
+    }
+}
+
+/// The command that the matches of `wordreduce` say.
+fn wordreduce_of(alloc: Global, matches: &ArgMatches<'_>) -> Result<Option<Command>, Memory>
+    ensures { IfOk result (IsReading (Some (codes "wordreduce", rows_of (found_of matches.now)))) }
+{
+    let Some(file) = text_given(matches, "file") else {
+        return Ok(None);
+    };
+    let Some(workers) = number_given(matches, "workers", 1, 64) else {
         return Ok(None);
     };
     Ok(Some(Command::WordReduce {
         file: Text::from_str(alloc, file)?,
         workers,
     }))
-}
-
-/// The file and the number of workers that the matches of `wordreduce` give.
-fn wordreduce_of<'a>(matches: &ArgMatches<'a>) -> Option<(&'a str, u32)>
-    ensures some { IfSome result (λ found. SaysWordReduce (rows_of (found_of matches.now)) found.0.now found.1) }
-    ensures none { result ≡ None → (file : List ℕ) (n : ℕ) → ¬ SaysWordReduce (rows_of (found_of matches.now)) file n }
-{
-    let file = matches.get_str("file")?;
-    let workers = workers(matches.get_str("workers")?)?;
-    Some((file, workers))
 }
 
 /// What `clap` answers in place of matches.
@@ -127,14 +230,42 @@ fn usage_error(alloc: Global, error: &clap::Error) -> Result<UsageError, Memory>
 }
 
 /// The error of a number that `clap` takes, with a sign or a zero before another digit.
-fn number_error(alloc: Global) -> Result<UsageError, Memory>
+fn number_error(alloc: Global, matches: &ArgMatches<'_>) -> Result<UsageError, Memory>
     ensures kind { IfOk result (λ answer. IsUsageOf ErrorKind.ValueValidation answer) }
 {
-    let error = wordreduce_command(alloc)?.bin_name("kb wordreduce")?.error(
+    let error = entered_program(alloc, matches)?.error(
         ErrorKind::ValueValidation,
         "a number is written in digits, with neither a sign nor a zero before another digit",
     )?;
     usage_error(alloc, &error)
+}
+
+/// The subcommand that the matches entered, as its usage calls it.
+fn entered_program<'a>(
+    alloc: Global,
+    matches: &ArgMatches<'_>,
+) -> Result<clap::Command<'a>, AllocError> {
+    let name = matches.subcommand_name().unwrap_or_default();
+    let Some(subcommand) = Subcommand::named(name) else {
+        return line_command(alloc);
+    };
+    let called = format!(in alloc; "kb {name}")?;
+    subcommand_command(alloc, subcommand)?.bin_name(called.as_str())
+}
+
+/// What a subcommand takes.
+fn subcommand_command<'a>(
+    alloc: Global,
+    subcommand: Subcommand,
+) -> Result<clap::Command<'a>, AllocError> {
+    match subcommand {
+        Subcommand::WordReduce => wordreduce_command(alloc),
+        Subcommand::Combine(operation) => combine_command(alloc, operation),
+        Subcommand::Transform(operation) => transform_command(alloc, operation),
+        Subcommand::Minimise => minimise_command(alloc),
+        Subcommand::Compare => compare_command(alloc),
+        Subcommand::Enumerate => enumerate_command(alloc),
+    }
 }
 
 /// The argument that names the file of a presentation.
@@ -180,37 +311,16 @@ fn wordreduce_command<'a>(alloc: Global) -> Result<clap::Command<'a>, AllocError
 fn line_command<'a>(alloc: Global) -> Result<clap::Command<'a>, AllocError>
     ensures app { IfOk result (λ command. app_of command ≡ line_app) }
 {
-    clap::Command::new(alloc, "kb")
-        .about("Computes with words in finitely presented groups and monoids")
+    let program = clap::Command::new(alloc, "kb")
+        .about(
+            "Computes with words in finitely presented groups and monoids, and with automata on words",
+        )
         .no_binary_name(true)
         .bin_name("kb")?
         .subcommand_required(true)
         .arg_required_else_help(true)
-        .subcommand(wordreduce_command(alloc)?)
-}
-
-/// The number that a text writes, in decimal digits with no sign and no zero before another digit.
-fn number(text: &str) -> Option<u32>
-    ensures some { IfSome result (λ number. IsNumber text.now number) }
-    ensures none { result ≡ None → (n : ℕ) → n < 2 ^ 32 → ¬ IsNumber text.now n }
-{
-    let first = *text.as_bytes().first()?;
-    if first == b'+' || (first == b'0' && text.len() != 1) {
-        return None;
-    }
-    text.parse::<u32>().ok()
-}
-
-/// The number of workers that a text writes.
-fn workers(text: &str) -> Option<u32>
-    ensures some { IfSome result (λ workers. IsWorkers text.now workers) }
-    ensures none { result ≡ None → (n : ℕ) → ¬ IsWorkers text.now n }
-{
-    let workers = number(text)?;
-    if workers < 1 || 64 < workers {
-        return None;
-    }
-    Some(workers)
+        .subcommand(wordreduce_command(alloc)?)?;
+    add_automata(alloc, program)
 }
 
 #[cfg(test)]

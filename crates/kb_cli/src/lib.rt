@@ -4,13 +4,19 @@
 //! words it was given, the files that the shelf held, the input that it read and the bytes that it wrote.
 //! Status 0 of `wordreduce` says that the file is a presentation whose oriented relations are confluent, that the
 //! input was read to its end, and that each line written is the shortlex least word congruent to the line
-//! read. Every other status has its cause there: the file that is refused and its fault, the first line that
-//! is refused, the overlap that doesn't join, the device whose count of failures rose, the fault of the words.
-//! Want of memory alone is free.
+//! read. Status 0 of a command that makes an automaton says that the file that is named holds the text of the
+//! canonical automaton of the stated language; of `fsalequal`, that the two languages are the same; and of
+//! `fsaenumerate`, that the lines written are the accepted words that were asked for. Every other status has its
+//! cause there: the file that is refused and its fault, the first line that is refused, the overlap that doesn't
+//! join, the text that tells two languages apart, the limit that a construction exceeds, the device whose count of
+//! failures rose, the fault of the words. Want of memory alone is free.
 //!
 //! # How it is made
 //!
 //! - `command_line` reads the words by `clap`, whose own definition of a faultless line is part of the contract.
+//! - `loading` loads files, and the automata that they say.
+//! - `making` makes an automaton and stores its canonical form, `comparing` compares two languages, and `listing`
+//!   lists the words that are accepted.
 //! - `word_reduce` loads the presentation, orients its relations (`orienting`), has them checked for
 //!   confluence, and answers.
 //! - `word_lines` cuts the input into lines in a stream, answers each, and sends the answers.
@@ -21,7 +27,11 @@
 #![tactic(auto)]
 
 mod command_line;
+mod comparing;
 mod laws;
+mod listing;
+mod loading;
+mod making;
 mod orienting;
 mod printed;
 mod program;
@@ -31,7 +41,8 @@ mod word_lines;
 mod word_reduce;
 
 pub use command_line::{
-    Command, UsageError, a_line_is_not_faulty, a_line_says_one_command, read_words,
+    Combination, Command, Transformation, UsageError, a_line_is_not_faulty,
+    a_line_says_one_command, read_words,
 };
 pub use laws::{
     no_presentation_is_decided_and_undecided, where_nothing_is_refused_there_is_an_answer,
@@ -42,4 +53,4 @@ pub use orienting::{
 };
 pub use printed::print_word;
 pub use program::run;
-pub use status::{Cert, FileFault, Refusal, Status, Which};
+pub use status::{Cert, Construction, FileFault, Limit, Refusal, Status, Which};

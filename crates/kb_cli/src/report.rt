@@ -11,7 +11,7 @@ pub(crate) fn report<E: Sink>(alloc: Global, status: &Status, err: &mut E) {
         Status::Refused(refusal) => message(alloc, refusal, err),
         Status::Fault(which) => message(alloc, which, err),
         Status::Memory => tell(err, "kb: no memory\n"),
-        Status::Yes | Status::No(_) | Status::Usage(_) => {}
+        Status::Yes | Status::Undecided(_) | Status::No(_) | Status::Usage(_) => {}
     }
 }
 
@@ -43,6 +43,10 @@ impl fmt::Display for FileFault {
             FileFault::Missing => write!(f, "E3 Missing"),
             FileFault::TooLong => write!(f, "E15 TooLong"),
             FileFault::Presentation(fault) => write!(f, "{fault}"),
+            FileFault::Automaton(fault) => write!(f, "{fault}"),
+            FileFault::NotPlain => write!(f, "E18 AlphabetOther"),
+            FileFault::NotPairs => write!(f, "E20 NotPairs"),
+            FileFault::AlphabetsDiffer => write!(f, "E22 AlphabetsDiffer"),
         }
     }
 }
@@ -51,6 +55,7 @@ impl fmt::Display for Which {
     fn fmt<W: fmt::Write>(&self, f: &mut fmt::Formatter<W>) -> fmt::Result {
         match self {
             Which::Load(name) => write!(f, "fault load {name}"),
+            Which::Store(name) => write!(f, "fault store {name}"),
             Which::Input => write!(f, "fault input"),
             Which::Output => write!(f, "fault output"),
         }

@@ -1,6 +1,8 @@
 //! How a run ends.
 
 use clap::error::ErrorKind;
+use kb_fsabool::Symbols;
+use kb_fsafile::FsaError;
 use kb_presfile::PresError;
 use kb_record::WordError;
 use kb_word::{Text, Word};
@@ -12,6 +14,8 @@ pub enum Status {
     Yes,
     /// What was given is refused.
     Refused(Refusal),
+    /// A named limit was reached before there was an answer.
+    Undecided(Limit),
     /// The answer is no, and this shows it.
     No(Cert),
     /// Memory ran out.
@@ -42,6 +46,34 @@ pub enum FileFault {
     TooLong,
     /// It holds no presentation.
     Presentation(PresError),
+    /// It holds no automaton.
+    Automaton(FsaError),
+    /// It holds an automaton of pairs, where a plain one is needed.
+    NotPlain,
+    /// It holds a plain automaton, where one of pairs is needed.
+    NotPairs,
+    /// Its letters, or what it reads, differ from those of the automaton before it.
+    AlphabetsDiffer,
+}
+
+/// A limit that was reached.
+#[derive(Clone, Copy, Debug, PartialEq, Eq)]
+pub enum Limit {
+    /// The construction has more states than may be.
+    States(Construction),
+}
+
+/// A construction of an automaton whose states are counted.
+#[derive(Clone, Copy, Debug, PartialEq, Eq)]
+pub enum Construction {
+    And,
+    Or,
+    Not,
+    Exists,
+    Concat,
+    Star,
+    Reverse,
+    Equal,
 }
 
 /// What shows that the answer is no.
@@ -49,6 +81,8 @@ pub enum FileFault {
 pub enum Cert {
     /// The oriented relations aren't confluent: `u` and `v` are congruent, different and irreducible.
     NotConfluent { u: Word, v: Word },
+    /// The languages differ: the text is the least that exactly one of the automata accepts.
+    NotEqual { text: Symbols },
 }
 
 /// What failed outside.
@@ -56,10 +90,34 @@ pub enum Cert {
 pub enum Which {
     /// A load of the file of this name.
     Load(Text),
+    /// A store of the file of this name.
+    Store(Text),
     /// The input.
     Input,
     /// The output.
     Output,
+}
+
+impl Construction {
+    ghost use Rattle.std.specs.Prelude.{◌≡◌};
+    ghost use Rattle.kb_cli.specs.Automata.{undecided_line};
+    ghost use Rattle.kb_cli.specs.declared.status.Limit.TheVariants.{States};
+
+    /// The line that says that it has more states than may be.
+    pub fn undecided_line(self) -> &'static str
+        ensures { result.now ≡ undecided_line (States self) }
+    {
+        match self {
+            Construction::And => "undecided states and\n",
+            Construction::Or => "undecided states or\n",
+            Construction::Not => "undecided states not\n",
+            Construction::Exists => "undecided states exists\n",
+            Construction::Concat => "undecided states concat\n",
+            Construction::Star => "undecided states star\n",
+            Construction::Reverse => "undecided states reverse\n",
+            Construction::Equal => "undecided states equal\n",
+        }
+    }
 }
 
 impl Status {
@@ -73,6 +131,7 @@ impl Status {
         match self {
             Status::Yes => 0,
             Status::Refused(_) => 1,
+            Status::Undecided(_) => 2,
             Status::No(_) => 3,
             Status::Memory => 4,
             Status::Fault(_) => 5,

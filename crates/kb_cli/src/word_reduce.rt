@@ -4,11 +4,12 @@ ghost use Rattle.std.specs.Prelude.{◌≡◌, ◌≤◌, List, ℕ, Option, Som
 ghost use Rattle.kb_word.specs.Relations.{relations_of, AreOriented};
 ghost use Rattle.kb_word.specs.Overlap.{IsConfluent};
 ghost use Rattle.kb_presfile.specs.Holds.{Parts, PresentationOf, parts_of};
+ghost use Rattle.kb_cli.specs.FaultCounts.{FaultCounts, counts};
+ghost use Rattle.kb_cli.specs.Loads.{IsHeld};
 ghost use Rattle.kb_cli.specs.Stops.{StopsWith, StopCounts};
-ghost use Rattle.kb_cli.specs.Headline.{FileSays, FileStops, AnswersSay, WordReduceSays, FaultCounts, IsDecided, IsUndecided, no_line};
-ghost use Rattle.kb_cli.specs.declared.status.Status.TheVariants as Status;
-ghost use Rattle.kb_cli.specs.declared.status.Refusal.TheVariants as Refusal;
+ghost use Rattle.kb_cli.specs.Headline.{FileSays, FileStops, AnswersSay, WordReduceSays, IsDecided, IsUndecided, no_line};
 
+use crate::loading::{load_file, refused_as};
 use crate::orienting::{oriented, oriented_relations_keep_the_congruence, oriented_rules_decrease};
 use crate::printed::print_word;
 use crate::status::{Cert, FileFault, Refusal, Status, Which};
@@ -16,14 +17,11 @@ use crate::word_lines::{Stop, answer_input};
 use kb_confluence::{
     Verdict, check, least_by_the_same_congruence, normal_forms_by_confluent_rules_are_least,
 };
-use kb_io::{Failed, Load, Shelf, ShelfFault, Sink, Source, write_all};
+use kb_io::{Failed, Shelf, Sink, Source, write_all};
 use kb_presfile::{PresError, read};
 use kb_rules::{Reducer, Rules, Scan};
 use kb_word::{Memory, Names, Presentation, Text, Word};
 use std::alloc::Global;
-
-/// A file has at most so many bytes.
-const MOST_FILE: usize = 16_777_216;
 
 /// Checks the oriented relations of the file's presentation, and answers the word lines by them.
 pub(crate) fn word_reduce<F: Shelf, I: Source, O: Sink>(
@@ -37,7 +35,7 @@ pub(crate) fn word_reduce<F: Shelf, I: Source, O: Sink>(
     requires { (1 ≤ workers) × (workers ≤ 64) }
     ensures says { F.tells shelf.old → I.tells input.old → O.tells out.old → WordReduceSays (F.holds shelf.old) file.now
         (record { input = I.left input.old; left = I.left input.new; before = O.written out.old; written = O.written out.new }) result }
-    ensures faults { FaultCounts (F.load_faults shelf.old) (F.load_faults shelf.new) (I.faults input.old) (I.faults input.new) (O.faults out.old) (O.faults out.new) result }
+    ensures faults { FaultCounts (counts (F.load_faults shelf.old) (F.store_faults shelf.old) (I.faults input.old) (O.faults out.old)) (counts (F.load_faults shelf.new) (F.store_faults shelf.new) (I.faults input.new) (O.faults out.new)) result }
     ensures files { (name : List ℕ) → F.holds shelf.new name ≡ F.holds shelf.old name }
     ensures stores { F.store_faults shelf.new ≡ F.store_faults shelf.old }
     ensures load_count { F.load_faults shelf.old ≤ F.load_faults shelf.new }
@@ -59,43 +57,27 @@ fn load_presentation<F: Shelf>(
     ensures says { F.tells shelf.old → IfOk result (λ presentation. FileSays (F.holds shelf.old) file.now (parts_of presentation)) }
     ensures few { IfOk result (λ presentation. length presentation.eqs ≤ 65535) }
     ensures stops { F.tells shelf.old → IfErr result (FileStops (F.holds shelf.old) file.now) }
-    ensures faults { IfErr result (λ status. (input output : ℕ) → FaultCounts (F.load_faults shelf.old) (F.load_faults shelf.new) input input output output status) }
+    ensures faults { IfErr result (λ status. (input output : ℕ) → FaultCounts (counts (F.load_faults shelf.old) (F.store_faults shelf.old) input output) (counts (F.load_faults shelf.new) (F.store_faults shelf.new) input output) status) }
     ensures files { (name : List ℕ) → F.holds shelf.new name ≡ F.holds shelf.old name }
     ensures stores { F.store_faults shelf.new ≡ F.store_faults shelf.old }
     ensures load_count { F.load_faults shelf.old ≤ F.load_faults shelf.new }
 {
-    let name = match file.copy(alloc) {
-        Ok(name) => name,
-        Err(Memory) => return Err(Status::Memory),
-    };
-    match shelf.load(alloc, file.as_str(), MOST_FILE) {
-        Ok(Load::Text(bytes)) => presentation_of(alloc, name, bytes.as_slice()),
-        Ok(Load::Missing) => Err(refused(name, FileFault::Missing)),
-        Ok(Load::TooLong) => Err(refused(name, FileFault::TooLong)),
-        Err(ShelfFault::Failed) => Err(Status::Fault(Which::Load(name))),
-        Err(ShelfFault::Memory) => Err(Status::Memory),
-    }
+    let bytes = load_file(alloc, file, shelf)?;
+    presentation_of(alloc, file, &bytes)
 }
 
 /// The presentation that the bytes of a file say, or the refusal of the file.
-fn presentation_of(alloc: Global, name: Text, bytes: &[u8]) -> Result<Presentation, Status>
+fn presentation_of(alloc: Global, file: &Text, bytes: &[u8]) -> Result<Presentation, Status>
     ensures says { IfOk result (λ presentation. PresentationOf bytes.now (parts_of presentation)) }
     ensures few { IfOk result (λ presentation. length presentation.eqs ≤ 65535) }
-    ensures stops { (holds : List ℕ → Option (List ℕ)) → holds name ≡ Some bytes.now → length bytes.now ≤ MOST_FILE → IfErr result (FileStops holds name) }
-    ensures faults { IfErr result (λ status. (a b c d e f : ℕ) → FaultCounts a b c d e f status) }
+    ensures stops { (holds : List ℕ → Option (List ℕ)) → IsHeld holds file.now bytes.now → IfErr result (FileStops holds file.now) }
+    ensures faults { IfErr result (λ status. (a b c d e f g h : ℕ) → FaultCounts (counts a b c d) (counts e f g h) status) }
 {
     match read(alloc, bytes) {
         Ok(presentation) => Ok(presentation),
         Err(PresError::Memory) => Err(Status::Memory),
-        Err(fault) => Err(refused(name, FileFault::Presentation(fault))),
+        Err(fault) => Err(refused_as(alloc, file, FileFault::Presentation(fault))),
     }
-}
-
-/// The file is refused.
-fn refused(name: Text, fault: FileFault) -> Status
-    ensures { result ≡ Status.Refused (Refusal.File name fault) }
-{
-    Status::Refused(Refusal::File { name, fault })
 }
 
 /// Checks the oriented relations, and answers the word lines by them.
@@ -110,7 +92,7 @@ fn answer_by<I: Source, O: Sink>(
     requires few { length presentation.now.eqs ≤ 65535 }
     ensures says { I.tells input.old → O.tells out.old → AnswersSay (parts_of presentation.now)
         (record { input = I.left input.old; left = I.left input.new; before = O.written out.old; written = O.written out.new }) result }
-    ensures faults { (loads : ℕ) → FaultCounts loads loads (I.faults input.old) (I.faults input.new) (O.faults out.old) (O.faults out.new) result }
+    ensures faults { (loads stores : ℕ) → FaultCounts (counts loads stores (I.faults input.old) (O.faults out.old)) (counts loads stores (I.faults input.new) (O.faults out.new)) result }
     ensures input_count { I.faults input.old ≤ I.faults input.new }
     ensures output_count { O.faults out.old ≤ O.faults out.new }
 {
@@ -145,7 +127,7 @@ fn answer_lines<I: Source, O: Sink>(
     requires scan { scan.now ≡ rules.now }
     ensures says { I.tells input.old → O.tells out.old → AnswersSay (parts_of presentation.now)
         (record { input = I.left input.old; left = I.left input.new; before = O.written out.old; written = O.written out.new }) result }
-    ensures faults { (loads : ℕ) → FaultCounts loads loads (I.faults input.old) (I.faults input.new) (O.faults out.old) (O.faults out.new) result }
+    ensures faults { (loads stores : ℕ) → FaultCounts (counts loads stores (I.faults input.old) (O.faults out.old)) (counts loads stores (I.faults input.new) (O.faults out.new)) result }
     ensures input_count { I.faults input.old ≤ I.faults input.new }
     ensures output_count { O.faults out.old ≤ O.faults out.new }
 {
@@ -163,8 +145,8 @@ fn answer_lines<I: Source, O: Sink>(
 fn status_of(stop: Stop) -> Status
     ensures says { (parts : Parts) (before written input left : List ℕ) → IsDecided parts → StopsWith parts before written input left stop
         → AnswersSay parts (record { input = input; left = left; before = before; written = written }) result }
-    ensures faults { (loads input_before input_after output_before output_after : ℕ) → StopCounts input_before input_after output_before output_after stop
-        → FaultCounts loads loads input_before input_after output_before output_after result }
+    ensures faults { (loads stores input_before input_after output_before output_after : ℕ) → StopCounts input_before input_after output_before output_after stop
+        → FaultCounts (counts loads stores input_before output_before) (counts loads stores input_after output_after) result }
 {
     match stop {
         Stop::Refused { number, fault } => Status::Refused(Refusal::Line { number, fault }),
@@ -186,7 +168,7 @@ fn say_no<O: Sink>(
     requires { IsUndecided (parts_of presentation.now) u v }
     ensures says { (input : List ℕ) → O.tells out.old → AnswersSay (parts_of presentation.now)
         (record { input = input; left = input; before = O.written out.old; written = O.written out.new }) result }
-    ensures faults { (loads input : ℕ) → FaultCounts loads loads input input (O.faults out.old) (O.faults out.new) result }
+    ensures faults { (loads stores input : ℕ) → FaultCounts (counts loads stores input (O.faults out.old)) (counts loads stores input (O.faults out.new)) result }
     ensures output_count { O.faults out.old ≤ O.faults out.new }
 {
     let line = match line_of_no(alloc, &presentation.names, &u, &v) {

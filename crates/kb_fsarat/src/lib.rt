@@ -17,6 +17,8 @@ mod layers;
 mod restarts;
 mod reversal;
 mod successor;
+#[cfg(test)]
+mod tests;
 
 pub use concatenation::concat;
 pub use enumeration::Enumerate;

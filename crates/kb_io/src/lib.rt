@@ -8,7 +8,7 @@
 //! count rose in that call, so what never fails (its count is 0 for good) never answers one.
 //! `write_all` appends all of its bytes, or after a failure a prefix of them.
 //!
-//! Nothing stands below. `kb_share` stands on the gate, `kb_cli` on the rest.
+//! Nothing stands below; `kb_cli` stands above.
 #![tactic(auto)]
 
 mod failed;

@@ -1,5 +1,5 @@
--- Faults of sides, of equations and of lists of equations.
-use Rattle.std.proofs.Common.{◌≡◌, ℕ, zero, suc, ◌+◌, ◌<◌, List, [], ◌∷◌, ◌++◌, map, length, take, get_or, slice_get, Option, Some, None, Ok, ◌⊎◌, inl, inr, refl, sym, ap, subst, ◌∙◌, arith}
+-- Pairs of words, and faults of sides, of equations and of lists of equations.
+use Rattle.std.proofs.Common.{◌≡◌, ℕ, zero, suc, ◌+◌, ◌<◌, List, [], ◌∷◌, ◌++◌, map, length, take, get_or, Option, Some, None, Ok, ◌⊎◌, inl, inr, refl, sym, ap, subst, ◌∙◌, arith}
 use Rattle.std.specs.Option.{option_map}
 use Rattle.std.proofs.lemmas.List.{length-map, map-append, map_more}
 use Rattle.std.proofs.lemmas.Option.{slice_get-map, slice_get_read}
@@ -8,13 +8,29 @@ use Rattle.kb_record.specs.Meaning.{word_meaning}
 use Rattle.kb_record.specs.Tree.{Factors, Value, list_value, Fields, Places, no_places, place}
 use Rattle.kb_record.specs.View.{places_of, value_view}
 use Rattle.kb_record.specs.declared.tree.Value as code
-use Rattle.kb_presfile.specs.Fields.{value_of, equation_value, list_of_equations, places_view, value_at, place_count}
+use Rattle.kb_fields.specs.Fields.{value_of, places_view, value_at, place_count}
+use Rattle.kb_presfile.specs.Kinds.{two_places, equation_value, list_of_equations}
 use Rattle.kb_presfile.specs.Holds.{IsEquation, AreMeanings, AreEquations, HasNames, HasInverses}
 use Rattle.kb_presfile.specs.Faults.{name_of, SidesHaveFault, PlaceHasFault, PlacesOfEquationsHaveFault, IsOfKind, HasFieldFault}
-use Rattle.kb_presfile.proofs.ListingLemmas.{places_of-injective}
+use Rattle.kb_fields.proofs.ListingLemmas.{places_of-injective, list_same}
+use Rattle.kb_fields.proofs.PlaceLemmas.{value_at-places_of}
 use Rattle.kb_presfile.specs.declared.error.Field.TheVariants as kinds
 use Rattle.kb_presfile.specs.declared.error.PresError.{PresError}
 use Rattle.kb_presfile.specs.declared.error.PresError.TheVariants as errors
+
+-- a list with two places
+pub count_two : (ps : List (Option Value)) (a b : Value) → places_of ps ≡ place a (place b no_places) → length ps ≡ 2
+count_two [] a b e = cc
+count_two (Some v ∷ []) a b e = cc
+count_two (None ∷ ps) a b e = cc
+count_two (Some v ∷ (None ∷ ps)) a b e = cc
+count_two (Some v ∷ (Some w ∷ [])) a b e = refl
+count_two (Some v ∷ (Some w ∷ (None ∷ ps))) a b e = cc
+count_two (Some v ∷ (Some w ∷ (Some x ∷ ps))) a b e = cc
+
+-- another number of places than two are no two words
+pub are_no_two_words : (places : List (Option code.Value)) → (length places ≡ 2 → ⊥) → (sides : Factors × Factors) → places_view places ≡ two_places sides → ⊥
+are_no_two_words places other sides e = other (sym (length-map places (option_map value_view)) ∙ count_two (map (option_map value_view) places) _ _ e)
 
 -- a side's fault is the equation's
 pub side_fault : (names : List (List ℕ)) (inverses : List (Option ℕ)) (here : Option Value) (sides : Factors × Factors) (error : PresError)
@@ -23,19 +39,6 @@ side_fault names inverses here sides (errors.WrongKind kinds.Equations) is (inl 
 side_fault names inverses here sides (errors.WrongKind kinds.Equations) is (inr fault) = absurd fault
 side_fault names inverses here sides errors.Memory is fault = tt
 side_fault names inverses here sides error is fault = (sides, is, fault)
-
-value_at-places_of : (ps : List (Option Value)) (k : ℕ) (p : Option Value) → slice_get ps k ≡ Some p → (value_at (places_of ps) k ≡ p) × (k < place_count (places_of ps))
-value_at-places_of [] k p e = cc
-value_at-places_of (Some v ∷ ps) zero p e = (inner e, omega arith)
-  where
-    inner : {a b : Option Value} → Some a ≡ Some b → a ≡ b
-    inner h = cc
-value_at-places_of (None ∷ ps) zero p e = (inner e, omega arith)
-  where
-    inner : {a b : Option Value} → Some a ≡ Some b → a ≡ b
-    inner h = cc
-value_at-places_of (Some v ∷ ps) (suc k) p e = let rest = value_at-places_of ps k p e in (rest.0, omega (arith, rest.1))
-value_at-places_of (None ∷ ps) (suc k) p e = let rest = value_at-places_of ps k p e in (rest.0, omega (arith, rest.1))
 
 -- a place's fault is the list's
 pub place_fault : (names : List (List ℕ)) (inverses : List (Option ℕ)) (ps : List (Option code.Value)) (k : ℕ) (p : Option code.Value) (error : PresError)
@@ -87,14 +90,6 @@ equations_more names inverses ps k p equations pair within at are is = record {
         ∙ (ap (λ (v : Option Value). seen ++ v ∷ []) last ∙ (ap (λ (vs : List (Option Value)). vs ++ Some (equation_value is.sides) ∷ []) first
         ∙ sym (map-append (λ (s : Factors × Factors). Some (equation_value s)) are.sides (is.sides ∷ []))))
 
-count_places : (ps : List (Option Value)) → place_count (places_of ps) ≡ length ps
-count_places [] = refl
-count_places (Some v ∷ ps) = ap suc (count_places ps)
-count_places (None ∷ ps) = ap suc (count_places ps)
-
-pub count_view : (ps : List (Option code.Value)) → place_count (places_view ps) ≡ length ps
-count_view ps = count_places (map (option_map value_view) ps) ∙ length-map ps (option_map value_view)
-
 -- what stands at a place of a list of equations is one
 pub record IsEquationAt (list : Places) (k : ℕ) : Type 0 where
   pub sides : Factors × Factors
@@ -105,9 +100,6 @@ equation_at [] k within = absurd (omega (arith, within))
 equation_at (s ∷ sides) zero within = record { sides = s; stands = refl }
 equation_at (s ∷ sides) (suc k) within =
     let rest = equation_at sides k (omega (arith, within)) in record { sides = rest.sides; stands = rest.stands }
-
-pub list_same : {p q : Places} → list_value p ≡ list_value q → p ≡ q
-list_same e = cc
 
 -- a place that isn't an equation: the value is of another kind
 other_kind : (given : Fields) (list : Places) (k : ℕ) → k < place_count list → ((sides : Factors × Factors) → value_at list k ≡ Some (equation_value sides) → ⊥)

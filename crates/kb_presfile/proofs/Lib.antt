@@ -1,12 +1,7 @@
 pub mod EquationLemmas
 pub mod InverseLemmas
 pub mod LetterSteps
-pub mod ListingLemmas
 pub mod NoFault
-pub mod Outcomes
 pub mod OverLemmas
 pub mod PlaceLemmas
-pub mod RepeatLemmas
-pub mod TakenLemmas
 pub mod UniqueParts
-pub mod ViewLemmas

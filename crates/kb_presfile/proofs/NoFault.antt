@@ -8,15 +8,17 @@ use Rattle.kb_record.specs.Tree.{Factors, Value, string_value, list_value, Field
 use Rattle.kb_record.specs.Grammar.{TextOf, IsText}
 use Rattle.kb_record.specs.Nesting.{deepest, text_nesting, IsTooDeep}
 use Rattle.kb_record.specs.Meaning.{WordFault, letter_from, word_meaning}
-use Rattle.kb_presfile.specs.Fields.{value_of, equation_value, list_of_equations, list_of_places, value_at, place_count}
-use Rattle.kb_presfile.specs.Holds.{Parts, place_at, IsShortlex, HoldsPlaces, GivesInverses, IsTaken, HasNames, HasInverses, AreMeanings, HoldsPresentation, PresentationOf}
+use Rattle.kb_fields.specs.Fields.{value_of, value_at, place_count}
+use Rattle.kb_fields.specs.Generators.{IsTaken}
+use Rattle.kb_fields.proofs.ListingLemmas.{list_same, some_value}
+use Rattle.kb_presfile.specs.Kinds.{equation_value, list_of_equations, list_of_places}
+use Rattle.kb_presfile.specs.Holds.{Parts, place_at, IsShortlex, HoldsPlaces, GivesInverses, HasNames, HasInverses, AreMeanings, HoldsPresentation, PresentationOf}
 use Rattle.kb_presfile.specs.Faults.{IsFaultOf, SidesHaveFault, PlaceIsUnknown, IsNotMutual, InversesHaveFault, HasFieldFault, HasPresFault}
 use Rattle.kb_presfile.specs.declared.error.Field.TheVariants as kinds
 use Rattle.kb_presfile.specs.declared.error.PresError.{PresError}
 use Rattle.kb_presfile.specs.declared.error.PresError.TheVariants as errors
 use Rattle.kb_presfile.proofs.InverseLemmas.{letter_within, inverse_read, inverse_is}
-use Rattle.kb_presfile.proofs.PlaceLemmas.{some_value, one_list_of_names}
-use Rattle.kb_presfile.proofs.EquationLemmas.{list_same}
+use Rattle.kb_presfile.proofs.PlaceLemmas.{one_list_of_names}
 use Rattle.kb_presfile.proofs.UniqueParts.{one_list_of_places, one_list_of_inverses, sides_same}
 
 -- a word that means something has no fault

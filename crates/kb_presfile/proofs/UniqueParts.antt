@@ -5,11 +5,11 @@ use Rattle.std.proofs.lemmas.Option.{get_or_from_slice_get}
 use Rattle.kb_word.specs.Words.{Pair}
 use Rattle.kb_record.specs.Tree.{Factors, Value, Fields}
 use Rattle.kb_record.specs.Meaning.{WordFault}
-use Rattle.kb_presfile.specs.Fields.{equation_value, list_of_equations}
+use Rattle.kb_presfile.specs.Kinds.{equation_value, list_of_equations}
 use Rattle.kb_presfile.specs.Holds.{Parts, place_at, HoldsPlaces, StandFor, HasInverses, AreMeanings, HasEquations, HoldsPresentation}
-use Rattle.kb_presfile.proofs.PlaceLemmas.{some_value, places_injective, one_list_of_names}
-use Rattle.kb_presfile.proofs.ListingLemmas.{places_of-injective}
-use Rattle.kb_presfile.proofs.EquationLemmas.{list_of_equations-places_of, list_same}
+use Rattle.kb_fields.proofs.ListingLemmas.{places_of-injective, list_same, some_value}
+use Rattle.kb_presfile.proofs.PlaceLemmas.{places_injective, one_list_of_names}
+use Rattle.kb_presfile.proofs.EquationLemmas.{list_of_equations-places_of}
 
 -- the text has one list of places for inverses
 pub one_list_of_places : (value : Option Value) (ps qs : List (Option (List ℕ))) → HoldsPlaces value ps → HoldsPlaces value qs → ps ≡ qs

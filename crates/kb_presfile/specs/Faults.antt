@@ -5,8 +5,10 @@ use Rattle.kb_record.specs.Tree.{Factors, Value, string_value, list_value, Field
 use Rattle.kb_record.specs.Grammar.{TextOf, IsText}
 use Rattle.kb_record.specs.Nesting.{deepest, text_nesting, IsTooDeep}
 use Rattle.kb_record.specs.Meaning.{WordFault, unknown_generator, no_inverse, too_long, letter_from, word_meaning}
-use Rattle.kb_presfile.specs.Fields.{value_of, bare_name, list_of_names, list_of_places, list_of_equations, equation_value, value_at, HasFieldTwice, place_count}
-use Rattle.kb_presfile.specs.Holds.{most_generators, most_equations, place_at, HoldsPlaces, HasNames, HasInverses, IsTaken}
+use Rattle.kb_fields.specs.Fields.{value_of, bare_name, list_of_names, value_at, HasFieldTwice, place_count}
+use Rattle.kb_fields.specs.Generators.{most_generators, IsTaken}
+use Rattle.kb_presfile.specs.Kinds.{list_of_places, list_of_equations, equation_value}
+use Rattle.kb_presfile.specs.Holds.{most_equations, place_at, HoldsPlaces, HasNames, HasInverses}
 use Rattle.kb_presfile.specs.declared.error.Field.{Field}
 use Rattle.kb_presfile.specs.declared.error.Field.TheVariants as kinds
 use Rattle.kb_presfile.specs.declared.error.PresError.{PresError}
@@ -121,12 +123,6 @@ pub record EquationHasFault (fields : Fields) (error : PresError) : Type 0 where
   pub places : Places
   pub listed : value_of fields (codes "equations") ≡ Some (list_value places)
   pub fault : SomePlaceHasFault names inverses places error
-
--- the refusal names a name that a record in the value has twice, or is want of memory
-abbrev pub IsRepeatIn : Value → PresError → Type 0
-IsRepeatIn value (errors.FieldTwice name) = HasFieldTwice value name
-IsRepeatIn value errors.Memory = Unit {0}
-IsRepeatIn value _ = ⊥
 
 -- the fields have the fault
 abbrev pub HasFieldFault : Fields → PresError → Type 0

@@ -1,5 +1,5 @@
 -- What a text of a presentation holds.
-use Rattle.std.specs.Prelude.{◌≡◌, ℕ, ◌<◌, ◌≤◌, ◌⊎◌, List, [], ◌∷◌, length, codes, Contains, Option, Some, None, slice_get, option_and_then, Ok}
+use Rattle.std.specs.Prelude.{◌≡◌, ℕ, ◌<◌, ◌≤◌, List, [], ◌∷◌, length, codes, Option, Some, None, slice_get, option_and_then, Ok}
 use Rattle.kb_word.specs.Words.{Pair}
 use Rattle.kb_word.specs.Relations.{inverse_letter}
 use Rattle.kb_word.specs.declared.presentation.Presentation.{Presentation}
@@ -7,12 +7,11 @@ use Rattle.kb_record.specs.Tree.{Factors, Value, string_value, list_value, Field
 use Rattle.kb_record.specs.Grammar.{TextOf}
 use Rattle.kb_record.specs.Nesting.{deepest, text_nesting}
 use Rattle.kb_record.specs.Meaning.{letter_from, word_meaning}
-use Rattle.kb_presfile.specs.Fields.{value_of, bare_name, list_of_names, list_of_places, list_of_equations, equation_value, place_count, HasFieldTwice, StandsTwice}
+use Rattle.kb_fields.specs.Fields.{value_of, bare_name, list_of_names, place_count, HasFieldTwice}
+use Rattle.kb_fields.specs.Generators.{AreGeneratorNames}
+use Rattle.kb_presfile.specs.Kinds.{list_of_places, list_of_equations, equation_value}
 
--- a presentation has at most so many generators, and so many equations
-abbrev pub most_generators : ℕ
-most_generators = 126
-
+-- a presentation has at most so many equations
 abbrev pub most_equations : ℕ
 most_equations = 65535
 
@@ -35,19 +34,6 @@ HoldsPlaces (Some value) places = value ≡ list_value (list_of_places places)
 -- the name at a place, where places that are missing are empty
 abbrev pub place_at : List (Option (List ℕ)) → ℕ → Option (List ℕ)
 place_at places k = option_and_then (λ found. found) (slice_get places k)
-
--- the name stands for the empty word or for padding
-abbrev pub IsReserved : List ℕ → Type 0
-IsReserved name = (name ≡ codes "IdWord") ⊎ (name ≡ codes "_")
-
--- a generator can't have the name: it stands twice, or is `IdWord` or `_`
-abbrev pub IsTaken : List (List ℕ) → List ℕ → Type 0
-IsTaken names name = StandsTwice names name ⊎ (Contains names name × IsReserved name)
-
--- no name is `IdWord` or `_`, and none stands twice
-pub record AreGeneratorNames (names : List (List ℕ)) : Type 0 where
-  pub few : length names ≤ most_generators
-  pub free : (name : List ℕ) → ¬ IsTaken names name
 
 -- The letters that names at places stand for: each generator's is that of the name at its place.
 pub record StandFor (names : List (List ℕ)) (places : List (Option (List ℕ))) (letters : List (Option ℕ)) : Type 0 where

@@ -1,3 +1,3 @@
-pub mod Fields
+pub mod Kinds
 pub mod Holds
 pub mod Faults

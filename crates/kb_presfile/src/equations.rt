@@ -5,7 +5,7 @@ ghost use Rattle.std.specs.Option.{option_map};
 ghost use Rattle.kb_record.specs.Meaning.{WordFault, word_meaning};
 ghost use Rattle.kb_record.specs.Faults.{Evaluates};
 ghost use Rattle.kb_record.specs.View.{value_view, word_view};
-ghost use Rattle.kb_presfile.specs.Fields.{fields_view, places_view};
+ghost use Rattle.kb_fields.specs.Fields.{fields_view, places_view};
 ghost use Rattle.kb_presfile.specs.Holds.{HasNames, HasInverses, HasEquations, AreEquations, IsEquation};
 ghost use Rattle.kb_presfile.specs.Faults.{IsFaultOf, PlaceHasFault, PlacesOfEquationsHaveFault, HasFieldFault};
 

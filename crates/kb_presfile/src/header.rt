@@ -2,12 +2,12 @@
 
 ghost use Rattle.std.specs.Prelude.{◌≡◌, ◌⊎◌, codes, Some, None, IfErr, OnOk};
 ghost use Rattle.kb_record.specs.Tree.{string_value};
-ghost use Rattle.kb_presfile.specs.Fields.{fields_view, value_of, bare_name};
+ghost use Rattle.kb_fields.specs.Fields.{fields_view, value_of, bare_name};
 ghost use Rattle.kb_presfile.specs.Faults.{HasFieldFault};
 
 use crate::error::{Field, PresError};
-use crate::fields::{field_named, needed};
-use crate::values;
+use crate::fields::needed;
+use kb_fields::field_named;
 use kb_record::Value;
 
 /// Refuses a file that doesn't say `isRWS := true`.
@@ -16,7 +16,7 @@ pub fn check_is_rws<'a>(fields: &[(&'a str, Value<'a>)]) -> Result<(), PresError
     ensures fault { IfErr result (HasFieldFault (fields_view fields.now)) }
 {
     let value = needed(fields, Field::IsRws)?;
-    match values::bare_name(value) {
+    match kb_fields::bare_name(value) {
         Some("true") => Ok(()),
         _ => Err(PresError::WrongKind {
             field: Field::IsRws,

@@ -4,13 +4,13 @@ ghost use Rattle.std.specs.Prelude.{◌≡◌, ◌≢◌, ◌↔◌, ◌⊎◌, 
 ghost use Rattle.std.specs.Option.{option_copied};
 ghost use Rattle.kb_word.specs.Relations.{inverse_letter};
 ghost use Rattle.kb_record.specs.Meaning.{letter_from};
-ghost use Rattle.kb_presfile.specs.Fields.{fields_view, value_of};
+ghost use Rattle.kb_fields.specs.Fields.{fields_view, value_of};
 ghost use Rattle.kb_presfile.specs.Holds.{HasNames, HasInverses, place_at, HoldsPlaces, StandFor, AreMutual, GivesInverses};
 ghost use Rattle.kb_presfile.specs.Faults.{PlacesHaveFault, IsOneSided, HasFieldFault};
 
 use crate::error::{Field, PresError};
-use crate::fields::field_named;
 use crate::values::places_listed;
+use kb_fields::field_named;
 use kb_record::Value;
 use kb_word::{Inverses, Letter, Names, Text};
 use std::alloc::Global;

@@ -28,19 +28,20 @@
 //!
 //! # How it is made
 //!
-//! - `fields` looks up fields, and finds names that stand twice in a record, nested ones too, by a set of the
-//!   names seen. It recurses into values, whose nesting the parser bounds.
-//! - `values` tells the kinds of values apart: Names, lists of Names, lists of places, pairs of words.
+//! - `fields` refuses a name that stands twice in a record, and a needed field that is absent.
+//! - `values` tells lists of places and pairs of words apart from other values.
 //! - `header`, `generators`, `inverses` and `equations` read a field each. Words are evaluated over the presentation
 //!   that has the names and the inverses, and no equations yet.
 //! - `reader` joins them.
 //!
-//! Definitions speak of the tree of the text (`specs/Tree.antt` of `kb_record`): `specs/Fields.antt` of fields and of
-//! the kinds of values, `specs/Holds.antt` of what a text says, `specs/Faults.antt` of what each refusal means.
-//! Where a field's name stands twice, "the value of the field" is that of the first.
+//! Definitions speak of the tree of the text (`specs/Tree.antt` of `kb_record`) and of its fields and names of
+//! generators (`specs/` of `kb_fields`): `specs/Kinds.antt` of the kinds of values, `specs/Holds.antt` of what a
+//! text says, `specs/Faults.antt` of what each refusal means. Where a field's name stands twice, "the value of the
+//! field" is that of the first.
 //!
-//! Below stand `kb_record`, which reads trees and evaluates words, and `kb_word`, whose presentations are the
-//! answers. Above stand the commands that load a presentation.
+//! Below stand `kb_fields`, which looks up fields and reads names of generators, `kb_record`, which reads trees and
+//! evaluates words, and `kb_word`, whose presentations are the answers. Above stand the commands that load a
+//! presentation.
 #![tactic(auto)]
 
 mod equations;

@@ -4,7 +4,7 @@ ghost use Rattle.std.specs.Prelude.{◌≡◌, ◌≤◌, IfOk, IfErr};
 ghost use Rattle.kb_record.specs.Grammar.{TextOf};
 ghost use Rattle.kb_record.specs.Nesting.{deepest, text_nesting};
 ghost use Rattle.kb_record.specs.View.{text_view};
-ghost use Rattle.kb_presfile.specs.Fields.{fields_view};
+ghost use Rattle.kb_fields.specs.Fields.{fields_view};
 ghost use Rattle.kb_presfile.specs.Holds.{HoldsPresentation, PresentationOf, parts_of};
 ghost use Rattle.kb_presfile.specs.Faults.{HasFieldFault, HasPresFault};
 

@@ -1,69 +1,17 @@
 //! The kinds of values that a presentation's fields hold.
 
-ghost use Rattle.std.specs.Prelude.{◌≡◌, ◌≢◌, ℕ, List, map, Option, Some, None, MatchOption, IfOk, IfSome, IfNone};
+ghost use Rattle.std.specs.Prelude.{◌≡◌, ◌≢◌, ℕ, List, map, Option, Some, MatchOption, IfOk, IfSome, IfNone};
 ghost use Rattle.std.specs.Option.{option_copied, option_map};
-ghost use Rattle.kb_record.specs.Tree.{Factors, named, list_value, word_value};
-ghost use Rattle.kb_record.specs.View.{factor_view, value_view, word_view};
-ghost use Rattle.kb_presfile.specs.Fields.{list_of_names, list_of_places, places_view, two_places, equation_value};
-ghost use Rattle.kb_presfile.specs.Fields as kinds;
+ghost use Rattle.kb_record.specs.Tree.{Factors, list_value, word_value};
+ghost use Rattle.kb_record.specs.View.{value_view, word_view};
+ghost use Rattle.kb_fields.specs.Fields as fields;
+ghost use Rattle.kb_fields.specs.Fields.{places_view};
+ghost use Rattle.kb_presfile.specs.Kinds.{list_of_places, two_places, equation_value};
 
-use kb_record::{Expr, Factor, Value};
+use kb_fields::bare_name;
+use kb_record::{Expr, Value};
 use kb_word::Memory;
 use std::alloc::Global;
-
-/// The text of a value that is a Name: a word of one factor that is a bare name.
-pub fn bare_name<'a>(value: &Value<'a>) -> Option<&'a str>
-    ensures found { IfSome result (λ name. value_view value.now ≡ kinds.bare_name name.now) }
-    ensures none { IfNone result ((name : List ℕ) → value_view value.now ≢ kinds.bare_name name) }
-{
-    let Value::Word(word) = value else {
-        return None;
-    };
-    if word.factors.len() != 1 {
-        return None;
-    }
-    name_alone(&word.factors[0])
-}
-
-/// The name of a factor that is a name without a power.
-fn name_alone<'a>(factor: &Factor<'a>) -> Option<&'a str>
-    ensures found { IfSome result (λ name. factor_view factor.now ≡ named name.now None) }
-    ensures none { IfNone result ((name : List ℕ) → factor_view factor.now ≢ named name None) }
-{
-    match factor {
-        Factor::Name(name, None) => Some(name),
-        _ => None,
-    }
-}
-
-/// The names of a value that is a list of Names.
-pub fn names_listed<'a>(alloc: Global, value: &Value<'a>) -> Result<Option<Vec<&'a str>>, Memory>
-    ensures listed { IfOk result (λ names. IfSome names (λ names. value_view value.now ≡ list_value (list_of_names (map (λ name. name.now) names.items)))) }
-    ensures other { IfOk result (λ names. IfNone names ((names : List (List ℕ)) → value_view value.now ≢ list_value (list_of_names names))) }
-{
-    let Value::List(places) = value else {
-        return Ok(None);
-    };
-    let mut names = Vec::with_capacity(alloc, places.len())?;
-    for place in places {
-        let Some(name) = name_at(place) else {
-            return Ok(None);
-        };
-        names.push(name)?;
-    }
-    Ok(Some(names))
-}
-
-/// The Name at a place of a list.
-fn name_at<'a>(place: &Option<Value<'a>>) -> Option<&'a str>
-    ensures found { IfSome result (λ name. option_map value_view place.now ≡ Some (kinds.bare_name name.now)) }
-    ensures none { IfNone result ((name : List ℕ) → option_map value_view place.now ≢ Some (kinds.bare_name name)) }
-{
-    match place {
-        Some(value) => bare_name(value),
-        None => None,
-    }
-}
 
 /// The names at the places of a value that is a list of Names and empty places.
 pub fn places_listed<'a>(
@@ -88,8 +36,8 @@ pub fn places_listed<'a>(
 
 /// The Name at a place of a list, or that it is empty. `None` where something else stands there.
 fn name_or_empty<'a>(place: &Option<Value<'a>>) -> Option<Option<&'a str>>
-    ensures found { IfSome result (λ name. option_map value_view place.now ≡ option_map kinds.bare_name (option_copied name)) }
-    ensures none { IfNone result ((name : Option (List ℕ)) → option_map value_view place.now ≢ option_map kinds.bare_name name) }
+    ensures found { IfSome result (λ name. option_map value_view place.now ≡ option_map fields.bare_name (option_copied name)) }
+    ensures none { IfNone result ((name : Option (List ℕ)) → option_map value_view place.now ≢ option_map fields.bare_name name) }
 {
     match place {
         Some(value) => bare_name(value).map(Some),

@@ -104,7 +104,7 @@ none_from b rest none token tail first = spelled first.spelling first.spelled fi
         none more tail (subst (λ x. Kind x more) at (kind_of token c more s)) (same_tail w)
 
 -- what the first byte rules out
-word_only : (b : ℕ) (more : List ℕ) → BeginsNames b → Kind b more → GoesOnAsName more
+pub word_only : (b : ℕ) (more : List ℕ) → BeginsNames b → Kind b more → GoesOnAsName more
 word_only b more h (word at goes) = goes
 word_only b more h (digits at each few) = absurd (omega arith)
 word_only b more h (negative at each some few) = absurd (omega arith)
@@ -113,7 +113,7 @@ word_only b more h (assigns at whole) = absurd (omega arith)
 word_only b more h (ranges at whole) = absurd (omega arith)
 word_only b more h (single at whole) = absurd (omega arith)
 
-digits_only : (b : ℕ) (more : List ℕ) → IsDigit b → Kind b more → AreFewDigits (b ∷ more)
+pub digits_only : (b : ℕ) (more : List ℕ) → IsDigit b → Kind b more → AreFewDigits (b ∷ more)
 digits_only b more h (word at goes) = absurd (omega arith)
 digits_only b more h (digits at each few) = ((at, each), few)
 digits_only b more h (negative at each some few) = absurd (omega arith)
@@ -122,7 +122,7 @@ digits_only b more h (assigns at whole) = absurd (omega arith)
 digits_only b more h (ranges at whole) = absurd (omega arith)
 digits_only b more h (single at whole) = absurd (omega arith)
 
-negative_only : (b : ℕ) (more : List ℕ) → b ≡ 45 → Kind b more → AreFewDigits more × (0 < length more)
+pub negative_only : (b : ℕ) (more : List ℕ) → b ≡ 45 → Kind b more → AreFewDigits more × (0 < length more)
 negative_only b more h (word at goes) = absurd (omega arith)
 negative_only b more h (digits at each few) = absurd (omega arith)
 negative_only b more h (negative at each some few) = ((each, few), some)

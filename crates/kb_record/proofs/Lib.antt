@@ -22,3 +22,8 @@ pub mod Lexings
 pub mod TokenFronts
 pub mod Shallow
 pub mod WordMeanings
+pub mod PrintedPieces
+pub mod Numerals
+pub mod SpelledTrees
+pub mod TokenTexts
+pub mod PrintedTokens

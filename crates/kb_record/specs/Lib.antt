@@ -9,3 +9,5 @@ pub mod Lexemes
 pub mod Faults
 pub mod Reading
 pub mod Refusals
+pub mod Layout
+pub mod Printing

@@ -1,6 +1,7 @@
 -- The trees of `specs/Tree.antt` that the types of the code stand for.
 use Rattle.std.specs.Prelude.{ℕ, List, [], ◌∷◌, Option, Some, None, map}
 use Rattle.std.specs.Borrow.{Bor}
+use Rattle.std.specs.Option.{option_map}
 use Rattle.kb_record.specs.Tree.{Factor as FactorTree, named, grouped, Factors, no_factors, factor, Value as ValueTree, number_value, string_value, record_value, list_value, range_value, word_value, Fields, no_fields, field, Places, no_places, place, empty_place, TextTree}
 use Rattle.kb_record.specs.declared.tree.Factor.{Factor, fold-Factor}
 use Rattle.kb_record.specs.declared.tree.Factor.TheOpen.{Factor-F}
@@ -51,3 +52,11 @@ value_view = fold-Value ValueTree value_step
 -- the tree of a text
 abbrev pub text_view : Rec → TextTree
 text_view text = record { title = text.name.now; fields = fields_of (map (λ (f : Bor (List ℕ) × Value). (f.0, value_view f.1)) text.fields.items) }
+
+-- the fields of a record as the code has them, as a tree
+abbrev pub fields_view : List (Bor (List ℕ) × Value) → Fields
+fields_view fields = fields_of (map (λ (f : Bor (List ℕ) × Value). (f.0, value_view f.1)) fields)
+
+-- the places of a list as the code has them, as a tree
+abbrev pub places_view : List (Option Value) → Places
+places_view places = places_of (map (option_map value_view) places)

@@ -3,7 +3,9 @@
 ghost use Rattle.std.specs.Prelude.{◌≡◌, ◌≤◌, ℕ, List};
 ghost use Rattle.kb_record.specs.Token.{Token};
 ghost use Rattle.kb_record.specs.Tree.{Factors, TextTree};
-ghost use Rattle.kb_record.specs.Grammar.{IsText, IsWordText, TextOf, WordOf};
+ghost use Rattle.kb_record.specs.Grammar.{AreFields, IsText, IsWordText, TextOf, WordOf};
+ghost use Rattle.kb_record.specs.Layout.{AreSpelledFields, printed};
+ghost use Rattle.kb_record.specs.Spelling.{IsName};
 ghost use Rattle.kb_record.specs.Nesting.{deepest, text_nesting, word_nesting, IsTooDeep};
 
 /// Bytes are a text in one way at most.
@@ -28,4 +30,16 @@ pub fn a_shallow_text_is_not_too_deep()
 pub fn a_shallow_word_is_not_too_deep()
     ensures { (bytes : List ℕ) (factors : Factors) → WordOf bytes factors → word_nesting factors ≤ deepest
         → ¬ IsTooDeep (λ tokens. (other : Factors) × IsWordText tokens other) bytes }
+{}
+
+/// The printed text of a tree whose names, numbers and strings can be spelled is a text of that tree.
+pub fn a_printed_text_is_read_again()
+    ensures { (text : TextTree) → IsName text.title → AreFields text.fields → AreSpelledFields text.fields
+        → TextOf (printed text) text }
+{}
+
+/// The tree of a text can be printed: its names, numbers and strings can be spelled.
+pub fn what_is_read_can_be_printed()
+    ensures { (bytes : List ℕ) (text : TextTree) → TextOf bytes text
+        → IsName text.title × AreFields text.fields × AreSpelledFields text.fields }
 {}

@@ -11,9 +11,17 @@
 #[cfg(test)]
 mod answers;
 #[cfg(test)]
+mod automata;
+#[cfg(test)]
+mod automata_row;
+#[cfg(test)]
+mod automata_texts;
+#[cfg(test)]
 mod faults;
 #[cfg(test)]
 mod limits;
+#[cfg(test)]
+mod refused_automata;
 #[cfg(test)]
 mod refused_files;
 #[cfg(test)]

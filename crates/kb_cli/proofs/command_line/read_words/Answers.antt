@@ -1,7 +1,7 @@
-use Rattle.std.proofs.Common.{refl, map, subst, string_bytes, IfSome}
+use Rattle.std.proofs.Common.{refl, map, subst, string_bytes}
 use Rattle.clap.specs.Words.{app_of, subcommand_rows_of}
 use Rattle.clap.specs.declared.error.kind.ErrorKind.TheVariants.{ValueValidation}
-use Rattle.kb_cli.specs.CommandLine.{Says, no_number}
+use Rattle.kb_cli.specs.CommandLine.{IsReading, Says, no_number}
 use Rattle.kb_cli.specs.declared.command_line.Command.{Command}
 use Rattle.kb_cli.proofs.Line.{refused, explained, faultless_line, entered_line}
 use Rattle.kb_cli.proofs.command_line.read_words.Goals as goal
@@ -18,7 +18,7 @@ returns-in-Some-clause-ok c =
     record {
       faultless = faultless_line (app_of c.in_ok-line_command.field-0) words is c.in-Ok.ensures.kinds;
       says = subst (λ entered. Says entered c.in-Some.command) (entered_line (app_of c.in_ok-line_command.field-0) words c.in-Ok.matches is c.in-Ok.ensures.matches)
-          (subst (λ found. IfSome found (λ command. Says (subcommand_rows_of c.in-Ok.matches) command)) c.in-Some.is c.in_ok-command.ensures.some);
+          (subst (IsReading (subcommand_rows_of c.in-Ok.matches)) c.in-Some.is c.in_ok-command.ensures);
     }
 
 pub returns-clause-err : goal.returns-clause-err
@@ -27,6 +27,6 @@ returns-clause-err c =
     let is = c.in_ok-line_command.ensures.app in
     let app = app_of c.in_ok-line_command.field-0 in
     let unsaid = subst (λ entered. (command : Command) → ¬ Says entered command) (entered_line app words c.in-Ok.matches is c.in-Ok.ensures.matches)
-    (c.in_ok-command.ensures.none c.in-None.is) in
+    (subst (IsReading (subcommand_rows_of c.in-Ok.matches)) c.in-None.is c.in_ok-command.ensures) in
     explained words ValueValidation c.in_ok-number_error-in-None.field-0 c.in_ok-number_error-in-None.ensures.kind
     (no_number (faultless_line app words is c.in-Ok.ensures.kinds) unsaid refl)

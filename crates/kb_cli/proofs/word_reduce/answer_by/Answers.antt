@@ -19,4 +19,4 @@ pub returns-in-Ok-No-clause-says : goal.returns-in-Ok-No-clause-says
 returns-in-Ok-No-clause-says g c = λ itells otells. c.say_no.ensures.says _ otells
 
 pub returns-in-Ok-No-clause-faults : goal.returns-in-Ok-No-clause-faults
-returns-in-Ok-No-clause-faults g c = λ loads. c.say_no.ensures.faults loads _
+returns-in-Ok-No-clause-faults g c = λ loads stores. c.say_no.ensures.faults loads stores _

@@ -20,4 +20,4 @@ returns-in-Err-clause-says g c = λ itells otells.
     (c.in-Err.ensures.stops itells otells)
 
 pub returns-in-Err-clause-faults : goal.returns-in-Err-clause-faults
-returns-in-Err-clause-faults g c = λ loads. c.status_of.ensures.faults loads _ _ _ _ c.in-Err.ensures.counts
+returns-in-Err-clause-faults g c = λ loads stores. c.status_of.ensures.faults loads stores _ _ _ _ c.in-Err.ensures.counts

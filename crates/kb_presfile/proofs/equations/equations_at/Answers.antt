@@ -1,7 +1,7 @@
 use Rattle.std.proofs.Common.{◌+◌, List, take, sym, subst, arith}
 use Rattle.std.proofs.lemmas.Result.{err_from_is_err_and}
 use Rattle.kb_word.specs.Words.{Pair}
-use Rattle.kb_presfile.specs.Fields.{places_view}
+use Rattle.kb_fields.specs.Fields.{places_view}
 use Rattle.kb_presfile.specs.Holds.{AreEquations}
 use Rattle.kb_presfile.proofs.EquationLemmas.{place_fault, equations_more}
 use Rattle.kb_presfile.proofs.equations.equations_at.Goals as goal

@@ -1,5 +1,5 @@
 use Rattle.std.proofs.Common.{take}
-use Rattle.kb_presfile.specs.Fields.{places_view}
+use Rattle.kb_fields.specs.Fields.{places_view}
 use Rattle.kb_presfile.specs.Holds.{AreEquations}
 use Rattle.kb_presfile.proofs.equations.equations_at.Given as goal
 

@@ -2,13 +2,14 @@ use Rattle.std.proofs.Common.{◌≡◌, ◌<◌, ◌≤◌, List, Option, Some,
 use Rattle.kb_record.specs.declared.tree.Value.{Value}
 use Rattle.kb_record.specs.Tree.{list_value}
 use Rattle.kb_record.specs.View.{value_view}
-use Rattle.kb_presfile.specs.Fields.{fields_view, places_view, place_count, value_of}
+use Rattle.kb_fields.specs.Fields.{fields_view, places_view, place_count, value_of}
 use Rattle.kb_presfile.specs.Holds.{AreEquations}
 use Rattle.kb_presfile.specs.Faults.{name_of, PlacesOfEquationsHaveFault}
 use Rattle.kb_presfile.specs.declared.error.Field.TheVariants as kinds
-use Rattle.kb_presfile.proofs.ViewLemmas.{view-List}
-use Rattle.kb_presfile.proofs.EquationLemmas.{count_view, list_fault}
-use Rattle.kb_presfile.proofs.Outcomes.{IfErr_then, IfOk_then}
+use Rattle.kb_fields.proofs.ViewLemmas.{view-List}
+use Rattle.kb_fields.proofs.PlaceLemmas.{count_view}
+use Rattle.kb_presfile.proofs.EquationLemmas.{list_fault}
+use Rattle.kb_fields.proofs.Outcomes.{IfErr_then, IfOk_then}
 use Rattle.kb_presfile.proofs.equations.read_equations.Goals as goal
 use Rattle.kb_presfile.proofs.equations.read_equations.Goals.{In-List}
 

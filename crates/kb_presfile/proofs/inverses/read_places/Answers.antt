@@ -4,7 +4,8 @@ use Rattle.std.specs.Borrow.{Bor}
 use Rattle.std.specs.Option.{option_copied}
 use Rattle.kb_record.specs.Tree.{list_value}
 use Rattle.kb_record.specs.View.{value_view}
-use Rattle.kb_presfile.specs.Fields.{fields_view, list_of_places}
+use Rattle.kb_fields.specs.Fields.{fields_view}
+use Rattle.kb_presfile.specs.Kinds.{list_of_places}
 use Rattle.kb_presfile.proofs.PlaceLemmas.{past_the_end}
 use Rattle.kb_presfile.proofs.inverses.read_places.Goals as goal
 

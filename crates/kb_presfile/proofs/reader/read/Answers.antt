@@ -3,9 +3,9 @@ use Rattle.std.specs.Borrow.{Bor}
 use Rattle.std.proofs.Common.{ℕ}
 use Rattle.kb_record.specs.View.{text_view}
 use Rattle.kb_record.specs.declared.tree.Value.{Value}
-use Rattle.kb_presfile.specs.Fields.{fields_view}
+use Rattle.kb_fields.specs.Fields.{fields_view}
 use Rattle.kb_presfile.specs.Faults.{HasFieldFault}
-use Rattle.kb_presfile.proofs.Outcomes.{IfErr_then}
+use Rattle.kb_fields.proofs.Outcomes.{IfErr_then}
 use Rattle.kb_presfile.proofs.NoFault.{text_fault}
 use Rattle.kb_presfile.proofs.reader.read.Goals as goal
 

@@ -1,8 +1,10 @@
 use Rattle.std.proofs.Common.{◌<◌, map, length, sym, ◌∙◌, ap, arith}
 use Rattle.std.specs.Option.{option_map}
 use Rattle.kb_record.specs.View.{value_view}
-use Rattle.kb_presfile.specs.Fields.{bare_name, list_of_places}
-use Rattle.kb_presfile.proofs.ListingLemmas.{list_of_places-places_of, value_listed, value_other, map_copied, all_taken}
+use Rattle.kb_fields.specs.Fields.{bare_name}
+use Rattle.kb_presfile.specs.Kinds.{list_of_places}
+use Rattle.kb_fields.proofs.ListingLemmas.{value_listed, value_other, all_taken}
+use Rattle.kb_presfile.proofs.PlaceLemmas.{list_of_places-places_of, map_copied}
 use Rattle.kb_presfile.proofs.values.places_listed.Goals as goal
 
 pub returns-in_default-name_or_empty-clause-other : goal.returns-in_default-name_or_empty-clause-other

@@ -3,7 +3,7 @@ use Rattle.std.specs.Borrow.{Bor}
 use Rattle.std.proofs.Common.{ℕ, List}
 use Rattle.std.specs.Option.{option_map, option_copied}
 use Rattle.kb_record.specs.View.{value_view}
-use Rattle.kb_presfile.specs.Fields.{bare_name}
+use Rattle.kb_fields.specs.Fields.{bare_name}
 use Rattle.kb_presfile.proofs.values.places_listed.Given as goal
 
 abbrev pub invariant-loop-place : goal.invariant-loop-place

@@ -3,8 +3,8 @@ use Rattle.std.proofs.lemmas.Option.{IfSome_then}
 use Rattle.std.specs.Option.{option_map}
 use Rattle.kb_record.specs.Tree.{Places, list_value}
 use Rattle.kb_record.specs.View.{value_view}
-use Rattle.kb_presfile.specs.Fields.{places_view}
-use Rattle.kb_presfile.proofs.ViewLemmas.{view-List}
+use Rattle.kb_fields.specs.Fields.{places_view}
+use Rattle.kb_fields.proofs.ViewLemmas.{view-List}
 use Rattle.kb_presfile.proofs.values.sides_at.Goals as goal
 
 pub returns-in-Some-List-clause-found : goal.returns-in-Some-List-clause-found

@@ -1,5 +1,5 @@
 use Rattle.std.proofs.Common.{arith}
-use Rattle.kb_presfile.proofs.ViewLemmas.{are_no_two_words}
+use Rattle.kb_presfile.proofs.EquationLemmas.{are_no_two_words}
 use Rattle.kb_presfile.proofs.values.two_words.Goals as goal
 
 pub returns-then-places-ne2-clause-none : goal.returns-then-places-ne2-clause-none

@@ -1,4 +1,4 @@
-use Rattle.std.proofs.Common.{◌≡◌, List, ℕ, [], ◌≤◌, length, drop, sym, ◌∙◌, ap, arith, length-drop, eqb-true, eq-eqb}
+use Rattle.std.proofs.Common.{List, ℕ, length, sym, ◌∙◌, ap, arith, length-drop, eqb-true, eq-eqb}
 use Rattle.std.proofs.lemmas.List.{drop_all}
 use Rattle.kb_record.proofs.lexer.is_blank.Goals as goal
 

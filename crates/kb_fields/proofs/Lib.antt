@@ -1,0 +1,7 @@
+pub mod ListingLemmas
+pub mod NameFaults
+pub mod Outcomes
+pub mod PlaceLemmas
+pub mod RepeatLemmas
+pub mod TakenLemmas
+pub mod ViewLemmas

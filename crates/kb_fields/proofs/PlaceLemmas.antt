@@ -1,0 +1,29 @@
+-- Places of lists, by number.
+use Rattle.std.proofs.Common.{◌≡◌, ℕ, zero, suc, ◌<◌, List, [], ◌∷◌, map, length, slice_get, Option, Some, None, refl, ap, ◌∙◌, arith}
+use Rattle.std.specs.Option.{option_map}
+use Rattle.std.proofs.lemmas.List.{length-map}
+use Rattle.kb_record.specs.Tree.{Value}
+use Rattle.kb_record.specs.View.{places_of, value_view}
+use Rattle.kb_record.specs.declared.tree.Value as code
+use Rattle.kb_fields.specs.Fields.{places_view, value_at, place_count}
+
+pub value_at-places_of : (ps : List (Option Value)) (k : ℕ) (p : Option Value) → slice_get ps k ≡ Some p → (value_at (places_of ps) k ≡ p) × (k < place_count (places_of ps))
+value_at-places_of [] k p e = cc
+value_at-places_of (Some v ∷ ps) zero p e = (inner e, omega arith)
+  where
+    inner : {a b : Option Value} → Some a ≡ Some b → a ≡ b
+    inner h = cc
+value_at-places_of (None ∷ ps) zero p e = (inner e, omega arith)
+  where
+    inner : {a b : Option Value} → Some a ≡ Some b → a ≡ b
+    inner h = cc
+value_at-places_of (Some v ∷ ps) (suc k) p e = let rest = value_at-places_of ps k p e in (rest.0, omega (arith, rest.1))
+value_at-places_of (None ∷ ps) (suc k) p e = let rest = value_at-places_of ps k p e in (rest.0, omega (arith, rest.1))
+
+count_places : (ps : List (Option Value)) → place_count (places_of ps) ≡ length ps
+count_places [] = refl
+count_places (Some v ∷ ps) = ap suc (count_places ps)
+count_places (None ∷ ps) = ap suc (count_places ps)
+
+pub count_view : (ps : List (Option code.Value)) → place_count (places_view ps) ≡ length ps
+count_view ps = count_places (map (option_map value_view) ps) ∙ length-map ps (option_map value_view)

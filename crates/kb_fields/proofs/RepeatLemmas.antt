@@ -1,0 +1,227 @@
+-- Names that stand twice among the fields of records, field by field.
+use Rattle.std.proofs.Common.{◌≡◌, ℕ, zero, suc, ◌+◌, ◌<◌, ◌≤◌, Bool, true, false, not, cond, List, [], ◌∷◌, map, length, get_or, slice_get, Option, Some, None, Ordering, ◌⊎◌, inl, inr, refl, sym, ap, subst, ◌∙◌, arith}
+use Rattle.std.specs.Borrow.{Bor}
+use Rattle.std.specs.BTreeSet.{BTreeSet, contains, Updates}
+use Rattle.std.specs.Ordering.{nat_cmp}
+use Rattle.std.specs.Cmp.Lexicographic.{slice_cmp}
+use Rattle.std.specs.Str.{bytes_eq}
+use Rattle.std.specs.Option.{option_map}
+use Rattle.std.proofs.lemmas.List.{length-map}
+use Rattle.std.proofs.lemmas.Option.{slice_get-map, slice_get_read, slice_get_within}
+use Rattle.std.proofs.lemmas.Bool.{cases_lt, false≢true}
+use Rattle.std.proofs.lemmas.Slice.Eq.{bytes_eq-Decides}
+use Rattle.std.proofs.lemmas.Map.Text.{is_eq-slice_cmp}
+use Rattle.kb_record.specs.Tree.{record_value, list_value}
+use Rattle.kb_record.specs.View.{value_view}
+use Rattle.kb_record.specs.declared.tree.Value as code
+use Rattle.kb_fields.specs.Fields.{fields_view, places_view, field_names, StandsTwice, HasFieldTwice, SomeFieldHasTwice, SomePlaceHasTwice}
+
+abbrev pub text_cmp : Bor (List ℕ) → Bor (List ℕ) → Ordering
+text_cmp x y = slice_cmp nat_cmp x.now y.now
+
+-- whether a set of texts has the text
+abbrev pub has : BTreeSet (Bor (List ℕ)) → List ℕ → Bool
+has seen text = contains text_cmp seen (record { ref_ptr = (0, 0); now = text })
+
+-- The set has the first n of the names, none of which stands twice.
+pub record HasSeen (names : List (List ℕ)) (n : ℕ) (seen : BTreeSet (Bor (List ℕ))) : Type 0 where
+  pub old : (q : List ℕ) → has seen q ≡ true → (j : ℕ) × (j < n) × (slice_get names j ≡ Some q)
+  pub all : (q : List ℕ) (j : ℕ) → j < n → slice_get names j ≡ Some q → has seen q ≡ true
+  pub apart : (q : List ℕ) (j k : ℕ) → j < k → k < n → slice_get names j ≡ Some q → slice_get names k ≡ Some q → ⊥
+
+pub seen_none : (names : List (List ℕ)) (seen : BTreeSet (Bor (List ℕ))) → seen.keys ≡ [] → HasSeen names 0 seen
+seen_none names seen empty = record {
+  old = λ q e. cc;
+  all = λ q j h. absurd (omega (arith, h));
+  apart = λ q j k h i. absurd (omega (arith, i));
+}
+
+text_same : {a b : List ℕ} → Some a ≡ Some b → a ≡ b
+text_same e = cc
+
+field_same : {a b : Bor (List ℕ) × code.Value} → Some a ≡ Some b → a ≡ b
+field_same e = cc
+
+value_same : {a b : code.Value} → Some (Some a) ≡ Some (Some b) → a ≡ b
+value_same e = cc
+
+place_same : {a b : Option code.Value} → Some a ≡ Some b → a ≡ b
+place_same e = cc
+
+-- what the set has after an insertion
+has_after : (seen new : BTreeSet (Bor (List ℕ))) (k : Bor (List ℕ)) → Updates text_cmp seen new k true → (q : List ℕ)
+    → has new q ≡ cond (bytes_eq k.now q) true (has seen q)
+has_after seen new k updates q =
+    updates.0 (record { ref_ptr = (0, 0); now = q }) ∙ ap (λ b. cond b true (has seen q)) (is_eq-slice_cmp k.now q)
+
+cond_same : (b : Bool) → cond b true true ≡ true
+cond_same true = refl
+cond_same false = refl
+
+-- one more name, which is new
+pub seen_more : (names : List (List ℕ)) (n : ℕ) (seen new : BTreeSet (Bor (List ℕ))) (k : Bor (List ℕ)) → HasSeen names n seen → slice_get names n ≡ Some k.now
+    → has seen k.now ≡ false → Updates text_cmp seen new k true → HasSeen names (n + 1) new
+seen_more names n seen new k first at absent updates = record {
+  old = λ q e. old q (bytes_eq k.now q) refl (sym (has_after seen new k updates q) ∙ e);
+  all = λ q j h is. has_after seen new k updates q ∙ all q j (cases_lt j n) h is;
+  apart = λ q i j h within at_i at_j. apart q i j (cases_lt j n) h within at_i at_j;
+}
+  where
+    old : (q : List ℕ) (b : Bool) → bytes_eq k.now q ≡ b → cond (bytes_eq k.now q) true (has seen q) ≡ true → (j : ℕ) × (j < n + 1) × (slice_get names j ≡ Some q)
+    old q true same e = (n, omega arith, at ∙ ap Some ((bytes_eq-Decides k.now q).0 same))
+    old q false other e = let before = first.old q (sym (ap (λ b. cond b true (has seen q)) other) ∙ e) in (before.0, omega (arith, before.1), before.2)
+
+    all : (q : List ℕ) (j : ℕ) → (j < n) ⊎ (n ≤ j) → j < n + 1 → slice_get names j ≡ Some q → cond (bytes_eq k.now q) true (has seen q) ≡ true
+    all q j (inl before) h is = ap (cond (bytes_eq k.now q) true) (first.all q j before is) ∙ cond_same (bytes_eq k.now q)
+    all q j (inr here) h is =
+        let same : j ≡ n = omega (arith, here, h) in
+        let named : k.now ≡ q = text_same (sym at ∙ (ap (slice_get names) (sym same) ∙ is)) in
+        ap (λ b. cond b true (has seen q)) ((bytes_eq-Decides k.now q).1 named)
+
+    apart : (q : List ℕ) (i j : ℕ) → (j < n) ⊎ (n ≤ j) → i < j → j < n + 1 → slice_get names i ≡ Some q → slice_get names j ≡ Some q → ⊥
+    apart q i j (inl before) h within at_i at_j = first.apart q i j h before at_i at_j
+    apart q i j (inr here) h within at_i at_j =
+        let same : j ≡ n = omega (arith, here, within) in
+        let named : k.now ≡ q = text_same (sym at ∙ (ap (slice_get names) (sym same) ∙ at_j)) in
+        let found = first.all q i (omega (arith, h, same)) at_i in
+        false≢true (sym absent ∙ (ap (has seen) named ∙ found))
+
+pub names_of_fields : (fs : List (Bor (List ℕ) × code.Value)) → field_names (fields_view fs) ≡ map (λ (f : Bor (List ℕ) × code.Value). f.0.now) fs
+names_of_fields [] = refl
+names_of_fields (f ∷ fs) = ap (λ (ns : List (List ℕ)). f.0.now ∷ ns) (names_of_fields fs)
+
+-- the name stands twice in the value of this field
+pub record InField (fs : List (Bor (List ℕ) × code.Value)) (q : List ℕ) : Type 0 where
+  pub k : ℕ
+  pub f : Bor (List ℕ) × code.Value
+  pub at : slice_get fs k ≡ Some f
+  pub twice : HasFieldTwice (value_view f.1) q
+
+pub in_some_field : (fs : List (Bor (List ℕ) × code.Value)) (q : List ℕ) → SomeFieldHasTwice (fields_view fs) q → InField fs q
+in_some_field [] q e = absurd e
+in_some_field (f ∷ fs) q (inl here) = record { k = 0; f = f; at = refl; twice = here }
+in_some_field (f ∷ fs) q (inr later) = let rest = in_some_field fs q later in record { k = suc rest.k; f = rest.f; at = rest.at; twice = rest.twice }
+
+pub some_field : (fs : List (Bor (List ℕ) × code.Value)) (k : ℕ) (f : Bor (List ℕ) × code.Value) (q : List ℕ) → slice_get fs k ≡ Some f
+    → HasFieldTwice (value_view f.1) q → SomeFieldHasTwice (fields_view fs) q
+some_field [] k f q at twice = cc
+some_field (g ∷ fs) zero f q at twice =
+    let P : Bor (List ℕ) × code.Value → Type 0 = λ h. HasFieldTwice (value_view h.1) q in inl (subst P (sym (field_same at)) twice)
+some_field (g ∷ fs) (suc k) f q at twice = inr (some_field fs k f q at twice)
+
+-- the name stands twice in the value of this place
+pub record InPlace (ps : List (Option code.Value)) (q : List ℕ) : Type 0 where
+  pub k : ℕ
+  pub v : code.Value
+  pub at : slice_get ps k ≡ Some (Some v)
+  pub twice : HasFieldTwice (value_view v) q
+
+pub in_some_place : (ps : List (Option code.Value)) (q : List ℕ) → SomePlaceHasTwice (places_view ps) q → InPlace ps q
+in_some_place [] q e = absurd e
+in_some_place (Some v ∷ ps) q (inl here) = record { k = 0; v = v; at = refl; twice = here }
+in_some_place (Some v ∷ ps) q (inr later) = let rest = in_some_place ps q later in record { k = suc rest.k; v = rest.v; at = rest.at; twice = rest.twice }
+in_some_place (None ∷ ps) q later = let rest = in_some_place ps q later in record { k = suc rest.k; v = rest.v; at = rest.at; twice = rest.twice }
+
+-- what a place's value has twice the list has
+pub some_place : (ps : List (Option code.Value)) (k : ℕ) (v : code.Value) (q : List ℕ) → slice_get ps k ≡ Some (Some v)
+    → HasFieldTwice (value_view v) q → SomePlaceHasTwice (places_view ps) q
+some_place [] k v q at twice = cc
+some_place (Some w ∷ ps) zero v q at twice =
+    let P : code.Value → Type 0 = λ x. HasFieldTwice (value_view x) q in inl (subst P (sym (value_same at)) twice)
+some_place (None ∷ ps) zero v q at twice = cc
+some_place (Some w ∷ ps) (suc k) v q at twice = inr (some_place ps k v q at twice)
+some_place (None ∷ ps) (suc k) v q at twice = some_place ps k v q at twice
+
+abbrev names_in : List (Bor (List ℕ) × code.Value) → List (List ℕ)
+names_in fs = map (λ (f : Bor (List ℕ) × code.Value). f.0.now) fs
+
+module _ (fs : List (Bor (List ℕ) × code.Value)) (n : ℕ) (f : Bor (List ℕ) × code.Value) (within : n < length fs) (at : f ≡ get_or fs n f) where
+  pub field_at : slice_get fs n ≡ Some f
+  field_at = slice_get_read fs (length fs) n f refl within at
+
+  pub name_at : slice_get (names_in fs) n ≡ Some f.0.now
+  name_at = slice_get-map (λ (g : Bor (List ℕ) × code.Value). g.0.now) fs n ∙ ap (option_map (λ (g : Bor (List ℕ) × code.Value). g.0.now)) field_at
+
+  -- a name that the set has stands twice
+  pub again : (seen : BTreeSet (Bor (List ℕ))) → HasSeen (names_in fs) n seen → has seen f.0.now ≡ true → HasFieldTwice (record_value (fields_view fs)) f.0.now
+  again seen first found =
+      let before = first.old f.0.now found in
+      let P : List (List ℕ) → Type 0 = λ names. StandsTwice names f.0.now in
+      inl (subst P (sym (names_of_fields fs)) (record { first = before.0; again = n; later = before.1; at_first = before.2; at_again = name_at }))
+
+  -- what a field's value has twice the record has
+  pub field_twice : (q : List ℕ) → HasFieldTwice (value_view f.1) q → HasFieldTwice (record_value (fields_view fs)) q
+  field_twice q twice = inr (some_field fs n f q field_at twice)
+
+-- nothing stands twice where each field was seen
+pub none_twice : (fs : List (Bor (List ℕ) × code.Value)) (n : ℕ) (seen : BTreeSet (Bor (List ℕ))) → length fs ≤ n → HasSeen (names_in fs) n seen
+    → ((k : ℕ) (f : Bor (List ℕ) × code.Value) → k < n → slice_get fs k ≡ Some f → (q : List ℕ) → HasFieldTwice (value_view f.1) q → ⊥)
+    → (q : List ℕ) → HasFieldTwice (record_value (fields_view fs)) q → ⊥
+none_twice fs n seen whole first within q (inl twice) = apart (subst P (names_of_fields fs) twice)
+  where
+    P : List (List ℕ) → Type 0
+    P names = StandsTwice names q
+
+    apart : StandsTwice (names_in fs) q → ⊥
+    apart t =
+        let inside = slice_get_within (names_in fs) t.again q t.at_again in
+        let count = length-map fs (λ (g : Bor (List ℕ) × code.Value). g.0.now) in
+        first.apart q t.first t.again t.later (omega (arith, inside, count)) t.at_first t.at_again
+none_twice fs n seen whole first within q (inr later) =
+    let found = in_some_field fs q later in
+    let inside = slice_get_within fs found.k found.f found.at in
+    within found.k found.f (omega (arith, inside)) found.at q found.twice
+
+pub no_place_twice : (ps : List (Option code.Value)) (n : ℕ) → length ps ≤ n
+    → ((k : ℕ) (v : code.Value) → k < n → slice_get ps k ≡ Some (Some v) → (q : List ℕ) → HasFieldTwice (value_view v) q → ⊥)
+    → (q : List ℕ) → HasFieldTwice (list_value (places_view ps)) q → ⊥
+no_place_twice ps n whole within q later =
+    let found = in_some_place ps q later in
+    let inside = slice_get_within ps found.k (Some found.v) found.at in
+    within found.k found.v (omega (arith, inside)) found.at q found.twice
+
+pub not_false : (b : Bool) → not b ≡ false → b ≡ true
+not_false true e = refl
+not_false false e = cc
+
+pub not_true : (b : Bool) → not b ≡ true → b ≡ false
+not_true true e = cc
+not_true false e = refl
+
+-- one more field, in whose value nothing stands twice
+pub within_more : (fs : List (Bor (List ℕ) × code.Value)) (n : ℕ) (f : Bor (List ℕ) × code.Value) → slice_get fs n ≡ Some f
+    → ((k : ℕ) (g : Bor (List ℕ) × code.Value) → k < n → slice_get fs k ≡ Some g → (q : List ℕ) → HasFieldTwice (value_view g.1) q → ⊥)
+    → ((q : List ℕ) → HasFieldTwice (value_view f.1) q → ⊥)
+    → (k : ℕ) (g : Bor (List ℕ) × code.Value) → k < n + 1 → slice_get fs k ≡ Some g → (q : List ℕ) → HasFieldTwice (value_view g.1) q → ⊥
+within_more fs n f at before here k g h is q twice = go (cases_lt k n)
+  where
+    go : (k < n) ⊎ (n ≤ k) → ⊥
+    go (inl less) = before k g less is q twice
+    go (inr last) =
+        let same : n ≡ k = omega (arith, h, last) in
+        let found : f ≡ g = field_same (sym at ∙ (ap (slice_get fs) same ∙ is)) in
+        let P : Bor (List ℕ) × code.Value → Type 0 = λ e. HasFieldTwice (value_view e.1) q in
+        here q (subst P (sym found) twice)
+
+-- one more place, which is empty or has a value in which nothing stands twice
+pub places_more : (ps : List (Option code.Value)) (n : ℕ) (p : Option code.Value) → slice_get ps n ≡ Some p
+    → ((k : ℕ) (v : code.Value) → k < n → slice_get ps k ≡ Some (Some v) → (q : List ℕ) → HasFieldTwice (value_view v) q → ⊥)
+    → ((v : code.Value) → p ≡ Some v → (q : List ℕ) → HasFieldTwice (value_view v) q → ⊥)
+    → (k : ℕ) (v : code.Value) → k < n + 1 → slice_get ps k ≡ Some (Some v) → (q : List ℕ) → HasFieldTwice (value_view v) q → ⊥
+places_more ps n p at before here k v h is q twice = go (cases_lt k n)
+  where
+    go : (k < n) ⊎ (n ≤ k) → ⊥
+    go (inl less) = before k v less is q twice
+    go (inr last) =
+        let same : n ≡ k = omega (arith, h, last) in
+        here v (place_same (sym at ∙ (ap (slice_get ps) same ∙ is))) q twice
+
+pub at_value : (p : Option code.Value) (u : code.Value) → p ≡ Some u → ((q : List ℕ) → HasFieldTwice (value_view u) q → ⊥)
+    → (v : code.Value) → p ≡ Some v → (q : List ℕ) → HasFieldTwice (value_view v) q → ⊥
+at_value p u is none v other q twice =
+    let same = some_value (sym is ∙ other) in
+    let P : code.Value → Type 0 = λ x. HasFieldTwice (value_view x) q in
+    none q (subst P (sym same) twice)
+  where
+    some_value : {a b : code.Value} → Some a ≡ Some b → a ≡ b
+    some_value e = cc

@@ -1,0 +1,80 @@
+-- Fields of records, and values that are names or lists of names.
+use Rattle.std.specs.Prelude.{◌≡◌, ℕ, zero, suc, ◌<◌, ◌⊎◌, nat_eq, if◌then◌else◌, List, [], ◌∷◌, map, slice_get, Option, Some, None}
+use Rattle.std.specs.Borrow.{Bor}
+use Rattle.std.specs.Option.{option_map}
+use lib.Pointwise.{pointwise}
+use Rattle.kb_record.specs.View.{fields_of, places_of, value_view}
+use Rattle.kb_record.specs.declared.tree.Value as code
+use Rattle.kb_record.specs.Tree.{named, no_factors, factor, Value, number_value, string_value, record_value, list_value, range_value, word_value, Fields, no_fields, field, Places, no_places, place, empty_place}
+
+-- the fields as the code has them, as a tree
+abbrev pub fields_view : List (Bor (List ℕ) × code.Value) → Fields
+fields_view fields = fields_of (map (λ (f : Bor (List ℕ) × code.Value). (f.0, value_view f.1)) fields)
+
+-- the places of a list as the code has them, as a tree
+abbrev pub places_view : List (Option code.Value) → Places
+places_view places = places_of (map (option_map value_view) places)
+
+-- the value of the first field with this name
+abbrev pub value_of : Fields → List ℕ → Option Value
+value_of no_fields name = None
+value_of (field text value others) name = if pointwise nat_eq text name then Some value else value_of others name
+
+-- the names of the fields, in order
+abbrev pub field_names : Fields → List (List ℕ)
+field_names no_fields = []
+field_names (field text value others) = text ∷ field_names others
+
+-- the name stands at two places
+pub record StandsTwice (names : List (List ℕ)) (name : List ℕ) : Type 0 where
+  pub first : ℕ
+  pub again : ℕ
+  pub later : first < again
+  pub at_first : slice_get names first ≡ Some name
+  pub at_again : slice_get names again ≡ Some name
+
+-- the name stands twice among the fields of some record in the value, nested ones too
+abbrev mutual
+  pub HasFieldTwice : Value → List ℕ → Type 0
+  HasFieldTwice (number_value z) name = ⊥
+  HasFieldTwice (string_value text) name = ⊥
+  HasFieldTwice (record_value fields) name = StandsTwice (field_names fields) name ⊎ SomeFieldHasTwice fields name
+  HasFieldTwice (list_value places) name = SomePlaceHasTwice places name
+  HasFieldTwice (range_value from to) name = ⊥
+  HasFieldTwice (word_value _) name = ⊥
+
+  pub SomeFieldHasTwice : Fields → List ℕ → Type 0
+  SomeFieldHasTwice no_fields name = ⊥
+  SomeFieldHasTwice (field text value others) name = HasFieldTwice value name ⊎ SomeFieldHasTwice others name
+
+  pub SomePlaceHasTwice : Places → List ℕ → Type 0
+  SomePlaceHasTwice no_places name = ⊥
+  SomePlaceHasTwice (place value others) name = HasFieldTwice value name ⊎ SomePlaceHasTwice others name
+  SomePlaceHasTwice (empty_place others) name = SomePlaceHasTwice others name
+
+-- the value is a Name: a word of one factor that is a bare name
+abbrev pub bare_name : List ℕ → Value
+bare_name text = word_value (factor (named text None) no_factors)
+
+-- a list of these names
+abbrev pub list_of_names : List (List ℕ) → Places
+list_of_names [] = no_places
+list_of_names (name ∷ names) = place (bare_name name) (list_of_names names)
+
+-- the value is a list of these names
+abbrev pub IsListOf : List (List ℕ) → Value → Type 0
+IsListOf names value = value ≡ list_value (list_of_names names)
+
+-- the value at a place that isn't empty
+abbrev pub value_at : Places → ℕ → Option Value
+value_at no_places k = None
+value_at (place value others) zero = Some value
+value_at (place value others) (suc k) = value_at others k
+value_at (empty_place others) zero = None
+value_at (empty_place others) (suc k) = value_at others k
+
+-- how many places there are
+abbrev pub place_count : Places → ℕ
+place_count no_places = 0
+place_count (place value others) = suc (place_count others)
+place_count (empty_place others) = suc (place_count others)

@@ -1,0 +1,30 @@
+-- Names that generators can have, and why a value gives none.
+use Rattle.std.specs.Prelude.{◌≡◌, ℕ, ◌<◌, ◌≤◌, ◌⊎◌, List, length, codes, Contains}
+use Rattle.kb_record.specs.Tree.{Value}
+use Rattle.kb_fields.specs.Fields.{IsListOf, StandsTwice}
+use Rattle.kb_fields.specs.declared.error.NamesFault.{NamesFault}
+use Rattle.kb_fields.specs.declared.error.NamesFault.TheVariants as faults
+
+-- there are at most so many generators
+abbrev pub most_generators : ℕ
+most_generators = 126
+
+-- the name stands for the empty word or for padding
+abbrev pub IsReserved : List ℕ → Type 0
+IsReserved name = (name ≡ codes "IdWord") ⊎ (name ≡ codes "_")
+
+-- a generator can't have the name: it stands twice, or is `IdWord` or `_`
+abbrev pub IsTaken : List (List ℕ) → List ℕ → Type 0
+IsTaken names name = StandsTwice names name ⊎ (Contains names name × IsReserved name)
+
+-- there are not too many names, and none of them is taken
+pub record AreGeneratorNames (names : List (List ℕ)) : Type 0 where
+  pub few : length names ≤ most_generators
+  pub free : (name : List ℕ) → ¬ IsTaken names name
+
+-- The value has the fault: it is no list of names, or it is one of too many names, or of which one is taken.
+abbrev pub HasNamesFault : Value → NamesFault → Type 0
+HasNamesFault value faults.WrongKind = (names : List (List ℕ)) → ¬ IsListOf names value
+HasNamesFault value faults.TooMany = (names : List (List ℕ)) × IsListOf names value × (most_generators < length names)
+HasNamesFault value (faults.Taken name) = (names : List (List ℕ)) × IsListOf names value × IsTaken names name
+HasNamesFault value faults.Memory = Unit {0}

@@ -1,0 +1,44 @@
+//! Fields of records, and lists of names of generators: what files of presentations and of automata share.
+//!
+//! # The public contract
+//!
+//! - [`field_named`] looks a field up. Where a name stands twice, "the value of the field" is that of the first.
+//! - [`repeated_name`] answers the name of a field that stands twice in some record, nested ones too, and none
+//!   where no name does.
+//! - [`bare_name`] and [`names_listed`] take a value that is a Name, or a list of Names, and answer none for any
+//!   other.
+//! - [`names_of`] answers the names of generators that a value lists: at most 126 Names, none of them twice and
+//!   none `IdWord` or `_`. A refusal names a fault that the value has (`HasNamesFault` of
+//!   `specs/Generators.antt`), and by the law [`names_of_generators_have_no_fault`] a value that lists such names
+//!   has none: so, want of memory apart, a value is refused exactly where it has a fault.
+//!
+//! No clause says which of several names is answered: of repeated names it is the one whose second place comes
+//! first in the text, and of taken names the first that stands earlier in the list too, or is `IdWord` or `_`. The
+//! length of a list is looked at before its names.
+//!
+//! # How it is made
+//!
+//! - `fields` looks up fields, and finds names that stand twice by a set of the names seen. It recurses into
+//!   values, whose nesting the parser bounds.
+//! - `values` tells Names and lists of Names apart from other values.
+//! - `generators` joins them to names of generators.
+//!
+//! Definitions speak of the tree of the text (`specs/Tree.antt` of `kb_record`): `specs/Fields.antt` of fields and
+//! of values, `specs/Generators.antt` of names of generators. The lemmas in `proofs/` say how the code's values
+//! are trees, and that a list of names is determined by its value, and serve the crates above too.
+//!
+//! Below stand `kb_record`, which reads trees, and `kb_word`, whose names are the answers. Above stand
+//! `kb_presfile` and the crate of automaton files.
+#![tactic(auto)]
+
+mod error;
+mod fields;
+mod generators;
+mod laws;
+mod values;
+
+pub use error::NamesFault;
+pub use fields::{field_named, repeated_name};
+pub use generators::{MOST_GENERATORS, names_of};
+pub use laws::names_of_generators_have_no_fault;
+pub use values::{bare_name, names_listed};

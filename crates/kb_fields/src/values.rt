@@ -1,0 +1,66 @@
+//! Values that are Names, and lists of Names.
+
+ghost use Rattle.std.specs.Prelude.{◌≡◌, ◌≢◌, ℕ, List, map, Some, None, IfOk, IfSome, IfNone};
+ghost use Rattle.std.specs.Option.{option_map};
+ghost use Rattle.kb_record.specs.Tree.{named};
+ghost use Rattle.kb_record.specs.View.{factor_view, value_view};
+ghost use Rattle.kb_fields.specs.Fields.{IsListOf};
+ghost use Rattle.kb_fields.specs.Fields as kinds;
+
+use kb_record::{Factor, Value};
+use kb_word::Memory;
+use std::alloc::Global;
+
+/// The text of a value that is a Name: a word of one factor that is a bare name.
+pub fn bare_name<'a>(value: &Value<'a>) -> Option<&'a str>
+    ensures found { IfSome result (λ name. value_view value.now ≡ kinds.bare_name name.now) }
+    ensures none { IfNone result ((name : List ℕ) → value_view value.now ≢ kinds.bare_name name) }
+{
+    let Value::Word(word) = value else {
+        return None;
+    };
+    if word.factors.len() != 1 {
+        return None;
+    }
+    name_alone(&word.factors[0])
+}
+
+/// The name of a factor that is a name without a power.
+fn name_alone<'a>(factor: &Factor<'a>) -> Option<&'a str>
+    ensures found { IfSome result (λ name. factor_view factor.now ≡ named name.now None) }
+    ensures none { IfNone result ((name : List ℕ) → factor_view factor.now ≢ named name None) }
+{
+    match factor {
+        Factor::Name(name, None) => Some(name),
+        _ => None,
+    }
+}
+
+/// The names of a value that is a list of Names.
+pub fn names_listed<'a>(alloc: Global, value: &Value<'a>) -> Result<Option<Vec<&'a str>>, Memory>
+    ensures listed { IfOk result (λ names. IfSome names (λ names. IsListOf (map (λ name. name.now) names.items) (value_view value.now))) }
+    ensures other { IfOk result (λ names. IfNone names ((names : List (List ℕ)) → ¬ IsListOf names (value_view value.now))) }
+{
+    let Value::List(places) = value else {
+        return Ok(None);
+    };
+    let mut names = Vec::with_capacity(alloc, places.len())?;
+    for place in places {
+        let Some(name) = name_at(place) else {
+            return Ok(None);
+        };
+        names.push(name)?;
+    }
+    Ok(Some(names))
+}
+
+/// The Name at a place of a list.
+fn name_at<'a>(place: &Option<Value<'a>>) -> Option<&'a str>
+    ensures found { IfSome result (λ name. option_map value_view place.now ≡ Some (kinds.bare_name name.now)) }
+    ensures none { IfNone result ((name : List ℕ) → option_map value_view place.now ≢ Some (kinds.bare_name name)) }
+{
+    match place {
+        Some(value) => bare_name(value),
+        None => None,
+    }
+}

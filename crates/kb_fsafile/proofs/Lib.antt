@@ -1,0 +1,17 @@
+pub mod Cleanings
+pub mod FieldFaults
+pub mod HeldFields
+pub mod KindLemmas
+pub mod MoveLemmas
+pub mod NoFault
+pub mod NumberLemmas
+pub mod PaddedTexts
+pub mod PaddingReach
+pub mod RowLemmas
+pub mod SpelledValues
+pub mod TableLemmas
+pub mod TextLemmas
+pub mod UniqueAutomaton
+pub mod Writings
+pub mod WrittenAutomata
+pub mod WrittenTrees

@@ -1,0 +1,45 @@
+use Rattle.std.proofs.Common.{ℤ, pos, ◌+◌, ◌<◌, List, length, get_or, sym, ap, subst, w64, SFits, rules, arith}
+use Rattle.std.proofs.lemmas.Int.{to_z-of_z}
+use Rattle.std.proofs.lemmas.List.{take_all, get_or_default}
+use Rattle.std.proofs.lemmas.List.Elements.{Contains-get_or}
+use Rattle.kb_fsa.specs.Table.{Moves, IsRow}
+use Rattle.kb_fsafile.specs.Kinds.{numbered_from}
+use Rattle.kb_fsafile.specs.RowsRead.{AreTargets}
+use Rattle.kb_fsafile.specs.Faults.{HasOutOfRange}
+use Rattle.kb_fsafile.proofs.MoveLemmas.{row_among, numbered_ascends, numbered_positive}
+use Rattle.kb_fsafile.proofs.RowLemmas.{targets_more}
+use Rattle.kb_fsafile.proofs.rows.dense_row.Goals as goal
+
+pub returns-in_default-clause-fault : goal.returns-in_default-clause-fault
+returns-in_default-clause-fault c = λ given at.
+    let numbers = c.args.numbers.now in
+    let fits : SFits w64 (get_or c.args.numbers.now c.loop-number.number-index (pos 0)) = search rules in
+    let none = rw c.from.ensures at (simp to_z-of_z at c.in_default.ensures.none) in
+    let within : c.loop-number.number-index < length c.args.numbers.now = omega arith in
+    HasOutOfRange.row_target c.args.count at.places at.k numbers (get_or numbers c.loop-number.number-index (pos 0)) at.counted at.listed at.stands
+    (Contains-get_or numbers c.loop-number.number-index (pos 0) within) none
+
+pub loop-number-preserved : goal.loop-number-preserved
+loop-number-preserved c =
+    let numbers = c.args.numbers.now in
+    let z = get_or numbers c.loop-number.number-index (pos 0) in
+    let fits : SFits w64 (get_or c.args.numbers.now c.loop-number.number-index (pos 0)) = search rules in
+    let is = simp to_z-of_z at c.in-Some.ensures.is in
+    let within : c.loop-number.number-index < length c.args.numbers.now = omega arith in record {
+      same = ap (λ n. n + 1) c.loop-number.invariant.same;
+      are = targets_more c.args.count numbers c.loop-number.number-index z c.loop-number.moves.items c.keep.new.moves.items (c.loop-number.symbol + 1) c.in-Some.target within
+          (get_or_default numbers c.loop-number.number-index (pos 0) z within) c.loop-number.invariant.are (ap (λ n. n + 1) c.loop-number.invariant.same) is
+          (rw c.from.ensures at c.in-Some.ensures.within) c.in_ok-keep.ensures;
+    }
+
+pub from_vec-requires : goal.from_vec-requires
+from_vec-requires c =
+    let are = c.loop-number.invariant.are in
+    let P : Moves → Type 0 = λ ms. IsRow ms in
+    subst P (sym are.kept) (row_among (numbered_from 1 are.targets) (numbered_ascends 1 are.targets) (numbered_positive are.targets))
+
+pub returns-clause-read : goal.returns-clause-read
+returns-clause-read c =
+    let P : Moves → Type 0 = λ ms. AreTargets c.args.count c.args.numbers.now ms in
+    let Q : List ℤ → Type 0 = λ ns. AreTargets c.args.count ns c.loop-number.moves.items in
+    subst P (sym c.from_vec.ensures) (subst Q (take_all c.loop-number.number-index c.args.numbers.now c.loop-number-test.false) c.loop-number.invariant.are)

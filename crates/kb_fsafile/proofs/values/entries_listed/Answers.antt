@@ -1,0 +1,20 @@
+use Rattle.std.proofs.Common.{ℤ, ◌<◌, map, length, Some, sym, ◌∙◌, ap, arith}
+use Rattle.std.specs.Option.{option_map}
+use Rattle.kb_record.specs.View.{value_view}
+use Rattle.kb_fields.proofs.ListingLemmas.{value_listed, value_other, all_taken}
+use Rattle.kb_fsafile.specs.Kinds.{entry_value, list_of_entries}
+use Rattle.kb_fsafile.proofs.KindLemmas.{list_of_entries-places_of}
+use Rattle.kb_fsafile.proofs.values.entries_listed.Goals as goal
+
+pub returns-in_default-entry_at-clause-other : goal.returns-in_default-entry_at-clause-other
+returns-in_default-entry_at-clause-other c =
+    let within : c.loop-place.place-index < length c.deref-place-items.result.now = omega arith in
+    value_other (λ (e : ℤ × ℤ). Some (entry_value e)) list_of_entries list_of_entries-places_of c.args.value.now c.in-List.places c.in-List.is
+    c.deref-place-items.result.now c.deref-place-items.ensures.value c.loop-place.place-index c.place-item.result within c.place-item.is
+    c.in_default-entry_at.ensures.none
+
+pub returns-clause-listed : goal.returns-clause-listed
+returns-clause-listed c =
+    let whole = all_taken c.deref-place-items.result.now c.in-List.places.items c.loop-place.place-index c.deref-place-items.ensures.value (omega arith) in
+    value_listed (λ (e : ℤ × ℤ). Some (entry_value e)) list_of_entries list_of_entries-places_of c.args.value.now c.in-List.places c.in-List.is _
+    (ap (map (option_map value_view)) (sym whole) ∙ c.loop-place.invariant)

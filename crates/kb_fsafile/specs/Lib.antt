@@ -1,0 +1,9 @@
+pub mod Kinds
+pub mod Misplaced
+pub mod Cleaning
+pub mod Holds
+pub mod Faults
+pub mod Reading
+pub mod RowsRead
+pub mod Printed
+pub mod Writing

@@ -1,0 +1,120 @@
+//! The field `accepting`: which states accept.
+
+ghost use Rattle.std.specs.Prelude.{◌≡◌, ◌↔◌, ◌<◌, ◌≤◌, ℕ, suc, length, get_or, false, IsTrue, All, Contains, IfOk, IfErr};
+ghost use Rattle.kb_record.specs.Tree.{list_value, range_value};
+ghost use Rattle.kb_fields.specs.Fields.{fields_view};
+ghost use Rattle.kb_fsafile.specs.Kinds.{list_of_numbers};
+ghost use Rattle.kb_fsafile.specs.Holds.{HoldsStates};
+ghost use Rattle.kb_fsafile.specs.Faults.{HasFieldFault};
+ghost use Rattle.kb_fsafile.specs.Reading.{IsAmong, StandsForStates, HasAcceptingStates, AreStates, IsFaultOfAccepting};
+
+use crate::error::{Field, FsaError};
+use crate::fields::needed_value;
+use crate::values::{number_within, numbers_listed, range_of};
+use kb_record::Value;
+use kb_word::Memory;
+use std::alloc::Global;
+
+/// The accepting states as a file gives them.
+#[derive(Drop)]
+pub enum Accepting {
+    /// These states.
+    Listed(Vec<u64>),
+    /// Each state from one to another.
+    Range(u64, u64),
+}
+
+impl Accepting {
+    /// Whether states 1, 2, and so on accept.
+    pub fn answers(&self, alloc: Global, count: usize) -> Result<Vec<bool>, Memory>
+        requires { (state : ℕ) → IsAmong self.now state → (0 < state) × (state ≤ count) }
+        ensures one_each { IfOk result (λ answers. length answers.items ≡ count) }
+        ensures each { IfOk result (λ answers. (place : ℕ) → IsTrue (get_or answers.items place false) ↔ IsAmong self.now (suc place)) }
+    {
+        match self {
+            Accepting::Listed(states) => marked(alloc, states.as_slice(), count),
+            Accepting::Range(from, to) => range_marked(alloc, *from, *to, count),
+        }
+    }
+}
+
+/// Marks of the states, among so many.
+fn marked(alloc: Global, states: &[u64], count: usize) -> Result<Vec<bool>, Memory>
+    requires { All (λ state. (0 < state) × (state ≤ count)) states.now }
+    ensures one_each { IfOk result (λ marks. length marks.items ≡ count) }
+    ensures each { IfOk result (λ marks. (place : ℕ) → IsTrue (get_or marks.items place false) ↔ Contains states.now (suc place)) }
+{
+    let mut marks = vec![in alloc; false; count]?;
+    for state in states {
+        marks[(*state - 1) as usize] = true;
+    }
+    Ok(marks)
+}
+
+/// Marks of the states from one to another, among so many.
+fn range_marked(alloc: Global, from: u64, to: u64, count: usize) -> Result<Vec<bool>, Memory>
+    requires first { 0 < from }
+    requires last { from ≤ to → to ≤ count }
+    ensures one_each { IfOk result (λ marks. length marks.items ≡ count) }
+    ensures each { IfOk result (λ marks. (place : ℕ) → IsTrue (get_or marks.items place false) ↔ ((from ≤ suc place) × (suc place ≤ to))) }
+{
+    let mut marks = vec![in alloc; false; count]?;
+    for place in (from - 1) as usize..to as usize {
+        marks[place] = true;
+    }
+    Ok(marks)
+}
+
+/// The accepting ones of so many states.
+pub fn read_accepting<'a>(
+    alloc: Global,
+    fields: &[(&'a str, Value<'a>)],
+    count: u64,
+) -> Result<Accepting, FsaError>
+    requires { HoldsStates (fields_view fields.now) count }
+    ensures read { IfOk result (HasAcceptingStates (fields_view fields.now) count) }
+    ensures fault { IfErr result (HasFieldFault (fields_view fields.now)) }
+{
+    let value = needed_value(fields, Field::Accepting)?;
+    if let Some((from, to)) = range_of(value) {
+        return range_within(from, to, count);
+    }
+    let Some(numbers) = numbers_listed(alloc, value)? else {
+        return Err(FsaError::WrongKind {
+            field: Field::Accepting,
+        });
+    };
+    listed_within(alloc, numbers.as_slice(), count)
+}
+
+/// The states of a range. One whose first number is above its last has none, whatever its numbers are.
+fn range_within(from: i64, to: i64, count: u64) -> Result<Accepting, FsaError>
+    ensures read { IfOk result (StandsForStates count (range_value from to)) }
+    ensures fault { IfErr result (IsFaultOfAccepting count (range_value from to)) }
+{
+    if from > to {
+        return Ok(Accepting::Range(1, 0));
+    }
+    let Some(from) = number_within(from, count) else {
+        return Err(FsaError::TargetOutOfRange);
+    };
+    match number_within(to, count) {
+        Some(to) => Ok(Accepting::Range(from, to)),
+        None => Err(FsaError::TargetOutOfRange),
+    }
+}
+
+/// The states of a list.
+fn listed_within(alloc: Global, numbers: &[i64], count: u64) -> Result<Accepting, FsaError>
+    ensures read { IfOk result (StandsForStates count (list_value (list_of_numbers numbers.now))) }
+    ensures fault { IfErr result (IsFaultOfAccepting count (list_value (list_of_numbers numbers.now))) }
+{
+    let mut states = Vec::with_capacity(alloc, numbers.len())?;
+    for number in numbers {
+        let Some(state) = number_within(*number, count) else {
+            return Err(FsaError::TargetOutOfRange);
+        };
+        states.push(state)?;
+    }
+    Ok(Accepting::Listed(states))
+}

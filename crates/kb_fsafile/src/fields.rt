@@ -1,0 +1,143 @@
+//! The fields that an automaton file has, each once and of its kind.
+
+ghost use Rattle.std.specs.Prelude.{◌≡◌, ℕ, pos, List, Some, IfOk, IfErr, OnOk};
+ghost use Rattle.std.specs.Option.{option_map};
+ghost use Rattle.kb_record.specs.Tree.{number_value, string_value, record_value, list_value};
+ghost use Rattle.kb_record.specs.View.{value_view};
+ghost use Rattle.kb_fields.specs.Fields.{fields_view, places_view, value_of, HasFieldTwice};
+ghost use Rattle.kb_fsafile.specs.Kinds.{count_value};
+ghost use Rattle.kb_fsafile.specs.Faults.{name_of, needed, optional, HasFieldFault};
+ghost use Rattle.kb_fsafile.specs.Reading.{HasRecords, HasLists, HasStrings, HasNumbers, HasCounts, IsFaultOf};
+
+use crate::error::{Field, FsaError};
+use crate::values::{number_of, string_of};
+use kb_fields::{field_named, repeated_name};
+use kb_record::Value;
+use std::alloc::Global;
+
+/// Refuses a record with a field name twice, nested ones too.
+pub fn check_once<'a>(alloc: Global, fields: &[(&'a str, Value<'a>)]) -> Result<(), FsaError>
+    ensures once { OnOk result ((name : List ℕ) → ¬ HasFieldTwice (record_value (fields_view fields.now)) name) }
+    ensures fault { IfErr result (HasFieldFault (fields_view fields.now)) }
+{
+    match repeated_name(alloc, fields)? {
+        Some(field) => Err(FsaError::FieldTwice { field }),
+        None => Ok(()),
+    }
+}
+
+/// The value of a field that a record of an automaton file has.
+pub fn needed_value<'r, 'a>(
+    fields: &'r [(&'a str, Value<'a>)],
+    field: Field,
+) -> Result<&'r Value<'a>, FsaError>
+    ensures found { IfOk result (λ value. value_of (fields_view fields.now) (name_of field) ≡ Some (value_view value.now)) }
+    ensures fault { IfErr result (IsFaultOf field needed (fields_view fields.now)) }
+{
+    match field_named(fields, field.name()) {
+        Some(value) => Ok(value),
+        None => Err(FsaError::MissingField { field }),
+    }
+}
+
+/// The fields of the record that a field holds.
+pub fn needed_record<'r, 'a>(
+    fields: &'r [(&'a str, Value<'a>)],
+    field: Field,
+) -> Result<&'r Vec<(&'a str, Value<'a>)>, FsaError>
+    requires { HasRecords field }
+    ensures found { IfOk result (λ inner. value_of (fields_view fields.now) (name_of field) ≡ Some (record_value (fields_view inner.now.items))) }
+    ensures fault { IfErr result (IsFaultOf field needed (fields_view fields.now)) }
+{
+    match needed_value(fields, field)? {
+        Value::Record(inner) => Ok(inner),
+        _ => Err(FsaError::WrongKind { field }),
+    }
+}
+
+/// The places of the list that a field holds.
+pub fn needed_list<'r, 'a>(
+    fields: &'r [(&'a str, Value<'a>)],
+    field: Field,
+) -> Result<&'r Vec<Option<Value<'a>>>, FsaError>
+    requires { HasLists field }
+    ensures found { IfOk result (λ places. value_of (fields_view fields.now) (name_of field) ≡ Some (list_value (places_view places.now.items))) }
+    ensures fault { IfErr result (IsFaultOf field needed (fields_view fields.now)) }
+{
+    match needed_value(fields, field)? {
+        Value::List(places) => Ok(places),
+        _ => Err(FsaError::WrongKind { field }),
+    }
+}
+
+/// The string that a field holds.
+pub fn needed_string<'a>(fields: &[(&'a str, Value<'a>)], field: Field) -> Result<&'a str, FsaError>
+    requires { HasStrings field }
+    ensures found { IfOk result (λ text. value_of (fields_view fields.now) (name_of field) ≡ Some (string_value text.now)) }
+    ensures fault { IfErr result (IsFaultOf field needed (fields_view fields.now)) }
+{
+    match string_of(needed_value(fields, field)?) {
+        Some(text) => Ok(text),
+        None => Err(FsaError::WrongKind { field }),
+    }
+}
+
+/// The number that a field holds.
+pub fn needed_number<'a>(fields: &[(&'a str, Value<'a>)], field: Field) -> Result<i64, FsaError>
+    requires { HasNumbers field }
+    ensures found { IfOk result (λ number. value_of (fields_view fields.now) (name_of field) ≡ Some (number_value number)) }
+    ensures fault { IfErr result (IsFaultOf field needed (fields_view fields.now)) }
+{
+    match number_of(needed_value(fields, field)?) {
+        Some(number) => Ok(number),
+        None => Err(FsaError::WrongKind { field }),
+    }
+}
+
+/// The number from 0 on that a field holds.
+pub fn needed_count<'a>(fields: &[(&'a str, Value<'a>)], field: Field) -> Result<u64, FsaError>
+    requires { HasCounts field }
+    ensures found { IfOk result (λ count. value_of (fields_view fields.now) (name_of field) ≡ Some (count_value count)) }
+    ensures fault { IfErr result (IsFaultOf field needed (fields_view fields.now)) }
+{
+    match needed_value(fields, field)? {
+        Value::Number(number) if *number >= 0 => Ok(*number as u64),
+        _ => Err(FsaError::WrongKind { field }),
+    }
+}
+
+/// The string that a field holds; `None` where the field is absent.
+pub fn optional_string<'a>(
+    fields: &[(&'a str, Value<'a>)],
+    field: Field,
+) -> Result<Option<&'a str>, FsaError>
+    requires { HasStrings field }
+    ensures found { IfOk result (λ text. value_of (fields_view fields.now) (name_of field) ≡ option_map (λ text. string_value text.now) text) }
+    ensures fault { IfErr result (IsFaultOf field optional (fields_view fields.now)) }
+{
+    let Some(value) = field_named(fields, field.name()) else {
+        return Ok(None);
+    };
+    match string_of(value) {
+        Some(text) => Ok(Some(text)),
+        None => Err(FsaError::WrongKind { field }),
+    }
+}
+
+/// The number that a field holds; `None` where the field is absent.
+pub fn optional_number<'a>(
+    fields: &[(&'a str, Value<'a>)],
+    field: Field,
+) -> Result<Option<i64>, FsaError>
+    requires { HasNumbers field }
+    ensures found { IfOk result (λ number. value_of (fields_view fields.now) (name_of field) ≡ option_map number_value number) }
+    ensures fault { IfErr result (IsFaultOf field optional (fields_view fields.now)) }
+{
+    let Some(value) = field_named(fields, field.name()) else {
+        return Ok(None);
+    };
+    match number_of(value) {
+        Some(number) => Ok(Some(number)),
+        None => Err(FsaError::WrongKind { field }),
+    }
+}

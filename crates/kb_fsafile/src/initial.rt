@@ -1,0 +1,40 @@
+//! The field `initial`: the initial state.
+
+ghost use Rattle.std.specs.Prelude.{◌≡◌, Some, IfOk, IfErr, length};
+ghost use Rattle.kb_fields.specs.Fields.{fields_view};
+ghost use Rattle.kb_fsafile.specs.Holds.{HoldsStates, HoldsInitial};
+ghost use Rattle.kb_fsafile.specs.Faults.{HasFieldFault};
+
+use crate::error::{Field, FsaError};
+use crate::fields::needed_value;
+use crate::values::{number_within, numbers_listed};
+use kb_record::Value;
+use std::alloc::Global;
+
+/// The initial state of so many, and 0 where there is none.
+pub fn read_initial<'a>(
+    alloc: Global,
+    fields: &[(&'a str, Value<'a>)],
+    count: u64,
+) -> Result<u64, FsaError>
+    requires { HoldsStates (fields_view fields.now) count }
+    ensures read { IfOk result (HoldsInitial (fields_view fields.now) count) }
+    ensures fault { IfErr result (HasFieldFault (fields_view fields.now)) }
+{
+    let value = needed_value(fields, Field::Initial)?;
+    let Some(numbers) = numbers_listed(alloc, value)? else {
+        return Err(FsaError::WrongKind {
+            field: Field::Initial,
+        });
+    };
+    if numbers.len() > 1 {
+        return Err(FsaError::NotDeterministic);
+    }
+    let Some(number) = numbers.first() else {
+        return Ok(0);
+    };
+    match number_within(*number, count) {
+        Some(state) => Ok(state),
+        None => Err(FsaError::TargetOutOfRange),
+    }
+}

@@ -1,0 +1,103 @@
+//! From bytes to automata.
+
+ghost use Rattle.std.specs.Prelude.{◌≤◌, IfOk, IfErr};
+ghost use Rattle.kb_record.specs.Grammar.{TextOf};
+ghost use Rattle.kb_record.specs.Nesting.{deepest, text_nesting};
+ghost use Rattle.kb_record.specs.View.{text_view};
+ghost use Rattle.kb_fields.specs.Fields.{fields_view};
+ghost use Rattle.kb_fsa.specs.Language.{IsAutomaton, generators};
+ghost use Rattle.kb_fsa.specs.Table.{IsTable, HasSymbols};
+ghost use Rattle.kb_fsafile.specs.Misplaced.{IsCleaned};
+ghost use Rattle.kb_fsafile.specs.Holds.{HoldsAutomaton, AutomatonOf};
+ghost use Rattle.kb_fsafile.specs.Faults.{HasSize, HasFieldFault, HasFsaFault};
+ghost use Rattle.kb_fsafile.specs.RowsRead.{HasTable, most_symbols, IsCleaningFault};
+
+use crate::accepting::read_accepting;
+use crate::alphabet::read_alphabet;
+use crate::error::FsaError;
+use crate::fields::check_once;
+use crate::header::check_is_fsa;
+use crate::initial::read_initial;
+use crate::misplaced::without_misplaced;
+use crate::states::count_states;
+use crate::table::read_rows;
+use kb_fsa::{Alphabet, Fsa, Table};
+use kb_record::{Rec, RecordError, Value, parse};
+use kb_word::Names;
+use std::alloc::Global;
+
+/// Reads an automaton file: the names of the letters, and the automaton.
+///
+/// The bytes are a text of a record with the fields that the head of the crate lists. A refusal names a fault that
+/// they have, and bytes that say an automaton have none: so bytes are refused exactly where they have a fault, or
+/// memory runs out. Of several faults the one comes that stands first in the order at the head of the crate.
+pub fn read(alloc: Global, bytes: &[u8]) -> Result<(Names, Fsa), FsaError>
+    ensures read { IfOk result (λ found. AutomatonOf bytes.now found.0 found.1) }
+    ensures fault { IfErr result (HasFsaFault bytes.now) }
+{
+    let text = text_of(alloc, bytes)?;
+    automaton_of(alloc, text.fields.as_slice())
+}
+
+/// The tree of the bytes, which are a text of a record.
+fn text_of<'a>(alloc: Global, bytes: &'a [u8]) -> Result<Rec<'a>, FsaError>
+    ensures read { IfOk result (λ text. TextOf bytes.now (text_view text)) }
+    ensures shallow { IfOk result (λ text. text_nesting (text_view text) ≤ deepest) }
+    ensures fault { IfErr result (HasFsaFault bytes.now) }
+{
+    match parse(alloc, bytes) {
+        Ok(text) => Ok(text),
+        Err(RecordError::Syntax { at }) => Err(FsaError::Syntax { at }),
+        Err(RecordError::TooDeep { at }) => Err(FsaError::TooDeep { at }),
+        Err(RecordError::Memory) => Err(FsaError::Memory),
+    }
+}
+
+/// The automaton that fields say. Field by field, in the order in which a file is refused.
+fn automaton_of<'a>(
+    alloc: Global,
+    fields: &[(&'a str, Value<'a>)],
+) -> Result<(Names, Fsa), FsaError>
+    ensures read { IfOk result (λ found. HoldsAutomaton (fields_view fields.now) found.0 found.1) }
+    ensures fault { IfErr result (HasFieldFault (fields_view fields.now)) }
+{
+    check_once(alloc, fields)?;
+    check_is_fsa(fields)?;
+    let letters = read_alphabet(alloc, fields)?;
+    let table = read_table(alloc, fields, letters.size)?;
+    let table = cleaned(alloc, letters.alphabet, table)?;
+    Ok((letters.names, Fsa::new(letters.alphabet, table)))
+}
+
+/// The table that fields say, as it stands.
+fn read_table<'a>(
+    alloc: Global,
+    fields: &[(&'a str, Value<'a>)],
+    size: u32,
+) -> Result<Table, FsaError>
+    requires { HasSize (fields_view fields.now) size }
+    ensures read { IfOk result (HasTable (fields_view fields.now) size) }
+    ensures fault { IfErr result (HasFieldFault (fields_view fields.now)) }
+{
+    let count = count_states(fields)?;
+    let initial = read_initial(alloc, fields, count)?;
+    let accepting = read_accepting(alloc, fields, count)?;
+    let rows = read_rows(alloc, fields, size, count)?;
+    let answers = accepting.answers(alloc, rows.len())?;
+    Ok(Table::new(initial as u32, rows, answers))
+}
+
+/// The table of the automaton that a file's table gives.
+fn cleaned(alloc: Global, alphabet: Alphabet, read: Table) -> Result<Table, FsaError>
+    requires generators { generators alphabet ≤ 65534 }
+    requires table { IsTable read }
+    requires symbols { HasSymbols (most_symbols alphabet) read }
+    ensures cleaned { IfOk result (IsCleaned alphabet read) }
+    ensures automaton { IfOk result (λ table. IsAutomaton (record { alphabet = alphabet; table = table })) }
+    ensures fault { IfErr result (IsCleaningFault alphabet read) }
+{
+    match alphabet {
+        Alphabet::Plain(_) => Ok(read),
+        Alphabet::Pair(n) => without_misplaced(alloc, n, read),
+    }
+}

@@ -1,0 +1,178 @@
+//! The rows of a table.
+
+ghost use Rattle.std.specs.Prelude.{◌≡◌, ◌≢◌, ◌<◌, ◌^◌, ◌++◌, ℕ, ℤ, List, [], ◌∷◌, length, All, Some, IfOk, IfErr, OnOk, IsSome, IfSome, IfNone};
+ghost use Rattle.std.specs.BTreeMap.{get};
+ghost use Rattle.std.specs.Ordering.{nat_cmp};
+ghost use Rattle.std.specs.Option.{option_map};
+ghost use Rattle.kb_record.specs.Tree.{list_value};
+ghost use Rattle.kb_record.specs.View.{value_view};
+ghost use Rattle.kb_fsa.specs.Table.{Ascends};
+ghost use Rattle.kb_fsafile.specs.Kinds.{list_of_numbers, list_of_entries};
+ghost use Rattle.kb_fsafile.specs.RowsRead.{moves_among, IsRowAt, IsFaultOfRow, AreTargets, HasEntries, IsSparseRow};
+ghost use Rattle.kb_fsafile.specs.declared.format.Format.TheVariants.{Dense, Sparse};
+
+use crate::error::{Field, FsaError};
+use crate::format::Format;
+use crate::values::{entries_listed, number_within, numbers_listed, target_within};
+use kb_fsa::Row;
+use kb_record::Value;
+use kb_word::Memory;
+use std::alloc::Global;
+use std::collections::BTreeMap;
+
+/// The row at a place of a table over so many symbols and of so many states.
+pub fn read_row<'a>(
+    alloc: Global,
+    place: &Option<Value<'a>>,
+    format: Format,
+    size: u32,
+    count: u32,
+) -> Result<Row, FsaError>
+    ensures read { IfOk result (IsRowAt size count format (option_map value_view place.now)) }
+    ensures fault { IfErr result (IsFaultOfRow format size count (option_map value_view place.now)) }
+{
+    match format {
+        Format::Dense => read_dense_row(alloc, place, size, count),
+        Format::Sparse => read_sparse_row(alloc, place, size, count),
+    }
+}
+
+/// The row at a place that lists a target for each symbol.
+fn read_dense_row<'a>(
+    alloc: Global,
+    place: &Option<Value<'a>>,
+    size: u32,
+    count: u32,
+) -> Result<Row, FsaError>
+    ensures read { IfOk result (IsRowAt size count Dense (option_map value_view place.now)) }
+    ensures fault { IfErr result (IsFaultOfRow Dense size count (option_map value_view place.now)) }
+{
+    let Some(numbers) = numbers_at(alloc, place)? else {
+        return Err(FsaError::WrongKind {
+            field: Field::Transitions,
+        });
+    };
+    if numbers.len() != size as usize {
+        return Err(FsaError::StatesWrong);
+    }
+    dense_row(alloc, numbers.as_slice(), size, count)
+}
+
+/// The numbers at a place that holds a list of numbers.
+fn numbers_at<'a>(alloc: Global, place: &Option<Value<'a>>) -> Result<Option<Vec<i64>>, Memory>
+    ensures listed { IfOk result (λ numbers. IfSome numbers (λ numbers. option_map value_view place.now ≡ Some (list_value (list_of_numbers numbers.items)))) }
+    ensures other { IfOk result (λ numbers. IfNone numbers ((numbers : List ℤ) → option_map value_view place.now ≢ Some (list_value (list_of_numbers numbers)))) }
+{
+    match place {
+        Some(value) => numbers_listed(alloc, value),
+        None => Ok(None),
+    }
+}
+
+/// The row with these targets for the symbols in order; 0 is none.
+fn dense_row(alloc: Global, numbers: &[i64], size: u32, count: u32) -> Result<Row, FsaError>
+    requires { length numbers.now ≡ size }
+    ensures read { IfOk result (AreTargets count numbers.now) }
+    ensures fault { IfErr result (IsFaultOfRow Dense size count (Some (list_value (list_of_numbers numbers.now)))) }
+{
+    let mut moves = Vec::new(alloc);
+    let mut symbol = 0;
+    for number in numbers {
+        symbol += 1;
+        let Some(target) = target_within(*number, u64::from(count)) else {
+            return Err(FsaError::TargetOutOfRange);
+        };
+        keep(&mut moves, symbol, target as u32)?;
+    }
+    Ok(Row::from_vec(moves))
+}
+
+/// Adds a move where the target is a state.
+fn keep(moves: &mut Vec<(u32, u32)>, symbol: u32, target: u32) -> Result<(), Memory>
+    ensures { OnOk result (moves.new.items ≡ moves.old.items ++ moves_among ((symbol, target) ∷ [])) }
+{
+    if target != 0 {
+        moves.push((symbol, target))?;
+    }
+    Ok(())
+}
+
+/// The row at a place that lists symbols, each with its target.
+fn read_sparse_row<'a>(
+    alloc: Global,
+    place: &Option<Value<'a>>,
+    size: u32,
+    count: u32,
+) -> Result<Row, FsaError>
+    ensures read { IfOk result (IsRowAt size count Sparse (option_map value_view place.now)) }
+    ensures fault { IfErr result (IsFaultOfRow Sparse size count (option_map value_view place.now)) }
+{
+    let Some(entries) = entries_at(alloc, place)? else {
+        return Err(FsaError::WrongKind {
+            field: Field::Transitions,
+        });
+    };
+    sparse_row(alloc, entries.as_slice(), size, count)
+}
+
+/// The pairs of numbers at a place that holds a list of pairs of numbers.
+fn entries_at<'a>(
+    alloc: Global,
+    place: &Option<Value<'a>>,
+) -> Result<Option<Vec<(i64, i64)>>, Memory>
+    ensures listed { IfOk result (λ entries. IfSome entries (λ entries. option_map value_view place.now ≡ Some (list_value (list_of_entries entries.items)))) }
+    ensures other { IfOk result (λ entries. IfNone entries ((entries : List (ℤ × ℤ)) → option_map value_view place.now ≢ Some (list_value (list_of_entries entries)))) }
+{
+    match place {
+        Some(value) => entries_listed(alloc, value),
+        None => Ok(None),
+    }
+}
+
+/// The row with these entries.
+fn sparse_row(alloc: Global, pairs: &[(i64, i64)], size: u32, count: u32) -> Result<Row, FsaError>
+    ensures read { IfOk result (IsSparseRow size count pairs.now) }
+    ensures fault { IfErr result (IsFaultOfRow Sparse size count (Some (list_value (list_of_entries pairs.now)))) }
+{
+    let entries = by_symbol(alloc, pairs, size, count)?;
+    Ok(row_of(alloc, &entries)?)
+}
+
+/// The entries by their symbols.
+fn by_symbol(
+    alloc: Global,
+    pairs: &[(i64, i64)],
+    size: u32,
+    count: u32,
+) -> Result<BTreeMap<u32, u32>, FsaError>
+    ensures read { IfOk result (HasEntries size count pairs.now) }
+    ensures fault { IfErr result (IsFaultOfRow Sparse size count (Some (list_value (list_of_entries pairs.now)))) }
+{
+    let mut entries = BTreeMap::new(alloc);
+    for pair in pairs {
+        let Some(symbol) = number_within(pair.0, u64::from(size)) else {
+            return Err(FsaError::TargetOutOfRange);
+        };
+        let Some(target) = target_within(pair.1, u64::from(count)) else {
+            return Err(FsaError::TargetOutOfRange);
+        };
+        if entries.insert(symbol as u32, target as u32)?.is_some() {
+            return Err(FsaError::NotDeterministic);
+        }
+    }
+    Ok(entries)
+}
+
+/// The row of the entries that are moves.
+fn row_of(alloc: Global, entries: &BTreeMap<u32, u32>) -> Result<Row, Memory>
+    requires { (symbol : ℕ) → IsSome (get nat_cmp entries.now symbol) → 0 < symbol }
+    ensures moves { IfOk result (λ row. row ≡ moves_among entries.now.entries) }
+    ensures ordered { OnOk result (Ascends entries.now.entries) }
+    ensures found { OnOk result (All (λ entry. get nat_cmp entries.now entry.0 ≡ Some entry.1) entries.now.entries) }
+{
+    let mut moves = Vec::with_capacity(alloc, entries.len())?;
+    for (symbol, target) in entries {
+        keep(&mut moves, *symbol, *target)?;
+    }
+    Ok(Row::from_vec(moves))
+}

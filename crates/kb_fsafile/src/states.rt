@@ -1,0 +1,22 @@
+//! The field `states`: how many states there are.
+
+ghost use Rattle.std.specs.Prelude.{IfOk, IfErr};
+ghost use Rattle.kb_fields.specs.Fields.{fields_view};
+ghost use Rattle.kb_fsafile.specs.Holds.{HoldsStates};
+ghost use Rattle.kb_fsafile.specs.Faults.{HasFieldFault};
+
+use crate::error::{Field, FsaError};
+use crate::fields::{needed_count, needed_record, needed_string};
+use kb_record::Value;
+
+/// How many states the file says that there are, which may be more than it has rows.
+pub fn count_states<'a>(fields: &[(&'a str, Value<'a>)]) -> Result<u64, FsaError>
+    ensures read { IfOk result (HoldsStates (fields_view fields.now)) }
+    ensures fault { IfErr result (HasFieldFault (fields_view fields.now)) }
+{
+    let states = needed_record(fields, Field::States)?.as_slice();
+    match needed_string(states, Field::Type)? {
+        "simple" => needed_count(states, Field::Size),
+        _ => Err(FsaError::StatesWrong),
+    }
+}

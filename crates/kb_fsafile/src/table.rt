@@ -1,0 +1,84 @@
+//! The field `table`: its rows, one for each state.
+
+ghost use Rattle.std.specs.Prelude.{codes, IfOk, IfErr, OnOk};
+ghost use Rattle.kb_fields.specs.Fields.{fields_view, places_view, value_of};
+ghost use Rattle.kb_fsafile.specs.Holds.{HoldsString, HasNoDefault, HoldsStates, format_name};
+ghost use Rattle.kb_fsafile.specs.Faults.{HasSize, HasFieldFault};
+ghost use Rattle.kb_fsafile.specs.Reading.{IsFaultOfTable};
+ghost use Rattle.kb_fsafile.specs.RowsRead.{HasRows, AreRowsAt, IsFaultOfRows};
+
+use crate::error::{Field, FsaError};
+use crate::fields::{needed_list, needed_record, needed_string, optional_number};
+use crate::format::Format;
+use crate::rows::read_row;
+use kb_fsa::Row;
+use kb_record::Value;
+use std::alloc::Global;
+
+/// The rows of so many states over so many symbols. More than a `u32` can number take more memory than there is.
+pub fn read_rows<'a>(
+    alloc: Global,
+    fields: &[(&'a str, Value<'a>)],
+    size: u32,
+    count: u64,
+) -> Result<Vec<Row>, FsaError>
+    requires sized { HasSize (fields_view fields.now) size }
+    requires counted { HoldsStates (fields_view fields.now) count }
+    ensures read { IfOk result (λ rows. HasRows (fields_view fields.now) size count rows.items) }
+    ensures fault { IfErr result (HasFieldFault (fields_view fields.now)) }
+{
+    let table = needed_record(fields, Field::Table)?.as_slice();
+    check_default(table)?;
+    let format = read_format(table)?;
+    let places = needed_list(table, Field::Transitions)?;
+    if places.len() as u64 != count {
+        return Err(FsaError::StatesWrong);
+    }
+    match u32::try_from(count) {
+        Ok(count) => rows_at(alloc, places.as_slice(), format, size, count),
+        Err(_) => Err(FsaError::Memory),
+    }
+}
+
+/// Refuses another default target than 0, which stands where none is given.
+fn check_default<'a>(table: &[(&'a str, Value<'a>)]) -> Result<(), FsaError>
+    ensures ok { OnOk result (HasNoDefault (value_of (fields_view table.now) (codes "defaultTarget"))) }
+    ensures fault { IfErr result (IsFaultOfTable (fields_view table.now)) }
+{
+    let Some(target) = optional_number(table, Field::DefaultTarget)? else {
+        return Ok(());
+    };
+    if target != 0 {
+        return Err(FsaError::NotDeterministic);
+    }
+    Ok(())
+}
+
+/// The format of the table.
+fn read_format<'a>(table: &[(&'a str, Value<'a>)]) -> Result<Format, FsaError>
+    ensures named { IfOk result (λ format. HoldsString (fields_view table.now) (codes "format") (format_name format)) }
+    ensures fault { IfErr result (IsFaultOfTable (fields_view table.now)) }
+{
+    match Format::named(needed_string(table, Field::Format)?) {
+        Some(format) => Ok(format),
+        None => Err(FsaError::NotDeterministic),
+    }
+}
+
+/// The rows at the places of a list.
+fn rows_at<'a>(
+    alloc: Global,
+    places: &[Option<Value<'a>>],
+    format: Format,
+    size: u32,
+    count: u32,
+) -> Result<Vec<Row>, FsaError>
+    ensures read { IfOk result (λ rows. AreRowsAt size count format (places_view places.now) rows.items) }
+    ensures fault { IfErr result (IsFaultOfRows format size count (places_view places.now)) }
+{
+    let mut rows = Vec::with_capacity(alloc, places.len())?;
+    for place in places {
+        rows.push(read_row(alloc, place, format, size, count)?)?;
+    }
+    Ok(rows)
+}

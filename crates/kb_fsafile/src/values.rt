@@ -1,0 +1,142 @@
+//! The kinds of values that an automaton's fields hold.
+
+ghost use Rattle.std.specs.Prelude.{◌≡◌, ◌≢◌, ◌<◌, ◌≤◌, ℕ, ℤ, pos, List, Some, IfOk, IfSome, IfNone};
+ghost use Rattle.std.specs.Option.{option_map};
+ghost use Rattle.kb_record.specs.Tree.{number_value, string_value, list_value, range_value};
+ghost use Rattle.kb_record.specs.View.{value_view};
+ghost use Rattle.kb_fields.specs.Fields.{places_view};
+ghost use Rattle.kb_fsafile.specs.Kinds.{list_of_numbers, two_places, entry_value, list_of_entries, IsNumberOf, IsTargetOf};
+
+use kb_record::Value;
+use kb_word::Memory;
+use std::alloc::Global;
+
+/// The text of the string that the value is.
+pub fn string_of<'a>(value: &Value<'a>) -> Option<&'a str>
+    ensures found { IfSome result (λ text. value_view value.now ≡ string_value text.now) }
+    ensures none { IfNone result ((text : List ℕ) → value_view value.now ≢ string_value text) }
+{
+    match value {
+        Value::String(text) => Some(text),
+        _ => None,
+    }
+}
+
+/// The number that the value is.
+pub fn number_of<'a>(value: &Value<'a>) -> Option<i64>
+    ensures found { IfSome result (λ number. value_view value.now ≡ number_value number) }
+    ensures none { IfNone result ((number : ℤ) → value_view value.now ≢ number_value number) }
+{
+    match value {
+        Value::Number(number) => Some(*number),
+        _ => None,
+    }
+}
+
+/// The first and the last number of the range that the value is.
+pub fn range_of<'a>(value: &Value<'a>) -> Option<(i64, i64)>
+    ensures found { IfSome result (λ ends. value_view value.now ≡ range_value ends.0 ends.1) }
+    ensures none { IfNone result ((from to : ℤ) → value_view value.now ≢ range_value from to) }
+{
+    match value {
+        Value::Range(from, to) => Some((*from, *to)),
+        _ => None,
+    }
+}
+
+/// The numbers of a value that is a list of numbers.
+pub fn numbers_listed<'a>(alloc: Global, value: &Value<'a>) -> Result<Option<Vec<i64>>, Memory>
+    ensures listed { IfOk result (λ numbers. IfSome numbers (λ numbers. value_view value.now ≡ list_value (list_of_numbers numbers.items))) }
+    ensures other { IfOk result (λ numbers. IfNone numbers ((numbers : List ℤ) → value_view value.now ≢ list_value (list_of_numbers numbers))) }
+{
+    let Value::List(places) = value else {
+        return Ok(None);
+    };
+    let mut numbers = Vec::with_capacity(alloc, places.len())?;
+    for place in places {
+        let Some(number) = number_at(place) else {
+            return Ok(None);
+        };
+        numbers.push(number)?;
+    }
+    Ok(Some(numbers))
+}
+
+/// The number at a place of a list.
+fn number_at<'a>(place: &Option<Value<'a>>) -> Option<i64>
+    ensures found { IfSome result (λ number. option_map value_view place.now ≡ Some (number_value number)) }
+    ensures none { IfNone result ((number : ℤ) → option_map value_view place.now ≢ Some (number_value number)) }
+{
+    match place {
+        Some(value) => number_of(value),
+        None => None,
+    }
+}
+
+/// The pairs of numbers of a value that is a list of lists of two numbers.
+pub fn entries_listed<'a>(
+    alloc: Global,
+    value: &Value<'a>,
+) -> Result<Option<Vec<(i64, i64)>>, Memory>
+    ensures listed { IfOk result (λ entries. IfSome entries (λ entries. value_view value.now ≡ list_value (list_of_entries entries.items))) }
+    ensures other { IfOk result (λ entries. IfNone entries ((entries : List (ℤ × ℤ)) → value_view value.now ≢ list_value (list_of_entries entries))) }
+{
+    let Value::List(places) = value else {
+        return Ok(None);
+    };
+    let mut entries = Vec::with_capacity(alloc, places.len())?;
+    for place in places {
+        let Some(entry) = entry_at(place) else {
+            return Ok(None);
+        };
+        entries.push(entry)?;
+    }
+    Ok(Some(entries))
+}
+
+/// The two numbers at a place of a list that holds a list of two numbers.
+fn entry_at<'a>(place: &Option<Value<'a>>) -> Option<(i64, i64)>
+    ensures found { IfSome result (λ entry. option_map value_view place.now ≡ Some (entry_value entry)) }
+    ensures none { IfNone result ((entry : ℤ × ℤ) → option_map value_view place.now ≢ Some (entry_value entry)) }
+{
+    match place {
+        Some(Value::List(places)) => two_numbers(places.as_slice()),
+        _ => None,
+    }
+}
+
+/// The numbers at two places.
+fn two_numbers<'a>(places: &[Option<Value<'a>>]) -> Option<(i64, i64)>
+    ensures found { IfSome result (λ entry. places_view places.now ≡ two_places entry) }
+    ensures none { IfNone result ((entry : ℤ × ℤ) → places_view places.now ≢ two_places entry) }
+{
+    if places.len() != 2 {
+        return None;
+    }
+    Some((number_at(&places[0])?, number_at(&places[1])?))
+}
+
+/// The number, where it is one of 1 to `count`.
+pub fn number_within(number: i64, count: u64) -> Option<u64>
+    ensures is { IfSome result (λ state. number ≡ pos state) }
+    ensures positive { IfSome result (λ state. 0 < state) }
+    ensures within { IfSome result (λ state. state ≤ count) }
+    ensures none { IfNone result (¬ IsNumberOf count number) }
+{
+    if number < 1 || number as u64 > count {
+        return None;
+    }
+    Some(number as u64)
+}
+
+/// The number, where it is one of 0 to `count`.
+pub fn target_within(number: i64, count: u64) -> Option<u64>
+    ensures is { IfSome result (λ target. number ≡ pos target) }
+    ensures within { IfSome result (λ target. target ≤ count) }
+    ensures none { IfNone result (¬ IsTargetOf count number) }
+{
+    if number < 0 || number as u64 > count {
+        return None;
+    }
+    Some(number as u64)
+}

@@ -1,6 +1,0 @@
-use Rattle.std.proofs.Common.{◌≡◌, drop}
-use Rattle.kb_presfile.specs.Fields.{fields_view, value_of}
-use Rattle.kb_presfile.proofs.fields.field_named.Given as goal
-
-abbrev pub invariant-loop-text : goal.invariant-loop-text
-invariant-loop-text l = value_of (fields_view (drop l.text-index l.fields)) l.name ≡ value_of (fields_view l.fields) l.name

@@ -1,0 +1,183 @@
+-- Texts that are printed piece by piece, and the printed texts as pieces.
+use Rattle.std.proofs.Common.{◌≡◌, ℕ, suc, ◌+◌, ◌<◌, ◌≤◌, ◌*◌, List, [], ◌∷◌, ◌++◌, length, get_or, drop, replicate, Option, Some, None, true, Result, Ok, Err, OnOk, OnErr, refl, sym, ap, ◌∙◌, arith, append_assoc, append-nil}
+use Rattle.std.specs.Prelude.{codes}
+use Rattle.std.specs.Borrow.{Bor}
+use Rattle.std.proofs.lemmas.List.{drop_more, drop_all, replicate-append-replicate}
+use Rattle.kb_record.specs.Tree.{Value as ValueTree, number_value, string_value, record_value, list_value, range_value, word_value, Places, no_places, place, empty_place}
+use Rattle.kb_record.specs.View.{factor_view, factors_view, value_view, fields_view, places_view}
+use Rattle.kb_record.specs.Layout.{word_text, factor_text, more_factors_text, line_of, line_of_fields, line_of_more_fields, line_of_places, line_of_more_places, indent, text_of_value, text_of_fields, lines_of_places, are_lists, is_table}
+use Rattle.kb_record.specs.Printing.{pieces, IsPrintedUpTo, line_of_field, text_of_field, line_of_place, row_of_place}
+use Rattle.kb_record.specs.declared.tree.Factor.{Factor}
+use Rattle.kb_record.specs.declared.tree.Value.{Value}
+
+pub on_err : {T E P : Type 0} (r : Result T E) → P → OnErr r P
+on_err (Ok x) p = tt
+on_err (Err e) p = p
+
+pub ok_then : {T E P Q : Type 0} (r : Result T E) → OnOk r P → (P → Q) → OnOk r Q
+ok_then (Ok x) p f = f p
+ok_then (Err e) p f = tt
+
+pub err_then : {T E P Q : Type 0} (r : Result T E) → OnErr r P → (P → Q) → OnErr r Q
+err_then (Ok x) p f = tt
+err_then (Err e) p f = f p
+
+-- one text and then another
+pub both_behind : (a b c x y : List ℕ) → b ≡ a ++ x → c ≡ b ++ y → c ≡ a ++ (x ++ y)
+both_behind a b c x y e f = f ∙ ap (λ t. t ++ y) e ∙ append_assoc a x y
+
+pub kept_behind : (a b c x : List ℕ) → b ≡ a ++ x → (more : List ℕ) × (c ≡ b ++ more) → (more : List ℕ) × (c ≡ a ++ more)
+kept_behind a b c x e kept = (x ++ kept.0, both_behind a b c x kept.0 e kept.1)
+
+-- before the first piece
+pub pieces_start : {A : Type 0} (text : A → List ℕ) (before between ending : List ℕ) (xs : List A) (old opening now : List ℕ) → now ≡ old ++ opening
+    → IsPrintedUpTo text between ending xs (opening ++ (pieces text before between xs ++ ending)) old 0 before now
+pieces_start text before between ending xs old opening now e = record { done = opening; so_far = e; to_come = refl }
+
+-- what is printed keeps what stood there
+pub pieces_kept : {A : Type 0} (text : A → List ℕ) (between ending : List ℕ) (xs : List A) (whole old before now : List ℕ) (index : ℕ) (more mid : List ℕ)
+    → IsPrintedUpTo text between ending xs whole old index before now → mid ≡ now ++ more → (all : List ℕ) × (mid ≡ old ++ all)
+pieces_kept text between ending xs whole old before now index more mid h e =
+    (h.done ++ more, e ∙ ap (λ t. t ++ more) h.so_far ∙ append_assoc old h.done more)
+
+-- the same where a piece is printed in part
+pub pieces_kept_within : {A : Type 0} (text : A → List ℕ) (between ending : List ℕ) (xs : List A) (whole old before now : List ℕ) (index : ℕ) (half mid : List ℕ)
+    → IsPrintedUpTo text between ending xs whole old index before now → half ≡ now ++ before → (more : List ℕ) × (mid ≡ half ++ more) → (all : List ℕ) × (mid ≡ old ++ all)
+pieces_kept_within text between ending xs whole old before now index half mid h e kept =
+    pieces_kept text between ending xs whole old before now index (before ++ kept.0) mid h (kept.1 ∙ ap (λ t. t ++ kept.0) e ∙ append_assoc now before kept.0)
+
+-- one piece more
+pub pieces_go : {A : Type 0} (text : A → List ℕ) (between ending : List ℕ) (xs : List A) (whole old before now : List ℕ) (index : ℕ) (x : A) (mid next : List ℕ)
+    → IsPrintedUpTo text between ending xs whole old index before now → index < length xs → x ≡ get_or xs index x → mid ≡ now ++ before → next ≡ mid ++ text x
+    → IsPrintedUpTo text between ending xs whole old (index + 1) between next
+pieces_go text between ending xs whole old before now index x mid next h inside is e f =
+    let split : drop index xs ≡ x ∷ drop (index + 1) xs = drop_more xs index x inside ∙ ap (λ y. y ∷ drop (index + 1) xs) (sym is) in
+    let left = pieces text between between (drop (index + 1) xs) in
+    record {
+      done = h.done ++ (before ++ text x);
+      so_far = f ∙ ap (λ t. t ++ text x) (e ∙ ap (λ t. t ++ before) h.so_far) ∙ ap (λ t. t ++ text x) (append_assoc old h.done before) ∙ append_assoc old (h.done ++ before) (text x) ∙ ap (λ t. old ++ t) (append_assoc h.done before (text x));
+      to_come = h.to_come ∙ ap (λ ys. h.done ++ (pieces text before between ys ++ ending)) split
+          ∙ ap (λ t. h.done ++ t) (append_assoc before (text x ++ left) ending ∙ ap (λ t. before ++ t) (append_assoc (text x) left ending) ∙ sym (append_assoc before (text x) (left ++ ending)))
+          ∙ sym (append_assoc h.done (before ++ text x) (left ++ ending));
+    }
+
+-- behind the last piece
+pub pieces_end : {A : Type 0} (text : A → List ℕ) (between ending : List ℕ) (xs : List A) (whole old before now : List ℕ) (index : ℕ) (mid : List ℕ)
+    → IsPrintedUpTo text between ending xs whole old index before now → length xs ≤ index → mid ≡ now ++ ending → mid ≡ old ++ whole
+pieces_end text between ending xs whole old before now index mid h all e =
+    let none : drop index xs ≡ [] = drop_all index xs all in
+    e ∙ ap (λ t. t ++ ending) h.so_far ∙ append_assoc old h.done ending
+    ∙ ap (λ t. old ++ t) (sym (h.to_come ∙ ap (λ ys. h.done ++ (pieces text before between ys ++ ending)) none))
+
+-- ---- words
+
+abbrev pub factor_piece : Factor → List ℕ
+factor_piece f = factor_text (factor_view f)
+
+more_factor_pieces : (fs : List Factor) → more_factors_text (factors_view fs) ≡ pieces factor_piece (codes "*") (codes "*") fs
+more_factor_pieces [] = refl
+more_factor_pieces (f ∷ fs) = ap (λ t. codes "*" ++ (factor_piece f ++ t)) (more_factor_pieces fs)
+
+pub factor_pieces : (fs : List Factor) → pieces factor_piece [] (codes "*") fs ++ [] ≡ word_text (factors_view fs)
+factor_pieces [] = refl
+factor_pieces (f ∷ fs) = append-nil _ ∙ ap (λ t. factor_piece f ++ t) (sym (more_factor_pieces fs))
+
+-- ---- values on one line
+
+more_field_pieces : (fs : List (Bor (List ℕ) × Value)) → line_of_more_fields (fields_view fs) ≡ pieces line_of_field (codes ",") (codes ",") fs
+more_field_pieces [] = refl
+more_field_pieces (f ∷ fs) =
+    ap (λ t. codes "," ++ (line_of_field f ++ t)) (more_field_pieces fs)
+
+field_pieces : (fs : List (Bor (List ℕ) × Value)) → pieces line_of_field [] (codes ",") fs ≡ line_of_fields (fields_view fs)
+field_pieces [] = refl
+field_pieces (f ∷ fs) =
+    ap (λ t. line_of_field f ++ t) (sym (more_field_pieces fs))
+
+pub record_pieces : (fs : List (Bor (List ℕ) × Value)) → codes "rec(" ++ (pieces line_of_field [] (codes ",") fs ++ codes ")") ≡ line_of (record_value (fields_view fs))
+record_pieces fs = ap (λ t. codes "rec(" ++ (t ++ codes ")")) (field_pieces fs)
+
+more_place_pieces : (ps : List (Option Value)) → line_of_more_places (places_view ps) ≡ pieces line_of_place (codes ",") (codes ",") ps
+more_place_pieces [] = refl
+more_place_pieces (None ∷ ps) = ap (λ t. codes "," ++ t) (more_place_pieces ps)
+more_place_pieces (Some v ∷ ps) = ap (λ t. codes "," ++ (line_of (value_view v) ++ t)) (more_place_pieces ps)
+
+place_pieces : (ps : List (Option Value)) → pieces line_of_place [] (codes ",") ps ≡ line_of_places (places_view ps)
+place_pieces [] = refl
+place_pieces (None ∷ ps) = sym (more_place_pieces ps)
+place_pieces (Some v ∷ ps) = ap (λ t. line_of (value_view v) ++ t) (sym (more_place_pieces ps))
+
+pub list_pieces : (ps : List (Option Value)) → codes "[" ++ (pieces line_of_place [] (codes ",") ps ++ codes "]") ≡ line_of (list_value (places_view ps))
+list_pieces ps = ap (λ t. codes "[" ++ (t ++ codes "]")) (place_pieces ps)
+
+pub place_some : (p : Option Value) (v : Value) (half mid : List ℕ) → p ≡ Some v → mid ≡ half ++ line_of (value_view v) → mid ≡ half ++ line_of_place p
+place_some p v half mid is e = e ∙ ap (λ q. half ++ line_of_place q) (sym is)
+
+pub place_none : (p : Option Value) (half : List ℕ) → ((v : Value) → p ≡ Some v → ⊥) → half ≡ half ++ line_of_place p
+place_none None half none = sym (append-nil half)
+place_none (Some v) half none = absurd (none v refl)
+
+-- ---- values at a level
+
+indent_more : (n : ℕ) → indent n ++ codes "  " ≡ indent (n + 1)
+indent_more n = replicate-append-replicate (2 * n) 2 32 ∙ ap (λ k. replicate k 32) (let e : 2 * n + 2 ≡ 2 * (n + 1) = omega arith in e)
+
+pub indent_goes : (old now mid : List ℕ) (n : ℕ) → now ≡ old ++ indent n → mid ≡ now ++ codes "  " → mid ≡ old ++ indent (n + 1)
+indent_goes old now mid n e f = f ∙ ap (λ t. t ++ codes "  ") e ∙ append_assoc old (indent n) (codes "  ") ∙ ap (λ t. old ++ t) (indent_more n)
+
+some_field_lines : (level : ℕ) (f : Bor (List ℕ) × Value) (fs : List (Bor (List ℕ) × Value)) (after : List ℕ) → text_of_field level f ++ (pieces (text_of_field level) (codes ",\n") (codes ",\n") fs ++ (codes "\n" ++ after))
+    ≡ text_of_fields level (fields_view (f ∷ fs)) ++ after
+some_field_lines level f [] after = simp append_assoc
+some_field_lines level f (g ∷ fs) after =
+    let more = some_field_lines level g fs after in
+    let here : text_of_field level f ++ (codes ",\n" ++ (text_of_fields level (fields_view (g ∷ fs)) ++ after)) ≡ text_of_fields level (fields_view (f ∷ (g ∷ fs))) ++ after = simp append_assoc in
+    ap (λ t. text_of_field level f ++ (codes ",\n" ++ t)) (append_assoc (text_of_field level g) (pieces (text_of_field level) (codes ",\n") (codes ",\n") fs) (codes "\n" ++ after) ∙ more) ∙ here
+
+field_lines : (level : ℕ) (fs : List (Bor (List ℕ) × Value)) (after : List ℕ) → pieces (text_of_field level) (codes "\n") (codes ",\n") fs ++ (codes "\n" ++ after)
+    ≡ codes "\n" ++ (text_of_fields level (fields_view fs) ++ after)
+field_lines level [] after = refl
+field_lines level (f ∷ fs) after =
+    ap (λ t. codes "\n" ++ t) (append_assoc (text_of_field level f) (pieces (text_of_field level) (codes ",\n") (codes ",\n") fs) (codes "\n" ++ after) ∙ some_field_lines level f fs after)
+
+pub record_lines : (level : ℕ) (fs : List (Bor (List ℕ) × Value)) → codes "rec(" ++ (pieces (text_of_field (suc level)) (codes "\n") (codes ",\n") fs ++ (codes "\n" ++ (indent level ++ codes ")")))
+    ≡ text_of_value level (record_value (fields_view fs))
+record_lines level fs =
+    ap (λ t. codes "rec(" ++ t) (field_lines (suc level) fs (indent level ++ codes ")"))
+    ∙ ap (λ t. codes "rec(\n" ++ t) (sym (append_assoc (text_of_fields (suc level) (fields_view fs)) (indent level) (codes ")")))
+
+pub lists_behind : (v : ValueTree) (others : Places) → are_lists (place v others) ≡ true → are_lists others ≡ true
+lists_behind (list_value _) others e = e
+lists_behind (number_value _) others e = cc
+lists_behind (string_value _) others e = cc
+lists_behind (record_value _) others e = cc
+lists_behind (range_value _ _) others e = cc
+lists_behind (word_value _) others e = cc
+
+some_rows : (level : ℕ) (v : Value) (ps : List (Option Value)) (after : List ℕ) → are_lists (places_view (Some v ∷ ps)) ≡ true
+    → row_of_place level (Some v) ++ (pieces (row_of_place level) (codes ",\n") (codes ",\n") ps ++ (codes "\n" ++ after)) ≡ lines_of_places level (places_view (Some v ∷ ps)) ++ after
+some_rows level v [] after e = simp append_assoc
+some_rows level v (None ∷ ps) after e = let none = lists_behind (value_view v) (places_view (None ∷ ps)) e in absurd cc
+some_rows level v (Some w ∷ ps) after e =
+    let more = some_rows level w ps after (lists_behind (value_view v) (places_view (Some w ∷ ps)) e) in
+    let row = row_of_place level (Some v) in
+    let here : row ++ (codes ",\n" ++ (lines_of_places level (places_view (Some w ∷ ps)) ++ after)) ≡ lines_of_places level (places_view (Some v ∷ (Some w ∷ ps))) ++ after = simp append_assoc in
+    ap (λ t. row ++ (codes ",\n" ++ t)) (append_assoc (row_of_place level (Some w)) (pieces (row_of_place level) (codes ",\n") (codes ",\n") ps) (codes "\n" ++ after) ∙ more) ∙ here
+
+rows : (level : ℕ) (ps : List (Option Value)) (after : List ℕ) → are_lists (places_view ps) ≡ true
+    → pieces (row_of_place level) (codes "\n") (codes ",\n") ps ++ (codes "\n" ++ after) ≡ codes "\n" ++ (lines_of_places level (places_view ps) ++ after)
+rows level [] after e = refl
+rows level (None ∷ ps) after e = absurd cc
+rows level (Some v ∷ ps) after e =
+    ap (λ t. codes "\n" ++ t) (append_assoc (row_of_place level (Some v)) (pieces (row_of_place level) (codes ",\n") (codes ",\n") ps) (codes "\n" ++ after) ∙ some_rows level v ps after e)
+
+pub table_rows : (level : ℕ) (ps : List (Option Value)) → is_table (places_view ps) ≡ true
+    → codes "[" ++ (pieces (row_of_place (suc level)) (codes "\n") (codes ",\n") ps ++ (codes "\n" ++ (indent level ++ codes "]"))) ≡ text_of_value level (list_value (places_view ps))
+table_rows level ps e =
+    ap (λ t. codes "[" ++ t) (rows (suc level) ps (indent level ++ codes "]") (each (places_view ps) e))
+    ∙ ap (λ t. codes "[\n" ++ t) (sym (append_assoc (lines_of_places (suc level) (places_view ps)) (indent level) (codes "]")))
+    ∙ sym (rw e)
+  where
+    each : (places : Places) → is_table places ≡ true → are_lists places ≡ true
+    each no_places h = absurd cc
+    each (place v others) h = h
+    each (empty_place others) h = h

@@ -1,0 +1,40 @@
+-- Texts that are printed piece by piece.
+use Rattle.std.specs.Prelude.{◌≡◌, ℕ, List, [], ◌∷◌, ◌++◌, drop, codes, Bool, true, false, Option, Some, None}
+use Rattle.std.specs.Borrow.{Bor}
+use Rattle.kb_record.specs.Layout.{line_of, text_of_value, indent}
+use Rattle.kb_record.specs.Tree.{Value as ValueTree, list_value}
+use Rattle.kb_record.specs.View.{value_view}
+use Rattle.kb_record.specs.declared.tree.Value.{Value}
+
+-- pieces with a text before the first and another before each that follows
+abbrev pub pieces : {A : Type 0} → (A → List ℕ) → List ℕ → List ℕ → List A → List ℕ
+pieces text before between [] = []
+pieces text before between (x ∷ xs) = before ++ (text x ++ pieces text between between xs)
+
+-- Behind what stood there a whole text is printed up to the piece at a place: `ending` stands behind the pieces.
+pub record IsPrintedUpTo {A : Type 0} (text : A → List ℕ) (between ending : List ℕ) (xs : List A) (whole old : List ℕ) (index : ℕ) (before now : List ℕ) : Type 0 where
+  pub done : List ℕ
+  pub so_far : now ≡ old ++ done
+  pub to_come : whole ≡ done ++ (pieces text before between (drop index xs) ++ ending)
+
+-- `NAME := ` and a value on one line
+abbrev pub line_of_field : Bor (List ℕ) × Value → List ℕ
+line_of_field f = f.0.now ++ codes " := " ++ line_of (value_view f.1)
+
+-- the same at a level, on a line of its own
+abbrev pub text_of_field : ℕ → Bor (List ℕ) × Value → List ℕ
+text_of_field level f = indent level ++ f.0.now ++ codes " := " ++ text_of_value level (value_view f.1)
+
+-- the value of a place on one line, or nothing
+abbrev pub line_of_place : Option Value → List ℕ
+line_of_place None = []
+line_of_place (Some v) = line_of (value_view v)
+
+-- the same on a line of its own
+abbrev pub row_of_place : ℕ → Option Value → List ℕ
+row_of_place level p = indent level ++ line_of_place p
+
+-- the place has a value, a list
+abbrev pub holds_list : Option ValueTree → Bool
+holds_list (Some (list_value _)) = true
+holds_list _ = false
