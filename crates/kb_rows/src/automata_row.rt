@@ -52,11 +52,7 @@ pub(crate) struct AutomataRow<'a> {
 
 /// A shelf with the files, on which the store of this number fails.
 fn shelf_with(alloc: Global, given: &str, failing_store: u64) -> Result<MemShelf, AllocError> {
-    let mut shelf = MemShelf::new(
-        alloc,
-        Vec::new(alloc),
-        vec![in alloc; failing_store]?,
-    );
+    let mut shelf = MemShelf::new(alloc, Vec::new(alloc), vec![in alloc; failing_store]?);
     for (name, bytes) in FILES {
         shelf.insert(alloc, name, bytes.as_bytes())?;
     }
@@ -94,7 +90,11 @@ pub(crate) fn check_with<R: Abort + Wait>(
     assert!(rt; exit == row.exit, "status: {shows}: {exit}");
     let stored = shelf.get(OUT);
     let expected = row.stored.map(|bytes| bytes.as_bytes());
-    assert!(rt; stored == expected, "stored: {shows}: {}", text(stored.unwrap_or(b"nothing")));
+    assert!(rt;
+        stored == expected,
+        "stored: {shows}: {}",
+        text(stored.unwrap_or(b"nothing"))
+    );
     Ok(())
 }
 

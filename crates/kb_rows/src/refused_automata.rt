@@ -44,7 +44,11 @@ fn fields_of_words(rt: HostRuntime) -> Result<(), Fail> {
             ("    type := \"identifiers\",\n", "", "E4 MissingField type"),
             ("size := 2", "size := 3", "E18 AlphabetOther"),
             ("size := 2", "size := -2", "E5 WrongKind size"),
-            ("format := \"dense\"", "format := \"sparse\"", "E18 AlphabetOther"),
+            (
+                "format := \"dense\"",
+                "format := \"sparse\"",
+                "E18 AlphabetOther",
+            ),
             ("[a,A]", "[a,a]", "E8 NameTaken a"),
             ("[a,A]", "[a,_]", "E8 NameTaken _"),
             ("[a,A]", "[a,1]", "E5 WrongKind names"),
@@ -53,12 +57,24 @@ fn fields_of_words(rt: HostRuntime) -> Result<(), Fail> {
             ("size := 3", "size := 999999999999999999", "E16 StatesWrong"),
             ("initial := [1]", "initial := [1,2]", "E19 NotDeterministic"),
             ("initial := [1]", "initial := [4]", "E17 TargetOutOfRange"),
-            ("initial := [1]", "initial := [1..1]", "E5 WrongKind initial"),
+            (
+                "initial := [1]",
+                "initial := [1..1]",
+                "E5 WrongKind initial",
+            ),
             ("[1..3]", "[1..999999999999999999]", "E17 TargetOutOfRange"),
             ("[1..3]", "[0..3]", "E17 TargetOutOfRange"),
             ("[1..3]", "[2,4]", "E17 TargetOutOfRange"),
-            ("\"dense deterministic\"", "\"dense nondeterministic\"", "E19 NotDeterministic"),
-            ("numTransitions := 4", "defaultTarget := 1", "E19 NotDeterministic"),
+            (
+                "\"dense deterministic\"",
+                "\"dense nondeterministic\"",
+                "E19 NotDeterministic",
+            ),
+            (
+                "numTransitions := 4",
+                "defaultTarget := 1",
+                "E19 NotDeterministic",
+            ),
             ("[2,0]", "[2,0,0]", "E16 StatesWrong"),
             ("[2,0]", "[2,4]", "E17 TargetOutOfRange"),
             ("[2,0]", "[2,-1]", "E17 TargetOutOfRange"),
@@ -103,7 +119,11 @@ fn fields_of_pairs(rt: HostRuntime) -> Result<(), Fail> {
             ("size := 8", "size := 7", "E18 AlphabetOther"),
             ("\"identifiers\"", "\"product\"", "E18 AlphabetOther"),
             ("base := rec(", "basis := rec(", "E4 MissingField base"),
-            ("      [0,0,0,0,0,0,0,0]\n", "      [4,0,0,0,0,0,0,0]\n", "E21 PaddingInside"),
+            (
+                "      [0,0,0,0,0,0,0,0]\n",
+                "      [4,0,0,0,0,0,0,0]\n",
+                "E21 PaddingInside",
+            ),
         ],
     )
 }
