@@ -27,14 +27,15 @@ pub fn star(alloc: Global, one: &Fsa, limit: u32) -> Result<Fsa, Det>
 {
     let products = repeated(alloc, one)?;
     let answer = determinise(alloc, &products, limit)?;
-    // The empty set of states is none of the answer's, and is counted where a word leads to it.
+    // The empty set of states is counted too, where a word leads to it. It is none of the answer's states, each of which
+    // some word leads to: so a word leads to it exactly where one of them lacks a move.
     if answer.len() >= limit && lacks_move(&answer) {
         return Err(Det::TooManyStates { limit });
     }
     Ok(answer)
 }
 
-/// Whether some state has no move by some letter, so that a word leads to no state.
+/// Whether some state has no move by some letter.
 fn lacks_move(fsa: &Fsa) -> bool
     ensures { IsTrue result ↔ LacksMove fsa.now }
 {
