@@ -1,5 +1,5 @@
 -- The sets to which the subset construction goes: exactly the states among which texts lead.
-use Rattle.std.proofs.Common.{◌≡◌, ◌≢◌, ◌↔◌, ℕ, Bool, true, IsTrue, List, [], ◌∷◌, Option, Some, None, IsSome, refl, sym, ap, ◌∙◌, subst, inl, inr}
+use Rattle.std.proofs.Common.{◌≡◌, ◌≢◌, ◌↔◌, ℕ, Bool, true, IsTrue, List, [], ◌∷◌, Option, Some, None, IsSome, is_some, refl, sym, ap, ◌∙◌, subst, inl, inr}
 use Rattle.std.specs.List.{Contains, list_any}
 use Rattle.std.proofs.lemmas.Bool.{false≢true, or_cases, or_left, or_right}
 use Rattle.kb_fsa.specs.Language.{symbols, IsTextOf, IsAutomaton}
@@ -8,7 +8,7 @@ use Rattle.kb_fsa.specs.Counted.{MoreSetsThan}
 use Rattle.kb_explore.specs.Machine.{lead, leads, MachineAccepts, HasMoreStates}
 use Rattle.kb_explore.specs.Exploration.{IsExploration}
 use Rattle.kb_explore.proofs.CountingLemmas.{MoreThan-kept}
-use Rattle.kb_explore.proofs.ExplorationLemmas.{accepts_same, leads_nowhere}
+use Rattle.kb_explore.proofs.ExplorationLemmas.{accepts_same, leads_nowhere, same_states}
 use Rattle.kb_fsadet.specs.Nondeterministic.{Nondeterministic, IsNondeterministic, LeadsFrom, IsAmong, AcceptsSomehow, accepts_at}
 use Rattle.kb_fsadet.specs.SubsetConstruction.{IsAscending, set_of, some_set, targets, moves_of_each, subsets}
 use Rattle.kb_fsadet.proofs.Sets.{Contains-none, Contains-here, Contains-there, Contains-cons_cases, IsAscending-set_of, Contains-set_of, same_from_members}
@@ -134,22 +134,33 @@ module _ (automaton : Nondeterministic) where
       ))
       (exactly_from text automaton.initial)
 
+  -- the machine leads to some set where the text leads to some state
+  leads_somewhere : (text : List ℕ) → IsSome (leads (subsets automaton) text) ↔ ((state : ℕ) × IsAmong automaton text state)
+  leads_somewhere text = (
+    some_from_exactly (IsAmong automaton text) (leads (subsets automaton) text) (exactly text),
+    IsSome-from_exactly (IsAmong automaton text) (leads (subsets automaton) text) (exactly text),
+  )
+
+  -- and to one set exactly where texts lead to the same states
+  leads_alike : (text other : List ℕ) → (leads (subsets automaton) text ≡ leads (subsets automaton) other)
+      ↔ ((state : ℕ) → IsAmong automaton text state ↔ IsAmong automaton other state)
+  leads_alike text other = (
+    λ same.
+        let P : Option (List ℕ) → Type 0 = λ o. HasExactly (IsAmong automaton other) o in
+        like_from_exactly (IsAmong automaton text) (IsAmong automaton other) (leads (subsets automaton) text) (exactly text)
+        (subst P (sym same) (exactly other)),
+    λ like. same_from_exactly (IsAmong automaton text) (IsAmong automaton other)
+        (leads (subsets automaton) text) (leads (subsets automaton) other) (exactly text) (exactly other) like,
+  )
+
   -- the machine goes to as many sets as texts lead to
   pub more_sets : (m : ℕ) → HasMoreStates (subsets automaton) m → MoreSetsThan (IsAmong automaton) m
   more_sets m more =
-      MoreThan-kept more
-      (λ text some. some_from_exactly (IsAmong automaton text) (leads (subsets automaton) text) (exactly text) some)
-      (λ text other one two same. same_from_exactly (IsAmong automaton text) (IsAmong automaton other)
-      (leads (subsets automaton) text) (leads (subsets automaton) other) (exactly text) (exactly other) same)
+      MoreThan-kept more (λ text some. (leads_somewhere text).0 some) (λ text other one two same. (leads_alike text other).1 same)
 
   pub more_states : (m : ℕ) → MoreSetsThan (IsAmong automaton) m → HasMoreStates (subsets automaton) m
   more_states m more =
-      MoreThan-kept more
-      (λ text some. IsSome-from_exactly (IsAmong automaton text) (leads (subsets automaton) text) (exactly text) some)
-      (λ text other one two same.
-      let P : Option (List ℕ) → Type 0 = λ o. HasExactly (IsAmong automaton other) o in
-      like_from_exactly (IsAmong automaton text) (IsAmong automaton other) (leads (subsets automaton) text) (exactly text)
-      (subst P (sym same) (exactly other)))
+      MoreThan-kept more (λ text some. (leads_somewhere text).1 some) (λ text other one two same. (leads_alike text other).0 same)
 
   -- the machine accepts what the automaton does
   pub same_language : (text : List ℕ) → MachineAccepts (subsets automaton) text ↔ AcceptsSomehow automaton text
@@ -176,14 +187,31 @@ module _ (automaton : Nondeterministic) where
 
 module _ (automaton : Nondeterministic) (is : IsNondeterministic automaton) (table : Table) (states : List (List ℕ)) (origins : List (ℕ × ℕ))
     (explored : IsExploration (subsets automaton) table states origins) (symbols' : HasSymbols (symbols automaton.alphabet) table) where
-  texts : (text : List ℕ) → state_after table text ≢ 0 → IsTextOf automaton.alphabet text
-  unfolding HasExactly
-  texts text some = by (leads (subsets automaton) text) refl (exactly automaton text)
+  -- a text leads to a state exactly where it leads to some of the automaton's
+  pub some_state : (text : List ℕ) → (state_after table text ≢ 0) ↔ ((state : ℕ) × IsAmong automaton text state)
+  some_state text = (
+    λ some. by (leads (subsets automaton) text) refl some,
+    λ among none.
+        let nowhere = (leads_nowhere explored text).0 none in
+        let somewhere = (leads_somewhere automaton text).1 among in
+        cc,
+  )
     where
-      by : (o : Option (List ℕ)) → leads (subsets automaton) text ≡ o → HasExactly (IsAmong automaton text) o
-          → IsTextOf automaton.alphabet text
-      by None e none = absurd (some ((leads_nowhere explored text).1 e))
-      by (Some set) e exact = let among = exact.some in is.texts text among.0 among.1
+      by : (o : Option (List ℕ)) → leads (subsets automaton) text ≡ o → state_after table text ≢ 0
+          → (state : ℕ) × IsAmong automaton text state
+      by None e some = absurd (some ((leads_nowhere explored text).1 e))
+      by (Some set) e some = (leads_somewhere automaton text).0 (ap is_some e)
+
+  -- texts lead to one state exactly where they lead to the same ones of the automaton's
+  pub same_sets : (text other : List ℕ) → (state_after table text ≡ state_after table other)
+      ↔ ((state : ℕ) → IsAmong automaton text state ↔ IsAmong automaton other state)
+  same_sets text other =
+      let states_alike = same_states explored text other in
+      let sets_alike = leads_alike automaton text other in
+      (λ same. sets_alike.0 (states_alike.0 same), λ like. states_alike.1 (sets_alike.1 like))
+
+  texts : (text : List ℕ) → state_after table text ≢ 0 → IsTextOf automaton.alphabet text
+  texts text some = let among = (some_state text).0 some in is.texts text among.0 among.1
 
   pub determinised : IsAutomaton (record { alphabet = automaton.alphabet; table = table })
   determinised = record {

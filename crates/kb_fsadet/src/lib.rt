@@ -1,9 +1,9 @@
 //! From nondeterministic automata to deterministic ones, and the projection of pairs.
 //!
 //! The public contract: `determinise` gives a deterministic automaton of the same language by the subset
-//! construction, and `exists` one of the words beside which an automaton of pairs accepts some word, of
-//! whatever length. Each answers `TooManyStates` exactly where there are more sets of states, to which texts lead,
-//! than the limit.
+//! construction, with one state for each set of states to which texts lead, and `exists` one of the words beside
+//! which an automaton of pairs accepts some word, of whatever length. Each answers `TooManyStates` exactly where
+//! there are more sets of states, to which texts lead, than the limit.
 //!
 //! The subset construction is a machine that `kb_explore` explores. A set of states is kept as the ascending list
 //! of their numbers, and its moves are those of its states, sorted.

@@ -10,3 +10,5 @@ pub mod LayerLemmas
 pub mod SuccessorLemmas
 pub mod EnumerationLemmas
 pub mod Repeating
+pub mod ShortRows
+pub mod CountedStars

@@ -1,45 +1,40 @@
--- The automaton that reads any number of accepted words leads to the sets that `star` counts.
+-- The automaton that reads any number of accepted words: where words lead in it.
 use Rattle.std.proofs.Common.{◌≡◌, ◌↔◌, ◌⊎◌, ℕ, zero, suc, ◌+◌, ◌<◌, ◌≤◌, ◌^◌, IsTrue, List, [], ◌∷◌, ◌++◌, length, get_or, map, refl, sym, ap, ◌∙◌, subst, inl, inr, append_assoc, arith}
 use Rattle.std.specs.List.{Contains}
-use Rattle.std.proofs.lemmas.Bool.{cases_lt, cases_eq}
+use Rattle.std.proofs.lemmas.Bool.{cases_lt}
 use Rattle.std.proofs.lemmas.List.{append-nil, length-append, length-map, length_push, get_or_append_left, get_or_push, get_or-map}
-use Rattle.std.proofs.lemmas.List.Elements.{All-head, All-tail, Contains-append_left, Contains-append_right, Contains-push, Contains-push_cases}
 use Rattle.kb_word.specs.Relations.{IsOver}
 use Rattle.kb_fsa.specs.declared.alphabet.Alphabet.TheVariants.{Plain}
 use Rattle.kb_fsa.specs.Table.{Moves, Table, moves_of, is_accepting, after, state_after, AcceptsFrom}
 use Rattle.kb_fsa.specs.Language.{Automaton, IsAutomaton, AcceptsText, generators, symbols}
 use Rattle.kb_fsa.specs.Canonical.{IsState}
-use Rattle.kb_fsa.specs.Counted.{MoreSetsThan, IsProduct, empty, longer, IsAfterProduct, CountedStar}
+use Rattle.kb_fsa.specs.Counted.{IsProduct, empty, longer, IsAfterProduct}
 use Rattle.kb_fsa.proofs.Lookups.{after-append, after_within}
-use Rattle.kb_explore.proofs.CountingLemmas.{MoreThan-kept}
 use Rattle.kb_fsadet.specs.Nondeterministic.{Nondeterministic, IsNondeterministic, IsAmong, LeadsFrom, moves_from}
 use Rattle.kb_fsarat.specs.Reversal.{only}
 use Rattle.kb_fsarat.specs.Restarts.{restarting}
 use Rattle.kb_fsarat.specs.Chains.{start_of}
-use Rattle.kb_fsarat.specs.Repetitions.{AreLoops, IsRepeated}
+use Rattle.kb_fsarat.specs.Repetitions.{IsRepeated}
 use Rattle.kb_fsarat.proofs.MoveLists.{Contains-nil, Contains-same, Contains-cons_cases, Contains-cons}
 use Rattle.kb_fsarat.proofs.TableMoves.{IsMove-from_contains, symbol_within, leads_from_state, accepts_from_state}
 use Rattle.kb_fsarat.proofs.Nondeterminism.{IsNondeterministic-plain, HasMovesWithin, row_within, texts_over}
 use Rattle.kb_fsarat.proofs.Reversing.{accepts_only, length-only}
-use Rattle.kb_fsarat.proofs.Restarting.{pair_is, IsRestart, Contains-restarting, HasRestarts, IsRestarted, leads-append, leads_plainly, leads_to_start, leads_cases}
+use Rattle.kb_fsarat.proofs.Restarting.{IsRestart, Contains-restarting, HasRestarts, IsRestarted, leads-append, leads_plainly, leads_to_start, leads_cases}
 use Rattle.kb_fsarat.proofs.Chaining.{moves_at, place_of, Contains-start_of}
 
 -- the parts of the automaton
-pub record IsRepeating (automaton : Automaton) (loops : Moves) (nfa : Nondeterministic) (mark anywhere : ℕ) : Type 0 where
+pub record IsRepeating (automaton : Automaton) (nfa : Nondeterministic) (mark : ℕ) : Type 0 where
   pub is_mark : mark ≡ length automaton.table.rows + 1
-  pub is_anywhere : anywhere ≡ mark + 1
   pub alphabet : nfa.alphabet ≡ automaton.alphabet
-  pub initial : nfa.initial ≡ (mark ∷ start_of automaton.table.initial) ++ anywhere ∷ []
-  pub rows : nfa.rows ≡ (map (restarting automaton.table (mark ∷ start_of automaton.table.initial)) automaton.table.rows ++ [] ∷ []) ++ loops ∷ []
-  pub loop : AreLoops (symbols automaton.alphabet + 1) anywhere loops
+  pub initial : nfa.initial ≡ mark ∷ start_of automaton.table.initial
+  pub rows : nfa.rows ≡ map (restarting automaton.table (mark ∷ start_of automaton.table.initial)) automaton.table.rows ++ [] ∷ []
   pub accepting : nfa.accepting ≡ only mark (length nfa.rows)
 
 -- a word leads to a state after the last product, or is a product and leads to the mark
 abbrev Reaches : Automaton → ℕ → List ℕ → ℕ → Type 0
 Reaches automaton mark word state = IsAfterProduct automaton word state ⊎ ((state ≡ mark) × IsProduct automaton word)
 
-module _ (automaton : Automaton) (loops : Moves) (nfa : Nondeterministic) (mark anywhere : ℕ) (is : IsAutomaton automaton)
-    (parts : IsRepeating automaton loops nfa mark anywhere) where
+module _ (automaton : Automaton) (nfa : Nondeterministic) (mark : ℕ) (is : IsAutomaton automaton) (parts : IsRepeating automaton nfa mark) where
   -- ---- its rows
 
   row_own : (place : ℕ) → place < length automaton.table.rows
@@ -49,7 +44,6 @@ module _ (automaton : Automaton) (loops : Moves) (nfa : Nondeterministic) (mark 
       let own = map f automaton.table.rows in
       let count = length-map automaton.table.rows f in
       ap (λ rows. get_or rows place []) parts.rows
-      ∙ get_or_append_left (own ++ [] ∷ []) (loops ∷ []) [] place (omega (arith, length_push {X = Moves} own []))
       ∙ get_or_append_left own ([] ∷ []) [] place (omega arith)
       ∙ get_or-map f automaton.table.rows place [] [] within
 
@@ -57,26 +51,16 @@ module _ (automaton : Automaton) (loops : Moves) (nfa : Nondeterministic) (mark 
   row_mark =
       let f = restarting automaton.table (mark ∷ start_of automaton.table.initial) in
       let own = map f automaton.table.rows in
-      let count = length-map automaton.table.rows f in
       ap (λ rows. get_or rows (length automaton.table.rows) []) parts.rows
-      ∙ get_or_append_left (own ++ [] ∷ []) (loops ∷ []) [] (length automaton.table.rows) (omega (arith, length_push {X = Moves} own []))
-      ∙ get_or_push own [] [] (length automaton.table.rows) count
+      ∙ get_or_push own [] [] (length automaton.table.rows) (length-map automaton.table.rows f)
 
-  count_rows : length nfa.rows ≡ length automaton.table.rows + 2
+  count_rows : length nfa.rows ≡ length automaton.table.rows + 1
   count_rows =
       let f = restarting automaton.table (mark ∷ start_of automaton.table.initial) in
       let own = map f automaton.table.rows in
       let count = length-map automaton.table.rows f in
       let all = ap length parts.rows in
-      omega (arith, length_push (own ++ [] ∷ []) loops, length_push {X = Moves} own [])
-
-  row_anywhere : get_or nfa.rows (length automaton.table.rows + 1) [] ≡ loops
-  row_anywhere =
-      let f = restarting automaton.table (mark ∷ start_of automaton.table.initial) in
-      let own = map f automaton.table.rows in
-      let count = length-map automaton.table.rows f in
-      ap (λ rows. get_or rows (length automaton.table.rows + 1) []) parts.rows
-      ∙ get_or_push (own ++ [] ∷ []) loops [] (length automaton.table.rows + 1) (omega (arith, length_push {X = Moves} own []))
+      omega (arith, length_push {X = Moves} own [])
 
   restarts : HasRestarts automaton.table (mark ∷ start_of automaton.table.initial) nfa
   restarts state symbol next here = by (place_of state here.positive)
@@ -95,7 +79,7 @@ module _ (automaton : Automaton) (loops : Moves) (nfa : Nondeterministic) (mark 
           subst P (sym (ap (moves_of automaton.table) at.1))
           ((λ has. cases.0 (Contains-same _ _ (symbol, next) row has)), (λ has. Contains-same _ _ (symbol, next) (sym row) (cases.1 has)))
 
-  -- ---- where the two states more lead
+  -- ---- where the mark leads
 
   from_mark : (text : List ℕ) (other : ℕ) → LeadsFrom nfa mark text other → (text ≡ []) × (other ≡ mark)
   from_mark [] other leads = (refl, sym leads)
@@ -103,28 +87,6 @@ module _ (automaton : Automaton) (loops : Moves) (nfa : Nondeterministic) (mark 
       let at : mark ≡ suc (length automaton.table.rows) = let e = parts.is_mark in omega arith in
       absurd (Contains-nil (symbol, leads.0) (Contains-same _ _ (symbol, leads.0)
       (moves_at nfa mark (length automaton.table.rows) at ∙ row_mark) leads.1))
-
-  moves_anywhere : moves_from nfa anywhere ≡ loops
-  moves_anywhere =
-      let at : anywhere ≡ suc (length automaton.table.rows + 1) = let e = parts.is_mark in let f = parts.is_anywhere in omega arith in
-      moves_at nfa anywhere (length automaton.table.rows + 1) at ∙ row_anywhere
-
-  from_anywhere : (text : List ℕ) (other : ℕ) → LeadsFrom nfa anywhere text other → other ≡ anywhere
-  from_anywhere [] other leads = sym leads
-  from_anywhere (symbol ∷ text) other leads =
-      let loop = (parts.loop (symbol, leads.0)).0 (Contains-same _ _ (symbol, leads.0) moves_anywhere leads.1) in
-      let P : ℕ → Type 0 = λ s. LeadsFrom nfa s text other in
-      from_anywhere text other (subst P loop.2 leads.2)
-
-  to_anywhere : (text : List ℕ) → IsOver (symbols automaton.alphabet) text → LeadsFrom nfa anywhere text anywhere
-  to_anywhere [] over = refl
-  to_anywhere (symbol ∷ text) over =
-      let letter = All-head (λ x. (0 < x) × (x ≤ symbols automaton.alphabet)) symbol text over in
-      let most = letter.1 in (
-        anywhere,
-        Contains-same _ _ (symbol, anywhere) (sym moves_anywhere) ((parts.loop (symbol, anywhere)).1 (letter.0, omega arith, refl)),
-        to_anywhere text (All-tail (λ x. (0 < x) × (x ≤ symbols automaton.alphabet)) symbol text over),
-      )
 
   -- ---- starts
 
@@ -142,8 +104,7 @@ module _ (automaton : Automaton) (loops : Moves) (nfa : Nondeterministic) (mark 
   )
 
   initial_start : (start : ℕ) → Contains (mark ∷ start_of automaton.table.initial) start → Contains nfa.initial start
-  initial_start start has =
-      Contains-same _ _ start (sym parts.initial) (Contains-append_left (mark ∷ start_of automaton.table.initial) (anywhere ∷ []) start has)
+  initial_start start has = Contains-same _ _ start (sym parts.initial) has
 
   -- ---- from the automaton to words
 
@@ -236,21 +197,17 @@ module _ (automaton : Automaton) (loops : Moves) (nfa : Nondeterministic) (mark 
             (λ front begun goes. reaches fuel front restarted.back automaton.table.initial other less begun goes)
       ]
 
-  among_cases : (text : List ℕ) (state : ℕ) → IsAmong nfa text state → Reaches automaton mark text state ⊎ (state ≡ anywhere)
+  among_cases : (text : List ℕ) (state : ℕ) → IsAmong nfa text state → Reaches automaton mark text state
   among_cases text state among =
-      let starts = mark ∷ start_of automaton.table.initial in
       let P : ℕ → Type 0 = λ s. LeadsFrom nfa s text state in
-      elim (Contains-push_cases starts anywhere among.start (Contains-same _ _ among.start parts.initial among.is_initial)) [
-        | inl own ↦ elim ((starts_cases among.start).0 own) [
-          | inl at_mark ↦
-              let ends = from_mark text state (subst P at_mark among.leads) in
-              let Q : List ℕ → Type 0 = λ w. IsProduct automaton w in
-              inl (inr (ends.1, subst Q (sym ends.0) empty))
-          | inr at_initial ↦
-              inl (reaches (length text) [] text automaton.table.initial state (omega arith) (starts_again [] empty at_initial.1)
-              (subst P at_initial.0 among.leads))
-        ]
-        | inr other ↦ inr (from_anywhere text state (subst P (sym other) among.leads))
+      elim ((starts_cases among.start).0 (Contains-same _ _ among.start parts.initial among.is_initial)) [
+        | inl at_mark ↦
+            let ends = from_mark text state (subst P at_mark among.leads) in
+            let Q : List ℕ → Type 0 = λ w. IsProduct automaton w in
+            inr (ends.1, subst Q (sym ends.0) empty)
+        | inr at_initial ↦
+            reaches (length text) [] text automaton.table.initial state (omega arith) (starts_again [] empty at_initial.1)
+            (subst P at_initial.0 among.leads)
       ]
 
   -- ---- and back
@@ -311,7 +268,6 @@ module _ (automaton : Automaton) (loops : Moves) (nfa : Nondeterministic) (mark 
       let n = length automaton.table.rows in
       let rows = count_rows in
       let e = parts.is_mark in
-      let f = parts.is_anywhere in
       elim (cases_lt place n) [
         | inl within ↦
             let state : IsState automaton.table (suc place) = record { positive = omega arith; within = omega arith } in
@@ -332,38 +288,23 @@ module _ (automaton : Automaton) (loops : Moves) (nfa : Nondeterministic) (mark 
                     ],
                   )
             ]
-        | inr past ↦ elim (cases_eq place n) [
-          | inl at_mark ↦
-              absurd (Contains-nil (symbol, next) (Contains-same _ _ (symbol, next) (ap (λ p. get_or nfa.rows p []) at_mark ∙ row_mark) has))
-          | inr beyond ↦
-              let low = row_within nfa.rows place (symbol, next) has in
-              let last : place ≡ n + 1 = omega (arith, beyond) in
-              let loop = (parts.loop (symbol, next)).0
-              (Contains-same _ _ (symbol, next) (ap (λ p. get_or nfa.rows p []) last ∙ row_anywhere) has) in
-              let less = loop.1 in
-              ((loop.0, omega arith), (omega (arith, loop.2), omega (arith, loop.2)))
-        ]
+        | inr past ↦
+            let low = row_within nfa.rows place (symbol, next) has in
+            let at_mark : place ≡ n = omega arith in
+            absurd (Contains-nil (symbol, next) (Contains-same _ _ (symbol, next) (ap (λ p. get_or nfa.rows p []) at_mark ∙ row_mark) has))
       ]
 
   pub repeated : (n : ℕ) → automaton.alphabet ≡ Plain n → IsRepeated automaton nfa
   repeated n plain =
       let count = length automaton.table.rows in
       let e = parts.is_mark in
-      let f = parts.is_anywhere in
-      let is_anywhere : anywhere ≡ count + 2 = omega arith in
       let letters : symbols automaton.alphabet ≡ generators automaton.alphabet = ap symbols plain ∙ sym (ap generators plain) in
-      let over : (word : List ℕ) (state : ℕ) → IsAmong nfa word state → IsOver (generators automaton.alphabet) word = λ word state among.
-      let P : ℕ → Type 0 = λ k. IsOver k word in
-      subst P letters (over_symbols word state moves_within among) in
       let after_word : (word : List ℕ) (state : ℕ) → IsAfterProduct automaton word state → state ≤ count = λ word state after.
       (after_state word state after).within in
       let to_mark : (word : List ℕ) → IsAmong nfa word mark ↔ IsProduct automaton word = λ word. (
         λ among. elim (among_cases word mark among) [
-          | inl reached ↦ elim reached [
-            | inl after ↦ let within = after_word word mark after in absurd (let no : ⊥ = omega arith in no)
-            | inr at_mark ↦ at_mark.1
-          ]
-          | inr other ↦ absurd (let no : ⊥ = omega arith in no)
+          | inl after ↦ let within = after_word word mark after in absurd (let no : ⊥ = omega arith in no)
+          | inr at_mark ↦ at_mark.1
         ],
         λ product. product_back word mark product ((starts_cases mark).1 (inl refl)),
       ) in
@@ -371,35 +312,18 @@ module _ (automaton : Automaton) (loops : Moves) (nfa : Nondeterministic) (mark 
       record {
         states = λ word state within. (
           λ among. elim (among_cases word state among) [
-            | inl reached ↦ elim reached [
-              | inl after ↦ after
-              | inr at_mark ↦ absurd (let no : ⊥ = omega (arith, at_mark.0) in no)
-            ]
-            | inr other ↦ absurd (let no : ⊥ = omega arith in no)
+            | inl after ↦ after
+            | inr at_mark ↦ absurd (let no : ⊥ = omega (arith, at_mark.0) in no)
           ],
           states_back word state,
         );
         mark = λ word. let P : ℕ → Type 0 = λ s. IsAmong nfa word s ↔ IsProduct automaton word in subst P e (to_mark word);
-        anywhere = λ word.
-            let P : ℕ → Type 0 = λ s. IsAmong nfa word s ↔ IsOver (generators automaton.alphabet) word in
-            let Q : ℕ → Type 0 = λ k. IsOver k word in
-            subst P is_anywhere (
-              over word anywhere,
-              λ is_over. record {
-                start = anywhere;
-                is_initial = Contains-same _ _ anywhere (sym parts.initial) (Contains-push (mark ∷ start_of automaton.table.initial) anywhere);
-                leads = to_anywhere word (subst Q (sym letters) is_over);
-              },
-            );
         no_others = λ word state among. (
           elim (among_cases word state among) [
-            | inl reached ↦ elim reached [
-              | inl after ↦ let within = after_word word state after in omega arith
-              | inr at_mark ↦ omega (arith, at_mark.0)
-            ]
-            | inr other ↦ omega arith
+            | inl after ↦ let within = after_word word state after in omega arith
+            | inr at_mark ↦ omega (arith, at_mark.0)
           ],
-          over word state among,
+          let P : ℕ → Type 0 = λ k. IsOver k word in subst P letters (over_symbols word state moves_within among),
         );
         are_states = after_word;
         language = λ word. (
@@ -410,109 +334,32 @@ module _ (automaton : Automaton) (loops : Moves) (nfa : Nondeterministic) (mark 
         );
       }
 
-  pub repeating_nondeterministic : (n : ℕ) → automaton.alphabet ≡ Plain n → length automaton.table.rows + 2 < 2 ^ 32 → IsNondeterministic nfa
+  pub repeating_nondeterministic : (n : ℕ) → automaton.alphabet ≡ Plain n → length automaton.table.rows + 1 < 2 ^ 32 → IsNondeterministic nfa
   repeating_nondeterministic n plain fits =
       let small : n ≤ 65534 = let letters : generators automaton.alphabet ≡ n = ap generators plain in let most = is.generators in omega arith in
       let rows = count_rows in
       let e = parts.is_mark in
-      let f = parts.is_anywhere in
       let P : ℕ → Type 0 = λ k. HasMovesWithin k nfa in
       IsNondeterministic-plain n nfa (parts.alphabet ∙ plain) small (ap length parts.accepting ∙ length-only mark (length nfa.rows)) (omega arith)
-      (λ state has. elim (Contains-push_cases (mark ∷ start_of automaton.table.initial) anywhere state
-      (Contains-same _ _ state parts.initial has)) [
-        | inl own ↦ elim ((starts_cases state).0 own) [
-          | inl at_mark ↦ (omega arith, omega arith)
-          | inr at_initial ↦
-              let low = is.table.initial in (omega (arith, at_initial.0, at_initial.1), omega (arith, at_initial.0))
-        ]
-        | inr other ↦ (omega arith, omega arith)
+      (λ state has. elim ((starts_cases state).0 (Contains-same _ _ state parts.initial has)) [
+        | inl at_mark ↦ (omega arith, omega arith)
+        | inr at_initial ↦
+            let low = is.table.initial in (omega (arith, at_initial.0, at_initial.1), omega (arith, at_initial.0))
       ])
       (subst P (ap symbols plain) moves_within)
 
--- the sets of states to which words lead are counted as `star` counts
-pub counted_repeated : (automaton : Automaton) (nfa : Nondeterministic) → IsRepeated automaton nfa
-    → (m : ℕ) → MoreSetsThan (IsAmong nfa) m ↔ CountedStar automaton m
-counted_repeated automaton nfa is m = (
-  λ more.
-      MoreThan-kept more (λ text some. (is.no_others text some.0 some.1).1)
-      (λ text other one two alike state. (
-        carried text other (is.no_others other two.0 two.1).1 (λ s. (alike.0 s).0) alike.1.0 state,
-        carried other text (is.no_others text one.0 one.1).1 (λ s. (alike.0 s).1) alike.1.1 state,
-      )),
-  λ more.
-      MoreThan-kept more (λ text over. (length automaton.table.rows + 2, (is.anywhere text).1 over))
-      (λ text other one two alike. (
-        λ state. (
-          λ after.
-              let within = is.are_states text state after in
-              (is.states other state within).0 ((alike state).0 ((is.states text state within).1 after)),
-          λ after.
-              let within = is.are_states other state after in
-              (is.states text state within).0 ((alike state).1 ((is.states other state within).1 after)),
-        ),
-        (
-          λ product. (is.mark other).0 ((alike (length automaton.table.rows + 1)).0 ((is.mark text).1 product)),
-          λ product. (is.mark text).0 ((alike (length automaton.table.rows + 1)).1 ((is.mark other).1 product)),
-        ),
-      )),
-)
-  where
-    carried : (text other : List ℕ) → IsOver (generators automaton.alphabet) other
-        → ((state : ℕ) → IsAfterProduct automaton text state → IsAfterProduct automaton other state)
-        → (IsProduct automaton text → IsProduct automaton other) → (state : ℕ) → IsAmong nfa text state → IsAmong nfa other state
-    carried text other over states product state among =
-        let count = length automaton.table.rows in
-        elim (cases_lt count state) [
-          | inr within ↦ (is.states other state within).1 (states state ((is.states text state within).0 among))
-          | inl past ↦ elim (cases_eq state (count + 1)) [
-            | inl at_mark ↦
-                let P : ℕ → Type 0 = λ s. IsAmong nfa other s in
-                let Q : ℕ → Type 0 = λ s. IsAmong nfa text s in
-                subst P (sym at_mark) ((is.mark other).1 (product ((is.mark text).0 (subst Q at_mark among))))
-            | inr beyond ↦
-                let most = (is.no_others text state among).0 in
-                let last : state ≡ count + 2 = omega (arith, beyond) in
-                let P : ℕ → Type 0 = λ s. IsAmong nfa other s in
-                subst P (sym last) ((is.anywhere other).1 over)
-          ]
-        ]
-
--- a move more by the next symbol
-pub loops_more : (symbol state : ℕ) (row more : Moves) → 0 < symbol → AreLoops symbol state row → more ≡ row ++ (symbol, state) ∷ []
-    → AreLoops (symbol + 1) state more
-loops_more symbol state row more positive loops pushed move = (
-  λ has. elim (Contains-push_cases row (symbol, state) move (Contains-same _ _ move pushed has)) [
-    | inl old ↦ let loop = (loops move).0 old in let less = loop.1 in (loop.0, omega arith, loop.2)
-    | inr new ↦
-        let number = ap (λ (m : ℕ × ℕ). m.0) new in
-        (omega arith, omega arith, sym (ap (λ (m : ℕ × ℕ). m.1) new))
-  ],
-  λ loop.
-      let less = loop.1 in
-      Contains-same _ _ move (sym pushed) (elim (cases_lt move.0 symbol) [
-        | inl old ↦ Contains-append_left row ((symbol, state) ∷ []) move ((loops move).1 (loop.0, old, loop.2))
-        | inr last ↦
-            let number : symbol ≡ move.0 = omega arith in
-            Contains-append_right row ((symbol, state) ∷ []) move (0, omega arith, pair_is (symbol, state) move.0 move.1 number (sym loop.2))
-      ]),
-)
-
 -- the parts, by the table
-pub parts_repeating : (automaton : Automaton) (table : Table) (loops : Moves) (starts : List ℕ) (nfa : Nondeterministic) (mark anywhere count : ℕ)
-    → table ≡ automaton.table → mark ≡ length table.rows + 1 → anywhere ≡ mark + 1 → nfa.alphabet ≡ automaton.alphabet
-    → starts ≡ mark ∷ start_of table.initial → nfa.initial ≡ starts ++ anywhere ∷ []
-    → nfa.rows ≡ (map (restarting table starts) table.rows ++ [] ∷ []) ++ loops ∷ []
-    → count ≡ symbols automaton.alphabet + 1 → AreLoops count anywhere loops → nfa.accepting ≡ only mark (length nfa.rows)
-    → IsRepeating automaton loops nfa mark anywhere
-parts_repeating automaton table loops starts nfa mark anywhere count own is_mark is_anywhere alphabet begins initial rows letters loop accepting =
-    let all_rows : Table → List ℕ → List Moves = λ t st. (map (restarting t st) t.rows ++ [] ∷ []) ++ loops ∷ [] in
-    let P : ℕ → Type 0 = λ n. AreLoops n anywhere loops in
+pub parts_repeating : (automaton : Automaton) (table : Table) (starts : List ℕ) (nfa : Nondeterministic) (mark : ℕ)
+    → table ≡ automaton.table → mark ≡ length table.rows + 1 → nfa.alphabet ≡ automaton.alphabet
+    → starts ≡ mark ∷ start_of table.initial → nfa.initial ≡ starts
+    → nfa.rows ≡ map (restarting table starts) table.rows ++ [] ∷ [] → nfa.accepting ≡ only mark (length nfa.rows)
+    → IsRepeating automaton nfa mark
+parts_repeating automaton table starts nfa mark own is_mark alphabet begins initial rows accepting =
+    let all_rows : Table → List ℕ → List Moves = λ t st. map (restarting t st) t.rows ++ [] ∷ [] in
     record {
       is_mark = is_mark ∙ ap (λ (t : Table). length t.rows + 1) own;
-      is_anywhere = is_anywhere;
       alphabet = alphabet;
-      initial = initial ∙ ap (λ st. st ++ anywhere ∷ []) begins ∙ ap (λ (t : Table). (mark ∷ start_of t.initial) ++ anywhere ∷ []) own;
+      initial = initial ∙ begins ∙ ap (λ (t : Table). mark ∷ start_of t.initial) own;
       rows = rows ∙ ap (all_rows table) begins ∙ ap (λ t. all_rows t (mark ∷ start_of t.initial)) own;
-      loop = subst P letters loop;
       accepting = accepting;
     }

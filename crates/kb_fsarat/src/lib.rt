@@ -4,7 +4,8 @@
 //! `TooManyStates` exactly where their construction counts more states than the limit. `Enumerate` gives the accepted
 //! words of the lengths that are asked for, each once, in the shortlex order.
 //!
-//! The operations make nondeterministic automata, which `kb_fsadet` determinises.
+//! The operations make nondeterministic automata, which `kb_fsadet` determinises. `star` counts the empty set of states
+//! too where a word leads to it, which is where some state of the answer has no move by some letter.
 //!
 //! `kb_fsa`, `kb_explore` and `kb_fsadet` stand below; the programs stand above.
 #![tactic(auto)]

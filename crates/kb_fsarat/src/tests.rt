@@ -1,6 +1,6 @@
 //! What no clause says: that the calls succeed where there is memory. Letters 1 and 2 are a and b.
 
-ghost use Rattle.std.specs.Prelude.{◌≡◌, ◌≤◌, ℕ, All, IfOk};
+ghost use Rattle.std.specs.Prelude.{◌≡◌, ◌<◌, ◌≤◌, ℕ, All, IfOk};
 ghost use Rattle.kb_fsa.specs.Table.{IsRow};
 ghost use Rattle.kb_fsa.specs.declared.alphabet.Alphabet.TheVariants.{Plain};
 
@@ -149,17 +149,35 @@ fn products_of_any_number_are_accepted(rt: HostRuntime) -> Result<(), Fail> {
     Ok(())
 }
 
-/// After a word in a alone there is one set of states, and after each other word the empty one.
+/// The word a, over so many letters.
+fn only_a(rt: &impl Abort, alloc: Global, generators: u16) -> Result<Fsa, Memory>
+    ensures { IfOk result (λ fsa. fsa.alphabet ≡ Plain generators) }
+{
+    plain(rt, alloc, generators, &[&[(1, 2)], &[]], &[false, true])
+}
+
+/// That the star of the automaton counts so many states.
+fn star_counts(rt: &impl Abort, alloc: Global, one: &Fsa, count: u32)
+    requires plain { (n : ℕ) × (one.now.alphabet ≡ Plain n) }
+    requires positive { 0 < count }
+{
+    assert!(rt; star(alloc, one, count).is_ok());
+    assert!(rt; matches!(star(alloc, one, count - 1), Err(Det::TooManyStates { .. })));
+}
+
+/// There is one set of states after the empty word, another after each other word in a alone, and the empty one after
+/// each word with a b.
 #[test]
 fn the_empty_set_is_counted(rt: HostRuntime) -> Result<(), Fail> {
-    let one = powers_of_a(&rt, rt.alloc())?;
-    assert!(rt; star(rt.alloc(), &one, 2).is_ok());
-    assert!(rt;
-        matches!(
-            star(rt.alloc(), &one, 1),
-            Err(Det::TooManyStates { limit: 1 })
-        )
-    );
+    let one = only_a(&rt, rt.alloc(), 2)?;
+    star_counts(&rt, rt.alloc(), &one, 3);
+    Ok(())
+}
+
+#[test]
+fn the_empty_set_is_not_counted_where_no_word_leads_to_it(rt: HostRuntime) -> Result<(), Fail> {
+    let one = only_a(&rt, rt.alloc(), 1)?;
+    star_counts(&rt, rt.alloc(), &one, 2);
     Ok(())
 }
 
