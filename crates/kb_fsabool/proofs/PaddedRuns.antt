@@ -11,7 +11,7 @@ use Rattle.kb_fsa.specs.declared.alphabet.Alphabet.{Alphabet}
 use Rattle.kb_fsa.specs.declared.alphabet.Alphabet.TheVariants.{Plain, Pair}
 use Rattle.kb_fsa.specs.Language.{IsTextOf, symbols}
 use Rattle.kb_fsa.specs.Counted.{FirstEnds, SecondEnds, EndAlike}
-use Rattle.kb_fsa.proofs.Paddings.{IsPairSymbol, IsPairSymbol-first, IsPairSymbol-second}
+use Rattle.kb_fsa.proofs.PairSymbols.{IsPairSymbol, IsPairSymbol-first, IsPairSymbol-second}
 use Rattle.kb_fsabool.specs.declared.ended.Ended.{Ended}
 use Rattle.kb_fsabool.specs.declared.ended.Ended.TheVariants.{Neither, First, Second}
 use Rattle.kb_fsabool.specs.Complements.{word_padded, ended_next, is_symbol, ended_after, ended_by, first_after, stride_after, IsInStride}

@@ -9,7 +9,8 @@ use Rattle.kb_word.specs.Relations.{IsOver}
 use Rattle.kb_fsa.specs.Table.{Moves, Table, IsTable, HasSymbols, moves_of, step, after}
 use Rattle.kb_fsa.specs.Padding.{pair_symbol, padded, IsPadded}
 use Rattle.kb_fsa.proofs.Lookups.{IsRow-moves_of, after_none, entry_from_lookup, lookup_from_entry, lookup_from_target, target_some}
-use Rattle.kb_fsa.proofs.Paddings.{length-padded, get_or-padded, letter_or_padding, pair_symbol-injective, same_from_padding}
+use Rattle.kb_fsa.proofs.PairSymbols.{pair_symbol-injective}
+use Rattle.kb_fsa.proofs.Paddings.{length-padded, get_or-padded, letter_or_padding, same_from_padding}
 use Rattle.kb_fsadet.specs.Nondeterministic.{LeadsFrom, moves_from}
 use Rattle.kb_fsadet.specs.FirstWords.{by_first, first_words}
 use Rattle.kb_fsadet.proofs.FirstWordLemmas.{from_by_first, by_first_from, first_of-pair, first_within, second_of}
