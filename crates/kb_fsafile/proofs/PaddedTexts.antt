@@ -31,7 +31,7 @@ letter_on_second : (n symbol i j : ℕ) → IsLetter n j → symbol ≡ pair_sym
 letter_on_second n symbol i j letter is pads =
     let same : j ≡ 0 = sym (before_last_column n i j letter.1) ∙ sym (ap (λ s. s % (n + 1)) is) ∙ pads in omega (arith, letter.0)
 
--- two paddings are out of place behind any text
+-- a symbol in place isn't two paddings, which are out of place behind any text
 letters_in_place : (n : ℕ) (front : List ℕ) (symbol : ℕ) → IsSymbol n symbol → ¬ IsOutOfPlace n front symbol → IsPairSymbol n symbol
 letters_in_place n front symbol is in_place =
     elim (cases_eq symbol ((n + 1) * (n + 1))) [
