@@ -1,3 +1,4 @@
 pub mod Lookups
+pub mod PairSymbols
 pub mod Paddings
 pub mod Unpadding

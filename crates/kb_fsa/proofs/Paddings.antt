@@ -1,13 +1,12 @@
 -- Texts of pairs of words.
-use Rattle.std.proofs.Common.{◌≡◌, ℕ, zero, suc, ◌+◌, ◌-◌, ◌*◌, ◌<◌, ◌≤◌, max, List, [], ◌∷◌, ◌++◌, length, get_or, take, drop, refl, sym, ap, ◌∙◌, subst, inl, inr, arith}
+use Rattle.std.proofs.Common.{◌≡◌, ℕ, zero, suc, ◌+◌, ◌<◌, ◌≤◌, max, List, [], ◌∷◌, ◌++◌, length, get_or, take, drop, refl, sym, ap, ◌∙◌, subst, inl, inr, arith}
 use Rattle.std.specs.List.{All}
-use Rattle.std.proofs.Math.Nat.{mul_comm}
 use Rattle.std.proofs.lemmas.Bool.{cases_lt}
 use Rattle.std.proofs.lemmas.List.{get_or_past, take_at}
 use Rattle.std.proofs.lemmas.List.Elements.{All-nil, All-cons, All-head, All-tail, All-take, All-get_or}
-use Rattle.std.proofs.lemmas.Nat.{mul-le, column_fits, same_from_place}
 use Rattle.kb_word.specs.Relations.{IsOver}
-use Rattle.kb_fsa.specs.Padding.{pair_symbol, padded, IsPadded}
+use Rattle.kb_fsa.specs.Padding.{pair_symbol, padded, IsPadded, IsTextOfPair}
+use Rattle.kb_fsa.proofs.PairSymbols.{IsLetter, IsPairSymbol, IsPairSymbol-first, IsPairSymbol-second, pair_symbol-injective}
 
 pub length-padded : (n : ℕ) (u v : List ℕ) → length (padded n u v) ≡ max (length u) (length v)
 length-padded n [] [] = refl
@@ -65,37 +64,43 @@ IsPadded-prefix n text more whole = record {
       ∙ take-padded n (length text) whole.first whole.second;
 }
 
+-- ---- a symbol more at the beginning
+
+pub IsTextOfPair-nil : (n : ℕ) → IsTextOfPair n [] [] []
+IsTextOfPair-nil n = record { first_over = All-nil (IsLetter n); second_over = All-nil (IsLetter n); is_text = refl }
+
+pub IsPadded-from_pair : {n : ℕ} {text u v : List ℕ} → IsTextOfPair n text u v → IsPadded n text
+IsPadded-from_pair {u = u} {v = v} is =
+    record { first = u; second = v; first_over = is.first_over; second_over = is.second_over; is_text = is.is_text }
+
+module _ {n symbol : ℕ} {text : List ℕ} where
+  -- where the second word has ended, and where the first has
+  pub IsTextOfPair-first : {x : ℕ} {u : List ℕ} → IsLetter n x → symbol ≡ pair_symbol n x (n + 1) → IsTextOfPair n text u []
+      → IsTextOfPair n (symbol ∷ text) (x ∷ u) []
+  IsTextOfPair-first {x} {u} letter same is = record {
+    first_over = All-cons (IsLetter n) x u letter is.first_over;
+    second_over = is.second_over;
+    is_text = ap (λ s. s ∷ text) same ∙ ap (λ t. pair_symbol n x (n + 1) ∷ t) is.is_text;
+  }
+
+  pub IsTextOfPair-second : {y : ℕ} {v : List ℕ} → IsLetter n y → symbol ≡ pair_symbol n (n + 1) y → IsTextOfPair n text [] v
+      → IsTextOfPair n (symbol ∷ text) [] (y ∷ v)
+  IsTextOfPair-second {y} {v} letter same is = record {
+    first_over = is.first_over;
+    second_over = All-cons (IsLetter n) y v letter is.second_over;
+    is_text = ap (λ s. s ∷ text) same ∙ ap (λ t. pair_symbol n (n + 1) y ∷ t) is.is_text;
+  }
+
+  pub IsPadded-letters : {x y : ℕ} → IsLetter n x → IsLetter n y → symbol ≡ pair_symbol n x y → IsPadded n text → IsPadded n (symbol ∷ text)
+  IsPadded-letters {x} {y} one two same is = record {
+    first = x ∷ is.first;
+    second = y ∷ is.second;
+    first_over = All-cons (IsLetter n) x is.first one is.first_over;
+    second_over = All-cons (IsLetter n) y is.second two is.second_over;
+    is_text = ap (λ s. s ∷ text) same ∙ ap (λ t. pair_symbol n x y ∷ t) is.is_text;
+  }
+
 -- ---- symbols
-
--- one symbol is that of one pair
-pub pair_symbol-injective : (n i j k l : ℕ) → 0 < i → 0 < k → (0 < j) × (j ≤ n + 1) → (0 < l) × (l ≤ n + 1)
-    → pair_symbol n i j ≡ pair_symbol n k l → (i ≡ k) × (j ≡ l)
-pair_symbol-injective n i j k l first second column other same =
-    let one = mul_comm (n + 1) (i - 1) in
-    let two = mul_comm (n + 1) (k - 1) in
-    let places : (i - 1) * (n + 1) + (j - 1) ≡ (k - 1) * (n + 1) + (l - 1) = omega arith in
-    let parts = same_from_place (i - 1) (j - 1) (k - 1) (l - 1) (n + 1) (omega arith) (omega arith) places in
-    (omega (arith, parts.0), omega (arith, parts.1))
-
--- the number is that of a symbol of pairs
-abbrev pub IsPairSymbol : ℕ → ℕ → Type 0
-IsPairSymbol n symbol = (0 < symbol) × (symbol ≤ (n + 1) * (n + 1) - 1)
-
-square : (n : ℕ) → (n + 1) * (n + 1) ≡ (n + 1) * n + n + 1
-square n = grind arith
-
--- the letters may be padding, but not both
-pub IsPairSymbol-first : (n i j : ℕ) → (0 < i) × (i ≤ n) → (0 < j) × (j ≤ n + 1) → IsPairSymbol n (pair_symbol n i j)
-IsPairSymbol-first n i j letter other =
-    let fits = column_fits (n + 1) (i - 1) (n + 1) n (omega arith) (omega arith) in
-    let whole = square n in
-    (omega arith, omega arith)
-
-pub IsPairSymbol-second : (n i j : ℕ) → (0 < i) × (i ≤ n + 1) → (0 < j) × (j ≤ n) → IsPairSymbol n (pair_symbol n i j)
-IsPairSymbol-second n i j letter other =
-    let fits = mul-le (n + 1) (i - 1) (n + 1) n (omega arith) (omega arith) in
-    let whole = square n in
-    (omega arith, omega arith)
 
 pub symbols-padded : (n : ℕ) (u v : List ℕ) → IsOver n u → IsOver n v → All (IsPairSymbol n) (padded n u v)
 symbols-padded n [] [] first second = All-nil (IsPairSymbol n)

@@ -1,29 +1,12 @@
 -- From the text of a pair of words back to its words.
-use Rattle.std.proofs.Common.{◌≡◌, ◌≢◌, ℕ, ◌+◌, ◌-◌, ◌*◌, ◌/◌, ◌%◌, ◌<◌, ◌≤◌, List, [], ◌∷◌, ◌++◌, length, get_or, drop, refl, sym, ap, ap₂, ◌∙◌, subst, arith}
-use Rattle.std.proofs.Math.Nat.{mul_comm}
-use Rattle.std.proofs.lemmas.Nat.{div-mul-add, mod-mul-add, div_below}
+use Rattle.std.proofs.Common.{◌≡◌, ◌≢◌, ℕ, ◌+◌, ◌-◌, ◌/◌, ◌%◌, ◌<◌, ◌≤◌, List, [], ◌∷◌, ◌++◌, length, get_or, drop, refl, sym, ap, ap₂, ◌∙◌, subst, arith}
 use Rattle.std.proofs.lemmas.Bool.{eq-eqb, ne_eqb}
 use Rattle.std.proofs.lemmas.List.{at_drop_all, append-nil}
 use Rattle.std.proofs.lemmas.List.Elements.{All-head, All-tail, All-get_or}
 use Rattle.kb_word.specs.Relations.{IsOver}
 use Rattle.kb_fsa.specs.Padding.{pair_symbol, padded, letters_of, first_letters, second_letters, IsPadded, IsTextOfPair}
-use Rattle.kb_fsa.proofs.Paddings.{IsPairSymbol, symbols_of_padded}
-
--- a symbol is a row, and a column of it
-symbol_place : (n i j : ℕ) → 0 < j → pair_symbol n i j - 1 ≡ (i - 1) * (n + 1) + (j - 1)
-symbol_place n i j some = let turned = mul_comm (n + 1) (i - 1) in omega arith
-
-first_number : (n i j : ℕ) → 0 < i → 0 < j → j ≤ n + 1 → (pair_symbol n i j - 1) / (n + 1) + 1 ≡ i
-first_number n i j letter some within =
-    let row : (pair_symbol n i j - 1) / (n + 1) ≡ i - 1 =
-    ap (λ place. place / (n + 1)) (symbol_place n i j some) ∙ div-mul-add (i - 1) (n + 1) (j - 1) (omega arith) in
-    omega arith
-
-second_number : (n i j : ℕ) → 0 < i → 0 < j → j ≤ n + 1 → (pair_symbol n i j - 1) % (n + 1) + 1 ≡ j
-second_number n i j letter some within =
-    let column : (pair_symbol n i j - 1) % (n + 1) ≡ j - 1 =
-    ap (λ place. place % (n + 1)) (symbol_place n i j some) ∙ mod-mul-add (i - 1) (n + 1) (j - 1) (omega arith) in
-    omega arith
+use Rattle.kb_fsa.proofs.PairSymbols.{IsPairSymbol, first_number, second_number}
+use Rattle.kb_fsa.proofs.Paddings.{symbols_of_padded}
 
 -- a letter's number gives the letter, and the padding's gives none
 letter_kept : (padding number : ℕ) → number ≢ padding → letters_of padding number ≡ number ∷ []
@@ -36,7 +19,7 @@ padding_dropped padding = rw (eq-eqb padding padding refl) refl
 first_letter : (n i j : ℕ) (text w : List ℕ) → (0 < i) × (i ≤ n) → (0 < j) × (j ≤ n + 1) → first_letters (n + 1) text ≡ w
     → first_letters (n + 1) (pair_symbol n i j ∷ text) ≡ i ∷ w
 first_letter n i j text w letter other rest =
-    let number = first_number n i j letter.0 other.0 other.1 in
+    let number = first_number n i j letter.0 other in
     let kept : letters_of (n + 1) ((pair_symbol n i j - 1) / (n + 1) + 1) ≡ i ∷ [] =
     ap (letters_of (n + 1)) number ∙ letter_kept (n + 1) i (λ same. absurd (omega (arith, same))) in
     ap₂ (λ letters more. letters ++ more) kept rest
@@ -44,7 +27,7 @@ first_letter n i j text w letter other rest =
 first_padding : (n j : ℕ) (text w : List ℕ) → (0 < j) × (j ≤ n + 1) → first_letters (n + 1) text ≡ w
     → first_letters (n + 1) (pair_symbol n (n + 1) j ∷ text) ≡ w
 first_padding n j text w other rest =
-    let number = first_number n (n + 1) j (omega arith) other.0 other.1 in
+    let number = first_number n (n + 1) j (omega arith) other in
     let none : letters_of (n + 1) ((pair_symbol n (n + 1) j - 1) / (n + 1) + 1) ≡ [] =
     ap (letters_of (n + 1)) number ∙ padding_dropped (n + 1) in
     ap₂ (λ letters more. letters ++ more) none rest
@@ -52,7 +35,7 @@ first_padding n j text w other rest =
 second_letter : (n i j : ℕ) (text w : List ℕ) → (0 < i) × (i ≤ n + 1) → (0 < j) × (j ≤ n) → second_letters (n + 1) text ≡ w
     → second_letters (n + 1) (pair_symbol n i j ∷ text) ≡ j ∷ w
 second_letter n i j text w other letter rest =
-    let number = second_number n i j other.0 letter.0 (omega (arith, letter.1)) in
+    let number = second_number n i j (letter.0, omega (arith, letter.1)) in
     let kept : letters_of (n + 1) ((pair_symbol n i j - 1) % (n + 1) + 1) ≡ j ∷ [] =
     ap (letters_of (n + 1)) number ∙ letter_kept (n + 1) j (λ same. absurd (omega (arith, same, letter.1))) in
     ap₂ (λ letters more. letters ++ more) kept rest
@@ -60,7 +43,7 @@ second_letter n i j text w other letter rest =
 second_padding : (n i : ℕ) (text w : List ℕ) → (0 < i) × (i ≤ n + 1) → second_letters (n + 1) text ≡ w
     → second_letters (n + 1) (pair_symbol n i (n + 1) ∷ text) ≡ w
 second_padding n i text w other rest =
-    let number = second_number n i (n + 1) other.0 (omega arith) (omega arith) in
+    let number = second_number n i (n + 1) (omega arith, omega arith) in
     let none : letters_of (n + 1) ((pair_symbol n i (n + 1) - 1) % (n + 1) + 1) ≡ [] =
     ap (letters_of (n + 1)) number ∙ padding_dropped (n + 1) in
     ap₂ (λ letters more. letters ++ more) none rest
@@ -103,13 +86,6 @@ second_letters-padded n (x ∷ u) (y ∷ v) over also =
 
 pub symbol_at : (n : ℕ) (text : List ℕ) (place : ℕ) → IsPadded n text → place < length text → IsPairSymbol n (get_or text place 0)
 symbol_at n text place padded within = All-get_or (IsPairSymbol n) text place 0 within (symbols_of_padded n text padded)
-
--- the number on the first track is at most that of the padding
-pub first_within : (n symbol : ℕ) → IsPairSymbol n symbol → (symbol - 1) / (n + 1) < n + 1
-first_within n symbol is =
-    let some : 0 < symbol = is.0 in
-    let most : symbol ≤ (n + 1) * (n + 1) - 1 = is.1 in
-    div_below (symbol - 1) (n + 1) (n + 1) (omega arith) (omega arith)
 
 -- what was gathered, once the text is at its end
 gathered : (letters : List ℕ → List ℕ) (text w whole : List ℕ) (place : ℕ) → letters [] ≡ [] → length text ≤ place

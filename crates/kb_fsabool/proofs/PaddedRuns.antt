@@ -1,25 +1,23 @@
 -- Texts of the alphabet are those through which a run of ended words goes.
 use Rattle.std.proofs.Common.{◌≡◌, ◌≢◌, ◌↔◌, ℕ, ◌+◌, ◌-◌, ◌*◌, ◌/◌, ◌%◌, ◌<◌, ◌≤◌, Bool, true, false, if◌then◌else◌, nat_eq, nat_lt, nat_le, List, [], ◌∷◌, length, Option, Some, None, refl, sym, ap, ◌∙◌, subst, inl, inr, arith}
-use Rattle.std.proofs.Math.Nat.{mul_comm, mod_self, mod-eq_of_lt}
+use Rattle.std.proofs.Math.Nat.{mod_self, mod-eq_of_lt}
 use Rattle.std.proofs.lemmas.Bool.{cases_eq, cases_lt, lt-ltb, le-ltb, le-leb, lt-leb, eq-eqb, ne_eqb, and_from, and_left, and_right}
 use Rattle.std.proofs.lemmas.List.Elements.{All-nil, All-cons, All-head, All-tail}
-use Rattle.std.proofs.lemmas.Nat.{mul-le, mod-mul-add, div-add-mod', mod_below}
+use Rattle.std.proofs.lemmas.Nat.{mod-mul-add, div-add-mod'}
 use Rattle.std.proofs.lemmas.Option.{none-some, same_Some}
 use Rattle.kb_word.specs.Relations.{IsOver}
-use Rattle.kb_fsa.specs.Padding.{pair_symbol, padded, IsPadded}
+use Rattle.kb_fsa.specs.Padding.{pair_symbol, padded, IsPadded, IsTextOfPair}
 use Rattle.kb_fsa.specs.declared.alphabet.Alphabet.{Alphabet}
 use Rattle.kb_fsa.specs.declared.alphabet.Alphabet.TheVariants.{Plain, Pair}
 use Rattle.kb_fsa.specs.Language.{IsTextOf, symbols}
 use Rattle.kb_fsa.specs.Counted.{FirstEnds, SecondEnds, EndAlike}
-use Rattle.kb_fsa.proofs.Paddings.{IsPairSymbol, IsPairSymbol-first, IsPairSymbol-second}
+use Rattle.kb_fsa.proofs.PairSymbols.{IsLetter, IsPairSymbol, IsPairSymbol-first, IsPairSymbol-second, last_row, before_last_row, last_column, before_last_column, SymbolCase, two_letters, first_padded, second_padded, symbol_case}
+use Rattle.kb_fsa.proofs.Paddings.{IsPadded-from_pair, IsTextOfPair-nil, IsTextOfPair-first, IsTextOfPair-second, IsPadded-letters}
 use Rattle.kb_fsabool.specs.declared.ended.Ended.{Ended}
 use Rattle.kb_fsabool.specs.declared.ended.Ended.TheVariants.{Neither, First, Second}
 use Rattle.kb_fsabool.specs.Complements.{word_padded, ended_next, is_symbol, ended_after, ended_by, first_after, stride_after, IsInStride}
 
 -- ---- symbols
-
-abbrev pub IsLetter : ℕ → ℕ → Type 0
-IsLetter n x = (0 < x) × (x ≤ n)
 
 -- which word a symbol pads, by its number
 pads_first : (n symbol : ℕ) → (n + 1) * n < symbol → word_padded n symbol ≡ First
@@ -36,108 +34,20 @@ pads_none n symbol low inner =
     ap (λ (b : Bool). if b then First else (if nat_eq (symbol % (n + 1)) 0 then Second else Neither)) (le-ltb ((n + 1) * n) symbol low)
     ∙ ap (λ (b : Bool). if b then Second else Neither) (ne_eqb (symbol % (n + 1)) 0 inner)
 
--- the symbol of a row and a column that isn't the last
-in_row : (n x y : ℕ) → IsLetter n x → y ≤ n → ((n + 1) * (x - 1) + y ≤ (n + 1) * n) × (((n + 1) * (x - 1) + y) % (n + 1) ≡ y)
-in_row n x y letter low =
-    let turn = mul_comm (n + 1) (x - 1) in
-    let whole = mul-le (n + 1) ((x - 1) + 1) (n + 1) n (omega arith) (omega arith) in
-    let split : (n + 1) * ((x - 1) + 1) ≡ (n + 1) * (x - 1) + (n + 1) = grind arith in
-    let remainder = mod-mul-add (x - 1) (n + 1) y (omega arith) in
-    (omega arith, ap (λ s. (s + y) % (n + 1)) turn ∙ remainder)
-
--- each symbol of a pair pads the first word, or the second, or has two letters
-pub data SymbolCase (n symbol : ℕ) : Type 0 where
-  first_padded : (y : ℕ) → (0 < y) × (y ≤ n) → symbol ≡ pair_symbol n (n + 1) y → word_padded n symbol ≡ First → SymbolCase n symbol
-  second_padded : (x : ℕ) → (0 < x) × (x ≤ n) → symbol ≡ pair_symbol n x (n + 1) → word_padded n symbol ≡ Second → SymbolCase n symbol
-  two_letters : (x y : ℕ) → (0 < x) × (x ≤ n) → (0 < y) × (y ≤ n) → symbol ≡ pair_symbol n x y → word_padded n symbol ≡ Neither → SymbolCase n symbol
-
-square : (n : ℕ) → (n + 1) * (n + 1) ≡ (n + 1) * n + n + 1
-square n = grind arith
-
-row_before : (n x : ℕ) → (n + 1) * ((x + 1) - 1) ≡ (n + 1) * x
-row_before n x = ap (λ z. (n + 1) * z) (let e : (x + 1) - 1 ≡ x = omega arith in e)
-
-last_row : (n : ℕ) → (n + 1) * ((n + 1) - 1) ≡ (n + 1) * n
-last_row n = row_before n n
-
-symbol_case : (n symbol : ℕ) → IsPairSymbol n symbol → SymbolCase n symbol
-symbol_case n symbol is =
-    elim (cases_lt ((n + 1) * n) symbol) [
-      | inl above ↦
-          let whole = square n in
-          let row = last_row n in
-          first_padded (symbol - (n + 1) * n) (omega arith, omega arith) (omega arith) (pads_first n symbol above)
-      | inr low ↦ elim (cases_eq (symbol % (n + 1)) 0) [
-        | inl last ↦
-            let x = symbol / (n + 1) in
-            let parts = div-add-mod' symbol (n + 1) in
-            let turn = mul_comm x (n + 1) in
-            let letter : (0 < x) × (x ≤ n) = (positive n symbol is.0 last, at_most n symbol low) in
-            let split : (n + 1) * ((x - 1) + 1) ≡ (n + 1) * (x - 1) + (n + 1) = grind arith in
-            let back : (x - 1) + 1 ≡ x = omega arith in
-            let again = ap (λ z. (n + 1) * z) back in
-            second_padded x letter (omega arith) (pads_second n symbol low last)
-        | inr inner ↦
-            let x = symbol / (n + 1) in
-            let y = symbol % (n + 1) in
-            let parts = div-add-mod' symbol (n + 1) in
-            let turn = mul_comm x (n + 1) in
-            let below = mod_below symbol (n + 1) (omega arith) in
-            let row = row_before n x in
-            two_letters (x + 1) y (omega arith, within n symbol low inner) (omega arith, omega arith) (omega arith) (pads_none n symbol low inner)
-      ]
-    ]
-  where
-    positive : (m s : ℕ) → 0 < s → s % (m + 1) ≡ 0 → 0 < s / (m + 1)
-    positive m s some last =
-        elim (cases_eq (s / (m + 1)) 0) [
-          | inl none ↦ let parts = div-add-mod' s (m + 1) in let e = ap (λ q. q * (m + 1)) none in absurd (omega arith)
-          | inr more ↦ omega arith
-        ]
-
-    at_most : (m s : ℕ) → s ≤ (m + 1) * m → s / (m + 1) ≤ m
-    at_most m s low =
-        elim (cases_lt m (s / (m + 1))) [
-          | inl above ↦
-              let parts = div-add-mod' s (m + 1) in
-              let more = mul-le (m + 1) (m + 1) (s / (m + 1)) (m + 1) (omega arith) (omega arith) in
-              let whole = square m in
-              absurd (omega arith)
-          | inr fits ↦ fits
-        ]
-
-    within : (m s : ℕ) → s ≤ (m + 1) * m → s % (m + 1) ≢ 0 → s / (m + 1) + 1 ≤ m
-    within m s low inner =
-        elim (cases_lt (s / (m + 1)) m) [
-          | inl fits ↦ omega arith
-          | inr above ↦
-              let parts = div-add-mod' s (m + 1) in
-              let more = mul-le m (m + 1) (s / (m + 1)) (m + 1) above (omega arith) in
-              let turn = mul_comm m (m + 1) in
-              absurd (omega arith)
-        ]
-
 -- what the symbol of a pair of letters, or of one and the padding, pads
-first_pads : (n y : ℕ) → IsLetter n y → word_padded n (pair_symbol n (n + 1) y) ≡ First
-first_pads n y letter = let row = last_row n in pads_first n (pair_symbol n (n + 1) y) (omega arith)
+first_pads : (n symbol y : ℕ) → IsLetter n y → symbol ≡ pair_symbol n (n + 1) y → word_padded n symbol ≡ First
+first_pads n symbol y letter is = let row = last_row n y in pads_first n symbol (omega arith)
 
-second_pads : (n x : ℕ) → IsLetter n x → word_padded n (pair_symbol n x (n + 1)) ≡ Second
-second_pads n x letter =
-    let split : (n + 1) * ((x - 1) + 1) ≡ (n + 1) * (x - 1) + (n + 1) = grind arith in
-    let back : (x - 1) + 1 ≡ x = omega arith in
-    let again = ap (λ z. (n + 1) * z) back in
-    let whole = mul-le (n + 1) x (n + 1) n (omega arith) letter.1 in
-    let is : pair_symbol n x (n + 1) ≡ (n + 1) * x = omega arith in
-    let turn = mul_comm (n + 1) x in
-    let remainder = mod-mul-add x (n + 1) 0 (omega arith) in
-    let none : x * (n + 1) + 0 ≡ x * (n + 1) = omega arith in
-    pads_second n (pair_symbol n x (n + 1)) (omega arith)
-    (ap (λ s. s % (n + 1)) (is ∙ turn ∙ sym none) ∙ remainder)
+second_pads : (n symbol x : ℕ) → IsLetter n x → symbol ≡ pair_symbol n x (n + 1) → word_padded n symbol ≡ Second
+second_pads n symbol x letter is =
+    let low = before_last_row n x (n + 1) letter (omega arith) in
+    pads_second n symbol (omega arith) (ap (λ s. s % (n + 1)) is ∙ last_column n x letter.0)
 
-none_pads : (n x y : ℕ) → IsLetter n x → IsLetter n y → word_padded n (pair_symbol n x y) ≡ Neither
-none_pads n x y first second =
-    let place = in_row n x y first second.1 in
-    pads_none n (pair_symbol n x y) place.0 (λ e. omega (arith, place.1))
+none_pads : (n symbol x y : ℕ) → IsLetter n x → IsLetter n y → symbol ≡ pair_symbol n x y → word_padded n symbol ≡ Neither
+none_pads n symbol x y first second is =
+    let low = before_last_row n x y first (omega arith) in
+    let remainder = ap (λ s. s % (n + 1)) is ∙ before_last_column n x y second.1 in
+    pads_none n symbol (omega arith) (λ last. omega (arith, remainder, second.0))
 
 -- whether a number is that of a symbol
 symbol_true : (alphabet : Alphabet) (symbol : ℕ) → 0 < symbol → symbol ≤ symbols alphabet → is_symbol alphabet symbol ≡ true
@@ -199,7 +109,7 @@ run_first n (y ∷ v) over =
     let P = λ (letter : ℕ). (0 < letter) × (letter ≤ n) in
     let letter = All-head P y v over in
     run_more n First First (pair_symbol n (n + 1) y) (padded n [] v) (IsPairSymbol-second n (n + 1) y (omega arith, omega arith) letter)
-    (ap (ended_next First) (first_pads n y letter))
+    (ap (ended_next First) (first_pads n (pair_symbol n (n + 1) y) y letter refl))
     ∙ run_first n v (All-tail P y v over)
 
 run_second : (n : ℕ) (u : List ℕ) → IsOver n u → ended_by (Pair n) (Some Second) (padded n u []) ≡ Some Second
@@ -208,7 +118,7 @@ run_second n (x ∷ u) over =
     let P = λ (letter : ℕ). (0 < letter) × (letter ≤ n) in
     let letter = All-head P x u over in
     run_more n Second Second (pair_symbol n x (n + 1)) (padded n u []) (IsPairSymbol-first n x (n + 1) letter (omega arith, omega arith))
-    (ap (ended_next Second) (second_pads n x letter))
+    (ap (ended_next Second) (second_pads n (pair_symbol n x (n + 1)) x letter refl))
     ∙ run_second n u (All-tail P x u over)
 
 pub run_padded : (n : ℕ) (u v : List ℕ) → IsOver n u → IsOver n v → ended_by (Pair n) (Some Neither) (padded n u v) ≡ Some (ended_of u v)
@@ -218,20 +128,20 @@ run_padded n (x ∷ u) [] first second =
     let P = λ (letter : ℕ). (0 < letter) × (letter ≤ n) in
     let letter = All-head P x u first in
     run_more n Neither Second (pair_symbol n x (n + 1)) (padded n u []) (IsPairSymbol-first n x (n + 1) letter (omega arith, omega arith))
-    (ap (ended_next Neither) (second_pads n x letter))
+    (ap (ended_next Neither) (second_pads n (pair_symbol n x (n + 1)) x letter refl))
     ∙ run_second n u (All-tail P x u first)
 run_padded n [] (y ∷ v) first second =
     let P = λ (letter : ℕ). (0 < letter) × (letter ≤ n) in
     let letter = All-head P y v second in
     run_more n Neither First (pair_symbol n (n + 1) y) (padded n [] v) (IsPairSymbol-second n (n + 1) y (omega arith, omega arith) letter)
-    (ap (ended_next Neither) (first_pads n y letter))
+    (ap (ended_next Neither) (first_pads n (pair_symbol n (n + 1) y) y letter refl))
     ∙ run_first n v (All-tail P y v second)
 run_padded n (x ∷ u) (y ∷ v) first second =
     let P = λ (letter : ℕ). (0 < letter) × (letter ≤ n) in
     let one = All-head P x u first in
     let two = All-head P y v second in
     run_more n Neither Neither (pair_symbol n x y) (padded n u v) (IsPairSymbol-first n x y one (two.0, omega arith))
-    (ap (ended_next Neither) (none_pads n x y one two))
+    (ap (ended_next Neither) (none_pads n (pair_symbol n x y) x y one two refl))
     ∙ run_padded n u v (All-tail P x u first) (All-tail P y v second)
 
 -- ---- texts along which a run goes
@@ -239,23 +149,6 @@ run_padded n (x ∷ u) (y ∷ v) first second =
 run_none : (alphabet : Alphabet) (text : List ℕ) → ended_by alphabet None text ≡ None
 run_none alphabet [] = refl
 run_none alphabet (symbol ∷ text) = refl
-
--- the text is padded after the first word has ended
-pub record IsOfSecond (n : ℕ) (text : List ℕ) : Type 0 where
-  pub second : List ℕ
-  pub over : IsOver n second
-  pub is_text : text ≡ padded n [] second
-
-pub record IsOfFirst (n : ℕ) (text : List ℕ) : Type 0 where
-  pub first : List ℕ
-  pub over : IsOver n first
-  pub is_text : text ≡ padded n first []
-
-over_nil : (n : ℕ) → IsOver n []
-over_nil n = All-nil (λ letter. (0 < letter) × (letter ≤ n))
-
-over_cons : (n x : ℕ) (w : List ℕ) → IsLetter n x → IsOver n w → IsOver n (x ∷ w)
-over_cons n x w letter over = All-cons (λ letter. (0 < letter) × (letter ≤ n)) x w letter over
 
 -- what the symbol does where it may follow
 module _ (n symbol : ℕ) (text : List ℕ) (ended final : Ended) (runs : ended_by (Pair n) (Some ended) (symbol ∷ text) ≡ Some final) where
@@ -270,8 +163,10 @@ module _ (n symbol : ℕ) (text : List ℕ) (ended final : Ended) (runs : ended_
       let is = symbol_of_after (Pair n) ended symbol on.0 on.1.0 in
       (on.0, (is, (sym (pair_after n ended symbol is) ∙ on.1.0, on.1.1)))
 
-pub text_of_second : (n : ℕ) (text : List ℕ) (final : Ended) → ended_by (Pair n) (Some First) text ≡ Some final → IsOfSecond n text
-text_of_second n [] final runs = record { second = []; over = over_nil n; is_text = refl }
+-- after the first word has ended the text is that of a second word, and after the second that of a first
+pub text_of_second : (n : ℕ) (text : List ℕ) (final : Ended) → ended_by (Pair n) (Some First) text ≡ Some final
+    → (second : List ℕ) × IsTextOfPair n text [] second
+text_of_second n [] final runs = ([], IsTextOfPair-nil n)
 text_of_second n (symbol ∷ text) final runs =
     let on = goes_on n symbol text First final runs in
     by on.0 on.1.1.0 on.1.1.1 (λ (is_first : on.0 ≡ First).
@@ -280,19 +175,19 @@ text_of_second n (symbol ∷ text) final runs =
     (symbol_case n symbol on.1.0)
   where
     by : (next : Ended) → ended_next First (word_padded n symbol) ≡ Some next → ended_by (Pair n) (Some next) text ≡ Some final
-        → (next ≡ First → IsOfSecond n text) → SymbolCase n symbol → IsOfSecond n (symbol ∷ text)
-    by next follows rest along (first_padded y letter is pads) =
-        let tail = along (sym (same_Some _ _ (sym (ap (ended_next First) pads) ∙ follows))) in
-        record {
-          second = y ∷ tail.second;
-          over = over_cons n y tail.second letter tail.over;
-          is_text = ap (λ s. s ∷ text) is ∙ ap (λ t. pair_symbol n (n + 1) y ∷ t) tail.is_text;
-        }
-    by next follows rest along (second_padded x letter is pads) = absurd (none-some next (sym (ap (ended_next First) pads) ∙ follows))
-    by next follows rest along (two_letters x y one two is pads) = absurd (none-some next (sym (ap (ended_next First) pads) ∙ follows))
+        → (next ≡ First → (second : List ℕ) × IsTextOfPair n text [] second) → SymbolCase n symbol
+        → (second : List ℕ) × IsTextOfPair n (symbol ∷ text) [] second
+    by next follows rest along (first_padded y letter is) =
+        let tail = along (sym (same_Some _ _ (sym (ap (ended_next First) (first_pads n symbol y letter is)) ∙ follows))) in
+        (y ∷ tail.0, IsTextOfPair-second letter is tail.1)
+    by next follows rest along (second_padded x letter is) =
+        absurd (none-some next (sym (ap (ended_next First) (second_pads n symbol x letter is)) ∙ follows))
+    by next follows rest along (two_letters x y one two is) =
+        absurd (none-some next (sym (ap (ended_next First) (none_pads n symbol x y one two is)) ∙ follows))
 
-pub text_of_first : (n : ℕ) (text : List ℕ) (final : Ended) → ended_by (Pair n) (Some Second) text ≡ Some final → IsOfFirst n text
-text_of_first n [] final runs = record { first = []; over = over_nil n; is_text = refl }
+pub text_of_first : (n : ℕ) (text : List ℕ) (final : Ended) → ended_by (Pair n) (Some Second) text ≡ Some final
+    → (first : List ℕ) × IsTextOfPair n text first []
+text_of_first n [] final runs = ([], IsTextOfPair-nil n)
 text_of_first n (symbol ∷ text) final runs =
     let on = goes_on n symbol text Second final runs in
     by on.0 on.1.1.0 on.1.1.1 (λ (is_second : on.0 ≡ Second).
@@ -301,19 +196,18 @@ text_of_first n (symbol ∷ text) final runs =
     (symbol_case n symbol on.1.0)
   where
     by : (next : Ended) → ended_next Second (word_padded n symbol) ≡ Some next → ended_by (Pair n) (Some next) text ≡ Some final
-        → (next ≡ Second → IsOfFirst n text) → SymbolCase n symbol → IsOfFirst n (symbol ∷ text)
-    by next follows rest along (second_padded x letter is pads) =
-        let tail = along (sym (same_Some _ _ (sym (ap (ended_next Second) pads) ∙ follows))) in
-        record {
-          first = x ∷ tail.first;
-          over = over_cons n x tail.first letter tail.over;
-          is_text = ap (λ s. s ∷ text) is ∙ ap (λ t. pair_symbol n x (n + 1) ∷ t) tail.is_text;
-        }
-    by next follows rest along (first_padded y letter is pads) = absurd (none-some next (sym (ap (ended_next Second) pads) ∙ follows))
-    by next follows rest along (two_letters x y one two is pads) = absurd (none-some next (sym (ap (ended_next Second) pads) ∙ follows))
+        → (next ≡ Second → (first : List ℕ) × IsTextOfPair n text first []) → SymbolCase n symbol
+        → (first : List ℕ) × IsTextOfPair n (symbol ∷ text) first []
+    by next follows rest along (second_padded x letter is) =
+        let tail = along (sym (same_Some _ _ (sym (ap (ended_next Second) (second_pads n symbol x letter is)) ∙ follows))) in
+        (x ∷ tail.0, IsTextOfPair-first letter is tail.1)
+    by next follows rest along (first_padded y letter is) =
+        absurd (none-some next (sym (ap (ended_next Second) (first_pads n symbol y letter is)) ∙ follows))
+    by next follows rest along (two_letters x y one two is) =
+        absurd (none-some next (sym (ap (ended_next Second) (none_pads n symbol x y one two is)) ∙ follows))
 
 pub padded_of_run : (n : ℕ) (text : List ℕ) (final : Ended) → ended_by (Pair n) (Some Neither) text ≡ Some final → IsPadded n text
-padded_of_run n [] final runs = record { first = []; second = []; first_over = over_nil n; second_over = over_nil n; is_text = refl }
+padded_of_run n [] final runs = IsPadded-from_pair (IsTextOfPair-nil n)
 padded_of_run n (symbol ∷ text) final runs =
     let on = goes_on n symbol text Neither final runs in
     by on.0 on.1.1.0 on.1.1.1 (λ (is_neither : on.0 ≡ Neither).
@@ -323,35 +217,16 @@ padded_of_run n (symbol ∷ text) final runs =
   where
     by : (next : Ended) → ended_next Neither (word_padded n symbol) ≡ Some next → ended_by (Pair n) (Some next) text ≡ Some final
         → (next ≡ Neither → IsPadded n text) → SymbolCase n symbol → IsPadded n (symbol ∷ text)
-    by next follows rest along (first_padded y letter is pads) =
+    by next follows rest along (first_padded y letter is) =
         let P : Ended → Type 0 = λ e. ended_by (Pair n) (Some e) text ≡ Some final in
-        let tail = text_of_second n text final (subst P (sym (same_Some _ _ follows) ∙ pads) rest) in
-        record {
-          first = [];
-          second = y ∷ tail.second;
-          first_over = over_nil n;
-          second_over = over_cons n y tail.second letter tail.over;
-          is_text = ap (λ s. s ∷ text) is ∙ ap (λ t. pair_symbol n (n + 1) y ∷ t) tail.is_text;
-        }
-    by next follows rest along (second_padded x letter is pads) =
+        let tail = text_of_second n text final (subst P (sym (same_Some _ _ follows) ∙ first_pads n symbol y letter is) rest) in
+        IsPadded-from_pair (IsTextOfPair-second letter is tail.1)
+    by next follows rest along (second_padded x letter is) =
         let P : Ended → Type 0 = λ e. ended_by (Pair n) (Some e) text ≡ Some final in
-        let tail = text_of_first n text final (subst P (sym (same_Some _ _ follows) ∙ pads) rest) in
-        record {
-          first = x ∷ tail.first;
-          second = [];
-          first_over = over_cons n x tail.first letter tail.over;
-          second_over = over_nil n;
-          is_text = ap (λ s. s ∷ text) is ∙ ap (λ t. pair_symbol n x (n + 1) ∷ t) tail.is_text;
-        }
-    by next follows rest along (two_letters x y one two is pads) =
-        let tail = along (sym (same_Some _ _ follows) ∙ pads) in
-        record {
-          first = x ∷ tail.first;
-          second = y ∷ tail.second;
-          first_over = over_cons n x tail.first one tail.first_over;
-          second_over = over_cons n y tail.second two tail.second_over;
-          is_text = ap (λ s. s ∷ text) is ∙ ap (λ t. pair_symbol n x y ∷ t) tail.is_text;
-        }
+        let tail = text_of_first n text final (subst P (sym (same_Some _ _ follows) ∙ second_pads n symbol x letter is) rest) in
+        IsPadded-from_pair (IsTextOfPair-first letter is tail.1)
+    by next follows rest along (two_letters x y one two is) =
+        IsPadded-letters one two is (along (sym (same_Some _ _ follows) ∙ none_pads n symbol x y one two is))
 
 -- ---- plain texts
 
@@ -363,7 +238,7 @@ run_plain n ended (symbol ∷ text) over =
     ∙ run_plain n ended text (All-tail P symbol text over)
 
 over_of_run : (n : ℕ) (ended : Ended) (text : List ℕ) (final : Ended) → ended_by (Plain n) (Some ended) text ≡ Some final → IsOver n text
-over_of_run n ended [] final runs = over_nil n
+over_of_run n ended [] final runs = All-nil (IsLetter n)
 over_of_run n ended (symbol ∷ text) final runs =
     on (ended_after (Plain n) ended symbol) refl (λ next along. over_of_run n next text final along)
   where
@@ -371,7 +246,7 @@ over_of_run n ended (symbol ∷ text) final runs =
         → ((next : Ended) → ended_by (Plain n) (Some next) text ≡ Some final → IsOver n text) → IsOver n (symbol ∷ text)
     on None is along = absurd (none-some final (sym (run_none (Plain n) text) ∙ sym (ap (λ o. ended_by (Plain n) o text) is) ∙ runs))
     on (Some next) is along =
-        over_cons n symbol text (symbol_of_after (Plain n) ended symbol next is) (along next (sym (ap (λ o. ended_by (Plain n) o text) is) ∙ runs))
+        All-cons (IsLetter n) symbol text (symbol_of_after (Plain n) ended symbol next is) (along next (sym (ap (λ o. ended_by (Plain n) o text) is) ∙ runs))
 
 -- ---- texts of the alphabet
 

@@ -7,11 +7,12 @@ use Rattle.std.proofs.lemmas.List.Elements.{All-nil, All-cons, All-head, All-tai
 use Rattle.kb_word.specs.Relations.{IsOver}
 use Rattle.kb_fsa.specs.Table.{Moves, Table, IsTable, HasSymbols, AcceptsFrom, moves_of, step, after, is_accepting}
 use Rattle.kb_fsa.specs.Padding.{pair_symbol, padded}
+use Rattle.kb_fsa.proofs.PairSymbols.{first_number, with_second, letter_beside_padding}
 use Rattle.kb_fsa.proofs.Lookups.{All-moves_of, IsRow-moves_of, after_none, entry_from_lookup, lookup_from_entry, lookup_from_target, target_some}
 use Rattle.kb_reach.specs.Graphs.{IsMarked, IsReached, at_seed, along}
 use Rattle.kb_fsadet.specs.FirstWords.{tail_edges, EndsFrom, AreEnds}
 use Rattle.kb_fsadet.proofs.Sets.{All-from_contains, Contains-none}
-use Rattle.kb_fsadet.proofs.FirstWordLemmas.{first_of-pair, second_of, second_is_letter, IsTail-from_edge, edge_from_tail}
+use Rattle.kb_fsadet.proofs.FirstWordLemmas.{IsTail-from_edge, edge_from_tail}
 
 module _ (n : ℕ) (table : Table) (is : IsTable table) (within : HasSymbols ((n + 1) * (n + 1) - 1) table) where
   abbrev edges : List (ℕ × ℕ)
@@ -68,10 +69,10 @@ module _ (n : ℕ) (table : Table) (is : IsTable table) (within : HasSymbols ((n
       let tail = IsTail-from_edge (n + 1) 1 table.rows next state edge in
       let number = suc tail.place in
       let from = known number tail.symbol next tail.move in
-      let second = second_of n tail.symbol from.0 in
+      let second = with_second n tail.symbol from.0 in
       let symbol_is : tail.symbol ≡ pair_symbol n (n + 1) second.0 =
       second.1.0 ∙ ap (λ i. pair_symbol n i second.0) tail.first_is in
-      let letter = second_is_letter n tail.symbol second.0 from.1.0 symbol_is in
+      let letter = letter_beside_padding n tail.symbol second.0 (from.0, from.1.0) symbol_is in
       let leads : step table number tail.symbol ≡ next =
       target_some (moves_of table number) tail.symbol next
       (lookup_from_entry (moves_of table number) tail.symbol next (IsRow-moves_of table number is).ascends tail.move) in
@@ -101,7 +102,7 @@ module _ (n : ℕ) (table : Table) (is : IsTable table) (within : HasSymbols ((n
       ] in
       let entry = entry_from_lookup (moves_of table (suc place)) symbol next
       (lookup_from_target (moves_of table (suc place)) symbol next positive refl) in
-      let edge = edge_from_tail (n + 1) 1 table.rows place symbol next entry (first_of-pair n (n + 1) j (omega arith) (letter.0, omega (arith, letter.1))) in
+      let edge = edge_from_tail (n + 1) 1 table.rows place symbol next entry (first_number n (n + 1) j (omega arith) (letter.0, omega (arith, letter.1))) in
       let P : ℕ → Type 0 = λ s. Contains edges (next, s) in
       along rest (subst P (let back : 1 + place ≡ suc place = omega arith in back) edge)
 

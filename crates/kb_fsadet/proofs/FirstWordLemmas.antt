@@ -1,14 +1,11 @@
 -- Moves by first letters, and those after the first word.
-use Rattle.std.proofs.Common.{◌≡◌, ◌≢◌, ◌⊎◌, ℕ, zero, suc, ◌+◌, ◌-◌, ◌*◌, ◌/◌, ◌%◌, ◌<◌, ◌≤◌, List, [], ◌∷◌, ◌++◌, length, get_or, take, Option, Some, None, refl, sym, ap, ◌∙◌, subst, inl, inr, arith, append-nil}
+use Rattle.std.proofs.Common.{◌≡◌, ◌≢◌, ◌⊎◌, ℕ, zero, suc, ◌+◌, ◌<◌, List, [], ◌∷◌, ◌++◌, length, get_or, take, Option, Some, None, refl, sym, ap, ◌∙◌, subst, inl, inr, arith, append-nil}
 use Rattle.std.specs.List.{Contains, cons_option, filter_map}
-use Rattle.std.proofs.Math.Nat.{mul_comm}
 use Rattle.std.proofs.lemmas.Bool.{cases_eq, eq-eqb, ne_eqb}
 use Rattle.std.proofs.lemmas.List.{take_more}
 use Rattle.std.proofs.lemmas.List.Elements.{Contains-append_cases, Contains-append_left, Contains-append_right, filter_map-append}
-use Rattle.std.proofs.lemmas.Nat.{div-add-mod', div-mul-add, div_below, mod_below, mul-le}
 use Rattle.std.proofs.lemmas.Option.{none-some, same_Some}
 use Rattle.kb_fsa.specs.Table.{Moves}
-use Rattle.kb_fsa.specs.Padding.{pair_symbol}
 use Rattle.kb_fsadet.proofs.Sets.{Contains-none, Contains-here, Contains-there, Contains-cons_cases}
 use Rattle.kb_fsadet.specs.FirstWords.{first_of, by_first, tail_edge, tail_edges}
 
@@ -47,40 +44,6 @@ tail_edge_letter padding state move letter = rw (ne_eqb (first_of padding move.0
 pub tail_edge_padding : (padding state : ℕ) (move : ℕ × ℕ) → first_of padding move.0 ≡ padding
     → tail_edge padding state move ≡ Some (move.1, state)
 tail_edge_padding padding state move same = rw (eq-eqb (first_of padding move.0) padding same) refl
-
--- ---- the two numbers of a symbol
-
-pub first_of-pair : (n i j : ℕ) → 0 < i → (0 < j) × (j ≤ n + 1) → first_of (n + 1) (pair_symbol n i j) ≡ i
-first_of-pair n i j positive column =
-    let turned = mul_comm (n + 1) (i - 1) in
-    let place : pair_symbol n i j - 1 ≡ (i - 1) * (n + 1) + (j - 1) = omega arith in
-    let row = div-mul-add (i - 1) (n + 1) (j - 1) (omega arith) in
-    let back : i - 1 + 1 ≡ i = omega arith in
-    ap (λ k. k / (n + 1) + 1) place ∙ ap (λ k. k + 1) row ∙ back
-
--- a symbol is that of its first number with some second one
-pub second_of : (n symbol : ℕ) → 0 < symbol
-    → (j : ℕ) × ((symbol ≡ pair_symbol n (first_of (n + 1) symbol) j) × ((0 < j) × (j ≤ n + 1)))
-second_of n symbol positive =
-    let parts = div-add-mod' (symbol - 1) (n + 1) in
-    let turned = mul_comm (n + 1) ((symbol - 1) / (n + 1)) in
-    let below = mod_below (symbol - 1) (n + 1) (omega arith) in
-    let row : (n + 1) * (first_of (n + 1) symbol - 1) ≡ (n + 1) * ((symbol - 1) / (n + 1)) =
-    ap (λ k. (n + 1) * k) (let back : (symbol - 1) / (n + 1) + 1 - 1 ≡ (symbol - 1) / (n + 1) = omega arith in back) in
-    ((symbol - 1) % (n + 1) + 1, (omega arith, (omega arith, omega arith)))
-
-pub first_within : (n symbol : ℕ) → symbol ≤ (n + 1) * (n + 1) - 1 → first_of (n + 1) symbol ≤ n + 1
-first_within n symbol within =
-    let square = mul-le 1 1 (n + 1) (n + 1) (omega arith) (omega arith) in
-    let row = div_below (symbol - 1) (n + 1) (n + 1) (omega arith) (omega arith) in
-    omega arith
-
--- beside the padding the second is a letter
-pub second_is_letter : (n symbol j : ℕ) → symbol ≤ (n + 1) * (n + 1) - 1 → symbol ≡ pair_symbol n (n + 1) j → j ≤ n
-second_is_letter n symbol j within is =
-    let whole : (n + 1) * (n + 1) ≡ (n + 1) * n + n + 1 = grind arith in
-    let row : (n + 1) * (n + 1 - 1) ≡ (n + 1) * n = ap (λ k. (n + 1) * k) (let back : n + 1 - 1 ≡ n = omega arith in back) in
-    omega arith
 
 -- ---- what a map keeps
 

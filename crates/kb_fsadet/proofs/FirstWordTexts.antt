@@ -9,10 +9,11 @@ use Rattle.kb_word.specs.Relations.{IsOver}
 use Rattle.kb_fsa.specs.Table.{Moves, Table, IsTable, HasSymbols, moves_of, step, after}
 use Rattle.kb_fsa.specs.Padding.{pair_symbol, padded, IsPadded}
 use Rattle.kb_fsa.proofs.Lookups.{IsRow-moves_of, after_none, entry_from_lookup, lookup_from_entry, lookup_from_target, target_some}
-use Rattle.kb_fsa.proofs.Paddings.{length-padded, get_or-padded, letter_or_padding, pair_symbol-injective, same_from_padding}
+use Rattle.kb_fsa.proofs.PairSymbols.{first_number, pair_symbol-injective, with_second, first_within}
+use Rattle.kb_fsa.proofs.Paddings.{length-padded, get_or-padded, letter_or_padding, same_from_padding}
 use Rattle.kb_fsadet.specs.Nondeterministic.{LeadsFrom, moves_from}
 use Rattle.kb_fsadet.specs.FirstWords.{by_first, first_words}
-use Rattle.kb_fsadet.proofs.FirstWordLemmas.{from_by_first, by_first_from, first_of-pair, first_within, second_of}
+use Rattle.kb_fsadet.proofs.FirstWordLemmas.{from_by_first, by_first_from}
 use Rattle.kb_fsadet.proofs.Endings.{known}
 
 -- ---- the text of a word beside the numbers of letters or padding
@@ -171,14 +172,14 @@ module _ (n : ℕ) (table : Table) (is : IsTable table) (within : HasSymbols ((n
       let P : Moves → Type 0 = λ moves. Contains moves (i, next) in
       let move = from_by_first n (moves_of table from) i next (subst P (branches_are from) leads.1) in
       let facts = known n table is within from move.symbol next move.move in
-      let column = second_of n move.symbol facts.0 in
+      let column = with_second n move.symbol facts.0 in
       let symbol_is : move.symbol ≡ pair_symbol n i column.0 = column.1.0 ∙ ap (λ f. pair_symbol n f column.0) move.first_is in
       let leads_on : step table from (pair_symbol n i column.0) ≡ next =
       sym (ap (step table from) symbol_is)
       ∙ target_some (moves_of table from) move.symbol next
       (lookup_from_entry (moves_of table from) move.symbol next (IsRow-moves_of table from is).ascends move.move) in
       let rest = leads_beside word next to (λ none. omega (arith, facts.1.1.0)) leads.2 in
-      let low = first_within n move.symbol facts.1.0 in
+      let low = first_within n move.symbol (facts.0, facts.1.0) in
       let first = move.first_is in
       let letter = move.letter in record {
         columns = column.0 ∷ rest.columns;
@@ -209,7 +210,7 @@ module _ (n : ℕ) (table : Table) (is : IsTable table) (within : HasSymbols ((n
       let entry = entry_from_lookup (moves_of table from) symbol next
       (lookup_from_target (moves_of table from) symbol next (step_some from symbol text to leads some) refl) in
       let P : Moves → Type 0 = λ moves. Contains moves (i, next) in
-      subst P (sym (branches_are from)) (by_first_from n (moves_of table from) symbol i next entry (first_of-pair n i j letter.0 column)
+      subst P (sym (branches_are from)) (by_first_from n (moves_of table from) symbol i next entry (first_number n i j letter.0 column)
       (λ same. omega (arith, letter.1)))
 
   pub leads_by_first : (word second : List ℕ) (from to : ℕ) → IsOver n word → IsOver n second → length second ≤ length word

@@ -12,12 +12,13 @@ use Rattle.kb_fsa.specs.Padding.{padded, IsPadded}
 use Rattle.kb_fsa.specs.Language.{Automaton, IsAutomaton, IsTextOf, AcceptsPair, generators, symbols}
 use Rattle.kb_fsa.specs.Counted.{IsAfterFirst, MoreSetsThan}
 use Rattle.kb_fsa.proofs.Lookups.{after_none, accepting_positive, after-append}
+use Rattle.kb_fsa.proofs.PairSymbols.{first_within}
 use Rattle.kb_explore.proofs.CountingLemmas.{MoreThan-kept}
 use Rattle.kb_fsadet.specs.Nondeterministic.{Nondeterministic, IsNondeterministic, IsAmong, AcceptsSomehow, IsOneOf, accepts_at}
 use Rattle.kb_fsadet.specs.Projection.{HasSecond}
 use Rattle.kb_fsadet.specs.FirstWords.{by_first, first_words, where_some, EndsFrom, AreEnds, IsFirstWords}
 use Rattle.kb_fsadet.proofs.Sets.{All-from_contains, Contains-none, Contains-here, Contains-cons_cases}
-use Rattle.kb_fsadet.proofs.FirstWordLemmas.{from_by_first, first_within}
+use Rattle.kb_fsadet.proofs.FirstWordLemmas.{from_by_first}
 use Rattle.kb_fsadet.proofs.Endings.{known}
 use Rattle.kb_fsadet.proofs.FirstWordTexts.{second_from_leads, leads_by_first, padded_parts, padded_joined, shorter_has_ended}
 
@@ -97,7 +98,7 @@ module _ (pairs : Automaton) (is : IsTable pairs.table)
   row_known place move at =
       let from = from_by_first n (get_or pairs.table.rows place []) move.0 move.1 at in
       let facts = known n pairs.table is within (suc place) from.symbol move.1 from.move in
-      let low = first_within n from.symbol facts.1.0 in
+      let low = first_within n from.symbol (facts.0, facts.1.0) in
       let first = from.first_is in
       let letter = from.letter in (
         (omega arith, omega arith),

@@ -1,13 +1,13 @@
 -- A text is padded exactly where none of its symbols is out of place behind what precedes it.
-use Rattle.std.proofs.Common.{◌≡◌, ◌≢◌, ℕ, suc, ◌+◌, ◌-◌, ◌*◌, ◌/◌, ◌%◌, ◌<◌, ◌≤◌, max, List, [], ◌∷◌, ◌++◌, length, get_or, take, drop, All, Any, refl, sym, ap, ◌∙◌, subst, inl, inr, arith, length-append}
+use Rattle.std.proofs.Common.{◌≡◌, ℕ, suc, ◌+◌, ◌*◌, ◌%◌, ◌<◌, ◌≤◌, max, List, [], ◌∷◌, ◌++◌, length, get_or, take, drop, All, Any, refl, sym, ap, ◌∙◌, subst, inl, inr, arith, length-append}
 use Rattle.std.proofs.Math.Nat.{mul_comm}
 use Rattle.std.proofs.lemmas.Bool.{cases_eq, cases_lt}
 use Rattle.std.proofs.lemmas.List.{get_or_past, get_or_at, get_or_append_left, get_or_default, drop_more, take-append-drop}
-use Rattle.std.proofs.lemmas.List.Elements.{All-nil, All-cons, All-head, All-tail, All-get_or}
-use Rattle.std.proofs.lemmas.Nat.{mul-le, mod-mul-add, div-add-mod', mod_below}
+use Rattle.std.proofs.lemmas.List.Elements.{All-head, All-tail, All-get_or}
 use Rattle.kb_word.specs.Relations.{IsOver}
-use Rattle.kb_fsa.specs.Padding.{pair_symbol, padded, IsPadded}
-use Rattle.kb_fsa.proofs.Paddings.{length-padded, get_or-padded, letter_or_padding}
+use Rattle.kb_fsa.specs.Padding.{pair_symbol, padded, IsPadded, IsTextOfPair}
+use Rattle.kb_fsa.proofs.PairSymbols.{IsLetter, IsPairSymbol, square, last_row, before_last_row, last_column, before_last_column, SymbolCase, two_letters, first_padded, second_padded, symbol_case}
+use Rattle.kb_fsa.proofs.Paddings.{length-padded, get_or-padded, letter_or_padding, IsPadded-from_pair, IsTextOfPair-nil, IsTextOfPair-first, IsTextOfPair-second, IsPadded-letters}
 use Rattle.kb_fsafile.specs.Misplaced.{PadsFirst, PadsSecond, IsOutOfPlace}
 
 -- ---- symbols
@@ -16,126 +16,35 @@ use Rattle.kb_fsafile.specs.Misplaced.{PadsFirst, PadsSecond, IsOutOfPlace}
 abbrev pub IsSymbol : ℕ → ℕ → Type 0
 IsSymbol n symbol = (0 < symbol) × (symbol ≤ (n + 1) * (n + 1))
 
-abbrev IsLetter : ℕ → ℕ → Type 0
-IsLetter n x = (0 < x) × (x ≤ n)
+-- symbols with padding on the first track are those of the last row, and on the second those of the last column
+PadsFirst-last_row : (n symbol j : ℕ) → 0 < j → symbol ≡ pair_symbol n (n + 1) j → PadsFirst n symbol
+PadsFirst-last_row n symbol j some is = let row = last_row n j in let turned = mul_comm (n + 1) n in omega arith
 
--- each symbol has two letters, or a letter and padding, or two paddings
-data SymbolCase (n symbol : ℕ) : Type 0 where
-  two_letters : (x y : ℕ) → (0 < x) × (x ≤ n) → (0 < y) × (y ≤ n) → symbol ≡ pair_symbol n x y → ¬ PadsFirst n symbol → ¬ PadsSecond n symbol → SymbolCase n symbol
-  first_padded : (y : ℕ) → (0 < y) × (y ≤ n) → symbol ≡ pair_symbol n (n + 1) y → PadsFirst n symbol → ¬ PadsSecond n symbol → SymbolCase n symbol
-  second_padded : (x : ℕ) → (0 < x) × (x ≤ n) → symbol ≡ pair_symbol n x (n + 1) → ¬ PadsFirst n symbol → PadsSecond n symbol → SymbolCase n symbol
-  two_paddings : PadsFirst n symbol → PadsSecond n symbol → SymbolCase n symbol
+letter_on_first : (n symbol i j : ℕ) → IsLetter n i → j ≤ n + 1 → symbol ≡ pair_symbol n i j → ¬ PadsFirst n symbol
+letter_on_first n symbol i j letter low is pads =
+    let before = before_last_row n i j letter low in let turned = mul_comm (n + 1) n in let no : ⊥ = omega arith in no
 
-square : (n : ℕ) → (n + 1) * (n + 1) ≡ n * (n + 1) + n + 1
-square n = grind arith
+PadsSecond-last_column : (n symbol i : ℕ) → 0 < i → symbol ≡ pair_symbol n i (n + 1) → PadsSecond n symbol
+PadsSecond-last_column n symbol i some is = ap (λ s. s % (n + 1)) is ∙ last_column n i some
 
-row_before : (n x : ℕ) → (n + 1) * ((x + 1) - 1) ≡ x * (n + 1)
-row_before n x = ap (λ z. (n + 1) * z) (let e : (x + 1) - 1 ≡ x = omega arith in e) ∙ mul_comm (n + 1) x
+letter_on_second : (n symbol i j : ℕ) → IsLetter n j → symbol ≡ pair_symbol n i j → ¬ PadsSecond n symbol
+letter_on_second n symbol i j letter is pads =
+    let same : j ≡ 0 = sym (before_last_column n i j letter.1) ∙ sym (ap (λ s. s % (n + 1)) is) ∙ pads in omega (arith, letter.0)
 
-row_whole : (n x : ℕ) → 0 < x → (n + 1) * (x - 1) + (n + 1) ≡ x * (n + 1)
-row_whole n x some =
-    let split : (n + 1) * ((x - 1) + 1) ≡ (n + 1) * (x - 1) + (n + 1) = grind arith in
-    let back : (x - 1) + 1 ≡ x = omega arith in
-    sym split ∙ ap (λ z. (n + 1) * z) back ∙ mul_comm (n + 1) x
-
--- the last row and the last column are those of padding
-row_last : (n i j : ℕ) → 0 < i → i ≤ n + 1 → j ≤ n + 1 → PadsFirst n (pair_symbol n i j) → i ≡ n + 1
-row_last n i j some within column pads =
-    elim (cases_eq i (n + 1)) [
-      | inl same ↦ same
-      | inr other ↦
-          let whole = row_whole n i some in
-          let below = mul-le i (n + 1) n (n + 1) (omega arith) (omega arith) in
-          absurd (let no : ⊥ = omega arith in no)
+-- a symbol in place isn't two paddings, which are out of place behind any text
+letters_in_place : (n : ℕ) (front : List ℕ) (symbol : ℕ) → IsSymbol n symbol → ¬ IsOutOfPlace n front symbol → IsPairSymbol n symbol
+letters_in_place n front symbol is in_place =
+    elim (cases_eq symbol ((n + 1) * (n + 1))) [
+      | inl same ↦
+          let whole = square n in
+          let row = last_row n (n + 1) in
+          let paddings : symbol ≡ pair_symbol n (n + 1) (n + 1) = omega arith in
+          absurd (in_place (inr (inr (
+            PadsFirst-last_row n symbol (n + 1) (omega arith) paddings,
+            PadsSecond-last_column n symbol (n + 1) (omega arith) paddings,
+          ))))
+      | inr other ↦ let most = is.1 in (is.0, omega arith)
     ]
-
-last_row : (n j : ℕ) → 0 < j → PadsFirst n (pair_symbol n (n + 1) j)
-last_row n j some = let row = row_before n n in omega arith
-
-column_last : (n i j : ℕ) → 0 < j → j ≤ n + 1 → PadsSecond n (pair_symbol n i j) → j ≡ n + 1
-column_last n i j some within pads =
-    elim (cases_eq j (n + 1)) [
-      | inl same ↦ same
-      | inr other ↦
-          let turn = mul_comm (n + 1) (i - 1) in
-          let remainder = mod-mul-add (i - 1) (n + 1) j (omega arith) in
-          let is : (pair_symbol n i j) % (n + 1) ≡ j = ap (λ s. (s + j) % (n + 1)) turn ∙ remainder in
-          absurd (let no : ⊥ = omega arith in no)
-    ]
-
-multiple : (n x : ℕ) → (x * (n + 1)) % (n + 1) ≡ 0
-multiple n x =
-    let none : x * (n + 1) + 0 ≡ x * (n + 1) = omega arith in
-    ap (λ s. s % (n + 1)) (sym none) ∙ mod-mul-add x (n + 1) 0 (omega arith)
-
-last_column : (n i : ℕ) → 0 < i → PadsSecond n (pair_symbol n i (n + 1))
-last_column n i some = ap (λ s. s % (n + 1)) (row_whole n i some) ∙ multiple n i
-
-symbol_case : (n symbol : ℕ) → IsSymbol n symbol → SymbolCase n symbol
-symbol_case n symbol is =
-    elim (cases_lt (n * (n + 1)) symbol) [
-      | inl above ↦ elim (cases_eq (symbol % (n + 1)) 0) [
-        | inl last ↦ two_paddings above last
-        | inr inner ↦
-            let row = row_before n n in
-            let y = symbol - n * (n + 1) in
-            first_padded y (omega arith, short above inner) (omega arith) above inner
-      ]
-      | inr low ↦ elim (cases_eq (symbol % (n + 1)) 0) [
-        | inl last ↦
-            let x = symbol / (n + 1) in
-            let parts = div-add-mod' symbol (n + 1) in
-            let some = positive last in
-            let whole = row_whole n x some in
-            second_padded x (some, at_most low) (omega arith) (λ above. omega arith) last
-        | inr inner ↦
-            let x = symbol / (n + 1) in
-            let y = symbol % (n + 1) in
-            let parts = div-add-mod' symbol (n + 1) in
-            let below = mod_below symbol (n + 1) (omega arith) in
-            let row = row_before n x in
-            two_letters (x + 1) y (omega arith, within low inner) (omega arith, omega arith) (omega arith) (λ above. omega arith) inner
-      ]
-    ]
-  where
-    short : n * (n + 1) < symbol → symbol % (n + 1) ≢ 0 → symbol - n * (n + 1) ≤ n
-    short above inner =
-        elim (cases_eq symbol ((n + 1) * (n + 1))) [
-          | inl same ↦ absurd (inner (ap (λ s. s % (n + 1)) same ∙ multiple n (n + 1)))
-          | inr other ↦ let whole = square n in let most = is.1 in omega arith
-        ]
-
-    positive : symbol % (n + 1) ≡ 0 → 0 < symbol / (n + 1)
-    positive last =
-        elim (cases_eq (symbol / (n + 1)) 0) [
-          | inl none ↦
-              let parts = div-add-mod' symbol (n + 1) in
-              let e = ap (λ q. q * (n + 1)) none in
-              let some = is.0 in
-              absurd (let no : ⊥ = omega arith in no)
-          | inr more ↦ omega arith
-        ]
-
-    at_most : symbol ≤ n * (n + 1) → symbol / (n + 1) ≤ n
-    at_most low =
-        elim (cases_lt n (symbol / (n + 1))) [
-          | inl above ↦
-              let parts = div-add-mod' symbol (n + 1) in
-              let more = mul-le (n + 1) (n + 1) (symbol / (n + 1)) (n + 1) (omega arith) (omega arith) in
-              let whole = square n in
-              absurd (let no : ⊥ = omega arith in no)
-          | inr fits ↦ fits
-        ]
-
-    within : symbol ≤ n * (n + 1) → symbol % (n + 1) ≢ 0 → symbol / (n + 1) + 1 ≤ n
-    within low inner =
-        elim (cases_lt (symbol / (n + 1)) n) [
-          | inl fits ↦ omega arith
-          | inr above ↦
-              let parts = div-add-mod' symbol (n + 1) in
-              let more = mul-le n (n + 1) (symbol / (n + 1)) (n + 1) above (omega arith) in
-              absurd (let no : ⊥ = omega arith in no)
-        ]
 
 -- ---- texts
 
@@ -147,42 +56,34 @@ IsInPlace n text = (front : List ℕ) (symbol : ℕ) (back : List ℕ) → text 
 module _ (n : ℕ) (u v : List ℕ) (first : IsOver n u) (second : IsOver n v) (place : ℕ) (within : place < max (length u) (length v)) where
   first_ended : PadsFirst n (get_or (padded n u v) place 0) → length u ≤ place
   first_ended pads =
-      let x = letter_or_padding n u place first in
-      let y = letter_or_padding n v place second in
-      let here = subst (λ (s : ℕ). PadsFirst n s) (get_or-padded n u v place 0 within) pads in
-      let last = row_last n (get_or u place (n + 1)) (get_or v place (n + 1)) x.0 x.1 y.1 here in
       elim (cases_lt place (length u)) [
         | inl inside ↦
-            let letter = All-get_or (λ z. (0 < z) × (z ≤ n)) u place (n + 1) inside first in
-            let low = letter.1 in
-            absurd (let no : ⊥ = omega arith in no)
+            let letter = All-get_or (IsLetter n) u place (n + 1) inside first in
+            let y = letter_or_padding n v place second in
+            absurd (letter_on_first n (get_or (padded n u v) place 0) (get_or u place (n + 1)) (get_or v place (n + 1)) letter y.1
+            (get_or-padded n u v place 0 within) pads)
         | inr past ↦ past
       ]
 
   second_ended : PadsSecond n (get_or (padded n u v) place 0) → length v ≤ place
   second_ended pads =
-      let y = letter_or_padding n v place second in
-      let here = subst (λ (s : ℕ). PadsSecond n s) (get_or-padded n u v place 0 within) pads in
-      let last = column_last n (get_or u place (n + 1)) (get_or v place (n + 1)) y.0 y.1 here in
       elim (cases_lt place (length v)) [
         | inl inside ↦
-            let letter = All-get_or (λ z. (0 < z) × (z ≤ n)) v place (n + 1) inside second in
-            let low = letter.1 in
-            absurd (let no : ⊥ = omega arith in no)
+            let letter = All-get_or (IsLetter n) v place (n + 1) inside second in
+            absurd (letter_on_second n (get_or (padded n u v) place 0) (get_or u place (n + 1)) (get_or v place (n + 1)) letter
+            (get_or-padded n u v place 0 within) pads)
         | inr past ↦ past
       ]
 
   pads_first : length u ≤ place → PadsFirst n (get_or (padded n u v) place 0)
   pads_first past =
-      let y = letter_or_padding n v place second in
-      let is = ap (λ i. pair_symbol n i (get_or v place (n + 1))) (get_or_past u place (n + 1) past) in
-      subst (λ (s : ℕ). PadsFirst n s) (sym (get_or-padded n u v place 0 within ∙ is)) (last_row n (get_or v place (n + 1)) y.0)
+      PadsFirst-last_row n (get_or (padded n u v) place 0) (get_or v place (n + 1)) (letter_or_padding n v place second).0
+      (get_or-padded n u v place 0 within ∙ ap (λ i. pair_symbol n i (get_or v place (n + 1))) (get_or_past u place (n + 1) past))
 
   pads_second : length v ≤ place → PadsSecond n (get_or (padded n u v) place 0)
   pads_second past =
-      let x = letter_or_padding n u place first in
-      let is = ap (λ j. pair_symbol n (get_or u place (n + 1)) j) (get_or_past v place (n + 1) past) in
-      subst (λ (s : ℕ). PadsSecond n s) (sym (get_or-padded n u v place 0 within ∙ is)) (last_column n (get_or u place (n + 1)) x.0)
+      PadsSecond-last_column n (get_or (padded n u v) place 0) (get_or u place (n + 1)) (letter_or_padding n u place first).0
+      (get_or-padded n u v place 0 within ∙ ap (λ j. pair_symbol n (get_or u place (n + 1)) j) (get_or_past v place (n + 1) past))
 
 pub in_place_from_padded : (n : ℕ) (text : List ℕ) → IsPadded n text → IsInPlace n text
 in_place_from_padded n text is front symbol back split out =
@@ -229,38 +130,26 @@ in_place_from_padded n text is front symbol back split out =
 
 -- the symbol has a letter on the second track alone; on the first
 OfSecond : ℕ → ℕ → Type 0
-OfSecond n symbol = (y : ℕ) × ((0 < y) × (y ≤ n)) × (symbol ≡ pair_symbol n (n + 1) y)
+OfSecond n symbol = (y : ℕ) × IsLetter n y × (symbol ≡ pair_symbol n (n + 1) y)
 
 OfFirst : ℕ → ℕ → Type 0
-OfFirst n symbol = (x : ℕ) × ((0 < x) × (x ≤ n)) × (symbol ≡ pair_symbol n x (n + 1))
+OfFirst n symbol = (x : ℕ) × IsLetter n x × (symbol ≡ pair_symbol n x (n + 1))
 
-over_cons : (n x : ℕ) (w : List ℕ) → IsLetter n x → IsOver n w → IsOver n (x ∷ w)
-over_cons n x w letter over = All-cons (λ z. (0 < z) × (z ≤ n)) x w letter over
-
-over_nil : (n : ℕ) → IsOver n []
-over_nil n = All-nil (λ z. (0 < z) × (z ≤ n))
-
-second_word : (n : ℕ) (text : List ℕ) → All (OfSecond n) text → (v : List ℕ) × IsOver n v × (text ≡ padded n [] v)
+second_word : (n : ℕ) (text : List ℕ) → All (OfSecond n) text → (v : List ℕ) × IsTextOfPair n text [] v
 unfolding OfSecond
-second_word n [] each = ([], over_nil n, refl)
+second_word n [] each = ([], IsTextOfPair-nil n)
 second_word n (symbol ∷ text) each =
     let here = All-head (OfSecond n) symbol text each in
-    let rest = second_word n text (All-tail (OfSecond n) symbol text each) in (
-      here.0 ∷ rest.0,
-      over_cons n here.0 rest.0 here.1 rest.1,
-      ap (λ s. s ∷ text) here.2 ∙ ap (λ t. pair_symbol n (n + 1) here.0 ∷ t) rest.2,
-    )
+    let rest = second_word n text (All-tail (OfSecond n) symbol text each) in
+    (here.0 ∷ rest.0, IsTextOfPair-second here.1 here.2 rest.1)
 
-first_word : (n : ℕ) (text : List ℕ) → All (OfFirst n) text → (u : List ℕ) × IsOver n u × (text ≡ padded n u [])
+first_word : (n : ℕ) (text : List ℕ) → All (OfFirst n) text → (u : List ℕ) × IsTextOfPair n text u []
 unfolding OfFirst
-first_word n [] each = ([], over_nil n, refl)
+first_word n [] each = ([], IsTextOfPair-nil n)
 first_word n (symbol ∷ text) each =
     let here = All-head (OfFirst n) symbol text each in
-    let rest = first_word n text (All-tail (OfFirst n) symbol text each) in (
-      here.0 ∷ rest.0,
-      over_cons n here.0 rest.0 here.1 rest.1,
-      ap (λ s. s ∷ text) here.2 ∙ ap (λ t. pair_symbol n here.0 (n + 1) ∷ t) rest.2,
-    )
+    let rest = first_word n text (All-tail (OfFirst n) symbol text each) in
+    (here.0 ∷ rest.0, IsTextOfPair-first here.1 here.2 rest.1)
 
 -- the text up to a place, the symbol there, and what follows
 split_at : (text : List ℕ) (k d : ℕ) → k < length text → text ≡ take k text ++ get_or text k d ∷ drop (k + 1) text
@@ -273,29 +162,35 @@ module _ (n symbol : ℕ) (text : List ℕ) (each : All (IsSymbol n) (symbol ∷
       in_place (symbol ∷ take k text) (get_or text k d) (drop (k + 1) text) (ap (λ t. symbol ∷ t) (split_at text k d within))
 
   case_at : (k d : ℕ) → k < length text → SymbolCase n (get_or text k d)
-  case_at k d within = symbol_case n (get_or text k d) (each (suc k) d (omega arith))
+  case_at k d within =
+      symbol_case n (get_or text k d)
+      (letters_in_place n (symbol ∷ take k text) (get_or text k d) (each (suc k) d (omega arith)) (not_out k d within))
 
   behind_first : PadsFirst n symbol → All (OfSecond n) text
   unfolding OfSecond
   behind_first pads k d within = by (case_at k d within)
     where
-      by : SymbolCase n (get_or text k d) → (y : ℕ) × ((0 < y) × (y ≤ n)) × (get_or text k d ≡ pair_symbol n (n + 1) y)
-      by (two_letters x y one two is not_first not_second) =
-          absurd (not_out k d within (inl ((0, symbol, omega arith, refl, pads), not_first)))
-      by (first_padded y letter is here not_second) = (y, letter, is)
-      by (second_padded x letter is not_first here) = absurd (not_out k d within (inl ((0, symbol, omega arith, refl, pads), not_first)))
-      by (two_paddings here there) = absurd (not_out k d within (inr (inr (here, there))))
+      letter_here : (x y : ℕ) → IsLetter n x → y ≤ n + 1 → get_or text k d ≡ pair_symbol n x y → ⊥
+      letter_here x y letter low is =
+          not_out k d within (inl ((0, symbol, omega arith, refl, pads), letter_on_first n (get_or text k d) x y letter low is))
+
+      by : SymbolCase n (get_or text k d) → (y : ℕ) × IsLetter n y × (get_or text k d ≡ pair_symbol n (n + 1) y)
+      by (two_letters x y one two is) = absurd (letter_here x y one (omega (arith, two.1)) is)
+      by (first_padded y letter is) = (y, letter, is)
+      by (second_padded x letter is) = absurd (letter_here x (n + 1) letter (omega arith) is)
 
   behind_second : PadsSecond n symbol → All (OfFirst n) text
   unfolding OfFirst
   behind_second pads k d within = by (case_at k d within)
     where
-      by : SymbolCase n (get_or text k d) → (x : ℕ) × ((0 < x) × (x ≤ n)) × (get_or text k d ≡ pair_symbol n x (n + 1))
-      by (two_letters x y one two is not_first not_second) =
-          absurd (not_out k d within (inr (inl ((0, symbol, omega arith, refl, pads), not_second))))
-      by (first_padded y letter is here not_second) = absurd (not_out k d within (inr (inl ((0, symbol, omega arith, refl, pads), not_second))))
-      by (second_padded x letter is not_first here) = (x, letter, is)
-      by (two_paddings here there) = absurd (not_out k d within (inr (inr (here, there))))
+      letter_here : (x y : ℕ) → IsLetter n y → get_or text k d ≡ pair_symbol n x y → ⊥
+      letter_here x y letter is =
+          not_out k d within (inr (inl ((0, symbol, omega arith, refl, pads), letter_on_second n (get_or text k d) x y letter is)))
+
+      by : SymbolCase n (get_or text k d) → (x : ℕ) × IsLetter n x × (get_or text k d ≡ pair_symbol n x (n + 1))
+      by (two_letters x y one two is) = absurd (letter_here x y two is)
+      by (first_padded y letter is) = absurd (letter_here (n + 1) y letter is)
+      by (second_padded x letter is) = (x, letter, is)
 
   -- behind two letters the rest is in place by itself
   rest_in_place : IsInPlace n text
@@ -310,37 +205,16 @@ module _ (n symbol : ℕ) (text : List ℕ) (each : All (IsSymbol n) (symbol ∷
       longer (inr (inr both)) = inr (inr both)
 
 pub padded_from_in_place : (n : ℕ) (text : List ℕ) → All (IsSymbol n) text → IsInPlace n text → IsPadded n text
-padded_from_in_place n [] each in_place = record { first = []; second = []; first_over = over_nil n; second_over = over_nil n; is_text = refl }
+padded_from_in_place n [] each in_place = IsPadded-from_pair (IsTextOfPair-nil n)
 padded_from_in_place n (symbol ∷ text) each in_place =
-    by (symbol_case n symbol (All-head (IsSymbol n) symbol text each))
-    (λ (_ : ℕ). padded_from_in_place n text (All-tail (IsSymbol n) symbol text each) (rest_in_place n symbol text each in_place))
+    by (symbol_case n symbol (letters_in_place n [] symbol (All-head (IsSymbol n) symbol text each) (in_place [] symbol text refl)))
+    (padded_from_in_place n text (All-tail (IsSymbol n) symbol text each) (rest_in_place n symbol text each in_place))
   where
-    by : SymbolCase n symbol → (ℕ → IsPadded n text) → IsPadded n (symbol ∷ text)
-    by (two_letters x y one two is not_first not_second) rest =
-        let tail = rest 0 in
-        record {
-          first = x ∷ tail.first;
-          second = y ∷ tail.second;
-          first_over = over_cons n x tail.first one tail.first_over;
-          second_over = over_cons n y tail.second two tail.second_over;
-          is_text = ap (λ s. s ∷ text) is ∙ ap (λ t. pair_symbol n x y ∷ t) tail.is_text;
-        }
-    by (first_padded y letter is pads not_second) rest =
-        let tail = second_word n text (behind_first n symbol text each in_place pads) in
-        record {
-          first = [];
-          second = y ∷ tail.0;
-          first_over = over_nil n;
-          second_over = over_cons n y tail.0 letter tail.1;
-          is_text = ap (λ s. s ∷ text) is ∙ ap (λ t. pair_symbol n (n + 1) y ∷ t) tail.2;
-        }
-    by (second_padded x letter is not_first pads) rest =
-        let tail = first_word n text (behind_second n symbol text each in_place pads) in
-        record {
-          first = x ∷ tail.0;
-          second = [];
-          first_over = over_cons n x tail.0 letter tail.1;
-          second_over = over_nil n;
-          is_text = ap (λ s. s ∷ text) is ∙ ap (λ t. pair_symbol n x (n + 1) ∷ t) tail.2;
-        }
-    by (two_paddings here there) rest = absurd (in_place [] symbol text refl (inr (inr (here, there))))
+    by : SymbolCase n symbol → IsPadded n text → IsPadded n (symbol ∷ text)
+    by (two_letters x y one two is) rest = IsPadded-letters one two is rest
+    by (first_padded y letter is) rest =
+        let pads = PadsFirst-last_row n symbol y letter.0 is in
+        IsPadded-from_pair (IsTextOfPair-second letter is (second_word n text (behind_first n symbol text each in_place pads)).1)
+    by (second_padded x letter is) rest =
+        let pads = PadsSecond-last_column n symbol x letter.0 is in
+        IsPadded-from_pair (IsTextOfPair-first letter is (first_word n text (behind_second n symbol text each in_place pads)).1)

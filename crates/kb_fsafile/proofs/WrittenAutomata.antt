@@ -1,5 +1,5 @@
 -- The tree of a canonical automaton says it.
-use Rattle.std.proofs.Common.{◌≡◌, ◌≢◌, ◌↔◌, ℕ, zero, suc, ◌+◌, ◌*◌, ◌<◌, ◌≤◌, ◌⊎◌, inl, inr, Bool, true, false, IsTrue, ◌&&◌, nat_le, if◌then◌else◌, ℤ, pos, ◌≤ℤ◌, List, [], ◌∷◌, ◌++◌, map, length, get_or, Contains, Option, refl, sym, ap, subst, ◌∙◌, arith}
+use Rattle.std.proofs.Common.{◌≡◌, ◌≢◌, ◌↔◌, ℕ, zero, suc, ◌+◌, ◌<◌, ◌≤◌, ◌⊎◌, inl, inr, Bool, true, false, IsTrue, ◌&&◌, nat_le, if◌then◌else◌, ℤ, pos, ◌≤ℤ◌, List, [], ◌∷◌, ◌++◌, map, length, get_or, Contains, Option, refl, sym, ap, subst, ◌∙◌, arith}
 use Rattle.std.specs.List.{All, list_all}
 use Rattle.std.proofs.lemmas.Int.{ints}
 use Rattle.std.specs.Option.{unwrap_or}
@@ -13,6 +13,7 @@ use Rattle.kb_fsa.specs.Table.{Moves, IsRow, Table, IsTable, HasSymbols, target,
 use Rattle.kb_fsa.specs.Language.{Automaton, IsAutomaton, generators, symbols}
 use Rattle.kb_fsa.specs.Padding.{IsPadded}
 use Rattle.kb_fsa.proofs.Lookups.{lookup_here, lookup_there, lookup_nowhere, target_none, target_some, target_within, All-moves_of, IsRow-moves_of, accepting_positive, after-append}
+use Rattle.kb_fsa.proofs.PairSymbols.{square}
 use Rattle.kb_fsafile.specs.Kinds.{IsNumbers, StandsFor, IsNumberOf, numbered_from}
 use Rattle.kb_fsafile.specs.Misplaced.{IsDropped, IsMisplaced, IsWithoutMisplaced, IsCleaned}
 use Rattle.kb_fsafile.specs.Holds.{HoldsNames, HoldsAlphabet, HoldsInitial, HoldsAccepting, HoldsEntries, HoldsRow, HoldsRows, HoldsMoves, HoldsTable, HoldsAutomaton, IsPairSize}
@@ -31,9 +32,9 @@ letters_written names free = record { type = refl; listed = refl; free = free; c
 
 pair_size : (n count : ℕ) → count ≡ n → IsPairSize count (symbols (Pair n))
 pair_size n count same =
-    let square : (n + 1) * (n + 1) ≡ n * (n + 1) + n + 1 = grind arith in
+    let whole = square n in
     let P : ℕ → Type 0 = λ c. IsPairSize c (symbols (Pair n)) in
-    subst P (sym same) (inl (omega (arith, square)))
+    subst P (sym same) (inl (omega (arith, whole)))
 
 alphabet_written : (alphabet : Alphabet) (names : List (List ℕ)) → AreGeneratorNames names → length names ≡ generators alphabet
     → HoldsAlphabet (alphabet_fields alphabet names) names alphabet (symbols alphabet)
@@ -292,10 +293,10 @@ module _ (n : ℕ) (table : Table) (is : IsAutomaton (record { alphabet = Pair n
   none_dropped : (state symbol : ℕ) → IsDropped n table state symbol → step table state symbol ≡ 0
   none_dropped state symbol (inl misplaced) = absurd (none_misplaced state symbol misplaced)
   none_dropped state symbol (inr paddings) =
-      let square : (n + 1) * (n + 1) ≡ n * (n + 1) + n + 1 = grind arith in
+      let whole = square n in
       let S : Moves → Type 0 = λ moves. All (λ (move : ℕ × ℕ). move.0 ≤ symbols (Pair n)) moves in
       let within = All-moves_of S table state (All-nil (λ (move : ℕ × ℕ). move.0 ≤ symbols (Pair n))) is.symbols in
-      no_target (moves_of table state) (symbols (Pair n)) symbol (IsRow-moves_of table state is.table) within (inr (omega (arith, paddings, square)))
+      no_target (moves_of table state) (symbols (Pair n)) symbol (IsRow-moves_of table state is.table) within (inr (omega (arith, paddings, whole)))
 
   none_left_out : IsWithoutMisplaced n table table
   none_left_out = record {

@@ -1,5 +1,6 @@
 use Rattle.std.proofs.Common.{◌≤◌, ◌<◌, ◌+◌, ◌-◌, ◌/◌, length, get_or, rules, arith}
-use Rattle.kb_fsa.proofs.Unpadding.{symbol_at, first_within, pair_gathered}
+use Rattle.kb_fsa.proofs.PairSymbols.{first_within}
+use Rattle.kb_fsa.proofs.Unpadding.{symbol_at, pair_gathered}
 use Rattle.kb_fsa.proofs.texts.pair_of.Goals as goal
 
 pub overflow_sub-symbol : goal.overflow_sub-symbol
