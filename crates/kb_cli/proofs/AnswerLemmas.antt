@@ -1,5 +1,5 @@
 -- Where nothing is refused there is an answer.
-use Rattle.std.proofs.Common.{◌≡◌, ℕ, ◌≤◌, ◌<◌, ◌++◌, inl, inr, List, Option, length, ap, subst, arith, length-append}
+use Rattle.std.proofs.Common.{◌≡◌, ℕ, ◌≤◌, ◌<◌, ◌++◌, inl, inr, List, length, ap, subst, arith, length-append}
 use Rattle.clap.specs.declared.error.kind.ErrorKind.{ErrorKind}
 use Rattle.kb_presfile.specs.Holds.{Parts}
 use Rattle.kb_fsa.specs.Language.{Automaton, SameLanguage}
@@ -20,7 +20,7 @@ use Rattle.kb_cli.specs.declared.loading.Kind.TheVariants.{WordsOrPairs, Words}
 use Rattle.kb_cli.specs.declared.status.Limit.{Limit}
 use Rattle.kb_cli.specs.declared.status.Limit.TheVariants.{States}
 use Rattle.kb_cli.specs.declared.status.Status.{Status}
-use Rattle.kb_cli.specs.declared.status.Status.TheVariants.{Yes, Refused, Undecided, No, Memory, Fault, Usage}
+use Rattle.kb_cli.specs.declared.status.Status.TheVariants.{Refused, Fault, Usage}
 use Rattle.kb_cli.specs.declared.status.Refusal.TheVariants.{File, Line, InputTooLong}
 use Rattle.kb_cli.specs.declared.status.FileFault.{FileFault}
 

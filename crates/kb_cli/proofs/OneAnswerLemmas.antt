@@ -1,7 +1,7 @@
 -- An answer is the only one: the files settle it.
-use Rattle.std.proofs.Common.{◌≡◌, ℕ, ◌<◌, inl, inr, List, Option, slice_get, refl, sym, ◌∙◌, ap, subst, arith}
+use Rattle.std.proofs.Common.{◌≡◌, ℕ, ◌<◌, inl, inr, List, slice_get, refl, sym, ◌∙◌, ap, subst, arith}
 use Rattle.std.proofs.lemmas.Option.{same_Some}
-use Rattle.kb_word.specs.Words.{Pair, Less}
+use Rattle.kb_word.specs.Words.{Pair}
 use Rattle.kb_word.specs.Overlap.{IsConfluent, Joins, Parts as Parted, critical_pair}
 use Rattle.kb_word.specs.Rewriting.{NormalForm}
 use Rattle.kb_word.proofs.Shortlex.{shortlex_total}
@@ -24,7 +24,6 @@ use Rattle.kb_cli.specs.declared.loading.Kind.{Kind}
 use Rattle.kb_cli.specs.declared.loading.Kind.TheVariants.{WordsOrPairs, Words}
 use Rattle.kb_cli.specs.declared.status.Cert.{Cert}
 use Rattle.kb_cli.specs.declared.status.Cert.TheVariants.{NotConfluent, NotEqual}
-use Rattle.kb_cli.specs.declared.status.Construction.{Construction}
 use Rattle.kb_cli.specs.declared.status.Construction.TheVariants as constructions
 use Rattle.kb_cli.specs.declared.status.FileFault.{FileFault}
 use Rattle.kb_cli.specs.declared.status.Limit.{Limit}
@@ -68,15 +67,12 @@ one_unjoined : {rules : List Pair} {i j p k l q : ℕ} {u v w x : List ℕ} → 
     → (u ≡ w) × (v ≡ x)
 one_unjoined {rules} {i} {j} {p} {k} {l} {q} {u} {v} {w} {x} one other =
     let places = one_place i j p k l q (not_before one other) (not_before other one) in
-    let first : one.first ≡ other.first =
-        same_Some _ _ (sym one.overlap.is_first ∙ ap (slice_get rules) places.0 ∙ other.overlap.is_first) in
-    let second : one.second ≡ other.second =
-        same_Some _ _ (sym one.overlap.is_second ∙ ap (slice_get rules) places.1 ∙ other.overlap.is_second) in
-    let pair : critical_pair other.first other.second q ≡ critical_pair one.first one.second p =
-        ap (λ r. critical_pair r other.second q) (sym first) ∙ ap (λ r. critical_pair one.first r q) (sym second)
-        ∙ ap (critical_pair one.first one.second) (sym places.2) in
-    (normal_form_unique one.parts.left (subst (λ (c : Pair). NormalForm rules c.0 w) pair other.parts.left),
-    normal_form_unique one.parts.right (subst (λ (c : Pair). NormalForm rules c.1 x) pair other.parts.right))
+    let first : one.first ≡ other.first = same_Some _ _ (sym one.overlap.is_first ∙ ap (slice_get rules) places.0 ∙ other.overlap.is_first) in
+    let second : one.second ≡ other.second = same_Some _ _ (sym one.overlap.is_second ∙ ap (slice_get rules) places.1 ∙ other.overlap.is_second) in
+    let pair : critical_pair other.first other.second q ≡ critical_pair one.first one.second p = let place : p ≡ q = places.2 in cc in
+    let left = subst (λ (c : Pair). NormalForm rules c.0 w) pair other.parts.left in
+    let right = subst (λ (c : Pair). NormalForm rules c.1 x) pair other.parts.right in
+    (normal_form_unique one.parts.left left, normal_form_unique one.parts.right right)
 
 one_counterexample : (parts : Parts) (u v w x : List ℕ) → IsUndecided parts u v → IsUndecided parts w x → NotConfluent u v ≡ NotConfluent w x
 one_counterexample parts u v w x one other =

@@ -18,7 +18,7 @@ use Rattle.kb_cli.specs.declared.status.FileFault.{FileFault}
 abbrev pub IsUnrefused : (FileFault → Type 0) → Type 0
 IsUnrefused IsFault = (fault : FileFault) → ¬ IsFault fault
 
--- nor is the file refused where an automaton of the kind is needed
+-- no fault is a reason to refuse the file where an automaton of the kind is needed
 abbrev pub IsUnrefusedAs : Kind → (List ℕ → Option (List ℕ)) → List ℕ → Type 0
 IsUnrefusedAs kind holds name = IsUnrefused (IsAutomatonFault kind holds name)
 

@@ -20,8 +20,8 @@ pub fn no_presentation_is_decided_and_undecided()
     ensures { (parts : Parts) (u v : List ℕ) → IsDecided parts → ¬ IsUndecided parts u v }
 {}
 
-/// Where the words are the line of a command, nothing that it reads is refused and nothing outside failed, a run says
-/// yes or no, or a limit was reached, or memory ran out.
+/// Where the words are the line of a command, nothing that it reads is refused and no device failed, a run says yes
+/// or no, or a limit is reached, or memory ran out.
 pub fn where_nothing_is_refused_there_is_an_answer()
     ensures { (words : List (List ℕ)) (command : Command) (world : World) (status : Status)
         → IsLine words command
@@ -34,8 +34,8 @@ pub fn where_nothing_is_refused_there_is_an_answer()
     a_line_says_one_command();
 }
 
-/// The words and the files settle an answer: runs on the same words, over shelves that hold the same, don't say yes
-/// in one and no in the other, nor reach a limit in one alone, and what shows a no is the same.
+/// The words and the files settle the answer: two runs on the same words, over shelves that hold the same, have the
+/// same status where each says yes or no or reaches a limit.
 pub fn an_answer_is_the_only_one()
     ensures { (words : List (List ℕ)) (one other : World) (status another : Status)
         → ((name : List ℕ) → one.holds name ≡ other.holds name)
