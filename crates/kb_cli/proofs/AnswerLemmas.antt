@@ -1,86 +1,142 @@
--- What follows from what a run says.
-use Rattle.std.proofs.Common.{◌≡◌, ℕ, ◌≤◌, ◌<◌, ◌++◌, inl, inr, List, length, ◌∙◌, ap, subst, arith, length-append}
+-- Where nothing is refused there is an answer.
+use Rattle.std.proofs.Common.{◌≡◌, ℕ, ◌≤◌, ◌<◌, ◌++◌, inl, inr, List, length, ap, subst, arith, length-append}
 use Rattle.clap.specs.declared.error.kind.ErrorKind.{ErrorKind}
-use Rattle.kb_word.specs.Words.{Pair}
-use Rattle.kb_word.specs.Overlap.{IsConfluent}
-use Rattle.kb_rules.proofs.Unique.{normal_form_unique}
-use Rattle.kb_confluence.specs.Unjoined.{IsFirstUnjoined}
-use Rattle.kb_record.specs.declared.error.WordError.{WordError}
 use Rattle.kb_presfile.specs.Holds.{Parts}
-use Rattle.kb_cli.specs.Progress.{RefusedAt}
+use Rattle.kb_fsa.specs.Language.{Automaton, SameLanguage}
 use Rattle.kb_cli.specs.Stops.{most_input}
 use Rattle.kb_cli.specs.CommandLine.{IsLine, IsNoLine}
 use Rattle.kb_cli.specs.Outside.{World}
-use Rattle.kb_cli.specs.Headline.{Headline, CommandSays, IsFileFault, IsDecided, IsUndecided, WordReduceSays, WordsStop, FileStops, AnswersSay}
+use Rattle.kb_cli.specs.Loads.{LoadStops}
+use Rattle.kb_cli.specs.Automata.{IsAutomatonFault, IsSecondFault, MakeSays, OneSays, TwoSay, ComparisonSays, EnumerationSays, combined_kind, combined_by, transformed_kind, transformed_by, IsCombined, HasMoreCombined, IsTransformed, HasMoreTransformed}
+use Rattle.kb_cli.specs.Headline.{Headline, CommandSays, FileSays, IsFileFault, WordReduceSays, WordsStop, AnswersSay}
 use Rattle.kb_cli.specs.Answering.{IsAnswer, IsFaultless}
+use Rattle.kb_cli.specs.Unrefused.{IsUnrefused, IsUnrefusedAs, AreLinesUnrefused, AreBothUnrefused, NothingRefused}
+use Rattle.kb_cli.specs.declared.command_line.Combination.{Combination}
+use Rattle.kb_cli.specs.declared.command_line.Transformation.{Transformation}
 use Rattle.kb_cli.specs.declared.command_line.Command.{Command}
-use Rattle.kb_cli.specs.declared.command_line.Command.TheVariants.{WordReduce}
+use Rattle.kb_cli.specs.declared.command_line.Command.TheVariants.{WordReduce, Combine, Transform, Minimise, Compare, Enumerate}
+use Rattle.kb_cli.specs.declared.loading.Kind.{Kind}
+use Rattle.kb_cli.specs.declared.loading.Kind.TheVariants.{WordsOrPairs, Words}
+use Rattle.kb_cli.specs.declared.status.Limit.{Limit}
+use Rattle.kb_cli.specs.declared.status.Limit.TheVariants.{States}
 use Rattle.kb_cli.specs.declared.status.Status.{Status}
-use Rattle.kb_cli.specs.declared.status.Status.TheVariants.{Yes, Refused, Undecided, No, Memory, Fault, Usage}
+use Rattle.kb_cli.specs.declared.status.Status.TheVariants.{Refused, Fault, Usage}
 use Rattle.kb_cli.specs.declared.status.Refusal.TheVariants.{File, Line, InputTooLong}
 use Rattle.kb_cli.specs.declared.status.FileFault.{FileFault}
-use Rattle.kb_cli.proofs.OrientLemmas.{one_orienting}
 
--- the first overlap that doesn't join refutes confluence
-unjoined : (rules : List Pair) (i j place : ℕ) (u v : List ℕ) → IsConfluent rules → ¬ IsFirstUnjoined rules i j place u v
-unjoined rules i j place u v confluent first =
-    let joins = confluent i j place first.first first.second first.overlap in
-    first.parts.different (normal_form_unique first.parts.left joins.left ∙ normal_form_unique joins.right first.parts.right)
+-- where the words are a line
+words_answer : (words : List (List ℕ)) (status : Status) → ((kind : ErrorKind) → ¬ IsNoLine words kind) → WordsStop words status → IsAnswer status
+words_answer words (Refused refusal) line stop = stop
+words_answer words (Fault which) line stop = stop
+words_answer words (Usage kind) line stop = line kind stop
+words_answer words status line stop = tt
 
-pub decided-not_undecided : (parts : Parts) (u v : List ℕ) → IsDecided parts → ¬ IsUndecided parts u v
-decided-not_undecided parts u v decided undecided =
-    unjoined undecided.rules undecided.i undecided.j undecided.place u v
-    (subst IsConfluent (one_orienting _ _ decided.rules undecided.rules decided.oriented undecided.oriented) decided.confluent)
-    undecided.first
+-- at the load of a file that isn't refused
+load_answer : (IsFault : FileFault → Type 0) (name : List ℕ) (status : Status) → IsUnrefused IsFault → IsFaultless status
+    → LoadStops IsFault name status → IsAnswer status
+load_answer IsFault name (Refused (File file fault)) unrefused faultless stop = unrefused fault stop.1
+load_answer IsFault name (Refused (Line number fault)) unrefused faultless stop = stop
+load_answer IsFault name (Refused InputTooLong) unrefused faultless stop = stop
+load_answer IsFault name (Fault which) unrefused faultless stop = faultless
+load_answer IsFault name (Usage kind) unrefused faultless stop = stop
+load_answer IsFault name status unrefused faultless stop = tt
+
+-- ---- after the files are loaded
 
 -- more than may be taken isn't taken of an input that has no more
 short : (input taken left : List ℕ) → input ≡ taken ++ left → most_input < length taken → ¬ (length input ≤ most_input)
 short input taken left split more less = omega (arith, ap length split, length-append taken left)
 
-module _ (words : List (List ℕ)) (file : List ℕ) (workers : ℕ) (world : World) (line : IsLine words (WordReduce file workers))
-    (no_usage : (command : Command) (kind : ErrorKind) → IsLine words command → ¬ IsNoLine words kind)
-    (one_line : (one other : Command) → IsLine words one → IsLine words other → one ≡ other)
-    (no_file : (fault : FileFault) → ¬ IsFileFault world.holds file fault)
-    (no_line : (parts : Parts) (number : ℕ) (fault : WordError)
-    → ¬ RefusedAt parts world.streams.before world.streams.written world.streams.input number fault)
-    (few : length world.streams.input ≤ most_input) where
-  words_answer : (status : Status) → WordsStop words status → IsAnswer status
-  words_answer Yes stop = tt
-  words_answer (Undecided limit) stop = tt
-  words_answer (No cert) stop = tt
-  words_answer Memory stop = tt
-  words_answer (Refused refusal) stop = stop
-  words_answer (Fault which) stop = stop
-  words_answer (Usage kind) stop = no_usage (WordReduce file workers) kind line stop
+lines_answer : (name : List ℕ) (world : World) (parts : Parts) (status : Status) → AreLinesUnrefused name world → IsFaultless status
+    → FileSays world.holds name parts → AnswersSay parts world.streams status → IsAnswer status
+lines_answer name world parts (Refused (File file fault)) unrefused faultless file_says says = says
+lines_answer name world parts (Refused (Line number fault)) unrefused faultless file_says says = unrefused.lines parts number fault file_says says.1
+lines_answer name world parts (Refused InputTooLong) unrefused faultless file_says says =
+    short world.streams.input says.1.0 world.streams.left says.1.1 says.1.2 unrefused.short
+lines_answer name world parts (Fault which) unrefused faultless file_says says = faultless
+lines_answer name world parts (Usage kind) unrefused faultless file_says says = says
+lines_answer name world parts status unrefused faultless file_says says = tt
 
-  file_answer : (status : Status) → IsFaultless status → FileStops world.holds file status → IsAnswer status
-  file_answer Yes faultless stop = tt
-  file_answer (Undecided limit) faultless stop = tt
-  file_answer (No cert) faultless stop = tt
-  file_answer Memory faultless stop = tt
-  file_answer (Refused (File name fault)) faultless stop = no_file fault stop.1
-  file_answer (Refused (Line number fault)) faultless stop = stop
-  file_answer (Refused InputTooLong) faultless stop = stop
-  file_answer (Fault which) faultless stop = faultless
-  file_answer (Usage kind) faultless stop = stop
+-- what `fsaand`, `fsaor` and `fsaconcat` say
+abbrev pub CombinationSays : Combination → List ℕ → ℕ → World → List (List ℕ) → Automaton → Automaton → Status → Type 0
+CombinationSays operation out most world names first second =
+    MakeSays (λ made. (made.alphabet ≡ first.alphabet) × IsCombined operation first second made)
+    (λ limit. (limit ≡ States (combined_by operation)) × HasMoreCombined operation first second most) names out world
 
-  line_answer : (parts : Parts) (status : Status) → IsFaultless status → AnswersSay parts world.streams status → IsAnswer status
-  line_answer parts Yes faultless says = tt
-  line_answer parts (Undecided limit) faultless says = tt
-  line_answer parts (No cert) faultless says = tt
-  line_answer parts Memory faultless says = tt
-  line_answer parts (Refused (File name fault)) faultless says = says
-  line_answer parts (Refused (Line number fault)) faultless says = no_line parts number fault says.1
-  line_answer parts (Refused InputTooLong) faultless says = short world.streams.input says.1.0 world.streams.left says.1.1 says.1.2 few
-  line_answer parts (Fault which) faultless says = faultless
-  line_answer parts (Usage kind) faultless says = says
+-- what `fsanot`, `fsaexists`, `fsastar` and `fsareverse` say
+abbrev pub TransformationSays : Transformation → List ℕ → ℕ → World → List (List ℕ) → Automaton → Status → Type 0
+TransformationSays operation out most world names automaton =
+    MakeSays (IsTransformed operation automaton)
+    (λ limit. (limit ≡ States (transformed_by operation)) × HasMoreTransformed operation automaton most) names out world
 
-  says_answer : (status : Status) → IsFaultless status → WordReduceSays world.holds file world.streams status → IsAnswer status
-  says_answer status faultless (inl stop) = file_answer status faultless stop.0
-  says_answer status faultless (inr says) = line_answer says.0 status faultless says.2
+-- what `fsamin` says
+abbrev pub MinimisationSays : List ℕ → World → List (List ℕ) → Automaton → Status → Type 0
+MinimisationSays out world names automaton =
+    MakeSays (λ made. (made.alphabet ≡ automaton.alphabet) × SameLanguage automaton made) (λ limit. ⊥) names out world
 
-  pub headline_answer : (status : Status) → IsFaultless status → Headline words world status → IsAnswer status
-  headline_answer status faultless (inl stop) = words_answer status stop.0
-  headline_answer status faultless (inr says) =
-      let same : says.0 ≡ WordReduce file workers = one_line says.0 (WordReduce file workers) says.1 line in
-      says_answer status faultless (subst (λ command. CommandSays command world status) same says.2).0
+make_answer : (IsMeant : Automaton → Type 0) (Exceeds : Limit → Type 0) (names : List (List ℕ)) (out : List ℕ) (world : World) (status : Status)
+    → IsFaultless status → MakeSays IsMeant Exceeds names out world status → IsAnswer status
+make_answer IsMeant Exceeds names out world (Refused refusal) faultless says = says
+make_answer IsMeant Exceeds names out world (Fault which) faultless says = faultless
+make_answer IsMeant Exceeds names out world (Usage kind) faultless says = says
+make_answer IsMeant Exceeds names out world status faultless says = tt
+
+comparison_answer : (names : List (List ℕ)) (first second : Automaton) (most : ℕ) (world : World) (status : Status)
+    → IsFaultless status → ComparisonSays names first second most world status → IsAnswer status
+comparison_answer names first second most world (Refused refusal) faultless says = says
+comparison_answer names first second most world (Fault which) faultless says = faultless
+comparison_answer names first second most world (Usage kind) faultless says = says
+comparison_answer names first second most world status faultless says = tt
+
+enumeration_answer : (names : List (List ℕ)) (automaton : Automaton) (least most : ℕ) (world : World) (status : Status)
+    → IsFaultless status → EnumerationSays names automaton least most world status → IsAnswer status
+enumeration_answer names automaton least most world (Refused refusal) faultless says = says
+enumeration_answer names automaton least most world (Fault which) faultless says = faultless
+enumeration_answer names automaton least most world (Usage kind) faultless says = says
+enumeration_answer names automaton least most world status faultless says = tt
+
+-- ---- commands
+
+module _ (world : World) (status : Status) (faultless : IsFaultless status) where
+  reduce_answer : (name : List ℕ) → AreLinesUnrefused name world → WordReduceSays world.holds name world.streams status → IsAnswer status
+  reduce_answer name unrefused (inl stop) = load_answer (IsFileFault world.holds name) name status unrefused.file faultless stop.0
+  reduce_answer name unrefused (inr says) = lines_answer name world says.0 status unrefused faultless says.1 says.2
+
+  one_answer : (kind : Kind) (file : List ℕ) (Say : List (List ℕ) → Automaton → Status → Type 0)
+      → ((names : List (List ℕ)) (automaton : Automaton) → Say names automaton status → IsAnswer status)
+      → IsUnrefusedAs kind world.holds file → OneSays kind file Say world status → IsAnswer status
+  one_answer kind file Say answers unrefused (inl stop) = load_answer (IsAutomatonFault kind world.holds file) file status unrefused faultless stop.0
+  one_answer kind file Say answers unrefused (inr says) = answers says.0 says.1 says.4
+
+  two_answer : (kind : Kind) (one two : List ℕ) (Say : List (List ℕ) → Automaton → Automaton → Status → Type 0)
+      → ((names : List (List ℕ)) (first second : Automaton) → Say names first second status → IsAnswer status)
+      → AreBothUnrefused kind world.holds one two → TwoSay kind one two Say world status → IsAnswer status
+  two_answer kind one two Say answers unrefused (inl stop) = load_answer (IsAutomatonFault kind world.holds one) one status unrefused.first faultless stop.0
+  two_answer kind one two Say answers unrefused (inr loaded) = elim loaded.4 [
+    | inl stop ↦ load_answer (IsSecondFault loaded.0 loaded.1.alphabet world.holds two) two status (unrefused.second loaded.0 loaded.1 loaded.2) faultless stop.0
+    | inr says ↦ answers loaded.0 loaded.1 says.0 says.3
+  ]
+
+  command_answer : (command : Command) → NothingRefused command world → CommandSays command world status → IsAnswer status
+  command_answer (WordReduce file workers) unrefused says = reduce_answer file unrefused says.0
+  command_answer (Combine operation one two out most) unrefused says =
+      two_answer (combined_kind operation) one two (CombinationSays operation out most world)
+      (λ names first second says. make_answer _ _ names out world status faultless says) unrefused says
+  command_answer (Transform operation file out most) unrefused says =
+      one_answer (transformed_kind operation) file (TransformationSays operation out most world)
+      (λ names automaton says. make_answer _ _ names out world status faultless says) unrefused says
+  command_answer (Minimise file out) unrefused says =
+      one_answer WordsOrPairs file (MinimisationSays out world)
+      (λ names automaton says. make_answer _ _ names out world status faultless says) unrefused says
+  command_answer (Compare one two most) unrefused says =
+      two_answer WordsOrPairs one two (λ names first second. ComparisonSays names first second most world)
+      (λ names first second says. comparison_answer names first second most world status faultless says) unrefused says
+  command_answer (Enumerate least most file) unrefused says =
+      one_answer Words file (λ names automaton. EnumerationSays names automaton least most world)
+      (λ names automaton says. enumeration_answer names automaton least most world status faultless says) unrefused says
+
+  pub headline_answer : (words : List (List ℕ)) (command : Command) → IsLine words command → ((kind : ErrorKind) → ¬ IsNoLine words kind)
+      → ((other : Command) → IsLine words other → other ≡ command) → NothingRefused command world → Headline words world status → IsAnswer status
+  headline_answer words command line no_usage one_line unrefused (inl stop) = words_answer words status no_usage stop.0
+  headline_answer words command line no_usage one_line unrefused (inr says) =
+      command_answer command unrefused (subst (λ c. CommandSays c world status) (one_line says.0 says.1) says.2)

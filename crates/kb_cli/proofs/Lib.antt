@@ -12,3 +12,4 @@ pub mod CompareLemmas
 pub mod ListLemmas
 pub mod RunLemmas
 pub mod AnswerLemmas
+pub mod OneAnswerLemmas

@@ -21,3 +21,13 @@ IsFaultless (Undecided limit) = Unit {0}
 IsFaultless Memory = Unit {0}
 IsFaultless (Refused refusal) = Unit {0}
 IsFaultless (Usage kind) = Unit {0}
+
+-- the run said yes or no, or reached a limit
+abbrev pub IsConclusive : Status → Type 0
+IsConclusive Yes = Unit {0}
+IsConclusive (No cert) = Unit {0}
+IsConclusive (Undecided limit) = Unit {0}
+IsConclusive Memory = ⊥
+IsConclusive (Refused refusal) = ⊥
+IsConclusive (Fault which) = ⊥
+IsConclusive (Usage kind) = ⊥

@@ -12,3 +12,4 @@ pub mod Automata
 pub mod Listed
 pub mod Headline
 pub mod Answering
+pub mod Unrefused

@@ -45,7 +45,8 @@ pub use command_line::{
     a_line_says_one_command, read_words,
 };
 pub use laws::{
-    no_presentation_is_decided_and_undecided, where_nothing_is_refused_there_is_an_answer,
+    an_answer_is_the_only_one, no_presentation_is_decided_and_undecided,
+    where_nothing_is_refused_there_is_an_answer,
 };
 pub use orienting::{
     oriented, oriented_relations_are_one_list, oriented_relations_keep_the_congruence,
