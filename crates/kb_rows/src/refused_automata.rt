@@ -7,6 +7,19 @@ use std::process::Abort;
 use std::sync::Wait;
 use std::test::Fail;
 
+/// The row of an automaton file that is refused with this message, and of which nothing comes.
+fn refusal<'a>(given: &'a str, err: &'a str) -> AutomataRow<'a> {
+    AutomataRow {
+        shows: err,
+        words: "fsamin G OUT",
+        given,
+        exit: 1,
+        out: "",
+        err,
+        stored: None,
+    }
+}
+
 /// Refuses a file that has a part of another one replaced.
 fn check_changed<R: Abort + Wait>(
     alloc: Global,
@@ -17,16 +30,7 @@ fn check_changed<R: Abort + Wait>(
     for (part, replacement, fault) in changes {
         let given = file.replace(alloc, *part, *replacement)?;
         let err = format!(in alloc; "kb: G: {fault}\n")?;
-        let row = AutomataRow {
-            shows: fault,
-            words: "fsamin G OUT",
-            given: given.as_str(),
-            exit: 1,
-            out: "",
-            err: err.as_str(),
-            stored: None,
-        };
-        check(alloc, rt, row)?;
+        check(alloc, rt, refusal(given.as_str(), err.as_str()))?;
     }
     Ok(())
 }
