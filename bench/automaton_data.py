@@ -95,8 +95,8 @@ def copies(states, classes):
 
 
 def bits_of_each_kind(length):
-    """A cyclic word of 2^length bits that holds each word of that length once, as the greedy rule makes it."""
-    # Of the least rotations of their own, in order (Fredricksen, Kessler, Maiorana).
+    """A cyclic word of 2^length bits in which each word of that length stands once: a de Bruijn word."""
+    # It is made of the words of lengths that divide this one and are less than all their rotations, in order.
     word = [0] * (length + 1)
 
     def grow(place, period):
@@ -114,7 +114,8 @@ def bits_of_each_kind(length):
 
 
 def mixed_cycle(length):
-    """A cycle of 2^length states that accept as the bits say which hold each word of that length once."""
+    """A cycle of 2^length states that accept where the bits are 1: no two have one right language, and splitting n of
+    them can take n log n steps."""
     states = 1 << length
     accepting = [place + 1 for place, bit in enumerate(bits_of_each_kind(length)) if bit]
     rows = ([state % states + 1] for state in range(1, states + 1))

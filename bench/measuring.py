@@ -25,6 +25,7 @@ class Run(typing.NamedTuple):
     """One run of a program."""
 
     status: int
+    """The number of a signal, negated, where one ended the run."""
     spent: float
     """Processor time in seconds, user and system."""
     clock: float
@@ -43,7 +44,7 @@ def run_once(words, given):
         end.cancel()
         child.returncode = os.waitstatus_to_exitcode(status)
         clock = time.perf_counter() - begun
-        if child.returncode < 0:
+        if clock >= GIVEN_UP:
             return None
         return Run(child.returncode, used.ru_utime + used.ru_stime, clock, used.ru_maxrss / 1024)
 
@@ -65,37 +66,35 @@ def measure(what, words, given=os.devnull, wanted=0, rate=None):
     """Prints a figure, and answers its run. A rate is an amount and its unit."""
     best = best_run(words, given)
     if best is None:
-        print(f"{what:56} given up after {GIVEN_UP} s", flush=True)
+        print(f"{what:58} given up after {GIVEN_UP} s", flush=True)
         return None
-    amount, unit = rate or (0, "")
-    parts = [
-        f"{what:56} status {best.status}" + ("" if best.status == wanted else f" AND NOT {wanted}"),
-        f"{best.spent:8.3f} s, by the clock {best.clock:8.3f} s, {best.memory:6.0f} MiB",
-        f"{amount / best.spent:7.2f} {unit}/s" if rate else "",
-    ]
-    print(", ".join(filter(None, parts)), flush=True)
+    status = f"status {best.status}" if best.status == wanted else f"STATUS {best.status} AND NOT {wanted}"
+    line = f"{what:58} {status} {best.spent:8.3f} s, by the clock {best.clock:8.3f} s, {best.memory:4.0f} MiB"
+    if rate:
+        amount, unit = rate
+        line += f", {amount / best.spent:.3g} {unit}/s"
+    print(line, flush=True)
     return best
 
 
 def growth(smaller, larger):
-    """By which power of the size the time grew, of two pairs of a size and a run; None where a run is too short to tell."""
+    """By which power of the size the time grew, of two pairs of a size and a run; None where one is too short."""
     (size, run), (other_size, other) = smaller, larger
     if min(run.spent, other.spent) < SHORT:
         return None
     return math.log(other.spent / run.spent) / math.log(other_size / size)
 
 
-def give(file, pieces):
-    """Writes the pieces of a text, in a process of its own: a run's memory counts what its parent took."""
-    maker = multiprocessing.get_context("fork").Process(target=write, args=(file, pieces))
+def give(file, content):
+    """Writes the bytes that a function makes, in a process of its own: a run's memory counts what its parent took."""
+    maker = multiprocessing.get_context("fork").Process(target=write, args=(file, content))
     maker.start()
     maker.join()
     if maker.exitcode != 0:
         raise SystemExit(f"bench/run: the data of {file} are not made")
 
 
-def write(file, pieces):
-    """Writes the pieces of a text."""
+def write(file, content):
+    """Writes the bytes that a function makes."""
     with open(file, "wb") as it:
-        for piece in pieces:
-            it.write(piece if isinstance(piece, bytes) else piece.encode())
+        it.write(content())
