@@ -128,6 +128,23 @@ def multiplying(bench):
     multiply("fsaand, 2 letters", "fsaand A B OUT", lambda states: data.turns(states, 2, 8), lengths[:3])
 
 
+def joining(bench):
+    """Complements, and words put together from words."""
+    bench.series("fsanot, 2 letters", f"fsanot A OUT {MOST_STATES}", "moves", at_random(2, (5_000, 50_000, 500_000)))
+    bench.series(
+        "fsaconcat, one word and another",
+        f"fsaconcat A B OUT {MOST_STATES}",
+        "letters",
+        ((2 * length, [data.chain(length + 1), data.chain(length + 1)]) for length in (5_000, 50_000, 500_000)),
+    )
+    bench.series(
+        "fsastar, a dictionary",
+        f"fsastar A OUT {MOST_STATES}",
+        "letters",
+        ((16 * count, [data.dictionary(count, 4, 16)]) for count in (1_000, 10_000, 100_000)),
+    )
+
+
 def enumerating(bench):
     """Accepted words in order."""
     # Of the reduced words over two letters and their inverses, 4 * 3^(n - 1) have length n.
@@ -154,5 +171,5 @@ def enumerating(bench):
 def measure_automata(program, room):
     """Prints all figures."""
     bench = Bench(program, room)
-    for part in (reading, minimising, reversing, projecting, multiplying, enumerating):
+    for part in (reading, minimising, reversing, projecting, multiplying, joining, enumerating):
         part(bench)
