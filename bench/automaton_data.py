@@ -96,7 +96,7 @@ def copies(states, classes):
 
 def bits_of_each_kind(length):
     """A cyclic word of 2^length bits in which each word of that length stands once: a de Bruijn word."""
-    # It is made of the words of lengths that divide this one and are less than all their rotations, in order.
+    # It is made of the words that are less than their other rotations and whose lengths divide this one, in order.
     word = [0] * (length + 1)
 
     def grow(place, period):
