@@ -57,7 +57,7 @@ impl<'a> Enumerate<'a> {
     {
         let mut layers = match self.layers.take() {
             Some(layers) => layers,
-            None => Layers::new(alloc, self.fsa.table()),
+            None => Layers::new(alloc, self.fsa.table())?,
         };
         let found = next_after(
             alloc,
