@@ -1,5 +1,5 @@
 -- The states from which texts of one length lead to acceptance.
-use Rattle.std.proofs.Common.{◌≡◌, ◌↔◌, ℕ, zero, suc, ◌+◌, ◌-◌, ◌<◌, ◌≤◌, Bool, true, false, ◌&&◌, nat_eq, nat_lt, nat_cmp, cond, IsTrue, List, [], ◌∷◌, ◌++◌, length, get_or, map, take, slice_get, Option, Some, None, Result, Ok, Err, refl, sym, ap, ◌∙◌, subst, inl, inr, arith}
+use Rattle.std.proofs.Common.{◌≡◌, ◌↔◌, ℕ, zero, suc, ◌+◌, ◌-◌, ◌<◌, ◌≤◌, ◌^◌, Bool, true, false, ◌&&◌, nat_eq, nat_lt, nat_cmp, cond, IsTrue, List, [], ◌∷◌, ◌++◌, length, get_or, map, take, slice_get, Option, Some, None, Result, Ok, Err, refl, sym, ap, ◌∙◌, subst, inl, inr, arith}
 use Rattle.std.specs.List.{Contains, find}
 use Rattle.std.specs.List.Sorted.{IsBinarySearchResult}
 use Rattle.std.specs.Result.{IfOk, MatchResult, is_ok}
@@ -20,7 +20,7 @@ use Rattle.kb_fsa.proofs.Lookups.{Ascends-head, Ascends-tail, IsRow-moves_of}
 use Rattle.kb_fsadet.specs.Nondeterministic.{moves_at}
 use Rattle.kb_fsadet.specs.SubsetConstruction.{IsAscending, set_of}
 use Rattle.kb_fsadet.proofs.Sets.{Contains-set_of}
-use Rattle.kb_fsarat.specs.Layers.{HasText, is_member, IsLayer, AreLayers, IsLastOf, IsSettled, AreTurned, targets, IsFirstMove, NoMove}
+use Rattle.kb_fsarat.specs.Layers.{HasText, is_member, IsLayer, AreLayers, IsLastOf, IsSettled, AreTurned, targets, lengths, IsFirstMove, NoMove}
 use Rattle.kb_fsarat.proofs.MoveLists.{Contains-nil, Contains-head, Contains-cons, Contains-cons_cases, Contains-map}
 use Rattle.kb_fsarat.proofs.TableMoves.{step_from_move, move_from_step, accepts_from_state, symbol_within}
 
@@ -216,6 +216,11 @@ layer_onwards table members k (suc more) layer next =
           let first = (HasText-more table (k + more) state).0 has in
           (next state).1 ((HasText-more table k state).1 (first.0, (layer (step table state first.0)).0 ((rest (step table state first.0)).1 first.1))),
     ))
+
+-- until then there is a set for each length below the count
+pub length_unsettled : (settled : Bool) (sets : List (List ℕ)) (count : ℕ) → lengths settled sets ≡ count → count < 2 ^ 64 → length sets ≡ count
+length_unsettled true sets count is below = absurd (omega arith)
+length_unsettled false sets count is below = is
 
 pub settled_from_last : (table : Table) (sets : List (List ℕ)) (members : List ℕ) → AreLayers table sets → IsLastOf sets members
     → IsLayer table (length sets) members → IsSettled table sets

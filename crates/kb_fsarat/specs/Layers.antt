@@ -51,10 +51,9 @@ pub record Layering : Type 0 where
   pub count : ℕ
 
 -- what the sets keep
-pub record IsLayering (table : Table) (turned : List Moves) (sets : List (List ℕ)) (settled : Bool) : Type 0 where
+pub record IsLayering (table : Table) (sets : List (List ℕ)) (settled : Bool) : Type 0 where
   pub is_table : IsTable table
   pub symbols : HasSymbols 65534 table
-  pub turns : AreTurned table turned
   pub layers : AreLayers table sets
   pub further : IsTrue settled → IsSettled table sets
 

@@ -14,7 +14,8 @@ use std::alloc::Global;
 use std::marker::Model;
 
 /// The accepted words of some lengths, one after another; made by `new`. It holds the last word, and for each length up
-/// to its own the states from which some text of that length leads to acceptance.
+/// to its own the states from which some text of that length leads to acceptance; where they are those of the length
+/// before, it holds no further ones.
 #[derive(Drop)]
 pub struct Enumerate<'a> {
     fsa: &'a Fsa,
@@ -57,7 +58,7 @@ impl<'a> Enumerate<'a> {
     {
         let mut layers = match self.layers.take() {
             Some(layers) => layers,
-            None => Layers::new(alloc, self.fsa.table())?,
+            None => Layers::new(alloc, self.fsa.table()),
         };
         let found = next_after(
             alloc,

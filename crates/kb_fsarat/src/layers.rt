@@ -7,7 +7,7 @@ ghost use Rattle.std.specs.Slice.Iter.{iter_rest};
 ghost use Rattle.kb_fsa.specs.Table.{IsTable, HasSymbols};
 ghost use Rattle.kb_fsadet.specs.Nondeterministic.{moves_at};
 ghost use Rattle.kb_fsadet.specs.SubsetConstruction.{set_of};
-ghost use Rattle.kb_fsarat.specs.Layers.{HasText, is_member, targets, AreTurned, IsLayer, AreLayers, IsLastOf, IsFirstMove, NoMove};
+ghost use Rattle.kb_fsarat.specs.Layers.{HasText, is_member, targets, AreTurned, IsLayer, IsLastOf, IsFirstMove, NoMove};
 
 use crate::reversal::{accepting_states, turned_rows};
 use kb_fsa::Table;
@@ -41,6 +41,7 @@ impl StateSet {
     {
         members.sort_unstable();
         members.dedup();
+        members.shrink_to_fit();
         StateSet { members }
     }
 
@@ -53,7 +54,7 @@ impl StateSet {
         Ok(StateSet::of(states))
     }
 
-    /// The states of which some move leads to a member, by the rows of all moves turned round.
+    /// The states of which some move leads to a member, by all moves turned round.
     fn before(&self, alloc: Global, turned: &[Branches]) -> Result<StateSet, Memory>
         ensures { IfOk result (λ set. set ≡ set_of (targets turned.now self.now)) }
     {
@@ -119,40 +120,40 @@ fn push_targets(states: &mut Vec<u32>, moves: &[(u32, u32)]) -> Result<(), Memor
 }
 
 /// The sets of a table's states for the lengths from 0 on. Set k has exactly the states from which some text of length k
-/// leads to acceptance; each is made from the one before, by the moves turned round, when it is asked for. A set that
-/// equals the one before it is that of all further lengths too, and no more are kept.
+/// leads to acceptance; each is made when it is asked for, from the members of the one before by the moves turned round.
+/// A set that equals the one before it is that of all further lengths too, and then no more are kept.
 #[derive(Drop)]
 pub(crate) struct Layers<'a> {
     table: &'a Table,
-    turned: Vec<Branches>,
+    turned: Option<Vec<Branches>>,
     sets: Vec<StateSet>,
     settled: bool,
 }
 
 impl<'a> Model for Layers<'a> {
-    ghost use Rattle.kb_fsarat.specs.Layers.{Layering, IsLayering, lengths};
+    ghost use Rattle.std.specs.Prelude.{IfSome};
+    ghost use Rattle.kb_fsarat.specs.Layers.{Layering, IsLayering, AreTurned, lengths};
 
     ghost Value = { Layering };
 
     ghost view = { λ layers. record { table = layers.table.now; count = lengths layers.settled layers.sets.items } };
 
-    ghost invariant = { λ layers. IsLayering layers.table.now layers.turned.items layers.sets.items layers.settled };
+    ghost invariant = { λ layers. IsLayering layers.table.now layers.sets.items layers.settled × IfSome layers.turned (λ rows. AreTurned layers.table.now rows.items) };
 }
 
 impl<'a> Layers<'a> {
     /// The sets of the table, of which none is made.
-    pub(crate) fn new(alloc: Global, table: &'a Table) -> Result<Layers<'a>, Memory>
+    pub(crate) fn new(alloc: Global, table: &'a Table) -> Layers<'a>
         requires table { IsTable table.now }
         requires symbols { HasSymbols 65534 table.now }
-        ensures { IfOk result (λ layers. layers ≡ record { table = table.now; count = 0 }) }
+        ensures { result ≡ record { table = table.now; count = 0 } }
     {
-        let turned = turned_rows(alloc, table.rows())?;
-        Ok(Layers {
+        Layers {
             table,
-            turned,
+            turned: None,
             sets: Vec::new(alloc),
             settled: false,
-        })
+        }
     }
 
     /// The table.
@@ -188,18 +189,28 @@ impl<'a> Layers<'a> {
         ensures ok { OnOk result (self.old.count < self.new.count) }
         ensures err { OnErr result (self.new.count ≡ self.old.count) }
     {
-        let set = next_set(
-            alloc,
-            self.table,
-            self.turned.as_slice(),
-            self.sets.as_slice(),
-        )?;
+        let set = self.next(alloc)?;
         if is_last(self.sets.as_slice(), &set) {
             self.settled = true;
         } else {
             self.sets.push(set)?;
         }
         Ok(())
+    }
+
+    /// The set of the next length.
+    fn next(&mut self, alloc: Global) -> Result<StateSet, Memory>
+        requires { self.old.count < 2 ^ 64 }
+        ensures layers { self.new ≡ self.old }
+        ensures set { IfOk result (IsLayer self.old.table self.old.count) }
+    {
+        let Some(last) = self.sets.last() else {
+            return StateSet::accepting(alloc, self.table);
+        };
+        let turned = turned_once(alloc, self.table, self.turned.take())?;
+        let set = last.before(alloc, turned.as_slice());
+        self.turned = Some(turned);
+        set
     }
 
     /// The set of the length.
@@ -239,21 +250,19 @@ impl<'a> Layers<'a> {
     }
 }
 
-/// The set of the length after those of the given sets.
-fn next_set(
+/// The table's moves turned round, which may be made already.
+fn turned_once(
     alloc: Global,
     table: &Table,
-    turned: &[Branches],
-    sets: &[StateSet],
-) -> Result<StateSet, Memory>
+    made: Option<Vec<Branches>>,
+) -> Result<Vec<Branches>, Memory>
     requires table { IsTable table.now }
-    requires turned { AreTurned table.now turned.now }
-    requires layers { AreLayers table.now sets.now }
-    ensures { IfOk result (IsLayer table.now (length sets.now)) }
+    requires made { IfSome made (λ rows. AreTurned table.now rows.items) }
+    ensures { IfOk result (λ rows. AreTurned table.now rows.items) }
 {
-    match sets.last() {
-        Some(last) => last.before(alloc, turned),
-        None => StateSet::accepting(alloc, table),
+    match made {
+        Some(rows) => Ok(rows),
+        None => turned_rows(alloc, table.rows()),
     }
 }
 

@@ -1,4 +1,4 @@
-use Rattle.std.proofs.Common.{◌≡◌, ◌↔◌, ℕ, Bool, List, length, sym, subst}
+use Rattle.std.proofs.Common.{◌↔◌, ℕ, Bool, List, length, sym, subst}
 use Rattle.std.specs.List.{Contains}
 use Rattle.kb_fsarat.specs.Layers.{IsLayer}
 use Rattle.kb_fsarat.specs.Reversal.{IsListed}

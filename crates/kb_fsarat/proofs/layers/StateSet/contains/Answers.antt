@@ -1,7 +1,6 @@
-use Rattle.std.proofs.Common.{◌≡◌, List, ℕ, nat_cmp, sym, ap, ◌∙◌, subst}
+use Rattle.std.proofs.Common.{◌≡◌, List, ℕ, nat_cmp, ◌∙◌, subst}
 use Rattle.std.specs.List.Sorted.{IsBinarySearchResult}
 use Rattle.kb_fsadet.specs.SubsetConstruction.{IsAscending}
-use Rattle.kb_fsarat.specs.Layers.{is_member}
 use Rattle.kb_fsarat.proofs.LayerLemmas.{search_answers}
 use Rattle.kb_fsarat.proofs.layers.StateSet.contains.Goals as goal
 
