@@ -6,7 +6,7 @@ use Rattle.std.specs.Result.{IfOk, MatchResult, is_ok}
 use Rattle.std.specs.Option.{MatchOption, IfSome, IfNone}
 use Rattle.std.proofs.lemmas.Bool.{cases_lt, false_from_ne_true}
 use Rattle.std.proofs.lemmas.Bool.Decides.{nat_tests, Decides-eqb}
-use Rattle.std.proofs.lemmas.List.{append-nil, take_more, get_or_default, get_or_push, get_or_append_left, length_push}
+use Rattle.std.proofs.lemmas.List.{append-nil, take_more, get_or_default}
 use Rattle.std.proofs.lemmas.List.Elements.{Contains-append_cases, Contains-append_left, Contains-append_right}
 use Rattle.std.proofs.lemmas.List.Folds.{Any-from_list_any, list_any-from_Any}
 use Rattle.std.proofs.lemmas.List.Sorted.{searched}
@@ -175,25 +175,6 @@ layer_before table rows members k is turns layer =
           target_from_move rows members state first.0 source (contains_from_member members state ((layer state).1 first.1))
           (backwards table rows state first.0 source turns positive (move_from_step table source first.0 state refl positive)),
     ))
-
--- ---- one set more
-
-pub AreLayers-push : (table : Table) (sets : List (List ℕ)) (members : List ℕ) → AreLayers table sets → IsLayer table (length sets) members
-    → AreLayers table (sets ++ members ∷ [])
-AreLayers-push table sets members layers layer k d within =
-    elim (cases_lt k (length sets)) [
-      | inl old ↦
-          let P : List ℕ → Type 0 = λ set. IsLayer table k set in
-          subst P (sym (get_or_append_left sets (members ∷ []) d k old)) (layers k d old)
-      | inr new ↦
-          let last : length sets ≡ k = omega (arith, length_push sets members) in
-          let P : List ℕ → Type 0 = λ set. IsLayer table k set in
-          let Q : ℕ → Type 0 = λ n. IsLayer table n members in
-          subst P (sym (get_or_push sets members d k last)) (subst Q last layer)
-    ]
-
-pub AreLayers-none : (table : Table) (sets : List (List ℕ)) → sets ≡ [] → AreLayers table sets
-AreLayers-none table sets none k d within = absurd (omega (arith, ap length none))
 
 -- ---- a set that equals the one before it
 
