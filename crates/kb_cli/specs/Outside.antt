@@ -19,6 +19,16 @@ pub record World : Type 0 where
   pub holds_after : List ℕ → Option (List ℕ)
   pub streams : Streams
 
+abbrev pub streams_of : List ℕ → List ℕ → List ℕ → List ℕ → Streams
+streams_of input left before written = record { input = input; left = left; before = before; written = written }
+
+-- the streams where nothing is read
+abbrev pub unread_streams : List ℕ → List ℕ → List ℕ → Streams
+unread_streams input before written = streams_of input input before written
+
+abbrev pub world_of : (List ℕ → Option (List ℕ)) → (List ℕ → Option (List ℕ)) → Streams → World
+world_of holds holds_after streams = record { holds = holds; holds_after = holds_after; streams = streams }
+
 -- nothing was read of the input, and nothing was written
 pub record IsUntouched (streams : Streams) : Type 0 where
   pub unread : streams.left ≡ streams.input

@@ -5,6 +5,7 @@ ghost use Rattle.kb_fsa.specs.declared.alphabet.Alphabet.{Alphabet};
 ghost use Rattle.kb_fsa.specs.Language.{Automaton, IsTextOf, generators};
 ghost use Rattle.kb_fsa.specs.Counted.{CountedOr};
 ghost use Rattle.kb_fsabool.specs.Answers.{IsLeastDifference};
+ghost use Rattle.kb_cli.specs.Outside.{unread_streams, world_of};
 ghost use Rattle.kb_cli.specs.Answering.{IsFaultless};
 ghost use Rattle.kb_cli.specs.FaultCounts.{FaultCounts, NoneFell, counts};
 ghost use Rattle.kb_cli.specs.Automata.{CompareSays, ComparisonSays, IsComparisonLine, IsDifferenceLine};
@@ -29,7 +30,7 @@ pub(crate) fn compare<F: Shelf, O: Sink>(
     out: &mut O,
 ) -> Status
     ensures says { F.tells shelf.old → O.tells out.old → (input : List ℕ) → CompareSays one.now two.now max_states
-        (record { holds = F.holds shelf.old; holds_after = F.holds shelf.new; streams = record { input = input; left = input; before = O.written out.old; written = O.written out.new } }) result }
+        (world_of (F.holds shelf.old) (F.holds shelf.new) (unread_streams input (O.written out.old) (O.written out.new))) result }
     ensures faults { (input : ℕ) → FaultCounts (counts (F.load_faults shelf.old) (F.store_faults shelf.old) input (O.faults out.old)) (counts (F.load_faults shelf.new) (F.store_faults shelf.new) input (O.faults out.new)) result }
     ensures fell { (input : ℕ) → NoneFell (counts (F.load_faults shelf.old) (F.store_faults shelf.old) input (O.faults out.old)) (counts (F.load_faults shelf.new) (F.store_faults shelf.new) input (O.faults out.new)) }
     ensures files { (name : List ℕ) → F.holds shelf.new name ≡ F.holds shelf.old name }
@@ -56,7 +57,7 @@ fn say_comparison<O: Sink>(
     requires letters { length first.now.names ≡ generators first.now.fsa.alphabet }
     ensures says { O.tells out.old → (input : List ℕ) (holds after : List ℕ → Option (List ℕ)) → ((name : List ℕ) → after name ≡ holds name)
         → ComparisonSays first.now.names first.now.fsa second.now max_states
-        (record { holds = holds; holds_after = after; streams = record { input = input; left = input; before = O.written out.old; written = O.written out.new } }) result }
+        (world_of holds after (unread_streams input (O.written out.old) (O.written out.new))) result }
     ensures faults { (loads stores input : ℕ) → FaultCounts (counts loads stores input (O.faults out.old)) (counts loads stores input (O.faults out.new)) result }
     ensures output_count { O.faults out.old ≤ O.faults out.new }
 {
@@ -76,7 +77,7 @@ fn say_line<O: Sink>(line: &[u8], status: Status, out: &mut O) -> Status
     requires { IsFaultless status }
     ensures says { O.tells out.old → (names : List (List ℕ)) (one two : Automaton) (most : ℕ) (input : List ℕ) (holds after : List ℕ → Option (List ℕ))
         → ((name : List ℕ) → after name ≡ holds name) → IsComparisonLine names one two most line.now status → ComparisonSays names one two most
-        (record { holds = holds; holds_after = after; streams = record { input = input; left = input; before = O.written out.old; written = O.written out.new } }) result }
+        (world_of holds after (unread_streams input (O.written out.old) (O.written out.new))) result }
     ensures faults { (loads stores input : ℕ) → FaultCounts (counts loads stores input (O.faults out.old)) (counts loads stores input (O.faults out.new)) result }
     ensures output_count { O.faults out.old ≤ O.faults out.new }
 {
@@ -99,7 +100,7 @@ fn say_difference<O: Sink>(
     ensures says { O.tells out.old → (one two : Automaton) (most : ℕ) (input : List ℕ) (holds after : List ℕ → Option (List ℕ))
         → ((name : List ℕ) → after name ≡ holds name) → alphabet ≡ one.alphabet → IsLeastDifference one two text
         → ¬ CountedOr one.table two.table most → ComparisonSays names.now one two most
-        (record { holds = holds; holds_after = after; streams = record { input = input; left = input; before = O.written out.old; written = O.written out.new } }) result }
+        (world_of holds after (unread_streams input (O.written out.old) (O.written out.new))) result }
     ensures faults { (loads stores input : ℕ) → FaultCounts (counts loads stores input (O.faults out.old)) (counts loads stores input (O.faults out.new)) result }
     ensures output_count { O.faults out.old ≤ O.faults out.new }
 {

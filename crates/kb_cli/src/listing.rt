@@ -2,6 +2,7 @@
 
 ghost use Rattle.std.specs.Prelude.{◌≡◌, ◌<◌, ◌≤◌, ℕ, List, [], Option, false, length, IfOk, IfErr, OnOk, OnErr};
 ghost use Rattle.kb_fsarat.specs.Enumeration.{Enumeration};
+ghost use Rattle.kb_cli.specs.Outside.{unread_streams, world_of};
 ghost use Rattle.kb_cli.specs.FaultCounts.{FaultCounts, NoneFell, counts};
 ghost use Rattle.kb_cli.specs.Automata.{EnumerateSays, EnumerationSays, IsFrontOfWords, IsOfKind};
 ghost use Rattle.kb_cli.specs.Listed.{Listed, HasLetters, Steps, ListingStops};
@@ -28,7 +29,7 @@ pub(crate) fn enumerate<F: Shelf, O: Sink>(
     out: &mut O,
 ) -> Status
     ensures says { F.tells shelf.old → O.tells out.old → (input : List ℕ) → EnumerateSays min max file.now
-        (record { holds = F.holds shelf.old; holds_after = F.holds shelf.new; streams = record { input = input; left = input; before = O.written out.old; written = O.written out.new } }) result }
+        (world_of (F.holds shelf.old) (F.holds shelf.new) (unread_streams input (O.written out.old) (O.written out.new))) result }
     ensures faults { (input : ℕ) → FaultCounts (counts (F.load_faults shelf.old) (F.store_faults shelf.old) input (O.faults out.old)) (counts (F.load_faults shelf.new) (F.store_faults shelf.new) input (O.faults out.new)) result }
     ensures fell { (input : ℕ) → NoneFell (counts (F.load_faults shelf.old) (F.store_faults shelf.old) input (O.faults out.old)) (counts (F.load_faults shelf.new) (F.store_faults shelf.new) input (O.faults out.new)) }
     ensures files { (name : List ℕ) → F.holds shelf.new name ≡ F.holds shelf.old name }
@@ -44,7 +45,7 @@ fn list_words<O: Sink>(alloc: Global, given: &Loaded, min: u16, max: u16, out: &
     requires { IsOfKind kinds.Words given.now.fsa.alphabet }
     ensures says { O.tells out.old → (input : List ℕ) (holds after : List ℕ → Option (List ℕ)) → ((name : List ℕ) → after name ≡ holds name)
         → EnumerationSays given.now.names given.now.fsa min max
-        (record { holds = holds; holds_after = after; streams = record { input = input; left = input; before = O.written out.old; written = O.written out.new } }) result }
+        (world_of holds after (unread_streams input (O.written out.old) (O.written out.new))) result }
     ensures faults { (loads stores input : ℕ) → FaultCounts (counts loads stores input (O.faults out.old)) (counts loads stores input (O.faults out.new)) result }
     ensures output_count { O.faults out.old ≤ O.faults out.new }
 {
@@ -74,7 +75,7 @@ fn list_next<O: Sink>(
     ensures steps { IfOk result (Steps words.old words.new) }
     ensures stops { (before input : List ℕ) → O.tells out.old → Listed names.now words.old before (O.written out.old) pending.old.items
         → IfErr result (ListingStops names.now words.old.automaton words.old.min words.old.max
-        (record { input = input; left = input; before = before; written = O.written out.new })) }
+        (unread_streams input before (O.written out.new))) }
     ensures faults { IfErr result (λ status. (loads stores input : ℕ)
         → FaultCounts (counts loads stores input (O.faults out.old)) (counts loads stores input (O.faults out.new)) status) }
     ensures still_tells { O.tells out.old → O.tells out.new }
@@ -98,7 +99,7 @@ fn send<O: Sink>(pending: &mut Vec<u8>, out: &mut O) -> Result<(), Failed>
     ensures stops { (names : List (List ℕ)) (enumeration : Enumeration) (before input : List ℕ) → O.tells out.old
         → Listed names enumeration before (O.written out.old) pending.old.items
         → OnErr result (IsFrontOfWords names enumeration.automaton enumeration.min enumeration.max
-        (record { input = input; left = input; before = before; written = O.written out.new })) }
+        (unread_streams input before (O.written out.new))) }
     ensures failed { OnErr result (O.faults out.old < O.faults out.new) }
     ensures still_tells { O.tells out.old → O.tells out.new }
     ensures output_count { O.faults out.old ≤ O.faults out.new }

@@ -3,6 +3,7 @@
 ghost use Rattle.std.specs.Prelude.{◌≡◌, ◌≢◌, ◌≤◌, ℕ, List, Err, IsOk, IfOk, length};
 ghost use Rattle.kb_fsa.specs.Language.{generators};
 ghost use Rattle.kb_explore.specs.declared.det.Det.TheVariants.{TooManyStates};
+ghost use Rattle.kb_cli.specs.Outside.{unread_streams, world_of};
 ghost use Rattle.kb_cli.specs.FaultCounts.{FaultCounts, NoneFell, counts};
 ghost use Rattle.kb_cli.specs.Automata.{CombineSays, TransformSays, MinimiseSays, StoreSays, LimitSays, IsCanonicalText, IsOfKind, IsCombined, HasMoreCombined, IsTransformed, HasMoreTransformed, combined_kind, combined_by, transformed_kind, transformed_by};
 ghost use Rattle.kb_cli.specs.declared.status.Limit.TheVariants.{States};
@@ -33,7 +34,7 @@ pub(crate) fn combine<F: Shelf, O: Sink>(
     out: &mut O,
 ) -> Status
     ensures says { F.tells shelf.old → O.tells out.old → (input : List ℕ) → CombineSays operation one.now two.now store_as.now max_states
-        (record { holds = F.holds shelf.old; holds_after = F.holds shelf.new; streams = record { input = input; left = input; before = O.written out.old; written = O.written out.new } }) result }
+        (world_of (F.holds shelf.old) (F.holds shelf.new) (unread_streams input (O.written out.old) (O.written out.new))) result }
     ensures faults { (input : ℕ) → FaultCounts (counts (F.load_faults shelf.old) (F.store_faults shelf.old) input (O.faults out.old)) (counts (F.load_faults shelf.new) (F.store_faults shelf.new) input (O.faults out.new)) result }
     ensures fell { (input : ℕ) → NoneFell (counts (F.load_faults shelf.old) (F.store_faults shelf.old) input (O.faults out.old)) (counts (F.load_faults shelf.new) (F.store_faults shelf.new) input (O.faults out.new)) }
     ensures files { (name : List ℕ) → name ≢ store_as.now → F.holds shelf.new name ≡ F.holds shelf.old name }
@@ -107,7 +108,7 @@ pub(crate) fn transform<F: Shelf, O: Sink>(
     out: &mut O,
 ) -> Status
     ensures says { F.tells shelf.old → O.tells out.old → (input : List ℕ) → TransformSays operation file.now store_as.now max_states
-        (record { holds = F.holds shelf.old; holds_after = F.holds shelf.new; streams = record { input = input; left = input; before = O.written out.old; written = O.written out.new } }) result }
+        (world_of (F.holds shelf.old) (F.holds shelf.new) (unread_streams input (O.written out.old) (O.written out.new))) result }
     ensures faults { (input : ℕ) → FaultCounts (counts (F.load_faults shelf.old) (F.store_faults shelf.old) input (O.faults out.old)) (counts (F.load_faults shelf.new) (F.store_faults shelf.new) input (O.faults out.new)) result }
     ensures fell { (input : ℕ) → NoneFell (counts (F.load_faults shelf.old) (F.store_faults shelf.old) input (O.faults out.old)) (counts (F.load_faults shelf.new) (F.store_faults shelf.new) input (O.faults out.new)) }
     ensures files { (name : List ℕ) → name ≢ store_as.now → F.holds shelf.new name ≡ F.holds shelf.old name }
@@ -170,7 +171,7 @@ pub(crate) fn minimise<F: Shelf>(
     shelf: &mut F,
 ) -> Status
     ensures says { F.tells shelf.old → (input written : List ℕ) → MinimiseSays file.now store_as.now
-        (record { holds = F.holds shelf.old; holds_after = F.holds shelf.new; streams = record { input = input; left = input; before = written; written = written } }) result }
+        (world_of (F.holds shelf.old) (F.holds shelf.new) (unread_streams input written written)) result }
     ensures faults { (input output : ℕ) → FaultCounts (counts (F.load_faults shelf.old) (F.store_faults shelf.old) input output) (counts (F.load_faults shelf.new) (F.store_faults shelf.new) input output) result }
     ensures fell { (input output : ℕ) → NoneFell (counts (F.load_faults shelf.old) (F.store_faults shelf.old) input output) (counts (F.load_faults shelf.new) (F.store_faults shelf.new) input output) }
     ensures files { (name : List ℕ) → name ≢ store_as.now → F.holds shelf.new name ≡ F.holds shelf.old name }
@@ -191,7 +192,7 @@ fn store_canonical<F: Shelf>(
 ) -> Status
     requires { length names.now ≡ generators made.now.alphabet }
     ensures says { F.tells shelf.old → (input written : List ℕ) → StoreSays names.now made.now store_as.now
-        (record { holds = F.holds shelf.old; holds_after = F.holds shelf.new; streams = record { input = input; left = input; before = written; written = written } }) result }
+        (world_of (F.holds shelf.old) (F.holds shelf.new) (unread_streams input written written)) result }
     ensures faults { (input output : ℕ) → FaultCounts (counts (F.load_faults shelf.old) (F.store_faults shelf.old) input output) (counts (F.load_faults shelf.new) (F.store_faults shelf.new) input output) result }
     ensures fell { (input output : ℕ) → NoneFell (counts (F.load_faults shelf.old) (F.store_faults shelf.old) input output) (counts (F.load_faults shelf.new) (F.store_faults shelf.new) input output) }
     ensures files { (name : List ℕ) → name ≢ store_as.now → F.holds shelf.new name ≡ F.holds shelf.old name }
@@ -223,7 +224,7 @@ fn canonical_text(alloc: Global, names: &Names, made: &Fsa) -> Result<Vec<u8>, M
 /// Writes the line of a construction that has more states than may be.
 pub(crate) fn say_undecided<O: Sink>(which: Construction, out: &mut O) -> Status
     ensures says { O.tells out.old → (input : List ℕ) → LimitSays (States which)
-        (record { input = input; left = input; before = O.written out.old; written = O.written out.new }) result }
+        (unread_streams input (O.written out.old) (O.written out.new)) result }
     ensures faults { (loads stores input : ℕ) → FaultCounts (counts loads stores input (O.faults out.old)) (counts loads stores input (O.faults out.new)) result }
     ensures output_count { O.faults out.old ≤ O.faults out.new }
 {

@@ -1,6 +1,7 @@
 //! The top call.
 
 ghost use Rattle.std.specs.Prelude.{◌≡◌, ◌≤◌, List, ℕ, map, string_bytes};
+ghost use Rattle.kb_cli.specs.Outside.{streams_of, world_of};
 ghost use Rattle.kb_cli.specs.FaultCounts.{FaultCounts, NoneFell, counts};
 ghost use Rattle.kb_cli.specs.Headline.{Headline, CommandSays, FilesStay, StaysBut, IsReadCommand};
 
@@ -29,7 +30,7 @@ pub fn run<F: Shelf, I: Source, O: Sink, E: Sink, G: Gate>(
     gate: &G,
 ) -> Status
     ensures says { F.tells shelf.old → I.tells input.old → O.tells out.old → Headline (map string_bytes words.now)
-        (record { holds = F.holds shelf.old; holds_after = F.holds shelf.new; streams = record { input = I.left input.old; left = I.left input.new; before = O.written out.old; written = O.written out.new } }) result }
+        (world_of (F.holds shelf.old) (F.holds shelf.new) (streams_of (I.left input.old) (I.left input.new) (O.written out.old) (O.written out.new))) result }
     ensures faults { FaultCounts (counts (F.load_faults shelf.old) (F.store_faults shelf.old) (I.faults input.old) (O.faults out.old)) (counts (F.load_faults shelf.new) (F.store_faults shelf.new) (I.faults input.new) (O.faults out.new)) result }
     ensures fell { NoneFell (counts (F.load_faults shelf.old) (F.store_faults shelf.old) (I.faults input.old) (O.faults out.old)) (counts (F.load_faults shelf.new) (F.store_faults shelf.new) (I.faults input.new) (O.faults out.new)) }
     ensures files { FilesStay (map string_bytes words.now) (F.holds shelf.old) (F.holds shelf.new) }
@@ -62,7 +63,7 @@ fn obey<F: Shelf, I: Source, O: Sink>(
 ) -> Status
     requires { IsReadCommand command }
     ensures says { F.tells shelf.old → I.tells input.old → O.tells out.old → CommandSays command
-        (record { holds = F.holds shelf.old; holds_after = F.holds shelf.new; streams = record { input = I.left input.old; left = I.left input.new; before = O.written out.old; written = O.written out.new } }) result }
+        (world_of (F.holds shelf.old) (F.holds shelf.new) (streams_of (I.left input.old) (I.left input.new) (O.written out.old) (O.written out.new))) result }
     ensures faults { FaultCounts (counts (F.load_faults shelf.old) (F.store_faults shelf.old) (I.faults input.old) (O.faults out.old)) (counts (F.load_faults shelf.new) (F.store_faults shelf.new) (I.faults input.new) (O.faults out.new)) result }
     ensures fell { NoneFell (counts (F.load_faults shelf.old) (F.store_faults shelf.old) (I.faults input.old) (O.faults out.old)) (counts (F.load_faults shelf.new) (F.store_faults shelf.new) (I.faults input.new) (O.faults out.new)) }
     ensures files { StaysBut command (F.holds shelf.old) (F.holds shelf.new) }

@@ -4,6 +4,7 @@ ghost use Rattle.std.specs.Prelude.{◌≡◌, ◌≤◌, List, ℕ, Option, Som
 ghost use Rattle.kb_word.specs.Relations.{relations_of, AreOriented};
 ghost use Rattle.kb_word.specs.Overlap.{IsConfluent};
 ghost use Rattle.kb_presfile.specs.Holds.{Parts, PresentationOf, parts_of};
+ghost use Rattle.kb_cli.specs.Outside.{streams_of, unread_streams};
 ghost use Rattle.kb_cli.specs.FaultCounts.{FaultCounts, counts};
 ghost use Rattle.kb_cli.specs.Loads.{IsHeld};
 ghost use Rattle.kb_cli.specs.Stops.{StopsWith, StopCounts};
@@ -34,7 +35,7 @@ pub(crate) fn word_reduce<F: Shelf, I: Source, O: Sink>(
 ) -> Status
     requires { (1 ≤ workers) × (workers ≤ 64) }
     ensures says { F.tells shelf.old → I.tells input.old → O.tells out.old → WordReduceSays (F.holds shelf.old) file.now
-        (record { input = I.left input.old; left = I.left input.new; before = O.written out.old; written = O.written out.new }) result }
+        (streams_of (I.left input.old) (I.left input.new) (O.written out.old) (O.written out.new)) result }
     ensures faults { FaultCounts (counts (F.load_faults shelf.old) (F.store_faults shelf.old) (I.faults input.old) (O.faults out.old)) (counts (F.load_faults shelf.new) (F.store_faults shelf.new) (I.faults input.new) (O.faults out.new)) result }
     ensures files { (name : List ℕ) → F.holds shelf.new name ≡ F.holds shelf.old name }
     ensures stores { F.store_faults shelf.new ≡ F.store_faults shelf.old }
@@ -91,7 +92,7 @@ fn answer_by<I: Source, O: Sink>(
     requires workers { (1 ≤ workers) × (workers ≤ 64) }
     requires few { length presentation.now.eqs ≤ 65535 }
     ensures says { I.tells input.old → O.tells out.old → AnswersSay (parts_of presentation.now)
-        (record { input = I.left input.old; left = I.left input.new; before = O.written out.old; written = O.written out.new }) result }
+        (streams_of (I.left input.old) (I.left input.new) (O.written out.old) (O.written out.new)) result }
     ensures faults { (loads stores : ℕ) → FaultCounts (counts loads stores (I.faults input.old) (O.faults out.old)) (counts loads stores (I.faults input.new) (O.faults out.new)) result }
     ensures input_count { I.faults input.old ≤ I.faults input.new }
     ensures output_count { O.faults out.old ≤ O.faults out.new }
@@ -126,7 +127,7 @@ fn answer_lines<I: Source, O: Sink>(
     requires confluent { IsConfluent rules.now }
     requires scan { scan.now ≡ rules.now }
     ensures says { I.tells input.old → O.tells out.old → AnswersSay (parts_of presentation.now)
-        (record { input = I.left input.old; left = I.left input.new; before = O.written out.old; written = O.written out.new }) result }
+        (streams_of (I.left input.old) (I.left input.new) (O.written out.old) (O.written out.new)) result }
     ensures faults { (loads stores : ℕ) → FaultCounts (counts loads stores (I.faults input.old) (O.faults out.old)) (counts loads stores (I.faults input.new) (O.faults out.new)) result }
     ensures input_count { I.faults input.old ≤ I.faults input.new }
     ensures output_count { O.faults out.old ≤ O.faults out.new }
@@ -144,7 +145,7 @@ fn answer_lines<I: Source, O: Sink>(
 /// The status of a run that a stop ends.
 fn status_of(stop: Stop) -> Status
     ensures says { (parts : Parts) (before written input left : List ℕ) → IsDecided parts → StopsWith parts before written input left stop
-        → AnswersSay parts (record { input = input; left = left; before = before; written = written }) result }
+        → AnswersSay parts (streams_of input left before written) result }
     ensures faults { (loads stores input_before input_after output_before output_after : ℕ) → StopCounts input_before input_after output_before output_after stop
         → FaultCounts (counts loads stores input_before output_before) (counts loads stores input_after output_after) result }
 {
@@ -167,7 +168,7 @@ fn say_no<O: Sink>(
 ) -> Status
     requires { IsUndecided (parts_of presentation.now) u v }
     ensures says { (input : List ℕ) → O.tells out.old → AnswersSay (parts_of presentation.now)
-        (record { input = input; left = input; before = O.written out.old; written = O.written out.new }) result }
+        (unread_streams input (O.written out.old) (O.written out.new)) result }
     ensures faults { (loads stores input : ℕ) → FaultCounts (counts loads stores input (O.faults out.old)) (counts loads stores input (O.faults out.new)) result }
     ensures output_count { O.faults out.old ≤ O.faults out.new }
 {

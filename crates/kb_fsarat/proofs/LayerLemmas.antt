@@ -1,22 +1,83 @@
 -- The states from which texts of one length lead to acceptance.
-use Rattle.std.proofs.Common.{◌≡◌, ◌↔◌, ℕ, zero, suc, ◌+◌, ◌-◌, ◌<◌, ◌≤◌, Bool, true, false, ◌&&◌, nat_lt, cond, not, IsTrue, List, [], ◌∷◌, ◌++◌, length, get_or, map, slice_get, Option, Some, None, Result, Decides, refl, sym, ap, ◌∙◌, subst, inl, inr, arith}
-use mathlib.Core.Bool.{beq}
-use Rattle.std.specs.List.{Contains, find, list_any}
-use Rattle.std.specs.Result.{IfOk}
+use Rattle.std.proofs.Common.{◌≡◌, ◌↔◌, ℕ, zero, suc, ◌+◌, ◌-◌, ◌<◌, ◌≤◌, ◌^◌, Bool, true, false, ◌&&◌, nat_eq, nat_lt, nat_cmp, cond, IsTrue, List, [], ◌∷◌, ◌++◌, length, get_or, map, take, slice_get, Option, Some, None, Result, Ok, Err, refl, sym, ap, ◌∙◌, subst, inl, inr, arith}
+use Rattle.std.specs.List.{Contains, find}
+use Rattle.std.specs.List.Sorted.{IsBinarySearchResult}
+use Rattle.std.specs.Result.{IfOk, MatchResult, is_ok}
 use Rattle.std.specs.Option.{MatchOption, IfSome, IfNone}
-use Rattle.std.proofs.lemmas.Bool.{cases_lt}
-use Rattle.std.proofs.lemmas.Bool.Decides.{nat_tests}
-use Rattle.std.proofs.lemmas.List.{length-map, get_or-map, get_or_past, get_or_default, get_or_push, get_or_append_left, length_push}
+use Rattle.std.proofs.lemmas.Bool.{cases_lt, false_from_ne_true}
+use Rattle.std.proofs.lemmas.Bool.Decides.{nat_tests, Decides-eqb}
+use Rattle.std.proofs.lemmas.List.{append-nil, take_more, get_or_default}
+use Rattle.std.proofs.lemmas.List.Elements.{Contains-append_cases, Contains-append_left, Contains-append_right}
+use Rattle.std.proofs.lemmas.List.Folds.{Any-from_list_any, list_any-from_Any}
+use Rattle.std.proofs.lemmas.List.Sorted.{searched}
+use Rattle.std.proofs.lemmas.Grind.{flat_map-append}
 use Rattle.std.proofs.lemmas.Option.{slice_get_within, get_or_from_slice_get}
 use Rattle.std.proofs.lemmas.Result.{IfOk-weaker}
-use Rattle.std.proofs.lemmas.List.Folds.{Any-from_list_any, list_any-from_Any}
 use Rattle.kb_word.specs.declared.memory.Memory.{Memory}
-use Rattle.kb_fsa.specs.Table.{Moves, Ascends, Table, IsTable, moves_of, is_accepting, step, AcceptsFrom}
+use Rattle.kb_fsa.specs.Table.{Moves, Ascends, Table, IsTable, HasSymbols, moves_of, is_accepting, step, AcceptsFrom}
 use Rattle.kb_fsa.specs.Canonical.{IsState}
 use Rattle.kb_fsa.proofs.Lookups.{Ascends-head, Ascends-tail, IsRow-moves_of}
-use Rattle.kb_fsarat.specs.Layers.{HasText, is_member, AreLayers, IsLayering, IsFirstMove, NoMove}
-use Rattle.kb_fsarat.proofs.MoveLists.{Contains-nil, Contains-cons, Contains-cons_cases}
+use Rattle.kb_fsadet.specs.Nondeterministic.{moves_at}
+use Rattle.kb_fsadet.specs.SubsetConstruction.{IsAscending, set_of}
+use Rattle.kb_fsadet.proofs.Sets.{Contains-set_of}
+use Rattle.kb_fsarat.specs.Layers.{HasText, is_member, IsLayer, AreLayers, IsLastOf, IsSettled, AreTurned, targets, lengths, IsFirstMove, NoMove}
+use Rattle.kb_fsarat.proofs.MoveLists.{Contains-nil, Contains-head, Contains-cons, Contains-cons_cases, Contains-map}
 use Rattle.kb_fsarat.proofs.TableMoves.{step_from_move, move_from_step, accepts_from_state, symbol_within}
+
+-- ---- members
+
+pub contains_from_member : (members : List ℕ) (state : ℕ) → IsTrue (is_member members state) → Contains members state
+contains_from_member members state has =
+    let found = Any-from_list_any (λ member. nat_eq member state) members has in
+    let P : ℕ → Type 0 = λ member. Contains members member in
+    subst P ((Decides-eqb found.1 state).0 found.4) (found.0, found.2, found.3)
+
+pub member_from_contains : (members : List ℕ) (state : ℕ) → Contains members state → IsTrue (is_member members state)
+member_from_contains members state has =
+    list_any-from_Any (λ member. nat_eq member state) members (has.0, state, has.1, has.2, (Decides-eqb state state).1 refl)
+
+-- whether a search through them finds it
+pub search_answers : (members : List ℕ) (state : ℕ) (r : Result ℕ ℕ) → IsAscending members
+    → IsBinarySearchResult (λ member. nat_cmp member state) members r → is_ok r ≡ is_member members state
+search_answers members state r ascends searches = by r (searched members state r searches rises)
+  where
+    rises : (i j : ℕ) → i ≤ j → j < length members → get_or members i 0 ≤ get_or members j 0
+    rises i j low within =
+        elim (cases_lt i j) [
+          | inl less ↦ let up = ascends i j 0 less within in omega arith
+          | inr same ↦
+              let at : i ≡ j = omega arith in
+              let alike = ap (λ k. get_or members k 0) at in omega arith
+        ]
+
+    by : (r : Result ℕ ℕ) → MatchResult r (λ i. (i < length members) × (get_or members i 0 ≡ state))
+        (λ i. (i ≤ length members) × ((k : ℕ) → k < i → get_or members k 0 < state) × ((k : ℕ) → i ≤ k → k < length members → state < get_or members k 0))
+        → is_ok r ≡ is_member members state
+    by (Ok i) found = sym (member_from_contains members state (i, found.0, get_or_default members i state 0 found.0 ∙ found.1))
+    by (Err i) none =
+        sym (false_from_ne_true (is_member members state) (λ member.
+        let has = contains_from_member members state member in
+        let here : get_or members has.0 0 ≡ state = get_or_default members has.0 0 state has.1 ∙ has.2 in
+        elim (cases_lt has.0 i) [
+          | inl low ↦ let below = none.1 has.0 low in let no : ⊥ = omega arith in no
+          | inr high ↦ let above = none.2 has.0 high has.1 in let no : ⊥ = omega arith in no
+        ]))
+
+-- there is none just where there are no members
+pub empty_members : (members : List ℕ) → IsTrue (nat_eq (length members) 0) ↔ ((state : ℕ) → ¬ IsTrue (is_member members state))
+empty_members [] = (λ none state member. let no : ⊥ = cc in no, λ none. refl)
+empty_members (first ∷ members) = (
+  λ none. let count = (Decides-eqb (length (first ∷ members)) 0).0 none in absurd (omega arith),
+  λ none. absurd (none first (member_from_contains (first ∷ members) first (Contains-head first members))),
+)
+
+-- the set of listed states
+pub layer_from_listed : (table : Table) (k : ℕ) (states : List ℕ) → ((state : ℕ) → Contains states state ↔ HasText table k state)
+    → IsLayer table k (set_of states)
+layer_from_listed table k states listed state = (
+  λ member. (listed state).0 ((Contains-set_of states state).0 (contains_from_member (set_of states) state member)),
+  λ has. member_from_contains (set_of states) state ((Contains-set_of states state).1 ((listed state).1 has)),
+)
 
 -- ---- the set of length 0
 
@@ -24,17 +85,13 @@ empty_text : (table : Table) (state : ℕ) (text : List ℕ) → length text ≡
 empty_text table state [] long accepts = accepts
 empty_text table state (symbol ∷ text) long accepts = absurd (let no : ⊥ = omega arith in no)
 
-accepting_members : (table : Table) (state : ℕ) → is_member table.accepting state ≡ is_accepting table state
-accepting_members table zero = refl
-accepting_members table (suc place) = refl
-
-pub members_accepting : (table : Table) (set : List Bool) (k : ℕ) → set ≡ table.accepting → k ≡ 0
-    → (state : ℕ) → IsTrue (is_member set state) ↔ HasText table k state
-members_accepting table set k is none state =
-    let same : is_member set state ≡ is_accepting table state = ap (λ s. is_member s state) is ∙ accepting_members table state in (
-      λ has. record { text = []; long = sym none; accepts = sym same ∙ has },
-      λ has. same ∙ empty_text table state has.text (has.long ∙ none) has.accepts,
-    )
+pub layer_accepting : (table : Table) (states : List ℕ) → ((state : ℕ) → Contains states state ↔ IsTrue (is_accepting table state))
+    → IsLayer table 0 (set_of states)
+layer_accepting table states listed =
+    layer_from_listed table 0 states (λ state. (
+      λ has. record { text = []; long = refl; accepts = (listed state).0 has },
+      λ has. (listed state).1 (empty_text table state has.text has.long has.accepts),
+    ))
 
 -- ---- the set of the next length
 
@@ -55,91 +112,113 @@ HasText-more table k state = (
 pub HasText-state : (table : Table) (k state : ℕ) → IsTable table → HasText table k state → IsState table state
 HasText-state table k state is has = accepts_from_state table state has.text is has.accepts
 
-row_answer : (test : Moves → Bool) (rows : List Moves) (place : ℕ) → test [] ≡ false → get_or (map test rows) place false ≡ test (get_or rows place [])
-row_answer test rows place none =
-    elim (cases_lt place (length rows)) [
-      | inl within ↦ get_or-map test rows place [] false within
-      | inr past ↦ get_or_past (map test rows) place false (omega (arith, length-map rows test)) ∙ sym (ap test (get_or_past rows place [] past) ∙ none)
+-- where the moves of states lead
+pub targets_cases : (rows : List Moves) (states : List ℕ) (target : ℕ) → Contains (targets rows states) target
+    → (state : ℕ) × (Contains states state × ((symbol : ℕ) × Contains (moves_at rows state) (symbol, target)))
+targets_cases rows [] target has = absurd (Contains-nil target has)
+targets_cases rows (first ∷ states) target has =
+    elim (Contains-append_cases (map (λ (move : ℕ × ℕ). move.1) (moves_at rows first)) (targets rows states) target has) [
+      | inl here ↦
+          let move = (Contains-map (λ (move : ℕ × ℕ). move.1) (moves_at rows first) target).0 here in
+          let P : ℕ → Type 0 = λ t. Contains (moves_at rows first) (move.0.0, t) in
+          (first, (Contains-head first states, (move.0.0, subst P move.1.1 move.1.0)))
+      | inr later ↦
+          let from = targets_cases rows states target later in
+          (from.0, (Contains-cons first states from.0 from.1.0, from.1.1))
     ]
 
-members_before : (table : Table) (last set : List Bool) (state : ℕ) → set ≡ map (list_any (λ move. is_member last move.1)) table.rows
-    → is_member set state ≡ list_any (λ move. is_member last move.1) (moves_of table state)
-members_before table last set zero is = refl
-members_before table last set (suc place) is =
-    ap (λ s. get_or s place false) is ∙ row_answer (list_any (λ move. is_member last move.1)) table.rows place refl
+pub target_from_move : (rows : List Moves) (states : List ℕ) (state symbol target : ℕ) → Contains states state
+    → Contains (moves_at rows state) (symbol, target) → Contains (targets rows states) target
+target_from_move rows [] state symbol target from has = absurd (Contains-nil state from)
+target_from_move rows (first ∷ states) state symbol target from has =
+    elim (Contains-cons_cases first states state from) [
+      | inl here ↦
+          let P : ℕ → Type 0 = λ s. Contains (moves_at rows s) (symbol, target) in
+          Contains-append_left _ _ target
+          ((Contains-map (λ (move : ℕ × ℕ). move.1) (moves_at rows first) target).1 ((symbol, target), (subst P (sym here) has, refl)))
+      | inr later ↦ Contains-append_right _ _ target (target_from_move rows states state symbol target later has)
+    ]
 
-pub members_more : (table : Table) (last set : List Bool) (k next : ℕ) → IsTable table
-    → set ≡ map (list_any (λ move. is_member last move.1)) table.rows → next ≡ k + 1
-    → ((state : ℕ) → IsTrue (is_member last state) ↔ HasText table k state)
-    → (state : ℕ) → IsTrue (is_member set state) ↔ HasText table next state
-members_more table last set k next is made count members state =
-    let test : ℕ × ℕ → Bool = λ move. is_member last move.1 in
-    let answer = members_before table last set state made in
-    let P : ℕ → Type 0 = λ n. HasText table n state in (
+-- one state more
+pub targets_more : (rows : List Moves) (states : List ℕ) (i d : ℕ) → i < length states
+    → targets rows (take (i + 1) states) ≡ targets rows (take i states) ++ map (λ (move : ℕ × ℕ). move.1) (moves_at rows (get_or states i d))
+targets_more rows states i d within =
+    let lead : ℕ → List ℕ = λ state. map (λ (move : ℕ × ℕ). move.1) (moves_at rows state) in
+    ap (targets rows) (take_more states i d within) ∙ flat_map-append lead (take i states) (get_or states i d ∷ [])
+    ∙ ap (λ rest. targets rows (take i states) ++ rest) (append-nil (lead (get_or states i d)))
+
+-- a move turned round
+forwards : (table : Table) (rows : List Moves) (state symbol source : ℕ) → AreTurned table rows → Contains (moves_at rows state) (symbol, source)
+    → Contains (moves_of table source) (symbol, state)
+forwards table rows zero symbol source turns has = absurd (Contains-nil (symbol, source) has)
+forwards table rows (suc place) symbol source turns has = (turns place symbol source).0 has
+
+backwards : (table : Table) (rows : List Moves) (state symbol source : ℕ) → AreTurned table rows → 0 < state
+    → Contains (moves_of table source) (symbol, state) → Contains (moves_at rows state) (symbol, source)
+backwards table rows zero symbol source turns positive has = absurd (omega arith)
+backwards table rows (suc place) symbol source turns positive has = (turns place symbol source).1 has
+
+pub layer_before : (table : Table) (rows : List Moves) (members : List ℕ) (k : ℕ) → IsTable table → AreTurned table rows → IsLayer table k members
+    → IsLayer table (k + 1) (set_of (targets rows members))
+layer_before table rows members k is turns layer =
+    layer_from_listed table (k + 1) (targets rows members) (λ source. (
       λ has.
-          let found = Any-from_list_any test (moves_of table state) (sym answer ∙ has) in
-          let move = found.1 in
-          let stepped = step_from_move table state move.0 move.1 is (found.0, found.2, found.3) in
-          let Q : ℕ → Type 0 = λ s. HasText table k s in
-          subst P (sym count) ((HasText-more table k state).1 (move.0, subst Q (sym stepped) ((members move.1).0 found.4))),
+          let from = targets_cases rows members source has in
+          let stepped = step_from_move table source from.1.1.0 from.0 is (forwards table rows from.0 from.1.1.0 source turns from.1.1.1) in
+          let P : ℕ → Type 0 = λ s. HasText table k s in
+          let live = (layer from.0).0 (member_from_contains members from.0 from.1.0) in
+          (HasText-more table k source).1 (from.1.1.0, subst P (sym stepped) live),
       λ has.
-          let first = (HasText-more table k state).0 (subst P count has) in
-          let target = step table state first.0 in
-          let positive = (HasText-state table k target is first.1).positive in
-          let move = move_from_step table state first.0 target refl positive in
-          answer ∙ list_any-from_Any test (moves_of table state)
-          (move.0, (first.0, target), move.1, move.2, (members target).1 first.1),
-    )
+          let first = (HasText-more table k source).0 has in
+          let state = step table source first.0 in
+          let positive = (HasText-state table k state is first.1).positive in
+          target_from_move rows members state first.0 source (contains_from_member members state ((layer state).1 first.1))
+          (backwards table rows state first.0 source turns positive (move_from_step table source first.0 state refl positive)),
+    ))
 
--- ---- one set more
+-- ---- a set that equals the one before it
 
-pub AreLayers-push : (table : Table) (sets : List (List Bool)) (set : List Bool) → AreLayers table sets
-    → ((state : ℕ) → IsTrue (is_member set state) ↔ HasText table (length sets) state) → AreLayers table (sets ++ set ∷ [])
-AreLayers-push table sets set layers members k d within state =
-    elim (cases_lt k (length sets)) [
-      | inl old ↦
-          let P : List Bool → Type 0 = λ s. IsTrue (is_member s state) ↔ HasText table k state in
-          subst P (sym (get_or_append_left sets (set ∷ []) d k old)) (layers k d old state)
-      | inr new ↦
-          let last : length sets ≡ k = omega (arith, length_push sets set) in
-          let P : List Bool → Type 0 = λ s. IsTrue (is_member s state) ↔ HasText table k state in
-          let Q : ℕ → Type 0 = λ n. IsTrue (is_member set state) ↔ HasText table n state in
-          subst P (sym (get_or_push sets set d k last)) (subst Q last (members state))
-    ]
+-- texts that are longer by one letter lead from the same states as the texts, and so on
+layer_onwards : (table : Table) (members : List ℕ) (k more : ℕ) → IsLayer table k members → IsLayer table (k + 1) members
+    → IsLayer table (k + more) members
+layer_onwards table members k zero layer next =
+    let P : ℕ → Type 0 = λ n. IsLayer table n members in
+    let same : k ≡ k + 0 = omega arith in
+    subst P same layer
+layer_onwards table members k (suc more) layer next =
+    let P : ℕ → Type 0 = λ n. IsLayer table n members in
+    let same : (k + more) + 1 ≡ k + suc more = omega arith in
+    let rest = layer_onwards table members k more layer next in
+    subst P same (λ state. (
+      λ member.
+          let first = (HasText-more table k state).0 ((next state).0 member) in
+          (HasText-more table (k + more) state).1 (first.0, (rest (step table state first.0)).0 ((layer (step table state first.0)).1 first.1)),
+      λ has.
+          let first = (HasText-more table (k + more) state).0 has in
+          (next state).1 ((HasText-more table k state).1 (first.0, (layer (step table state first.0)).0 ((rest (step table state first.0)).1 first.1))),
+    ))
 
-pub AreLayers-none : (table : Table) (sets : List (List Bool)) → sets ≡ [] → AreLayers table sets
-AreLayers-none table sets none k d within state = absurd (omega (arith, ap length none))
+-- until then there is a set for each length below the count
+pub length_unsettled : (settled : Bool) (sets : List (List ℕ)) (count : ℕ) → lengths settled sets ≡ count → count < 2 ^ 64 → length sets ≡ count
+length_unsettled true sets count is below = absurd (omega arith)
+length_unsettled false sets count is below = is
 
--- ---- members
-
-pub member_from_contains : (set : List Bool) → Contains set true → (state : ℕ) × IsTrue (is_member set state)
-member_from_contains set has = (suc has.0, get_or_default set has.0 false true has.1 ∙ has.2)
-
-pub contains_from_member : (set : List Bool) (state : ℕ) → IsTrue (is_member set state) → Contains set true
-contains_from_member set zero member = absurd (let no : ⊥ = cc in no)
-contains_from_member set (suc place) member =
-    elim (cases_lt place (length set)) [
-      | inl within ↦ (place, within, get_or_default set place true false within ∙ member)
-      | inr past ↦ let none = get_or_past set place false past in absurd (let no : ⊥ = cc in no)
-    ]
-
-pub none_contained : (set : List Bool) (found : Bool) → Decides found (Contains set true)
-    → IsTrue (not found) ↔ ((state : ℕ) → ¬ IsTrue (is_member set state))
-none_contained set true decides = (
-  λ none. absurd (let no : ⊥ = cc in no),
-  λ none. let member = member_from_contains set (decides.0 refl) in absurd (none member.0 member.1),
-)
-none_contained set false decides = (
-  λ none state member. let found = decides.1 (contains_from_member set state member) in let no : ⊥ = cc in no,
-  λ none. refl,
-)
-
--- whether two answers are one
-pub Decides-beq : (a b : Bool) → Decides (beq a b) (a ≡ b)
-Decides-beq true true = (λ _. refl, λ _. refl)
-Decides-beq true false = (λ e. absurd (let no : ⊥ = cc in no), λ e. absurd (let no : ⊥ = cc in no))
-Decides-beq false true = (λ e. absurd (let no : ⊥ = cc in no), λ e. absurd (let no : ⊥ = cc in no))
-Decides-beq false false = (λ _. refl, λ _. refl)
+pub settled_from_last : (table : Table) (sets : List (List ℕ)) (members : List ℕ) → AreLayers table sets → IsLastOf sets members
+    → IsLayer table (length sets) members → IsSettled table sets
+settled_from_last table sets members layers is next =
+    let some = is.some in
+    let Set : List ℕ → ℕ → Type 0 = λ set n. IsLayer table n set in
+    let last : IsLayer table (length sets - 1) members =
+    subst (λ set. Set set (length sets - 1)) (is.last members) (layers (length sets - 1) members (omega arith)) in
+    let count : length sets ≡ (length sets - 1) + 1 = omega arith in
+    record {
+      some = some;
+      further = λ k d past.
+          let more : (length sets - 1) + (k - (length sets - 1)) ≡ k = omega arith in
+          subst (λ set. Set set k) (sym (is.last d))
+          (subst (λ n. Set members n) more
+          (layer_onwards table members (length sets - 1) (k - (length sets - 1)) last (subst (λ n. Set members n) count next)));
+    }
 
 -- ---- the first move that leads on
 
@@ -196,45 +275,42 @@ both true c e = (refl, e)
 both false c e = absurd (let no : ⊥ = cc in no)
 
 -- what the search through a state's moves gives
-pub first_move_from_find : (table : Table) (sets : List (List Bool)) (k state floor : ℕ) (set : List Bool) (o : Option (ℕ × ℕ)) → IsLayering table sets
-    → k < length sets → set ≡ get_or sets k set → o ≡ find (λ move. nat_lt floor move.0 && is_member set move.1) (moves_of table state)
+pub first_move_from_find : (table : Table) (members : List ℕ) (k state floor : ℕ) (o : Option (ℕ × ℕ)) → IsTable table
+    → HasSymbols 65534 table → IsLayer table k members → o ≡ find (λ move. nat_lt floor move.0 && is_member members move.1) (moves_of table state)
     → MatchOption o (NoMove table k state floor) (IsFirstMove table k state floor)
-first_move_from_find table sets k state floor set o is within at found =
-    let test : ℕ × ℕ → Bool = λ move. nat_lt floor move.0 && is_member set move.1 in
+first_move_from_find table members k state floor o is symbols layer found =
+    let test : ℕ × ℕ → Bool = λ move. nat_lt floor move.0 && is_member members move.1 in
     let moves = moves_of table state in
     let P : Option (ℕ × ℕ) → Type 0 = λ r. MatchOption r (NoMove table k state floor) (IsFirstMove table k state floor) in
-    let members : (target : ℕ) → IsTrue (is_member set target) ↔ HasText table k target = λ target.
-    let Q : List Bool → Type 0 = λ s. IsTrue (is_member s target) ↔ HasText table k target in
-    subst Q (sym at) (is.layers k set within target) in
     subst P (sym found)
-    (weaken (find test moves) (first_found test moves (IsRow-moves_of table state is.is_table).ascends)
+    (weaken (find test moves) (first_found test moves (IsRow-moves_of table state is).ascends)
     (λ none symbol above has.
     let move = move_of symbol above has in
     let fails = none (symbol, step table state symbol) move in
-    let passes = test_passes members symbol above has in
+    let passes = test_passes symbol above has in
     let no : ⊥ = cc in no)
     (λ move first.
-    let parts = both (nat_lt floor move.0) (is_member set move.1) first.1.0 in
+    let parts = both (nat_lt floor move.0) (is_member members move.1) first.1.0 in
     let contained : Contains moves (move.0, move.1) = first.0 in
-    let most = symbol_within table 65534 state move.0 move.1 is.symbols contained in
+    let most = symbol_within table 65534 state move.0 move.1 symbols contained in
     record {
       above = grind (arith, nat_tests);
       fits = omega arith;
-      leads = step_from_move table state move.0 move.1 is.is_table contained;
-      live = (members move.1).0 parts.1;
+      leads = step_from_move table state move.0 move.1 is contained;
+      live = (layer move.1).0 parts.1;
       first = λ other above has.
-          first.1.1 (other, step table state other) (move_of other above has) (test_passes members other above has);
+          first.1.1 (other, step table state other) (move_of other above has) (test_passes other above has);
     }))
   where
     move_of : (symbol : ℕ) → floor < symbol → HasText table k (step table state symbol) → Contains (moves_of table state) (symbol, step table state symbol)
     move_of symbol above has =
-        move_from_step table state symbol (step table state symbol) refl (HasText-state table k (step table state symbol) is.is_table has).positive
+        move_from_step table state symbol (step table state symbol) refl (HasText-state table k (step table state symbol) is has).positive
 
-    test_passes : ((target : ℕ) → IsTrue (is_member set target) ↔ HasText table k target) → (symbol : ℕ) → floor < symbol
-        → HasText table k (step table state symbol) → (nat_lt floor symbol && is_member set (step table state symbol)) ≡ true
-    test_passes members symbol above has =
+    test_passes : (symbol : ℕ) → floor < symbol
+        → HasText table k (step table state symbol) → (nat_lt floor symbol && is_member members (step table state symbol)) ≡ true
+    test_passes symbol above has =
         let less : nat_lt floor symbol ≡ true = grind (arith, nat_tests) in
-        ap (λ b. b && is_member set (step table state symbol)) less ∙ (members (step table state symbol)).1 has
+        ap (λ b. b && is_member members (step table state symbol)) less ∙ (layer (step table state symbol)).1 has
 
 pub IfSome-from_match : {X : Type 0} (P : Type 0) (Q : X → Type 0) (o : Option X) → MatchOption o P Q → IfSome o Q
 IfSome-from_match P Q None at = tt
@@ -244,31 +320,18 @@ pub IfNone-from_match : {X : Type 0} (P : Type 0) (Q : X → Type 0) (o : Option
 IfNone-from_match P Q None at = at
 IfNone-from_match P Q (Some x) at = tt
 
--- a set of the list, by its place
-pub members_at : (table : Table) (sets : List (List Bool)) (k : ℕ) (set d : List Bool) → AreLayers table sets → k < length sets
-    → set ≡ get_or sets k d → (state : ℕ) → IsTrue (is_member set state) ↔ HasText table k state
-members_at table sets k set d layers within at state =
-    let P : List Bool → Type 0 = λ s. IsTrue (is_member s state) ↔ HasText table k state in
-    subst P (sym at) (layers k d within state)
-
-pub empty_layer : (table : Table) (sets : List (List Bool)) (k : ℕ) (set : List Bool) (empty : Bool) → AreLayers table sets → k < length sets
-    → set ≡ get_or sets k set → (IsTrue empty ↔ ((state : ℕ) → ¬ IsTrue (is_member set state)))
-    → IsTrue empty ↔ ((state : ℕ) → ¬ HasText table k state)
-empty_layer table sets k set empty layers within at says =
-    let members = members_at table sets k set set layers within at in (
-      λ is state has. says.0 is state ((members state).1 has),
-      λ none. says.1 (λ state member. none state ((members state).0 member)),
-    )
-
 -- the set after the last one
-pub members_after : (table : Table) (sets : List (List Bool)) (last : List Bool) (r : Result (List Bool) Memory) → IsTable table → AreLayers table sets
-    → Some last ≡ slice_get sets (length sets - 1)
-    → IfOk r (λ set. set ≡ map (list_any (λ move. is_member last move.1)) table.rows)
-    → IfOk r (λ set. (state : ℕ) → IsTrue (is_member set state) ↔ HasText table (length sets) state)
-members_after table sets last r is layers at made =
+pub layer_after : (table : Table) (rows : List Moves) (sets : List (List ℕ)) (last : List ℕ) (r : Result (List ℕ) Memory) → IsTable table
+    → AreTurned table rows → AreLayers table sets → Some last ≡ slice_get sets (length sets - 1)
+    → IfOk r (λ members. members ≡ set_of (targets rows last)) → IfOk r (IsLayer table (length sets))
+layer_after table rows sets last r is turns layers at made =
     let within = slice_get_within sets (length sets - 1) last (sym at) in
-    let members = members_at table sets (length sets - 1) last last layers within
-    (sym (get_or_from_slice_get sets (length sets - 1) last last (sym at))) in
-    IfOk-weaker r (λ (set : List Bool). set ≡ map (list_any (λ move. is_member last move.1)) table.rows)
-    (λ (set : List Bool). (state : ℕ) → IsTrue (is_member set state) ↔ HasText table (length sets) state)
-    (λ set is_set. members_more table last set (length sets - 1) (length sets) is is_set (omega arith) members) made
+    let P : List ℕ → Type 0 = λ set. IsLayer table (length sets - 1) set in
+    let layer = subst P (get_or_from_slice_get sets (length sets - 1) last last (sym at)) (layers (length sets - 1) last within) in
+    let next = layer_before table rows last (length sets - 1) is turns layer in
+    let count : (length sets - 1) + 1 ≡ length sets = omega arith in
+    IfOk-weaker r (λ (members : List ℕ). members ≡ set_of (targets rows last)) (IsLayer table (length sets))
+    (λ members is_set.
+    let Q : List ℕ → Type 0 = λ set. IsLayer table (length sets) set in
+    let N : ℕ → Type 0 = λ n. IsLayer table n (set_of (targets rows last)) in
+    subst Q (sym is_set) (subst N count next)) made

@@ -43,7 +43,7 @@ fn turned(alloc: Global, one: &Fsa) -> Result<Nfa, Memory>
 }
 
 /// The rows' moves turned round.
-fn turned_rows(alloc: Global, rows: &[Row]) -> Result<Vec<Branches>, Memory>
+pub(crate) fn turned_rows(alloc: Global, rows: &[Row]) -> Result<Vec<Branches>, Memory>
     requires size { length rows.now < 2 ^ 32 }
     requires targets { All (All (λ move. (0 < move.1) × (move.1 ≤ length rows.now))) rows.now }
     ensures { IfOk result (λ turned. HaveAdded (replicate (length rows.now) []) turned.items (TurnsFirst rows.now (length rows.now))) }
@@ -79,7 +79,7 @@ fn turn_row(turned: &mut [Branches], state: u32, moves: &[(u32, u32)]) -> Result
 }
 
 /// The numbers of the states that accept.
-fn accepting_states(alloc: Global, accepting: &[bool]) -> Result<Vec<u32>, Memory>
+pub(crate) fn accepting_states(alloc: Global, accepting: &[bool]) -> Result<Vec<u32>, Memory>
     requires { length accepting.now < 2 ^ 32 }
     ensures { IfOk result (λ states. (state : ℕ) → Contains states.items state ↔ IsListed accepting.now (length accepting.now) state) }
 {

@@ -224,3 +224,27 @@ fn a_finite_language_is_gone_through(rt: HostRuntime) -> Result<(), Fail> {
     gives(&rt, rt.alloc(), &mut words, &[&[2, 1]])?;
     Ok(())
 }
+
+#[test]
+fn the_word_at_the_end_of_a_chain_is_given(rt: HostRuntime) -> Result<(), Fail> {
+    let moves: &[&[(u32, u32)]] = &[&[(1, 2)], &[(2, 3)], &[(2, 4)], &[(1, 5)], &[]];
+    let accepting = &[false, false, false, false, true];
+    let chain = plain(&rt, rt.alloc(), 2, moves, accepting)?;
+    let mut words = Enumerate::new(&chain, 0, 65535);
+    gives(&rt, rt.alloc(), &mut words, &[&[1, 2, 2, 1]])?;
+    Ok(())
+}
+
+#[test]
+fn a_cycle_is_gone_round(rt: HostRuntime) -> Result<(), Fail> {
+    let moves: &[&[(u32, u32)]] = &[&[(1, 2)], &[(2, 3)], &[(1, 1)]];
+    let cycle = plain(&rt, rt.alloc(), 2, moves, &[true, false, false])?;
+    let mut words = Enumerate::new(&cycle, 1, 8);
+    gives(
+        &rt,
+        rt.alloc(),
+        &mut words,
+        &[&[1, 2, 1], &[1, 2, 1, 1, 2, 1]],
+    )?;
+    Ok(())
+}

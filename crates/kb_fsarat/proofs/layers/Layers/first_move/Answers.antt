@@ -1,7 +1,7 @@
-use Rattle.std.proofs.Common.{◌≡◌, ◌&&◌, nat_lt, length, ap, ◌∙◌, subst, arith}
+use Rattle.std.proofs.Common.{◌≡◌, ◌&&◌, nat_lt, ap, ◌∙◌}
 use Rattle.std.specs.List.{find}
 use Rattle.std.specs.Option.{MatchOption}
-use Rattle.kb_fsa.specs.Table.{Moves, Table}
+use Rattle.kb_fsa.specs.Table.{Moves, Table, moves_of}
 use Rattle.kb_fsarat.specs.Layers.{is_member, Layering, NoMove, IsFirstMove}
 use Rattle.kb_fsarat.proofs.LayerLemmas.{first_move_from_find, IfSome-from_match, IfNone-from_match}
 use Rattle.kb_fsarat.proofs.layers.Layers.first_move.Goals as goal
@@ -11,14 +11,10 @@ found : (c : After-first_move) → MatchOption c.first_move.result (NoMove c.arg
     (IsFirstMove c.args.self.now.table c.args.length c.args.state c.args.floor)
 found c =
     let own : c.self.inside.table.now ≡ c.args.self.now.table = ap (λ (layers : Layering). layers.table) c.self.view_is in
-    let count : length c.self.inside.sets.items ≡ c.args.self.now.count = ap (λ (layers : Layering). layers.count) c.self.view_is in
-    let within = c.requires in
-    let P : Table → Type 0 = λ table. MatchOption c.first_move.result (NoMove table c.args.length c.args.state c.args.floor)
-    (IsFirstMove table c.args.length c.args.state c.args.floor) in
-    subst P own
-    (first_move_from_find c.self.inside.table.now c.self.inside.sets.items c.args.length c.args.state c.args.floor c.index.result.now
-    c.first_move.result c.self.invariant (omega arith) c.index.ensures
-    (c.first_move.ensures ∙ ap (λ (moves : Moves). find (λ move. nat_lt c.args.floor move.0 && is_member c.index.result.now move.1) moves) c.moves.ensures.moves))
+    let moves = c.moves.ensures.moves ∙ ap (λ (table : Table). moves_of table c.args.state) own in
+    first_move_from_find c.args.self.now.table c.set.result.now c.args.length c.args.state c.args.floor c.first_move.result c.set.ensures.table
+    c.set.ensures.symbols c.set.ensures.layer
+    (c.first_move.ensures ∙ ap (λ (moves : Moves). find (λ move. nat_lt c.args.floor move.0 && is_member c.set.result.now move.1) moves) moves)
 
 pub returns-clause-some : goal.returns-clause-some
 returns-clause-some c =

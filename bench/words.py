@@ -1,0 +1,40 @@
+"""What is measured of `wordreduce`."""
+
+import os
+
+import data
+from measuring import MIB, give, measure
+
+LINES = "symmetric-3"
+
+
+def measure_words(program, room, examples):
+    """Prints all figures: over the examples, and over the free commutative monoids."""
+    lines = f"{room}/lines"
+
+    def reduce(what, file, content, **how):
+        give(lines, content)
+        measure(what, [program, "wordreduce", file], given=lines, **how)
+
+    for example in sorted(it for it in os.listdir(examples) if "." not in it):
+        file = f"{examples}/{example}"
+        with open(file, encoding="ascii") as it:
+            names = data.generators(it.read())
+        wanted = 3 if example == "not-confluent" else 0
+        reduce(f"{example}: one word of 65,535 letters", file, lambda: data.longest_word(names), wanted=wanted)
+        if wanted == 3:
+            continue
+        for size in (1, 4, 16, 64) if example == LINES else (1,):
+            what = f"{example}: {size} MiB of word lines"
+            reduce(what, file, lambda: data.word_lines(names, size * MIB), rate=(size, "MiB"))
+    for rank in (3, 23, 32, 46):
+        file = f"{room}/commutative"
+        presentation = data.free_commutative(rank)
+        with open(file, "w", encoding="ascii") as it:
+            it.write(presentation)
+        if rank == 3:
+            names = data.generators(presentation)
+            what = "free commutative, rank 3: one word of 65,535 letters"
+            reduce(what, file, lambda: data.longest_word(names))
+            continue
+        reduce(f"{rank * (rank - 1) // 2} commuting equations, checked", file, lambda: b"x2*x1\n")
