@@ -1,9 +1,9 @@
 -- Commands on automaton files: what each says by its status.
-use Rattle.std.specs.Prelude.{◌≡◌, ◌≢◌, ℕ, ◌<◌, ◌≤◌, ◌⊎◌, List, [], ◌∷◌, ◌++◌, length, codes, Option, Some, None, AllPairs, Contains}
+use Rattle.std.specs.Prelude.{◌≡◌, ◌≢◌, ℕ, ◌≤◌, ◌⊎◌, List, [], ◌∷◌, ◌++◌, length, codes, Option, AllPairs, Contains}
 use Rattle.kb_word.specs.Words.{Less}
 use Rattle.kb_fsa.specs.declared.alphabet.Alphabet.{Alphabet}
 use Rattle.kb_fsa.specs.declared.alphabet.Alphabet.TheVariants.{Plain, Pair}
-use Rattle.kb_fsa.specs.Padding.{IsPadded, padded}
+use Rattle.kb_fsa.specs.Padding.{IsPadded}
 use Rattle.kb_fsa.specs.Language.{Automaton, Accepts, SameLanguage, generators}
 use Rattle.kb_fsa.specs.Canonical.{IsCanonical}
 use Rattle.kb_fsa.specs.Counted.{CountedAnd, CountedOr, CountedNot, CountedExists, CountedConcat, CountedStar, CountedReverse}
@@ -14,7 +14,7 @@ use Rattle.kb_fsafile.specs.declared.error.FsaError.TheVariants as fsa_errors
 use Rattle.kb_fsabool.specs.Answers.{IsIntersection, IsUnion, IsComplement, IsLeastDifference}
 use Rattle.kb_fsadet.specs.Projection.{IsProjection}
 use Rattle.kb_fsarat.specs.Products.{IsConcatenation, IsStar, IsReversal}
-use Rattle.kb_cli.specs.Outside.{World, Streams, IsUntouched, IsUnchanged, IsKept, IsKeptBut, IsStored, IsWritten, IsFrontWritten, most_file}
+use Rattle.kb_cli.specs.Outside.{World, Streams, IsUntouched, IsUnchanged, IsKept, IsKeptBut, IsStored, IsWritten, IsFrontWritten}
 use Rattle.kb_cli.specs.Printed.{text_of_word}
 use Rattle.kb_cli.specs.WordLines.{newline}
 use Rattle.kb_cli.specs.declared.command_line.Combination.{Combination}
@@ -27,10 +27,9 @@ use Rattle.kb_cli.specs.declared.status.Limit.{Limit}
 use Rattle.kb_cli.specs.declared.status.Limit.TheVariants.{States}
 use Rattle.kb_cli.specs.declared.status.Construction.{Construction}
 use Rattle.kb_cli.specs.declared.status.Construction.TheVariants as constructions
-use Rattle.kb_cli.specs.declared.status.Refusal.TheVariants.{File, Line, InputTooLong}
 use Rattle.kb_cli.specs.declared.status.FileFault.{FileFault}
 use Rattle.kb_cli.specs.declared.status.FileFault.TheVariants.{Missing, TooLong, Presentation, Automaton as NoAutomaton, NotPlain, NotPairs, AlphabetsDiffer}
-use Rattle.kb_cli.specs.declared.status.Cert.TheVariants.{NotConfluent, NotEqual}
+use Rattle.kb_cli.specs.declared.status.Cert.TheVariants.{NotEqual}
 use Rattle.kb_cli.specs.declared.status.Which.TheVariants.{Load, Store, Input, Output}
 use Rattle.kb_cli.specs.declared.loading.Kind.{Kind}
 use Rattle.kb_cli.specs.declared.loading.Kind.TheVariants.{WordsOrPairs, Words, Pairs}

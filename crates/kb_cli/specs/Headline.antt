@@ -5,7 +5,7 @@
 -- the canonical one of the stated language; and that the words listed are the accepted ones. Status 3 shows why the
 -- relations are not confluent, or the languages not the same. Status 2 comes exactly where a construction counts more
 -- states than the limit.
-use Rattle.std.specs.Prelude.{◌≡◌, ◌≢◌, ℕ, ◌<◌, ◌≤◌, ◌⊎◌, List, [], ◌∷◌, ◌++◌, length, take, codes, Option, Some, None}
+use Rattle.std.specs.Prelude.{◌≡◌, ◌≢◌, ℕ, ◌<◌, ◌≤◌, ◌⊎◌, List, [], ◌∷◌, ◌++◌, length, take, codes, Option}
 use Rattle.kb_word.specs.Words.{Pair, OneOf}
 use Rattle.kb_word.specs.Relations.{relations_of, AreOriented}
 use Rattle.kb_word.specs.Congruence.{Congruent}
@@ -14,7 +14,7 @@ use Rattle.kb_confluence.specs.Unjoined.{IsFirstUnjoined, IsCounterexample}
 use Rattle.kb_presfile.specs.Holds.{Parts, PresentationOf}
 use Rattle.kb_presfile.specs.Faults.{HasPresFault}
 use Rattle.kb_presfile.specs.declared.error.PresError.TheVariants as pres_errors
-use Rattle.kb_cli.specs.Outside.{Streams, World, IsUntouched, IsUnchanged, IsKept, most_file}
+use Rattle.kb_cli.specs.Outside.{Streams, World, IsUntouched, IsUnchanged, IsKept}
 use Rattle.kb_cli.specs.Loads.{IsHeld, IsNoText, LoadStops}
 use Rattle.kb_cli.specs.Automata.{CombineSays, TransformSays, MinimiseSays, CompareSays, EnumerateSays}
 use Rattle.kb_cli.specs.Printed.{text_of_word}
