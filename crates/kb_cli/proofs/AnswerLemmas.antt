@@ -2,23 +2,20 @@
 use Rattle.std.proofs.Common.{◌≡◌, ℕ, ◌≤◌, ◌<◌, ◌++◌, inl, inr, List, length, ap, subst, arith, length-append}
 use Rattle.clap.specs.declared.error.kind.ErrorKind.{ErrorKind}
 use Rattle.kb_presfile.specs.Holds.{Parts}
-use Rattle.kb_fsa.specs.Language.{Automaton, SameLanguage}
+use Rattle.kb_fsa.specs.Language.{Automaton}
 use Rattle.kb_cli.specs.Stops.{most_input}
 use Rattle.kb_cli.specs.CommandLine.{IsLine, IsNoLine}
 use Rattle.kb_cli.specs.Outside.{World}
 use Rattle.kb_cli.specs.Loads.{LoadStops}
-use Rattle.kb_cli.specs.Automata.{IsAutomatonFault, IsSecondFault, MakeSays, OneSays, TwoSay, ComparisonSays, EnumerationSays, combined_kind, combined_by, transformed_kind, transformed_by, IsCombined, HasMoreCombined, IsTransformed, HasMoreTransformed}
+use Rattle.kb_cli.specs.Automata.{IsAutomatonFault, IsSecondFault, MakeSays, OneSays, TwoSay, ComparisonSays, EnumerationSays, combined_kind, transformed_kind, CombinationSays, TransformationSays, MinimisationSays}
 use Rattle.kb_cli.specs.Headline.{Headline, CommandSays, FileSays, IsFileFault, WordReduceSays, WordsStop, AnswersSay}
 use Rattle.kb_cli.specs.Answering.{IsAnswer, IsFaultless}
 use Rattle.kb_cli.specs.Unrefused.{IsUnrefused, IsUnrefusedAs, AreLinesUnrefused, AreBothUnrefused, NothingRefused}
-use Rattle.kb_cli.specs.declared.command_line.Combination.{Combination}
-use Rattle.kb_cli.specs.declared.command_line.Transformation.{Transformation}
 use Rattle.kb_cli.specs.declared.command_line.Command.{Command}
 use Rattle.kb_cli.specs.declared.command_line.Command.TheVariants.{WordReduce, Combine, Transform, Minimise, Compare, Enumerate}
 use Rattle.kb_cli.specs.declared.loading.Kind.{Kind}
 use Rattle.kb_cli.specs.declared.loading.Kind.TheVariants.{WordsOrPairs, Words}
 use Rattle.kb_cli.specs.declared.status.Limit.{Limit}
-use Rattle.kb_cli.specs.declared.status.Limit.TheVariants.{States}
 use Rattle.kb_cli.specs.declared.status.Status.{Status}
 use Rattle.kb_cli.specs.declared.status.Status.TheVariants.{Refused, Fault, Usage}
 use Rattle.kb_cli.specs.declared.status.Refusal.TheVariants.{File, Line, InputTooLong}
@@ -56,23 +53,6 @@ lines_answer name world parts (Refused InputTooLong) unrefused faultless file_sa
 lines_answer name world parts (Fault which) unrefused faultless file_says says = faultless
 lines_answer name world parts (Usage kind) unrefused faultless file_says says = says
 lines_answer name world parts status unrefused faultless file_says says = tt
-
--- what `fsaand`, `fsaor` and `fsaconcat` say
-abbrev pub CombinationSays : Combination → List ℕ → ℕ → World → List (List ℕ) → Automaton → Automaton → Status → Type 0
-CombinationSays operation out most world names first second =
-    MakeSays (λ made. (made.alphabet ≡ first.alphabet) × IsCombined operation first second made)
-    (λ limit. (limit ≡ States (combined_by operation)) × HasMoreCombined operation first second most) names out world
-
--- what `fsanot`, `fsaexists`, `fsastar` and `fsareverse` say
-abbrev pub TransformationSays : Transformation → List ℕ → ℕ → World → List (List ℕ) → Automaton → Status → Type 0
-TransformationSays operation out most world names automaton =
-    MakeSays (IsTransformed operation automaton)
-    (λ limit. (limit ≡ States (transformed_by operation)) × HasMoreTransformed operation automaton most) names out world
-
--- what `fsamin` says
-abbrev pub MinimisationSays : List ℕ → World → List (List ℕ) → Automaton → Status → Type 0
-MinimisationSays out world names automaton =
-    MakeSays (λ made. (made.alphabet ≡ automaton.alphabet) × SameLanguage automaton made) (λ limit. ⊥) names out world
 
 make_answer : (IsMeant : Automaton → Type 0) (Exceeds : Limit → Type 0) (names : List (List ℕ)) (out : List ℕ) (world : World) (status : Status)
     → IsFaultless status → MakeSays IsMeant Exceeds names out world status → IsAnswer status

@@ -1,5 +1,5 @@
 -- Counts of faults over a longer time.
-use Rattle.std.proofs.Common.{◌≤◌, arith}
+use Rattle.std.proofs.Common.{arith}
 use Rattle.kb_cli.specs.declared.status.Status.{Status}
 use Rattle.kb_cli.specs.declared.status.Status.TheVariants.{Yes, Refused, Undecided, No, Memory, Fault, Usage}
 use Rattle.kb_cli.specs.declared.status.Which.TheVariants.{Load, Store, Input, Output}

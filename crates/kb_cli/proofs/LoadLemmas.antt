@@ -1,5 +1,5 @@
 -- What a load says, from what its parts say.
-use Rattle.std.proofs.Common.{◌≡◌, ◌⊎◌, inl, inr, ℕ, ◌<◌, List, [], length, slice_get, unwrap_or, Option, Result, Ok, Err, IfErr, refl, sym, ◌∙◌, ap, subst, arith}
+use Rattle.std.proofs.Common.{◌≡◌, ◌⊎◌, inl, inr, ℕ, ◌<◌, List, [], length, slice_get, unwrap_or, Option, Result, Ok, Err, IfErr, refl, sym, ◌∙◌, ap, subst}
 use Rattle.std.specs.Result.{IsErrAnd}
 use Rattle.std.proofs.lemmas.List.{ext_get_or}
 use Rattle.std.proofs.lemmas.Option.{unwrap_or-slice_get}
@@ -14,8 +14,8 @@ use Rattle.kb_cli.specs.declared.status.FileFault.TheVariants.{Missing, TooLong,
 use Rattle.kb_cli.specs.declared.status.Which.TheVariants.{Load, Store, Input, Output}
 use Rattle.kb_cli.specs.declared.loading.Kind.{Kind}
 use Rattle.kb_cli.specs.declared.loading.Kind.TheVariants.{WordsOrPairs, Words, Pairs}
-use Rattle.kb_cli.specs.Loads.{IsNoText, LoadStops}
-use Rattle.kb_cli.specs.Automata.{FileHolds, IsOfKind, IsOfOtherKind, IsAutomatonFault, IsSecondFault, IsOverOther}
+use Rattle.kb_cli.specs.Loads.{LoadStops}
+use Rattle.kb_cli.specs.Automata.{FileHolds, IsOfKind, IsAutomatonFault, IsSecondFault}
 
 -- lists of one length that are the same at each place
 pub same_places : (xs ys : List (List ℕ)) → length xs ≡ length ys → ((k : ℕ) → k < length xs → slice_get xs k ≡ slice_get ys k) → xs ≡ ys

@@ -1,8 +1,7 @@
 -- What a command says that makes an automaton, from what its parts say.
-use Rattle.std.proofs.Common.{◌≡◌, ◌≢◌, ◌↔◌, ◌⊎◌, inl, inr, ℕ, ◌≤◌, List, Option, Some, refl, sym, ◌∙◌, ap, subst, reverse, arith}
+use Rattle.std.proofs.Common.{◌≡◌, ◌↔◌, ◌⊎◌, inl, inr, ℕ, List, Option, Some, refl, sym, ◌∙◌, ap, subst, reverse}
 use Rattle.kb_fsa.specs.declared.alphabet.Alphabet.{Alphabet}
-use Rattle.kb_fsa.specs.Language.{Automaton, AcceptsText, SameLanguage, IsTextOf, generators}
-use Rattle.kb_fsa.specs.declared.alphabet.Alphabet.TheVariants.{Plain}
+use Rattle.kb_fsa.specs.Language.{Automaton, AcceptsText, SameLanguage, IsTextOf}
 use Rattle.kb_fsa.specs.Counted.{IsProduct}
 use Rattle.kb_fsadet.specs.Projection.{HasSecond}
 use Rattle.kb_fsarat.specs.Products.{IsSplit}
@@ -18,9 +17,9 @@ use Rattle.kb_cli.specs.declared.status.FileFault.{FileFault}
 use Rattle.kb_cli.specs.declared.status.FileFault.TheVariants.{Missing, TooLong, Presentation, Automaton as NoAutomaton, NotPlain, NotPairs, AlphabetsDiffer}
 use Rattle.kb_cli.specs.declared.status.Which.TheVariants.{Load, Store, Input, Output}
 use Rattle.kb_cli.specs.declared.loading.Kind.{Kind}
-use Rattle.kb_cli.specs.Outside.{World, Streams, IsUntouched, IsUnchanged, IsKept, IsKeptBut, IsStored, IsWritten}
+use Rattle.kb_cli.specs.Outside.{World, Streams, IsUnchanged, IsKept, IsWritten}
 use Rattle.kb_cli.specs.Loads.{IsHeld, LoadStops}
-use Rattle.kb_cli.specs.Automata.{FileHolds, IsOfKind, IsSecondFault, IsOverOther, MakeSays, StoreSays, LimitSays, IsCombined, IsTransformed, HasMoreCombined, HasMoreTransformed, combined_kind, combined_by, transformed_kind, transformed_by, undecided_line, TwoSay, OneSays, CombineSays, TransformSays, MinimiseSays}
+use Rattle.kb_cli.specs.Automata.{FileHolds, IsOfKind, IsSecondFault, MakeSays, StoreSays, LimitSays, IsCombined, IsTransformed, HasMoreCombined, HasMoreTransformed, combined_kind, combined_by, transformed_kind, transformed_by, undecided_line, TwoSay, CombineSays, TransformSays, MinimiseSays, CombinationSays}
 use Rattle.kb_cli.proofs.LoadLemmas.{stops-widen}
 
 -- what is said of an automaton's texts is said of those of another one of the same language
@@ -151,10 +150,6 @@ IsCombination operation first second made = (made.alphabet ≡ first.alphabet) �
 
 abbrev ExceedsCombined : Combination → Automaton → Automaton → ℕ → Limit → Type 0
 ExceedsCombined operation first second most limit = (limit ≡ States (combined_by operation)) × HasMoreCombined operation first second most
-
-abbrev CombinationSays : Combination → List ℕ → ℕ → World → List (List ℕ) → Automaton → Automaton → Status → Type 0
-CombinationSays operation out most world names first second =
-    MakeSays (IsCombination operation first second) (ExceedsCombined operation first second most) names out world
 
 -- a first automaton that is loaded, and the shelf after its load
 pub record FirstLoaded (kind : Kind) (one : List ℕ) (before between : List ℕ → Option (List ℕ)) (names : List (List ℕ)) (first : Automaton) : Type 0 where

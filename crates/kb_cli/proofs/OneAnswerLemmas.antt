@@ -15,7 +15,7 @@ use Rattle.kb_fsafile.specs.Holds.{AutomatonOf}
 use Rattle.kb_cli.specs.CommandLine.{IsLine}
 use Rattle.kb_cli.specs.Outside.{World, Streams}
 use Rattle.kb_cli.specs.Loads.{IsHeld, LoadStops}
-use Rattle.kb_cli.specs.Automata.{FileHolds, MakeSays, OneSays, TwoSay, IsComparisonLine, same, differ, undecided, ComparisonSays, EnumerationSays, combined_by, combined_kind, HasMoreCombined, transformed_by, transformed_kind, HasMoreTransformed}
+use Rattle.kb_cli.specs.Automata.{FileHolds, MakeSays, OneSays, TwoSay, IsComparisonLine, same, differ, undecided, ComparisonSays, EnumerationSays, combined_by, combined_kind, HasMoreCombined, transformed_by, transformed_kind, HasMoreTransformed, CombinationSays, TransformationSays, MinimisationSays}
 use Rattle.kb_cli.specs.Headline.{Headline, CommandSays, FileSays, IsDecided, IsUndecided, WordReduceSays, WordsStop, AnswersSay}
 use Rattle.kb_cli.specs.Answering.{IsConclusive}
 use Rattle.kb_cli.specs.declared.command_line.Command.{Command}
@@ -30,7 +30,6 @@ use Rattle.kb_cli.specs.declared.status.Limit.{Limit}
 use Rattle.kb_cli.specs.declared.status.Limit.TheVariants.{States}
 use Rattle.kb_cli.specs.declared.status.Status.{Status}
 use Rattle.kb_cli.specs.declared.status.Status.TheVariants.{Yes, Refused, Undecided, No, Memory, Fault, Usage}
-use Rattle.kb_cli.proofs.AnswerLemmas.{CombinationSays, TransformationSays, MinimisationSays}
 use Rattle.kb_cli.proofs.OrientLemmas.{one_orienting}
 
 -- ---- a presentation's answer

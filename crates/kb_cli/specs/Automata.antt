@@ -188,13 +188,16 @@ OneSays kind file Say world status =
     ⊎ ((names : List (List ℕ)) × (automaton : Automaton) × FileHolds world.holds file names automaton × IsOfKind kind automaton.alphabet
     × Say names automaton status)
 
+-- what `fsaand`, `fsaor` and `fsaconcat` say of the automata that they load
+abbrev pub CombinationSays : Combination → List ℕ → ℕ → World → List (List ℕ) → Automaton → Automaton → Status → Type 0
+CombinationSays operation out most world names first second =
+    MakeSays (λ made. (made.alphabet ≡ first.alphabet) × IsCombined operation first second made)
+    (λ limit. (limit ≡ States (combined_by operation)) × HasMoreCombined operation first second most) names out world
+
 -- `fsaand`, `fsaor`, `fsaconcat`
 abbrev pub CombineSays : Combination → List ℕ → List ℕ → List ℕ → ℕ → World → Status → Type 0
 CombineSays operation one two out most world =
-    TwoSay (combined_kind operation) one two
-    (λ names first second. MakeSays (λ made. (made.alphabet ≡ first.alphabet) × IsCombined operation first second made)
-    (λ limit. (limit ≡ States (combined_by operation)) × HasMoreCombined operation first second most) names out world)
-    world
+    TwoSay (combined_kind operation) one two (CombinationSays operation out most world) world
 
 abbrev pub transformed_kind : Transformation → Kind
 transformed_kind transformations.Not = WordsOrPairs
@@ -221,20 +224,24 @@ HasMoreTransformed transformations.Exists one limit = CountedExists one limit
 HasMoreTransformed transformations.Star one limit = CountedStar one limit
 HasMoreTransformed transformations.Reverse one limit = CountedReverse one limit
 
+-- what `fsanot`, `fsaexists`, `fsastar` and `fsareverse` say of the automaton that they load
+abbrev pub TransformationSays : Transformation → List ℕ → ℕ → World → List (List ℕ) → Automaton → Status → Type 0
+TransformationSays operation out most world names automaton =
+    MakeSays (IsTransformed operation automaton)
+    (λ limit. (limit ≡ States (transformed_by operation)) × HasMoreTransformed operation automaton most) names out world
+
 -- `fsanot`, `fsaexists`, `fsastar`, `fsareverse`
 abbrev pub TransformSays : Transformation → List ℕ → List ℕ → ℕ → World → Status → Type 0
-TransformSays operation file out most world =
-    OneSays (transformed_kind operation) file
-    (λ names automaton. MakeSays (IsTransformed operation automaton)
-    (λ limit. (limit ≡ States (transformed_by operation)) × HasMoreTransformed operation automaton most) names out world)
-    world
+TransformSays operation file out most world = OneSays (transformed_kind operation) file (TransformationSays operation out most world) world
 
--- `fsamin`, which has no limit
+-- what `fsamin` says of the automaton that it loads; it has no limit
+abbrev pub MinimisationSays : List ℕ → World → List (List ℕ) → Automaton → Status → Type 0
+MinimisationSays out world names automaton =
+    MakeSays (λ made. (made.alphabet ≡ automaton.alphabet) × SameLanguage automaton made) (λ limit. ⊥) names out world
+
+-- `fsamin`
 abbrev pub MinimiseSays : List ℕ → List ℕ → World → Status → Type 0
-MinimiseSays file out world =
-    OneSays WordsOrPairs file
-    (λ names automaton. MakeSays (λ made. (made.alphabet ≡ automaton.alphabet) × SameLanguage automaton made) (λ limit. ⊥) names out world)
-    world
+MinimiseSays file out world = OneSays WordsOrPairs file (MinimisationSays out world) world
 
 -- the line of a text that exactly one of two automata accepts: the word, or the pair of words
 pub data IsDifferenceLine (names : List (List ℕ)) (text : List ℕ) : Alphabet → List ℕ → Type 0 where

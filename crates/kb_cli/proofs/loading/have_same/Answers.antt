@@ -1,4 +1,4 @@
-use Rattle.std.proofs.Common.{refl, ap, length, arith}
+use Rattle.std.proofs.Common.{refl, arith}
 use Rattle.kb_cli.proofs.LoadLemmas.{same_places}
 use Rattle.kb_cli.proofs.loading.have_same.Goals as goal
 

@@ -1,6 +1,5 @@
 use Rattle.kb_cli.specs.declared.status.FileFault.TheVariants.{NotPlain, NotPairs}
 use Rattle.kb_cli.specs.Automata.{IsAutomatonFault}
-use Rattle.kb_cli.specs.Loads.{LoadStops}
 use Rattle.kb_cli.proofs.LoadLemmas.{on-residual, refused-stops, not_plain, not_pairs}
 use Rattle.kb_cli.proofs.loading.load_automaton.Goals as goal
 

@@ -1,4 +1,4 @@
-use Rattle.std.proofs.Common.{refl, ap, arith, Err}
+use Rattle.std.proofs.Common.{arith}
 use Rattle.kb_cli.proofs.CountLemmas.{faults-along, fell-along}
 use Rattle.kb_cli.proofs.MakeLemmas.{minimise-stores}
 use Rattle.kb_cli.proofs.making.minimise.Goals as goal
