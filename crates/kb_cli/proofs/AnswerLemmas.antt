@@ -1,7 +1,7 @@
 -- Where nothing is refused there is an answer.
 use Rattle.std.proofs.Common.{◌≡◌, ℕ, ◌≤◌, ◌<◌, ◌++◌, inl, inr, List, length, ap, subst, arith, length-append}
 use Rattle.clap.specs.declared.error.kind.ErrorKind.{ErrorKind}
-use Rattle.kb_presfile.specs.Holds.{Parts}
+use Rattle.kb_word.specs.Presentations.{PresentationParts}
 use Rattle.kb_fsa.specs.Language.{Automaton}
 use Rattle.kb_cli.specs.Stops.{most_input}
 use Rattle.kb_cli.specs.CommandLine.{IsLine, IsNoLine}
@@ -44,7 +44,7 @@ load_answer IsFault name status unrefused faultless stop = tt
 short : (input taken left : List ℕ) → input ≡ taken ++ left → most_input < length taken → ¬ (length input ≤ most_input)
 short input taken left split more less = omega (arith, ap length split, length-append taken left)
 
-lines_answer : (name : List ℕ) (world : World) (parts : Parts) (status : Status) → AreLinesUnrefused name world → IsFaultless status
+lines_answer : (name : List ℕ) (world : World) (parts : PresentationParts) (status : Status) → AreLinesUnrefused name world → IsFaultless status
     → FileSays world.holds name parts → AnswersSay parts world.streams status → IsAnswer status
 lines_answer name world parts (Refused (File file fault)) unrefused faultless file_says says = says
 lines_answer name world parts (Refused (Line number fault)) unrefused faultless file_says says = unrefused.lines parts number fault file_says says.1

@@ -15,7 +15,7 @@ use Rattle.kb_cli.specs.declared.status.Which.TheVariants.{Load, Store, Input, O
 use Rattle.kb_cli.specs.declared.loading.Kind.TheVariants.{WordsOrPairs}
 use Rattle.kb_cli.specs.Outside.{World, IsKept, IsWritten, IsUnchanged}
 use Rattle.kb_cli.specs.Loads.{LoadStops}
-use Rattle.kb_cli.specs.Printed.{text_of_word}
+use Rattle.kb_word.specs.Printed.{text_of_word}
 use Rattle.kb_cli.specs.WordLines.{newline}
 use Rattle.kb_cli.specs.Automata.{FileHolds, IsSecondFault, IsDifferenceLine, word, pair, IsComparisonLine, differ, undecided, undecided_line, LimitSays, ComparisonSays, CompareSays}
 use Rattle.kb_cli.proofs.MakeLemmas.{second-stops, both-say}

@@ -3,7 +3,6 @@ pub mod Line
 pub mod SaidLemmas
 pub mod AddLemmas
 pub mod OrientLemmas
-pub mod PrintLemmas
 pub mod ProgressLemmas
 pub mod CountLemmas
 pub mod LoadLemmas

@@ -13,7 +13,7 @@ use Rattle.kb_word.proofs.Shortlex.{shortlex_transitive, shortlex_total}
 use Rattle.kb_fsa.specs.Language.{Automaton}
 use Rattle.kb_fsarat.specs.Enumeration.{Enumeration, ComesAfter, IsLeft, IsNext}
 use Rattle.kb_cli.specs.Outside.{World, Streams, IsWritten, IsKept}
-use Rattle.kb_cli.specs.Printed.{text_of_word}
+use Rattle.kb_word.specs.Printed.{text_of_word}
 use Rattle.kb_cli.specs.WordLines.{newline}
 use Rattle.kb_cli.specs.Automata.{IsAsked, AreFirstAsked, AreAllAsked, IsFrontOfWords, lines_of_words, EnumerationSays, EnumerateSays, FileHolds, IsOfKind}
 use Rattle.kb_cli.specs.declared.loading.Kind.TheVariants.{Words}

@@ -2,12 +2,13 @@
 use Rattle.std.proofs.Common.{◌≡◌, ℕ, ◌<◌, inl, inr, List, slice_get, refl, sym, ◌∙◌, ap, subst, arith}
 use Rattle.std.proofs.lemmas.Option.{same_Some}
 use Rattle.kb_word.specs.Words.{Pair}
-use Rattle.kb_word.specs.Overlap.{IsConfluent, Joins, Parts as Parted, critical_pair}
+use Rattle.kb_word.specs.Overlap.{IsConfluent, IsResolved, IsUnresolved, critical_pair}
 use Rattle.kb_word.specs.Rewriting.{NormalForm}
 use Rattle.kb_word.proofs.Shortlex.{shortlex_total}
 use Rattle.kb_rules.proofs.Unique.{normal_form_unique}
 use Rattle.kb_confluence.specs.Unjoined.{ComesBefore, IsFirstUnjoined}
-use Rattle.kb_presfile.specs.Holds.{Parts, PresentationOf}
+use Rattle.kb_word.specs.Presentations.{PresentationParts}
+use Rattle.kb_presfile.specs.Holds.{PresentationOf}
 use Rattle.kb_fsa.specs.Language.{Automaton, SameLanguage}
 use Rattle.kb_fsa.specs.Counted.{CountedOr}
 use Rattle.kb_fsabool.specs.Answers.{IsInOne, IsLeastDifference}
@@ -35,10 +36,10 @@ use Rattle.kb_cli.proofs.OrientLemmas.{one_orienting}
 -- ---- a presentation's answer
 
 -- what joins isn't parted
-not_parted : {rules : List Pair} {pair : Pair} {u v : List ℕ} → Joins rules pair → ¬ Parted rules pair u v
+not_parted : {rules : List Pair} {pair : Pair} {u v : List ℕ} → IsResolved rules pair → ¬ IsUnresolved rules pair u v
 not_parted joins parted = parted.different (normal_form_unique parted.left joins.left ∙ normal_form_unique joins.right parted.right)
 
-pub decided-not_undecided : (parts : Parts) (u v : List ℕ) → IsDecided parts → ¬ IsUndecided parts u v
+pub decided-not_undecided : (parts : PresentationParts) (u v : List ℕ) → IsDecided parts → ¬ IsUndecided parts u v
 decided-not_undecided parts u v decided refuted =
     let confluent = subst IsConfluent (one_orienting _ _ decided.rules refuted.rules decided.oriented refuted.oriented) decided.confluent in
     let first = refuted.first in
@@ -73,7 +74,7 @@ one_unjoined {rules} {i} {j} {p} {k} {l} {q} {u} {v} {w} {x} one other =
     let right = subst (λ (c : Pair). NormalForm rules c.1 x) pair other.parts.right in
     (normal_form_unique one.parts.left left, normal_form_unique one.parts.right right)
 
-one_counterexample : (parts : Parts) (u v w x : List ℕ) → IsUndecided parts u v → IsUndecided parts w x → NotConfluent u v ≡ NotConfluent w x
+one_counterexample : (parts : PresentationParts) (u v w x : List ℕ) → IsUndecided parts u v → IsUndecided parts w x → NotConfluent u v ≡ NotConfluent w x
 one_counterexample parts u v w x one other =
     let rules : other.rules ≡ one.rules = one_orienting _ _ other.rules one.rules other.oriented one.oriented in
     let words = one_unjoined one.first (subst (λ r. IsFirstUnjoined r other.i other.j other.place w x) rules other.first) in
@@ -137,21 +138,21 @@ settles_one IfYes IfNo IfMany excludes status (Fault which) one other = absurd o
 settles_one IfYes IfNo IfMany excludes status (Usage kind) one other = absurd other
 
 -- what shows that the oriented relations aren't confluent
-abbrev IsCertOf : Parts → Cert → Type 0
+abbrev IsCertOf : PresentationParts → Cert → Type 0
 IsCertOf parts (NotConfluent u v) = IsUndecided parts u v
 IsCertOf parts (NotEqual text) = ⊥
 
-abbrev LinesSettle : Parts → Status → Type 0
+abbrev LinesSettle : PresentationParts → Status → Type 0
 LinesSettle parts = Settles (IsDecided parts) (IsCertOf parts) (λ limit. ⊥)
 
-lines_settle : (parts : Parts) (streams : Streams) (status : Status) → IsConclusive status → AnswersSay parts streams status → LinesSettle parts status
+lines_settle : (parts : PresentationParts) (streams : Streams) (status : Status) → IsConclusive status → AnswersSay parts streams status → LinesSettle parts status
 lines_settle parts streams Yes conclusive says = says.0
 lines_settle parts streams (No (NotConfluent u v)) conclusive says = says.0
 lines_settle parts streams (No (NotEqual text)) conclusive says = says
 lines_settle parts streams (Undecided limit) conclusive says = says
 lines_settle parts streams status conclusive says = conclusive
 
-lines_exclude : (parts : Parts) → Excludes (IsDecided parts) (IsCertOf parts) (λ limit. ⊥)
+lines_exclude : (parts : PresentationParts) → Excludes (IsDecided parts) (IsCertOf parts) (λ limit. ⊥)
 lines_exclude parts = record {
   yes_no = not_both;
   yes_many = λ limit affirmed none. none;
@@ -268,14 +269,14 @@ words_inconclusive words status stop conclusive = conclusive
 -- ---- two runs over shelves that hold the same
 
 module _ (one other : World) (holds_same : (name : List ℕ) → one.holds name ≡ other.holds name)
-    (one_presentation : (bytes : List ℕ) (parts others : Parts) → PresentationOf bytes parts → PresentationOf bytes others → parts ≡ others)
+    (one_presentation : (bytes : List ℕ) (parts others : PresentationParts) → PresentationOf bytes parts → PresentationOf bytes others → parts ≡ others)
     (one_automaton : (bytes : List ℕ) (names others : List (List ℕ)) (first second : Automaton) → AutomatonOf bytes names first
     → AutomatonOf bytes others second → (names ≡ others) × (first ≡ second))
     (status another : Status) (conclusive : IsConclusive status) (also_conclusive : IsConclusive another) where
   same_bytes : {name bytes read : List ℕ} → IsHeld one.holds name bytes → IsHeld other.holds name read → bytes ≡ read
   same_bytes {name = name} held found = same_Some _ _ (sym held.held ∙ holds_same name ∙ found.held)
 
-  same_parts : {name : List ℕ} {parts others : Parts} → FileSays one.holds name parts → FileSays other.holds name others → others ≡ parts
+  same_parts : {name : List ℕ} {parts others : PresentationParts} → FileSays one.holds name parts → FileSays other.holds name others → others ≡ parts
   same_parts {parts = parts} {others = others} first second =
       one_presentation first.bytes others parts (subst (λ b. PresentationOf b others) (sym (same_bytes first.held second.held)) second.says) first.says
 

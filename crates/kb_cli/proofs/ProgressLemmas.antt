@@ -5,7 +5,7 @@ use Rattle.std.proofs.Math.Seq.{take-append_seam}
 use Rattle.std.specs.List.{AllByRecursion}
 use Rattle.kb_io.specs.Bytes.{AppendsPrefix}
 use Rattle.kb_record.specs.declared.error.WordError.{WordError}
-use Rattle.kb_presfile.specs.Holds.{Parts}
+use Rattle.kb_word.specs.Presentations.{PresentationParts}
 use Rattle.kb_cli.specs.WordLines.{newline, IsOneLine, ended, LineGives, LineHasFault, Answers}
 use Rattle.kb_cli.specs.Progress.{Standing, AllSent, FrontSent, EndsLine, RefusedAt, AllAnswered, Reading}
 use Rattle.kb_cli.specs.LineFaults.{Gives}
@@ -25,7 +25,7 @@ ended-snoc (first ∷ lines) line =
     ap (λ rest. first ++ newline ∷ rest) (ended-snoc lines line) ∙ sym (append_assoc first (newline ∷ ended lines) (line ++ newline ∷ []))
 
 -- one more answer
-pub answers-snoc : (parts : Parts) (lines : List (List ℕ)) (line given here : List ℕ) → Answers parts lines given → LineGives parts line here
+pub answers-snoc : (parts : PresentationParts) (lines : List (List ℕ)) (line given here : List ℕ) → Answers parts lines given → LineGives parts line here
     → Answers parts (lines ++ line ∷ []) (given ++ here)
 answers-snoc parts [] line given here none gives =
     (here, [], gives, refl, ap (λ g. g ++ here) none ∙ sym (append-nil here))
@@ -38,7 +38,7 @@ answers-snoc parts (first ∷ lines) line given here (one, others, first_gives, 
 )
 
 -- a byte of the line that has begun
-pub standing-byte : {parts : Parts} {before written taken line pending : List ℕ} {number : ℕ} (byte : ℕ) → byte ≢ newline
+pub standing-byte : {parts : PresentationParts} {before written taken line pending : List ℕ} {number : ℕ} (byte : ℕ) → byte ≢ newline
     → Standing parts before written taken line pending number
     → Standing parts before written (taken ++ byte ∷ []) (line ++ byte ∷ []) pending number
 standing-byte {line = line} byte other standing = record {
@@ -57,7 +57,7 @@ standing-byte {line = line} byte other standing = record {
 }
 
 -- the newline behind a line that is answered
-pub standing-line : {parts : Parts} {before written taken line pending : List ℕ} {number : ℕ} (here : List ℕ)
+pub standing-line : {parts : PresentationParts} {before written taken line pending : List ℕ} {number : ℕ} (here : List ℕ)
     → Standing parts before written taken line pending number → LineGives parts line here
     → Standing parts before written (taken ++ newline ∷ []) [] (pending ++ here) (number + 1)
 standing-line {parts} {before} {written} {taken} {line} {pending} here standing gives = record {
@@ -77,7 +77,7 @@ standing-line {parts} {before} {written} {taken} {line} {pending} here standing 
 }
 
 -- where a front of what is pending was sent, a front of what the lines give was
-pub standing-front : {parts : Parts} {before written taken line pending : List ℕ} {number : ℕ} (now left : List ℕ)
+pub standing-front : {parts : PresentationParts} {before written taken line pending : List ℕ} {number : ℕ} (now left : List ℕ)
     → Standing parts before written taken line pending number → AppendsPrefix written now pending
     → FrontSent parts before now (taken ++ left)
 standing-front {parts} {before} {written} {taken} {line} {pending} now left standing appends = record {
@@ -102,7 +102,7 @@ standing-front {parts} {before} {written} {taken} {line} {pending} now left stan
 }
 
 -- where nothing is pending, all that ended was answered and sent
-pub standing-sent : {parts : Parts} {before written taken line pending : List ℕ} {number : ℕ}
+pub standing-sent : {parts : PresentationParts} {before written taken line pending : List ℕ} {number : ℕ}
     → Standing parts before written taken line pending number → pending ≡ [] → AllSent parts before written taken
 standing-sent {parts} {line = line} standing none = record {
   lines = standing.lines;
@@ -114,7 +114,7 @@ standing-sent {parts} {line = line} standing none = record {
 }
 
 -- where nothing is pending and the line that has come is refused
-pub standing-refused : {parts : Parts} {before written taken line pending : List ℕ} {number : ℕ} (text left : List ℕ) (fault : WordError)
+pub standing-refused : {parts : PresentationParts} {before written taken line pending : List ℕ} {number : ℕ} (text left : List ℕ) (fault : WordError)
     → Standing parts before written taken line pending number → pending ≡ [] → line ≡ text → LineHasFault parts text fault → EndsLine left
     → RefusedAt parts before written (taken ++ left) (number + 1) fault
 standing-refused {parts} {line = line} text left fault standing none same faulty ends = record {
@@ -133,7 +133,7 @@ standing-refused {parts} {line = line} text left fault standing none same faulty
 }
 
 -- the newline behind a line that is answered, where what it gives was added to what was pending
-pub standing-ended : {parts : Parts} {before written taken line pending : List ℕ} {number : ℕ} (text line' pending' : List ℕ)
+pub standing-ended : {parts : PresentationParts} {before written taken line pending : List ℕ} {number : ℕ} (text line' pending' : List ℕ)
     → text ≡ line → line' ≡ [] → Gives parts text pending pending' → Standing parts before written taken line pending number
     → Standing parts before written (taken ++ newline ∷ []) line' pending' (number + 1)
 standing-ended {parts} {before} {written} {taken} {line} {pending} {number} text line' pending' same none gives standing =
@@ -142,13 +142,13 @@ standing-ended {parts} {before} {written} {taken} {line} {pending} {number} text
     (subst (λ l. Standing parts before written (taken ++ newline ∷ []) l (pending ++ gives.0) (number + 1)) (sym none) ended_now)
 
 -- where nothing more was sent
-pub standing-stopped : {parts : Parts} {before written taken line pending : List ℕ} {number : ℕ} (left : List ℕ)
+pub standing-stopped : {parts : PresentationParts} {before written taken line pending : List ℕ} {number : ℕ} (left : List ℕ)
     → Standing parts before written taken line pending number → FrontSent parts before written (taken ++ left)
 standing-stopped {written = written} {pending = pending} left standing =
     standing-front written left standing (record { prefix = []; rest = pending; splits = refl; appends = sym (append-nil written) })
 
 -- where what is pending is sent, and what the last line gives with it
-pub standing-answered : {parts : Parts} {before written taken line pending : List ℕ} {number : ℕ} (here now : List ℕ)
+pub standing-answered : {parts : PresentationParts} {before written taken line pending : List ℕ} {number : ℕ} (here now : List ℕ)
     → Standing parts before written taken line pending number → LineGives parts line here → now ≡ written ++ (pending ++ here)
     → AllAnswered parts before now taken
 standing-answered {parts} {before} {written} {taken} {line} {pending} here now standing gives sent = record {
@@ -162,7 +162,7 @@ standing-answered {parts} {before} {written} {taken} {line} {pending} here now s
 }
 
 -- nothing has come, and nothing is pending
-pub standing-start : (parts : Parts) (before : List ℕ) → Standing parts before before [] [] [] 0
+pub standing-start : (parts : PresentationParts) (before : List ℕ) → Standing parts before before [] [] [] 0
 standing-start parts before = record {
   lines = [];
   cuts = record { whole = refl; each = tt; open_line = tt };
@@ -175,7 +175,7 @@ standing-start parts before = record {
 }
 
 -- where a front of what is pending with the last line's answer was sent
-pub standing-last_front : {parts : Parts} {before written taken line pending : List ℕ} {number : ℕ} (here pending' now : List ℕ)
+pub standing-last_front : {parts : PresentationParts} {before written taken line pending : List ℕ} {number : ℕ} (here pending' now : List ℕ)
     → Standing parts before written taken line pending number → LineGives parts line here → pending' ≡ pending ++ here
     → AppendsPrefix written now pending' → FrontSent parts before now taken
 standing-last_front {parts} {before} {written} {taken} {line} {pending} here pending' now standing gives more appends = record {
@@ -210,7 +210,7 @@ taken-back taken bytes left i byte within here =
     ∙ ap (λ d. take i bytes ++ d) (rw add-one (sym (drop-cons bytes i 0 within))) ∙ take-append-drop i bytes))
 
 -- where as many bytes were taken as may be, all that ended in them is answered and sent
-pub standing-most : {parts : Parts} {before written line pending : List ℕ} {number : ℕ} (taken last left : List ℕ) (most : ℕ)
+pub standing-most : {parts : PresentationParts} {before written line pending : List ℕ} {number : ℕ} (taken last left : List ℕ) (most : ℕ)
     → Standing parts before written (taken ++ last) line pending number → pending ≡ [] → length taken + length last ≡ most
     → AllSent parts before written (take most (taken ++ (last ++ left)))
 standing-most {parts} {before} {written} taken last left most standing none full =
@@ -220,7 +220,7 @@ standing-most {parts} {before} {written} taken last left most standing none full
     (standing-sent standing none)
 
 -- bytes were taken of what was left
-pub reading-took : {parts : Parts} {before written input left line pending : List ℕ} {number count : ℕ} (read left' : List ℕ) (more : ℕ)
+pub reading-took : {parts : PresentationParts} {before written input left line pending : List ℕ} {number count : ℕ} (read left' : List ℕ) (more : ℕ)
     {written' line' pending' : List ℕ} {number' : ℕ}
     → (reading : Reading parts before written input left line pending number count)
     → left ≡ read ++ left' → length read ≡ more
@@ -256,7 +256,7 @@ counts-widen a b o p (Refused number fault) counts = tt
 counts-widen a b o p Memory counts = tt
 
 -- a stop, where nothing more was taken than was
-pub reading-stopped : {parts : Parts} {before written input left line pending : List ℕ} {number count : ℕ} (now : List ℕ) (stop : Stop)
+pub reading-stopped : {parts : PresentationParts} {before written input left line pending : List ℕ} {number count : ℕ} (now : List ℕ) (stop : Stop)
     → (reading : Reading parts before written input left line pending number count)
     → ((ever : List ℕ) → StopSays parts before now (reading.taken ++ left) ever stop)
     → StopsWith parts before now input left stop
@@ -264,11 +264,11 @@ reading-stopped {parts} {before} {input = input} {left = left} now stop reading 
     (reading.taken, reading.split, subst (λ i. StopSays parts before now i reading.taken stop) (sym reading.split) (says reading.taken))
 
 -- nothing of the input has come
-pub reading-start : (parts : Parts) (before input : List ℕ) → Reading parts before before input input [] [] 0 0
+pub reading-start : (parts : PresentationParts) (before input : List ℕ) → Reading parts before before input input [] [] 0 0
 reading-start parts before input = record { taken = []; split = refl; counted = refl; standing = standing-start parts before }
 
 -- where memory ran out before anything came
-pub start-stopped : (parts : Parts) (before input : List ℕ) → StopsWith parts before before input input Memory
+pub start-stopped : (parts : PresentationParts) (before input : List ℕ) → StopsWith parts before before input input Memory
 start-stopped parts before input = ([], refl, standing-stopped input (standing-start parts before))
 
 -- where the counts had risen before

@@ -9,7 +9,8 @@ use Rattle.kb_presfile.specs.Kinds.{list_of_equations}
 use Rattle.kb_confluence.specs.Answers.{MatchVerdict}
 use Rattle.kb_confluence.specs.Unjoined.{IsCounterexample}
 use Rattle.kb_confluence.specs.declared.confluence.Verdict.TheVariants as verdicts
-use Rattle.kb_presfile.specs.Holds.{Parts, AreMeanings, HasEquations}
+use Rattle.kb_word.specs.Presentations.{PresentationParts}
+use Rattle.kb_presfile.specs.Holds.{AreMeanings, HasEquations}
 use Rattle.kb_cli.specs.Headline.{IsUndecided}
 use Rattle.kb_cli.proofs.OrientLemmas.{rules_covered}
 
@@ -52,7 +53,7 @@ rules-few inverses equations rules oriented few generators =
     omega (arith, orients-length oriented, length-append equations (inverse_relations 1 inverses), inverse_relations-length 1 inverses)
 
 -- what a no says of the presentation
-pub no-undecided : (parts : Parts) (rules : List Pair) (when_yes : Type 0) (i j place : ℕ) (u v : List ℕ)
+pub no-undecided : (parts : PresentationParts) (rules : List Pair) (when_yes : Type 0) (i j place : ℕ) (u v : List ℕ)
     → AreOriented (relations_of parts.inverses parts.equations) rules
     → MatchVerdict when_yes rules (verdicts.No i j place u v) → IsCounterexample rules u v → IsUndecided parts u v
 no-undecided parts rules when_yes zero j place u v oriented first counterexample = absurd first

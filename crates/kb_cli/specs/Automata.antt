@@ -15,7 +15,7 @@ use Rattle.kb_fsabool.specs.Answers.{IsIntersection, IsUnion, IsComplement, IsLe
 use Rattle.kb_fsadet.specs.Projection.{IsProjection}
 use Rattle.kb_fsarat.specs.Products.{IsConcatenation, IsStar, IsReversal}
 use Rattle.kb_cli.specs.Outside.{World, Streams, IsUntouched, IsUnchanged, IsKept, IsKeptBut, IsStored, IsWritten, IsFrontWritten}
-use Rattle.kb_cli.specs.Printed.{text_of_word}
+use Rattle.kb_word.specs.Printed.{text_of_word}
 use Rattle.kb_cli.specs.WordLines.{newline}
 use Rattle.kb_cli.specs.declared.command_line.Combination.{Combination}
 use Rattle.kb_cli.specs.declared.command_line.Combination.TheVariants as combinations

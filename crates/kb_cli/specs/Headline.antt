@@ -11,13 +11,14 @@ use Rattle.kb_word.specs.Relations.{relations_of, AreOriented}
 use Rattle.kb_word.specs.Congruence.{Congruent}
 use Rattle.kb_word.specs.Overlap.{IsConfluent}
 use Rattle.kb_confluence.specs.Unjoined.{IsFirstUnjoined, IsCounterexample}
-use Rattle.kb_presfile.specs.Holds.{Parts, PresentationOf}
+use Rattle.kb_word.specs.Presentations.{PresentationParts}
+use Rattle.kb_presfile.specs.Holds.{PresentationOf}
 use Rattle.kb_presfile.specs.Faults.{HasPresFault}
 use Rattle.kb_presfile.specs.declared.error.PresError.TheVariants as pres_errors
 use Rattle.kb_cli.specs.Outside.{Streams, World, IsUntouched, IsUnchanged, IsKept}
 use Rattle.kb_cli.specs.Loads.{IsHeld, IsNoText, LoadStops}
 use Rattle.kb_cli.specs.Automata.{CombineSays, TransformSays, MinimiseSays, CompareSays, EnumerateSays}
-use Rattle.kb_cli.specs.Printed.{text_of_word}
+use Rattle.kb_word.specs.Printed.{text_of_word}
 use Rattle.kb_cli.specs.WordLines.{newline, BeginsWith}
 use Rattle.kb_cli.specs.Progress.{AllAnswered, AllSent, FrontSent, RefusedAt}
 use Rattle.kb_cli.specs.Stops.{most_input}
@@ -33,7 +34,7 @@ use Rattle.kb_cli.specs.declared.status.Cert.TheVariants.{NotConfluent, NotEqual
 use Rattle.kb_cli.specs.declared.status.Which.TheVariants.{Load, Store, Input, Output}
 
 -- the file of this name says this presentation
-pub record FileSays (holds : List ℕ → Option (List ℕ)) (name : List ℕ) (parts : Parts) : Type 0 where
+pub record FileSays (holds : List ℕ → Option (List ℕ)) (name : List ℕ) (parts : PresentationParts) : Type 0 where
   pub bytes : List ℕ
   pub held : IsHeld holds name bytes
   pub says : PresentationOf bytes parts
@@ -53,14 +54,14 @@ abbrev pub FileStops : (List ℕ → Option (List ℕ)) → List ℕ → Status 
 FileStops holds name = LoadStops (IsFileFault holds name) name
 
 -- the oriented relations of the presentation are confluent
-pub record IsDecided (parts : Parts) : Type 0 where
+pub record IsDecided (parts : PresentationParts) : Type 0 where
   pub rules : List Pair
   pub oriented : AreOriented (relations_of parts.inverses parts.equations) rules
   pub confluent : IsConfluent rules
 
 -- The oriented relations of the presentation aren't confluent: the first overlap that doesn't join leads to
 -- u and v, which are different, irreducible and congruent in the presentation.
-pub record IsUndecided (parts : Parts) (u v : List ℕ) : Type 0 where
+pub record IsUndecided (parts : PresentationParts) (u v : List ℕ) : Type 0 where
   pub rules : List Pair
   pub oriented : AreOriented (relations_of parts.inverses parts.equations) rules
   pub i : ℕ
@@ -75,7 +76,7 @@ abbrev pub no_line : List (List ℕ) → List ℕ → List ℕ → List ℕ
 no_line names u v = codes "no confluent " ++ (text_of_word names u ++ 32 ∷ (text_of_word names v ++ newline ∷ []))
 
 -- a front of the line that a no writes was written, and nothing was read
-pub record FrontOfNo (parts : Parts) (streams : Streams) : Type 0 where
+pub record FrontOfNo (parts : PresentationParts) (streams : Streams) : Type 0 where
   pub u : List ℕ
   pub v : List ℕ
   pub undecided : IsUndecided parts u v
@@ -85,20 +86,20 @@ pub record FrontOfNo (parts : Parts) (streams : Streams) : Type 0 where
   pub appended : streams.written ≡ streams.before ++ sent
 
 -- a front of what the input's lines give was written
-abbrev pub FrontOfAnswers : Parts → Streams → Type 0
+abbrev pub FrontOfAnswers : PresentationParts → Streams → Type 0
 FrontOfAnswers parts streams = IsDecided parts × FrontSent parts streams.before streams.written streams.input
 
 -- what of the input was taken, where these lines of it are answered
-abbrev pub TakenAnswered : Parts → Streams → Type 0
+abbrev pub TakenAnswered : PresentationParts → Streams → Type 0
 TakenAnswered parts streams = (taken : List ℕ) × (streams.input ≡ taken ++ streams.left) × AllSent parts streams.before streams.written taken
 
 -- more was taken of the input than may be, and the lines that ended within that are answered
-abbrev pub MostAnswered : Parts → Streams → Type 0
+abbrev pub MostAnswered : PresentationParts → Streams → Type 0
 MostAnswered parts streams = (taken : List ℕ) × (streams.input ≡ taken ++ streams.left) × (most_input < length taken)
     × AllSent parts streams.before streams.written (take most_input streams.input)
 
 -- what a run says by its status after its file said the presentation
-abbrev pub AnswersSay : Parts → Streams → Status → Type 0
+abbrev pub AnswersSay : PresentationParts → Streams → Status → Type 0
 AnswersSay parts streams Yes = IsDecided parts × (streams.left ≡ []) × AllAnswered parts streams.before streams.written streams.input
 AnswersSay parts streams (No (NotConfluent u v)) =
     IsUndecided parts u v × (streams.left ≡ streams.input) × (streams.written ≡ streams.before ++ no_line parts.names u v)
@@ -128,7 +129,7 @@ WordsStop words (Fault which) = ⊥
 abbrev pub WordReduceSays : (List ℕ → Option (List ℕ)) → List ℕ → Streams → Status → Type 0
 WordReduceSays holds name streams status =
     (FileStops holds name status × IsUntouched streams)
-    ⊎ ((parts : Parts) × FileSays holds name parts × AnswersSay parts streams status)
+    ⊎ ((parts : PresentationParts) × FileSays holds name parts × AnswersSay parts streams status)
 
 -- what a command says by its status
 abbrev pub CommandSays : Command → World → Status → Type 0

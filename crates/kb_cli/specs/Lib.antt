@@ -1,4 +1,3 @@
-pub mod Printed
 pub mod CommandLine
 pub mod WordLines
 pub mod Progress

@@ -1,6 +1,6 @@
 -- Why word lines aren't answered to the end.
 use Rattle.std.specs.Prelude.{◌≡◌, ℕ, ◌+◌, ◌<◌, ◌≤◌, List, [], ◌++◌, length, take}
-use Rattle.kb_presfile.specs.Holds.{Parts}
+use Rattle.kb_word.specs.Presentations.{PresentationParts}
 use Rattle.kb_cli.specs.Progress.{AllSent, FrontSent, RefusedAt, Reading, AllAnswered}
 use Rattle.kb_cli.specs.declared.word_lines.Stop.{Stop}
 use Rattle.kb_cli.specs.declared.word_lines.Stop.TheVariants.{Refused, TooLong, Input, Output, Memory}
@@ -14,7 +14,7 @@ most_input = 67108864
 -- What stands after the stop, where this was the input and these bytes of it were taken: a line is refused;
 -- the input is too long, or failed, and all the lines that ended before were answered; the output failed, or
 -- memory ran out, and a front of what the lines give was sent.
-abbrev pub StopSays : Parts → List ℕ → List ℕ → List ℕ → List ℕ → Stop → Type 0
+abbrev pub StopSays : PresentationParts → List ℕ → List ℕ → List ℕ → List ℕ → Stop → Type 0
 StopSays parts before written input taken (Refused number fault) = RefusedAt parts before written input number fault
 StopSays parts before written input taken TooLong = (most_input < length taken) × AllSent parts before written (take most_input input)
 StopSays parts before written input taken Input = AllSent parts before written taken
@@ -38,12 +38,12 @@ StopCounts input_before input_after output_before output_after (Refused number f
 StopCounts input_before input_after output_before output_after Memory = Unit {0}
 
 -- what stands after the stop, where these bytes are left of the input
-abbrev pub StopsWith : Parts → List ℕ → List ℕ → List ℕ → List ℕ → Stop → Type 0
+abbrev pub StopsWith : PresentationParts → List ℕ → List ℕ → List ℕ → List ℕ → Stop → Type 0
 StopsWith parts before written input left stop =
     (taken : List ℕ) × (input ≡ taken ++ left) × StopSays parts before written input taken stop
 
 -- The bytes that a turn took are answered so far, or the input has ended and all of it is answered.
-abbrev pub TurnSays : Parts → List ℕ → List ℕ → List ℕ → List ℕ → List ℕ → List ℕ → ℕ → ℕ → Turn → Type 0
+abbrev pub TurnSays : PresentationParts → List ℕ → List ℕ → List ℕ → List ℕ → List ℕ → List ℕ → ℕ → ℕ → Turn → Type 0
 TurnSays parts before written input left line pending number count (Took more) =
     (0 < more) × Reading parts before written input left line pending number (count + more)
 TurnSays parts before written input left line pending number count Ended = AllAnswered parts before written input × (left ≡ [])

@@ -2,7 +2,7 @@
 use Rattle.std.specs.Prelude.{ℕ, ◌≤◌, List, Option, length}
 use Rattle.kb_fsa.specs.Language.{Automaton}
 use Rattle.kb_record.specs.declared.error.WordError.{WordError}
-use Rattle.kb_presfile.specs.Holds.{Parts}
+use Rattle.kb_word.specs.Presentations.{PresentationParts}
 use Rattle.kb_cli.specs.Outside.{World}
 use Rattle.kb_cli.specs.Progress.{RefusedAt}
 use Rattle.kb_cli.specs.Stops.{most_input}
@@ -26,7 +26,7 @@ IsUnrefusedAs kind holds name = IsUnrefused (IsAutomatonFault kind holds name)
 -- input isn't too long.
 pub record AreLinesUnrefused (name : List ℕ) (world : World) : Type 0 where
   pub file : IsUnrefused (IsFileFault world.holds name)
-  pub lines : (parts : Parts) (number : ℕ) (fault : WordError) → FileSays world.holds name parts
+  pub lines : (parts : PresentationParts) (number : ℕ) (fault : WordError) → FileSays world.holds name parts
       → ¬ RefusedAt parts world.streams.before world.streams.written world.streams.input number fault
   pub short : length world.streams.input ≤ most_input
 

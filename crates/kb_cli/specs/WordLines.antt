@@ -7,8 +7,8 @@ use Rattle.kb_record.specs.Spelling.{after_gap}
 use Rattle.kb_record.specs.Faults.{Meaning, HasWordFault}
 use Rattle.kb_record.specs.declared.error.WordError.{WordError}
 use Rattle.kb_record.specs.declared.error.WordError.TheVariants as word_errors
-use Rattle.kb_presfile.specs.Holds.{Parts}
-use Rattle.kb_cli.specs.Printed.{text_of_word}
+use Rattle.kb_word.specs.Presentations.{PresentationParts}
+use Rattle.kb_word.specs.Printed.{text_of_word}
 
 -- the byte that ends a line
 abbrev pub newline : ℕ
@@ -31,19 +31,19 @@ pub record Cuts (bytes : List ℕ) (lines : List (List ℕ)) (rest : List ℕ) :
 
 -- A line of blanks and comment alone gives nothing. A line that is a word gives the least word that is
 -- congruent to it by the presentation's relations, and a newline.
-pub data LineGives (parts : Parts) (line : List ℕ) : List ℕ → Type 0 where
+pub data LineGives (parts : PresentationParts) (line : List ℕ) : List ℕ → Type 0 where
   blank : after_gap line ≡ [] → LineGives parts line []
   word : {w m : List ℕ} → Meaning line parts.names parts.inverses (Ok w) → IsLeast (relations_of parts.inverses parts.equations) w m
       → LineGives parts line (text_of_word parts.names m ++ newline ∷ [])
 
 -- the line isn't blank, and has the fault
-pub record LineHasFault (parts : Parts) (line : List ℕ) (fault : WordError) : Type 0 where
+pub record LineHasFault (parts : PresentationParts) (line : List ℕ) (fault : WordError) : Type 0 where
   pub not_blank : after_gap line ≢ []
   pub faulty : HasWordFault line parts.names parts.inverses fault
   pub named : fault ≢ word_errors.Memory
 
 -- what the lines give, in order
-abbrev pub Answers : Parts → List (List ℕ) → List ℕ → Type 0
+abbrev pub Answers : PresentationParts → List (List ℕ) → List ℕ → Type 0
 Answers parts [] given = given ≡ []
 Answers parts (line ∷ lines) given =
     (first : List ℕ) × (others : List ℕ) × LineGives parts line first × Answers parts lines others × (given ≡ first ++ others)
@@ -53,7 +53,7 @@ abbrev pub BeginsWith : List ℕ → List ℕ → Type 0
 BeginsWith bytes front = (rest : List ℕ) × (bytes ≡ front ++ rest)
 
 -- the bytes are what lines at the front of the input give, or a front of that
-pub record AnswersFront (parts : Parts) (input given : List ℕ) : Type 0 where
+pub record AnswersFront (parts : PresentationParts) (input given : List ℕ) : Type 0 where
   pub lines : List (List ℕ)
   pub at_front : BeginsWith (input ++ newline ∷ []) (ended lines)
   pub answers : List ℕ

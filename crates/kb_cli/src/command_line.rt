@@ -19,7 +19,7 @@ use self::given::{number_given, text_given};
 use self::subcommand::Subcommand;
 use clap::error::ErrorKind;
 use clap::{Arg, ArgAction, ArgMatches, value_parser};
-use kb_word::{Memory, Text};
+use kb_word::{Memory, OwnedText};
 use std::alloc::{AllocError, Global};
 
 /// A command of the program, with what the words say of it.
@@ -28,7 +28,7 @@ pub enum Command {
     /// Print the least word of each word that is read, by the presentation in a file.
     WordReduce {
         /// The name of the file.
-        file: Text,
+        file: OwnedText,
         /// How many threads may work side by side, 1 to 64.
         workers: u32,
     },
@@ -37,11 +37,11 @@ pub enum Command {
         /// What is made of them.
         operation: Combination,
         /// The name of the first file.
-        one: Text,
+        one: OwnedText,
         /// The name of the second file.
-        two: Text,
+        two: OwnedText,
         /// The name under which the automaton is stored.
-        out: Text,
+        out: OwnedText,
         /// The most states that the construction may have, 1 to 4,000,000.
         max_states: u32,
     },
@@ -50,25 +50,25 @@ pub enum Command {
         /// What is made of it.
         operation: Transformation,
         /// The name of the file.
-        file: Text,
+        file: OwnedText,
         /// The name under which the automaton is stored.
-        out: Text,
+        out: OwnedText,
         /// The most states that the construction may have, 1 to 4,000,000.
         max_states: u32,
     },
     /// Store the canonical automaton of the language of the automaton in a file.
     Minimise {
         /// The name of the file.
-        file: Text,
+        file: OwnedText,
         /// The name under which the automaton is stored.
-        out: Text,
+        out: OwnedText,
     },
     /// Say whether the automata in two files have one language.
     Compare {
         /// The name of the first file.
-        one: Text,
+        one: OwnedText,
         /// The name of the second file.
-        two: Text,
+        two: OwnedText,
         /// The most states that the construction may have, 1 to 4,000,000.
         max_states: u32,
     },
@@ -79,7 +79,7 @@ pub enum Command {
         /// The greatest length.
         max: u16,
         /// The name of the file.
-        file: Text,
+        file: OwnedText,
     },
 }
 
@@ -211,7 +211,7 @@ fn wordreduce_of(alloc: Global, matches: &ArgMatches<'_>) -> Result<Option<Comma
         return Ok(None);
     };
     Ok(Some(Command::WordReduce {
-        file: Text::from_str(alloc, file)?,
+        file: OwnedText::from_str(alloc, file)?,
         workers,
     }))
 }

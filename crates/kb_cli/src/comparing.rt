@@ -12,19 +12,19 @@ ghost use Rattle.kb_cli.specs.Automata.{CompareSays, ComparisonSays, IsCompariso
 
 use crate::loading::{Kind, Loaded, load_automaton, load_second};
 use crate::making::say_undecided;
-use crate::printed::print_word;
+use kb_word::print_word;
 use crate::status::{Cert, Construction, Status, Which};
 use kb_fsa::{Alphabet, Fsa, pair_of, word_of};
 use kb_fsabool::{Det, Equality, Symbols, equal};
 use kb_io::{Failed, Shelf, Sink, write_all};
-use kb_word::{Memory, Names, Text};
+use kb_word::{Memory, Names, OwnedText};
 use std::alloc::Global;
 
 /// Compares the languages of the automata in two files.
 pub(crate) fn compare<F: Shelf, O: Sink>(
     alloc: Global,
-    one: &Text,
-    two: &Text,
+    one: &OwnedText,
+    two: &OwnedText,
     max_states: u32,
     shelf: &mut F,
     out: &mut O,

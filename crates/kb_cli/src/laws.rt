@@ -1,7 +1,7 @@
 //! Laws of what a run says. None of them does anything when it runs.
 
 ghost use Rattle.std.specs.Prelude.{◌≡◌, ℕ, List};
-ghost use Rattle.kb_presfile.specs.Holds.{Parts};
+ghost use Rattle.kb_word.specs.Presentations.{PresentationParts};
 ghost use Rattle.kb_cli.specs.CommandLine.{IsLine};
 ghost use Rattle.kb_cli.specs.Headline.{Headline, IsDecided, IsUndecided};
 ghost use Rattle.kb_cli.specs.Outside.{World};
@@ -17,7 +17,7 @@ use kb_presfile::a_text_says_one_presentation;
 /// Yes and no exclude each other: a presentation whose oriented relations are confluent has no overlap that
 /// doesn't join. So a run says yes exactly where they are confluent, and no exactly where they aren't.
 pub fn no_presentation_is_decided_and_undecided()
-    ensures { (parts : Parts) (u v : List ℕ) → IsDecided parts → ¬ IsUndecided parts u v }
+    ensures { (parts : PresentationParts) (u v : List ℕ) → IsDecided parts → ¬ IsUndecided parts u v }
 {}
 
 /// Where the words are the line of a command, nothing that it reads is refused and no device failed, a run says yes

@@ -9,11 +9,11 @@ ghost use Rattle.kb_cli.specs.Listed.{Listed, HasLetters, Steps, ListingStops};
 ghost use Rattle.kb_cli.specs.declared.loading.Kind.TheVariants as kinds;
 
 use crate::loading::{Kind, Loaded, load_automaton};
-use crate::printed::print_word;
+use kb_word::print_word;
 use crate::status::{Status, Which};
 use kb_fsarat::Enumerate;
 use kb_io::{Failed, Shelf, Sink, write_all};
-use kb_word::{Memory, Names, Text, rank_falls_along_shortlex};
+use kb_word::{Memory, Names, OwnedText, rank_falls_along_shortlex};
 use std::alloc::Global;
 
 /// So many bytes are gathered before they are written.
@@ -24,7 +24,7 @@ pub(crate) fn enumerate<F: Shelf, O: Sink>(
     alloc: Global,
     min: u16,
     max: u16,
-    file: &Text,
+    file: &OwnedText,
     shelf: &mut F,
     out: &mut O,
 ) -> Status

@@ -12,7 +12,7 @@ use crate::status::{FileFault, Refusal, Status, Which};
 use kb_fsa::{Alphabet, Fsa};
 use kb_fsafile::{FsaError, read};
 use kb_io::{Load, Shelf, ShelfFault};
-use kb_word::{Memory, Names, Text};
+use kb_word::{Memory, Names, OwnedText};
 use std::alloc::Global;
 
 /// A file has at most so many bytes.
@@ -37,7 +37,7 @@ pub(crate) struct Loaded {
 }
 
 /// The file is refused.
-pub(crate) fn refused(name: Text, fault: FileFault) -> Status
+pub(crate) fn refused(name: OwnedText, fault: FileFault) -> Status
     ensures { result ≡ Status.Refused (Refusal.File name fault) }
 {
     Status::Refused(Refusal::File { name, fault })
@@ -46,7 +46,7 @@ pub(crate) fn refused(name: Text, fault: FileFault) -> Status
 /// The bytes of the file, or why the run ends before they are known.
 pub(crate) fn load_file<F: Shelf>(
     alloc: Global,
-    file: &Text,
+    file: &OwnedText,
     shelf: &mut F,
 ) -> Result<Vec<u8>, Status>
     ensures held { F.tells shelf.old → IfOk result (λ bytes. IsHeld (F.holds shelf.old) file.now bytes.items) }
@@ -74,7 +74,7 @@ pub(crate) fn load_file<F: Shelf>(
 pub(crate) fn load_automaton<F: Shelf>(
     alloc: Global,
     kind: Kind,
-    file: &Text,
+    file: &OwnedText,
     shelf: &mut F,
 ) -> Result<Loaded, Status>
     ensures says { F.tells shelf.old → IfOk result (λ loaded. FileHolds (F.holds shelf.old) file.now loaded.names loaded.fsa) }
@@ -100,7 +100,7 @@ pub(crate) fn load_automaton<F: Shelf>(
 pub(crate) fn load_second<F: Shelf>(
     alloc: Global,
     first: &Loaded,
-    file: &Text,
+    file: &OwnedText,
     shelf: &mut F,
 ) -> Result<Fsa, Status>
     ensures says { F.tells shelf.old → IfOk result (λ fsa. FileHolds (F.holds shelf.old) file.now first.now.names fsa) }
@@ -121,7 +121,7 @@ pub(crate) fn load_second<F: Shelf>(
 }
 
 /// The automaton that the bytes of the file say, or the refusal of the file.
-fn automaton_of(alloc: Global, file: &Text, bytes: &[u8]) -> Result<Loaded, Status>
+fn automaton_of(alloc: Global, file: &OwnedText, bytes: &[u8]) -> Result<Loaded, Status>
     ensures says { (holds : List ℕ → Option (List ℕ)) → IsHeld holds file.now bytes.now → IfOk result (λ loaded. FileHolds holds file.now loaded.names loaded.fsa) }
     ensures letters { IfOk result (λ loaded. length loaded.names ≡ generators loaded.fsa.alphabet) }
     ensures stops { (kind : Kind) (holds : List ℕ → Option (List ℕ)) → IsHeld holds file.now bytes.now → IfErr result (LoadStops (IsAutomatonFault kind holds file.now) file.now) }
@@ -150,7 +150,7 @@ fn have_same(names: &Names, others: &Names) -> bool
 }
 
 /// The file is refused for the fault, or memory ran out.
-pub(crate) fn refused_as(alloc: Global, file: &Text, fault: FileFault) -> Status
+pub(crate) fn refused_as(alloc: Global, file: &OwnedText, fault: FileFault) -> Status
     ensures { (result ≡ Status.Refused (Refusal.File file.now fault)) ⊎ (result ≡ Status.Memory) }
 {
     match file.copy(alloc) {

@@ -19,16 +19,16 @@ use kb_fsafile::write;
 use kb_fsamin::canonical;
 use kb_fsarat::{concat, reverse, star};
 use kb_io::{Failed, Shelf, ShelfFault, Sink, write_all};
-use kb_word::{Memory, Names, Text};
+use kb_word::{Memory, Names, OwnedText};
 use std::alloc::Global;
 
 /// `fsaand A B OUT`, `fsaor A B OUT` and `fsaconcat A B OUT`.
 pub(crate) fn combine<F: Shelf, O: Sink>(
     alloc: Global,
     operation: Combination,
-    one: &Text,
-    two: &Text,
-    store_as: &Text,
+    one: &OwnedText,
+    two: &OwnedText,
+    store_as: &OwnedText,
     max_states: u32,
     shelf: &mut F,
     out: &mut O,
@@ -101,8 +101,8 @@ fn combined(
 pub(crate) fn transform<F: Shelf, O: Sink>(
     alloc: Global,
     operation: Transformation,
-    file: &Text,
-    store_as: &Text,
+    file: &OwnedText,
+    store_as: &OwnedText,
     max_states: u32,
     shelf: &mut F,
     out: &mut O,
@@ -166,8 +166,8 @@ fn transformed(alloc: Global, operation: Transformation, fsa: &Fsa, limit: u32) 
 /// `fsamin A OUT`.
 pub(crate) fn minimise<F: Shelf>(
     alloc: Global,
-    file: &Text,
-    store_as: &Text,
+    file: &OwnedText,
+    store_as: &OwnedText,
     shelf: &mut F,
 ) -> Status
     ensures says { F.tells shelf.old → (input written : List ℕ) → MinimiseSays file.now store_as.now
@@ -187,7 +187,7 @@ fn store_canonical<F: Shelf>(
     alloc: Global,
     names: &Names,
     made: &Fsa,
-    store_as: &Text,
+    store_as: &OwnedText,
     shelf: &mut F,
 ) -> Status
     requires { length names.now ≡ generators made.now.alphabet }

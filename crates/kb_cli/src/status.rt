@@ -5,7 +5,7 @@ use kb_fsabool::Symbols;
 use kb_fsafile::FsaError;
 use kb_presfile::PresError;
 use kb_record::WordError;
-use kb_word::{Text, Word};
+use kb_word::{OwnedText, Word};
 
 /// How a run ends. [`Status::exit`] is the program's exit status.
 #[derive(Drop)]
@@ -30,7 +30,7 @@ pub enum Status {
 #[derive(Debug, Drop)]
 pub enum Refusal {
     /// The file of this name.
-    File { name: Text, fault: FileFault },
+    File { name: OwnedText, fault: FileFault },
     /// The word line of this number, counted from 1 over all lines.
     Line { number: u32, fault: WordError },
     /// More than 67,108,864 bytes of word lines.
@@ -89,9 +89,9 @@ pub enum Cert {
 #[derive(Debug, Drop)]
 pub enum Which {
     /// A load of the file of this name.
-    Load(Text),
+    Load(OwnedText),
     /// A store of the file of this name.
-    Store(Text),
+    Store(OwnedText),
     /// The input.
     Input,
     /// The output.

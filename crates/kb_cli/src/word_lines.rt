@@ -8,16 +8,16 @@ ghost use Rattle.std.specs.Prelude.{◌≡◌, ◌<◌, ◌≤◌, ◌+◌, ◌^
 ghost use Rattle.kb_word.specs.Rewriting.{NormalForm};
 ghost use Rattle.kb_word.specs.Relations.{relations_of};
 ghost use Rattle.kb_word.specs.Congruence.{IsLeast};
-ghost use Rattle.kb_presfile.specs.Holds.{parts_of};
+ghost use Rattle.kb_word.specs.Presentations.{parts_of};
 ghost use Rattle.kb_cli.specs.LineFaults.{Gives, StopsAt};
 ghost use Rattle.kb_cli.specs.WordLines.{newline, LineHasFault};
 ghost use Rattle.kb_cli.specs.Progress.{Standing, EndsLine, AllAnswered, Reading};
 ghost use Rattle.kb_cli.specs.Stops.{StopSays, StopsWith, TurnSays, TookAtMost, LeavesNone, LineCounts, StopCounts};
 ghost use Rattle.kb_cli.specs.declared.word_lines.LineFault.TheVariants as faults;
 ghost use Rattle.kb_cli.specs.declared.word_lines.Stop.TheVariants as stops;
-ghost use Rattle.kb_presfile.specs.Holds.{Parts};
+ghost use Rattle.kb_word.specs.Presentations.{PresentationParts};
 
-use crate::printed::print_word;
+use kb_word::print_word;
 use kb_io::{Failed, Sink, Source, write_all};
 use kb_record::{WordError, is_blank, parse_word};
 use kb_rules::Reducer;
@@ -100,13 +100,13 @@ pub(crate) struct Progress {
 
 /// Sends what is pending.
 fn send<O: Sink>(progress: &mut Progress, out: &mut O) -> Result<(), Stop>
-    ensures sent { (parts : Parts) (before taken : List ℕ) → O.tells out.old
+    ensures sent { (parts : PresentationParts) (before taken : List ℕ) → O.tells out.old
         → Standing parts before (O.written out.old) taken progress.old.line.items progress.old.pending.items progress.old.number
         → OnOk result (Standing parts before (O.written out.new) taken progress.new.line.items progress.new.pending.items progress.new.number) }
     ensures all { OnOk result (progress.new.pending.items ≡ []) }
     ensures line { progress.new.line ≡ progress.old.line }
     ensures number { progress.new.number ≡ progress.old.number }
-    ensures stops { (parts : Parts) (before taken left ever : List ℕ) → O.tells out.old
+    ensures stops { (parts : PresentationParts) (before taken left ever : List ℕ) → O.tells out.old
         → Standing parts before (O.written out.old) taken progress.old.line.items progress.old.pending.items progress.old.number
         → IfErr result (StopSays parts before (O.written out.new) (taken ++ left) ever) }
     ensures output { IfErr result (λ stop. stop ≡ stops.Output) }
@@ -170,7 +170,7 @@ fn end_line<R: Reducer, O: Sink>(
 /// Sends what is pending, and refuses the line that has come.
 fn refuse<O: Sink>(progress: &mut Progress, out: &mut O, fault: WordError) -> Stop
     requires room { progress.old.number + 1 < 2 ^ 32 }
-    ensures says { (parts : Parts) (before taken left ever : List ℕ) → O.tells out.old
+    ensures says { (parts : PresentationParts) (before taken left ever : List ℕ) → O.tells out.old
         → Standing parts before (O.written out.old) taken progress.old.line.items progress.old.pending.items progress.old.number
         → LineHasFault parts progress.old.line.items fault → EndsLine left
         → StopSays parts before (O.written out.new) (taken ++ left) ever result }
@@ -283,11 +283,11 @@ fn finish<R: Reducer, O: Sink>(
 
 /// Sends what is pending, with what the last line gave.
 fn send_last<O: Sink>(progress: &mut Progress, out: &mut O) -> Result<(), Stop>
-    ensures answered { (parts : Parts) (before taken pending : List ℕ) → O.tells out.old
+    ensures answered { (parts : PresentationParts) (before taken pending : List ℕ) → O.tells out.old
         → Standing parts before (O.written out.old) taken progress.old.line.items pending progress.old.number
         → Gives parts progress.old.line.items pending progress.old.pending.items
         → OnOk result (AllAnswered parts before (O.written out.new) taken) }
-    ensures stops { (parts : Parts) (before taken pending ever : List ℕ) → O.tells out.old
+    ensures stops { (parts : PresentationParts) (before taken pending ever : List ℕ) → O.tells out.old
         → Standing parts before (O.written out.old) taken progress.old.line.items pending progress.old.number
         → Gives parts progress.old.line.items pending progress.old.pending.items
         → IfErr result (StopSays parts before (O.written out.new) taken ever) }

@@ -3,7 +3,8 @@
 ghost use Rattle.std.specs.Prelude.{◌≡◌, ◌≤◌, List, ℕ, Option, Some, length, IfOk, IfErr};
 ghost use Rattle.kb_word.specs.Relations.{relations_of, AreOriented};
 ghost use Rattle.kb_word.specs.Overlap.{IsConfluent};
-ghost use Rattle.kb_presfile.specs.Holds.{Parts, PresentationOf, parts_of};
+ghost use Rattle.kb_word.specs.Presentations.{PresentationParts, parts_of};
+ghost use Rattle.kb_presfile.specs.Holds.{PresentationOf};
 ghost use Rattle.kb_cli.specs.Outside.{streams_of, unread_streams};
 ghost use Rattle.kb_cli.specs.FaultCounts.{FaultCounts, counts};
 ghost use Rattle.kb_cli.specs.Loads.{IsHeld};
@@ -12,7 +13,7 @@ ghost use Rattle.kb_cli.specs.Headline.{FileSays, FileStops, AnswersSay, WordRed
 
 use crate::loading::{load_file, refused_as};
 use crate::orienting::{oriented, oriented_relations_keep_the_congruence, oriented_rules_decrease};
-use crate::printed::print_word;
+use kb_word::print_word;
 use crate::status::{Cert, FileFault, Refusal, Status, Which};
 use crate::word_lines::{Stop, answer_input};
 use kb_confluence::{
@@ -21,13 +22,13 @@ use kb_confluence::{
 use kb_io::{Failed, Shelf, Sink, Source, write_all};
 use kb_presfile::{PresError, read};
 use kb_rules::{Reducer, Rules, Scan};
-use kb_word::{Memory, Names, Presentation, Text, Word};
+use kb_word::{Memory, Names, Presentation, OwnedText, Word};
 use std::alloc::Global;
 
 /// Checks the oriented relations of the file's presentation, and answers the word lines by them.
 pub(crate) fn word_reduce<F: Shelf, I: Source, O: Sink>(
     alloc: Global,
-    file: &Text,
+    file: &OwnedText,
     workers: u32,
     shelf: &mut F,
     input: &mut I,
@@ -52,7 +53,7 @@ pub(crate) fn word_reduce<F: Shelf, I: Source, O: Sink>(
 /// The presentation that the file says, or why the run ends before it is known.
 fn load_presentation<F: Shelf>(
     alloc: Global,
-    file: &Text,
+    file: &OwnedText,
     shelf: &mut F,
 ) -> Result<Presentation, Status>
     ensures says { F.tells shelf.old → IfOk result (λ presentation. FileSays (F.holds shelf.old) file.now (parts_of presentation)) }
@@ -68,7 +69,7 @@ fn load_presentation<F: Shelf>(
 }
 
 /// The presentation that the bytes of a file say, or the refusal of the file.
-fn presentation_of(alloc: Global, file: &Text, bytes: &[u8]) -> Result<Presentation, Status>
+fn presentation_of(alloc: Global, file: &OwnedText, bytes: &[u8]) -> Result<Presentation, Status>
     ensures says { IfOk result (λ presentation. PresentationOf bytes.now (parts_of presentation)) }
     ensures few { IfOk result (λ presentation. length presentation.eqs ≤ 65535) }
     ensures stops { (holds : List ℕ → Option (List ℕ)) → IsHeld holds file.now bytes.now → IfErr result (FileStops holds file.now) }
@@ -144,7 +145,7 @@ fn answer_lines<I: Source, O: Sink>(
 
 /// The status of a run that a stop ends.
 fn status_of(stop: Stop) -> Status
-    ensures says { (parts : Parts) (before written input left : List ℕ) → IsDecided parts → StopsWith parts before written input left stop
+    ensures says { (parts : PresentationParts) (before written input left : List ℕ) → IsDecided parts → StopsWith parts before written input left stop
         → AnswersSay parts (streams_of input left before written) result }
     ensures faults { (loads stores input_before input_after output_before output_after : ℕ) → StopCounts input_before input_after output_before output_after stop
         → FaultCounts (counts loads stores input_before output_before) (counts loads stores input_after output_after) result }

@@ -4,7 +4,7 @@ use Rattle.std.specs.Prelude.{slice_get}
 use Rattle.std.proofs.lemmas.Bool.{cases_lt}
 use Rattle.std.proofs.lemmas.Option.{slice_get_read}
 use Rattle.kb_word.specs.Words.{Pair}
-use Rattle.kb_word.specs.Overlap.{Overlaps, OverlapOf, Joins, Parts, critical_pair}
+use Rattle.kb_word.specs.Overlap.{Overlaps, OverlapOf, IsResolved, IsUnresolved, critical_pair}
 use Rattle.kb_overlap.specs.Search.{Search, NoOverlapFrom, IsFirstOverlap}
 use Rattle.kb_confluence.specs.Unjoined.{EarlierJoin, IsFirstUnjoined}
 
@@ -26,8 +26,8 @@ one_rule rules i k rule other is_rule is_other e = some-injective (sym is_other 
 
 -- what holds of the overlaps of rules i and j holds of those of the same rules by other names
 along_rules : (rules : List Pair) (i j k l q : ℕ) (first second one other : Pair) → slice_get rules i ≡ Some first → slice_get rules j ≡ Some second
-    → k ≡ i → l ≡ j → OverlapOf rules k l q one other → (OverlapOf rules i j q first second → Joins rules (critical_pair first second q))
-    → Joins rules (critical_pair one other q)
+    → k ≡ i → l ≡ j → OverlapOf rules k l q one other → (OverlapOf rules i j q first second → IsResolved rules (critical_pair first second q))
+    → IsResolved rules (critical_pair one other q)
 along_rules rules i j k l q first second one other is_first is_second e f overlap joins =
     let one_is : one ≡ first = one_rule rules i k first one is_first overlap.is_first e in
     let other_is : other ≡ second = one_rule rules j l second other is_second overlap.is_second f in
@@ -41,14 +41,14 @@ along_rules rules i j k l q first second one other is_first is_second e f overla
       overlaps = meets;
       proper = λ same. overlap.proper (e ∙ same ∙ sym f);
     } in
-    let R : Pair → Type 0 = λ rule. Joins rules (critical_pair first rule q) in
-    let S : Pair → Type 0 = λ rule. Joins rules (critical_pair rule other q) in
+    let R : Pair → Type 0 = λ rule. IsResolved rules (critical_pair first rule q) in
+    let S : Pair → Type 0 = λ rule. IsResolved rules (critical_pair rule other q) in
     subst S (sym one_is) (subst R (sym other_is) (joins here))
 
 -- the overlaps at the places from here up to the next place join
 pub earlier_to_place : (rules : List Pair) (i j here next : ℕ) (first second : Pair) → slice_get rules i ≡ Some first → slice_get rules j ≡ Some second
     → EarlierJoin rules i j here
-    → ((q : ℕ) → here ≤ q → q < next → OverlapOf rules i j q first second → Joins rules (critical_pair first second q))
+    → ((q : ℕ) → here ≤ q → q < next → OverlapOf rules i j q first second → IsResolved rules (critical_pair first second q))
     → EarlierJoin rules i j next
 earlier_to_place rules i j here next first second is_first is_second earlier joins k l q one other (inl low) overlap =
     earlier k l q one other (inl low) overlap
@@ -81,10 +81,10 @@ earlier_to_second rules i j here first second is_first is_second earlier none k 
     ]
 
 joins_at : {rules : List Pair} {i j : ℕ} {first second : Pair} (place q : ℕ) → place ≡ q
-    → (OverlapOf rules i j place first second → Joins rules (critical_pair first second place))
-    → OverlapOf rules i j q first second → Joins rules (critical_pair first second q)
+    → (OverlapOf rules i j place first second → IsResolved rules (critical_pair first second place))
+    → OverlapOf rules i j q first second → IsResolved rules (critical_pair first second q)
 joins_at {rules = rules} {i = i} {j = j} {first = first} {second = second} place q same joins =
-    let P : ℕ → Type 0 = λ p. OverlapOf rules i j p first second → Joins rules (critical_pair first second p) in
+    let P : ℕ → Type 0 = λ p. OverlapOf rules i j p first second → IsResolved rules (critical_pair first second p) in
     subst P same joins
 
 module _ (rules : List Pair) (i j : ℕ) (first second : Pair) (is_first : slice_get rules i ≡ Some first)
@@ -110,7 +110,7 @@ module _ (rules : List Pair) (i j : ℕ) (first second : Pair) (is_first : slice
 
   pub tried_more : (after : Search) (place : ℕ) → IsFirstOverlap before.first before.second before.here place
       → after ≡ record before { here = suc place }
-      → (OverlapOf rules i j place first second → Joins rules (critical_pair first second place)) → Tried rules i j first second after
+      → (OverlapOf rules i j place first second → IsResolved rules (critical_pair first second place)) → Tried rules i j first second after
   tried_more after place found e joins =
       let next : Tried rules i j first second (record before { here = suc place }) = record {
         first_is = tried.first_is;
@@ -122,7 +122,7 @@ module _ (rules : List Pair) (i j : ℕ) (first second : Pair) (is_first : slice
       subst P (sym e) next
 
   pub unjoined_found : (place : ℕ) (u v : List ℕ) → IsFirstOverlap before.first before.second before.here place → (i ≡ j → 0 < place)
-      → Parts rules (critical_pair first second place) u v → IsFirstUnjoined rules i j place u v
+      → IsUnresolved rules (critical_pair first second place) u v → IsFirstUnjoined rules i j place u v
   unjoined_found place u v found proper parts = record {
     first = first;
     second = second;

@@ -6,7 +6,7 @@ use Rattle.std.proofs.lemmas.List.{append-nil, drop_all}
 use Rattle.kb_word.specs.Words.{Pair, OneOf}
 use Rattle.kb_word.specs.Congruence.{Replaces}
 use Rattle.kb_word.specs.Rewriting.{ReducesTo, NormalForm}
-use Rattle.kb_word.specs.Overlap.{Joins, IsConfluent, critical_pair}
+use Rattle.kb_word.specs.Overlap.{IsResolved, IsConfluent, critical_pair}
 use Rattle.kb_word.proofs.PathLemmas.{path_equal, path_one, path_mapped, Replaces-between}
 use Rattle.kb_rules.proofs.Reducts.{normal_form_reduct}
 use Rattle.kb_confluence.proofs.Occurrences.{Apart, Within, cases_occurrences}
@@ -26,7 +26,7 @@ normal_form_between {rules = rules} before after normal =
     path_mapped (λ w. before ++ w ++ after) (λ u v step. Replaces-between before after step) (normal_form_reduct normal)
 
 -- a pair that joins has a common reduct between other words too
-joins_between : {rules : List Pair} {pair : Pair} (before after : List ℕ) → Joins rules pair
+joins_between : {rules : List Pair} {pair : Pair} (before after : List ℕ) → IsResolved rules pair
     → CommonReduct (OneOf rules) (before ++ pair.0 ++ after) (before ++ pair.1 ++ after)
 joins_between before after joins = record {
   joint = before ++ joins.joint ++ after;
@@ -60,7 +60,7 @@ common_apart {u = u} {v = v} f g places =
 -- overlapping replacements give the critical pair, between other words
 common_overlapping : {rules : List Pair} {w u v : List ℕ} (f : Replaces (OneOf rules) w u) (g : Replaces (OneOf rules) w v)
     → (places : Within f.before f.pair.0 f.after g.before g.pair.0 g.after)
-    → Joins rules (critical_pair f.pair g.pair places.place) → CommonReduct (OneOf rules) u v
+    → IsResolved rules (critical_pair f.pair g.pair places.place) → CommonReduct (OneOf rules) u v
 common_overlapping {rules = rules} {u = u} {v = v} f g places joins =
     let p = places.place in
     let pair : Pair = critical_pair f.pair g.pair p in

@@ -3,7 +3,7 @@ use Rattle.std.specs.Prelude.{Result, Ok, Err, IfOk, ◌↔◌, Option, Some, No
 use Rattle.std.proofs.Common.{◌≡◌, ℕ, zero, suc, ◌+◌, List, refl, sym, ◌∙◌, subst, add-one}
 use Rattle.kb_word.specs.Words.{Pair, OneOf}
 use Rattle.kb_word.specs.Congruence.{Congruent}
-use Rattle.kb_word.specs.Overlap.{Joins, Parts, IsConfluent, critical_pair, superposition}
+use Rattle.kb_word.specs.Overlap.{IsResolved, IsUnresolved, IsConfluent, critical_pair, superposition}
 use Rattle.kb_word.proofs.PathLemmas.{Replaces-implied, congruent_by_replacement, congruent_symmetric, congruent_transitive}
 use Rattle.kb_rules.proofs.Unique.{normal_form_unique}
 use Rattle.kb_rules.proofs.Reducts.{normal_form_congruent}
@@ -11,14 +11,14 @@ use Rattle.kb_overlap.proofs.Superposed.{replaced-by-first, replaced-by-second}
 use Rattle.kb_confluence.specs.declared.confluence.Verdict.{Verdict}
 use Rattle.kb_confluence.specs.declared.confluence.Verdict.TheVariants.{Yes, No}
 use Rattle.kb_confluence.specs.Unjoined.{IsFirstUnjoined, IsCounterexample}
-use Rattle.kb_confluence.specs.Answers.{MatchVerdict, IsVerdict, GivesCounterexample, JoinsOrParts}
+use Rattle.kb_confluence.specs.Answers.{MatchVerdict, IsVerdict, GivesCounterexample, Resolves}
 
 -- rules are numbered one above their indices
 pub no_numbered : (yes_says : Type 0) (rules : List Pair) (i j place : ℕ) (u v : List ℕ) → IsFirstUnjoined rules i j place u v
     → MatchVerdict yes_says rules (No (i + 1) (j + 1) place u v)
 no_numbered yes_says rules i j place u v unjoined = rw (add-one i, add-one j) unjoined
 
-pub parts_refute : {rules : List Pair} {pair : Pair} {u v : List ℕ} → Parts rules pair u v → ¬ Joins rules pair
+pub parts_refute : {rules : List Pair} {pair : Pair} {u v : List ℕ} → IsUnresolved rules pair u v → ¬ IsResolved rules pair
 parts_refute parts joins = parts.different (normal_form_unique parts.left joins.left ∙ normal_form_unique joins.right parts.right)
 
 pub unjoined_refutes : (rules : List Pair) (i j place : ℕ) (u v : List ℕ) → IsFirstUnjoined rules i j place u v → ¬ IsConfluent rules
@@ -76,15 +76,15 @@ answer_counterexample rules (Err error) holds = tt
 
 -- what it says of a pair that there are two words, or none
 pub parts_given : (mine rules : List Pair) (pair : Pair) (words : Option Pair) (u v : List ℕ) → mine ≡ rules → words ≡ Some (u, v)
-    → JoinsOrParts mine pair words → Parts rules pair u v
+    → Resolves mine pair words → IsUnresolved rules pair u v
 parts_given mine rules pair words u v e f says =
-    let P : Option Pair → Type 0 = λ given. JoinsOrParts mine pair given in
-    let Q : List Pair → Type 0 = λ list. Parts list pair u v in
+    let P : Option Pair → Type 0 = λ given. Resolves mine pair given in
+    let Q : List Pair → Type 0 = λ list. IsUnresolved list pair u v in
     subst Q e (subst P f says)
 
 pub joins_given : (mine rules : List Pair) (pair : Pair) (words : Option Pair) → mine ≡ rules → words ≡ None
-    → JoinsOrParts mine pair words → Joins rules pair
+    → Resolves mine pair words → IsResolved rules pair
 joins_given mine rules pair words e f says =
-    let P : Option Pair → Type 0 = λ given. JoinsOrParts mine pair given in
-    let Q : List Pair → Type 0 = λ list. Joins list pair in
+    let P : Option Pair → Type 0 = λ given. Resolves mine pair given in
+    let Q : List Pair → Type 0 = λ list. IsResolved list pair in
     subst Q e (subst P f says)

@@ -1,7 +1,7 @@
 -- What a verdict says.
 use Rattle.std.specs.Prelude.{zero, suc, List, Option, MatchOption}
 use Rattle.kb_word.specs.Words.{Pair}
-use Rattle.kb_word.specs.Overlap.{Joins, Parts, IsConfluent}
+use Rattle.kb_word.specs.Overlap.{IsResolved, IsUnresolved, IsConfluent}
 use Rattle.kb_confluence.specs.declared.confluence.Verdict.{Verdict}
 use Rattle.kb_confluence.specs.declared.confluence.Verdict.TheVariants.{Yes, No}
 use Rattle.kb_confluence.specs.Unjoined.{IsFirstUnjoined, IsCounterexample}
@@ -23,5 +23,5 @@ GivesCounterexample rules Yes = Unit {0}
 GivesCounterexample rules (No i j place u v) = IsCounterexample rules u v
 
 -- no words, where the pair joins, and otherwise its different normal forms
-abbrev pub JoinsOrParts : List Pair → Pair → Option Pair → Type 0
-JoinsOrParts rules pair words = MatchOption words (Joins rules pair) (λ ends. Parts rules pair ends.0 ends.1)
+abbrev pub Resolves : List Pair → Pair → Option Pair → Type 0
+Resolves rules pair words = MatchOption words (IsResolved rules pair) (λ ends. IsUnresolved rules pair ends.0 ends.1)

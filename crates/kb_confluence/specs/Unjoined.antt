@@ -3,7 +3,7 @@ use Rattle.std.specs.Prelude.{◌≡◌, ◌≢◌, ℕ, ◌<◌, ◌⊎◌, Lis
 use Rattle.kb_word.specs.Words.{Pair, OneOf}
 use Rattle.kb_word.specs.Congruence.{Congruent}
 use Rattle.kb_word.specs.Rewriting.{IsIrreducible}
-use Rattle.kb_word.specs.Overlap.{OverlapOf, Joins, Parts, critical_pair}
+use Rattle.kb_word.specs.Overlap.{OverlapOf, IsResolved, IsUnresolved, critical_pair}
 
 -- Overlaps come in the order of their first rules, then of their second rules, then of their places: the
 -- overlap of rules i and j at place p is before that of rules k and l at place q.
@@ -13,14 +13,14 @@ ComesBefore i j p k l q = (i < k) ⊎ ((i ≡ k) × ((j < l) ⊎ ((j ≡ l) × (
 -- each overlap before this one joins
 abbrev pub EarlierJoin : List Pair → ℕ → ℕ → ℕ → Type 0
 EarlierJoin rules k l q = (i j p : ℕ) (first second : Pair) → ComesBefore i j p k l q → OverlapOf rules i j p first second
-    → Joins rules (critical_pair first second p)
+    → IsResolved rules (critical_pair first second p)
 
 -- the overlap of the rules of indices i and j, from 0 on, is the first that doesn't join: its words' normal forms are u and v
 pub record IsFirstUnjoined (rules : List Pair) (i j place : ℕ) (u v : List ℕ) : Type 0 where
   pub first : Pair
   pub second : Pair
   pub overlap : OverlapOf rules i j place first second
-  pub parts : Parts rules (critical_pair first second place) u v
+  pub parts : IsUnresolved rules (critical_pair first second place) u v
   pub earlier : EarlierJoin rules i j place
 
 -- u and v show that the rules don't decide their congruence: congruent words, different and irreducible

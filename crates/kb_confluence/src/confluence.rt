@@ -3,7 +3,7 @@
 ghost use Rattle.std.specs.Prelude.{◌≡◌, ◌↔◌, ◌+◌, ◌^◌, ◌<◌, ◌≤◌, IfOk, length};
 ghost use Rattle.kb_word.specs.Overlap.{Overlaps, IsConfluent, critical_pair};
 ghost use Rattle.kb_confluence.specs.Unjoined.{EarlierJoin};
-ghost use Rattle.kb_confluence.specs.Answers.{MatchVerdict, IsVerdict, GivesCounterexample, JoinsOrParts};
+ghost use Rattle.kb_confluence.specs.Answers.{MatchVerdict, IsVerdict, GivesCounterexample, Resolves};
 
 use kb_overlap::{pair_at, places};
 use kb_rules::{Reducer, Rule, Rules};
@@ -108,7 +108,7 @@ fn check_pair<R: Reducer>(
         if i == j && place == 0 {
             continue;
         }
-        if let Some((u, v)) = parted(alloc, reducer, first, second, place)? {
+        if let Some((u, v)) = different_normal_forms(alloc, reducer, first, second, place)? {
             let (i, j) = (i as u32 + 1, j as u32 + 1);
             return Ok(Verdict::No { i, j, place, u, v });
         }
@@ -117,7 +117,7 @@ fn check_pair<R: Reducer>(
 }
 
 /// The normal forms of a critical pair's words, where they differ.
-fn parted<R: Reducer>(
+fn different_normal_forms<R: Reducer>(
     alloc: Global,
     reducer: &R,
     first: &Rule,
@@ -125,7 +125,7 @@ fn parted<R: Reducer>(
     place: u64,
 ) -> Result<Option<(Word, Word)>, Memory>
     requires { Overlaps first.now.0 second.now.0 place }
-    ensures { IfOk result (JoinsOrParts (R.rules reducer.now) (critical_pair first.now second.now place)) }
+    ensures { IfOk result (Resolves (R.rules reducer.now) (critical_pair first.now second.now place)) }
 {
     let (one, other) = pair_at(
         alloc,

@@ -3,7 +3,7 @@
 ghost use Rattle.std.specs.Prelude.{◌≡◌};
 ghost use Rattle.kb_fields.specs.declared.error.NamesFault.TheVariants as faults;
 
-use kb_word::{Memory, Text};
+use kb_word::{Memory, OwnedText};
 use std::alloc::{AllocError, AllocFailed};
 
 /// Why a value gives no names of generators.
@@ -14,7 +14,7 @@ pub enum NamesFault {
     /// More than 126 names.
     TooMany,
     /// A name stands twice, or is `IdWord` or `_`.
-    Taken { name: Text },
+    Taken { name: OwnedText },
     /// Memory ran out.
     Memory,
 }

@@ -7,7 +7,7 @@ ghost use Rattle.kb_record.specs.View.{value_view};
 ghost use Rattle.kb_fields.specs.Fields.{fields_view, value_of, HasFieldTwice};
 
 use kb_record::Value;
-use kb_word::{Memory, Text};
+use kb_word::{Memory, OwnedText};
 use std::alloc::Global;
 use std::collections::BTreeSet;
 
@@ -29,14 +29,14 @@ pub fn field_named<'r, 'a>(fields: &'r [(&'a str, Value<'a>)], name: &str) -> Op
 pub fn repeated_name<'a>(
     alloc: Global,
     fields: &[(&'a str, Value<'a>)],
-) -> Result<Option<Text>, Memory>
+) -> Result<Option<OwnedText>, Memory>
     ensures some { IfOk result (λ found. IfSome found (HasFieldTwice (record_value (fields_view fields.now)))) }
     ensures none { IfOk result (λ found. IfNone found ((name : List ℕ) → ¬ HasFieldTwice (record_value (fields_view fields.now)) name)) }
 {
     let mut seen = BTreeSet::new(alloc);
     for (name, value) in fields {
         if !seen.insert(*name)? {
-            return Ok(Some(Text::from_str(alloc, name)?));
+            return Ok(Some(OwnedText::from_str(alloc, name)?));
         }
         if let Some(name) = repeated_within(alloc, value)? {
             return Ok(Some(name));
@@ -47,7 +47,7 @@ pub fn repeated_name<'a>(
 
 /// The name of a field that stands twice in a record in the value.
 #[cycle(repeats)]
-fn repeated_within<'a>(alloc: Global, value: &Value<'a>) -> Result<Option<Text>, Memory>
+fn repeated_within<'a>(alloc: Global, value: &Value<'a>) -> Result<Option<OwnedText>, Memory>
     ensures some { IfOk result (λ found. IfSome found (HasFieldTwice (value_view value.now))) }
     ensures none { IfOk result (λ found. IfNone found ((name : List ℕ) → ¬ HasFieldTwice (value_view value.now) name)) }
 {

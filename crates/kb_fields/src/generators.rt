@@ -9,7 +9,7 @@ ghost use Rattle.kb_fields.specs.Generators.{AreGeneratorNames, IsReserved, IsTa
 use crate::error::NamesFault;
 use crate::values::names_listed;
 use kb_record::Value;
-use kb_word::{Memory, Names, Text};
+use kb_word::{Memory, Names, OwnedText};
 use std::alloc::Global;
 
 /// There are at most so many generators.
@@ -29,7 +29,7 @@ pub fn names_of<'a>(alloc: Global, value: &Value<'a>) -> Result<Names, NamesFaul
     }
     if let Some(name) = first_taken(names.as_slice()) {
         return Err(NamesFault::Taken {
-            name: Text::from_str(alloc, name)?,
+            name: OwnedText::from_str(alloc, name)?,
         });
     }
     Ok(Names::from_vec(own_names(alloc, names.as_slice())?))

@@ -4,7 +4,7 @@ ghost use Rattle.kb_fsafile.specs.Faults.{name_of};
 ghost use Rattle.kb_fsafile.specs.declared.error.FsaError.TheVariants as errors;
 ghost use Rattle.std.specs.Prelude.{◌≡◌};
 
-use kb_word::{Memory, Text};
+use kb_word::{Memory, OwnedText};
 use std::alloc::{AllocError, AllocFailed};
 use std::fmt;
 use thiserror::Error;
@@ -75,10 +75,10 @@ pub enum FsaError {
     WrongKind { field: Field },
     /// A record has a field name twice.
     #[error("E6 FieldTwice {field}")]
-    FieldTwice { field: Text },
+    FieldTwice { field: OwnedText },
     /// A letter's name stands twice, or is `IdWord` or `_`.
     #[error("E8 NameTaken {name}")]
-    NameTaken { name: Text },
+    NameTaken { name: OwnedText },
     /// More than 126 letters.
     #[error("E9 TooManyGenerators")]
     TooManyGenerators,

@@ -12,7 +12,8 @@ use Rattle.kb_fields.specs.Fields.{value_of, value_at, place_count}
 use Rattle.kb_fields.specs.Generators.{IsTaken}
 use Rattle.kb_fields.proofs.ListingLemmas.{list_same, some_value}
 use Rattle.kb_presfile.specs.Kinds.{equation_value, list_of_equations, list_of_places}
-use Rattle.kb_presfile.specs.Holds.{Parts, place_at, IsShortlex, HoldsPlaces, GivesInverses, HasNames, HasInverses, AreMeanings, HoldsPresentation, PresentationOf}
+use Rattle.kb_word.specs.Presentations.{PresentationParts}
+use Rattle.kb_presfile.specs.Holds.{place_at, IsShortlex, HoldsPlaces, GivesInverses, HasNames, HasInverses, AreMeanings, HoldsPresentation, PresentationOf}
 use Rattle.kb_presfile.specs.Faults.{IsFaultOf, SidesHaveFault, PlaceIsUnknown, IsNotMutual, InversesHaveFault, HasFieldFault, HasPresFault}
 use Rattle.kb_presfile.specs.declared.error.Field.TheVariants as kinds
 use Rattle.kb_presfile.specs.declared.error.PresError.{PresError}
@@ -42,7 +43,7 @@ sides_have_none names inverses (t ∷ sides) (p ∷ pairs) zero s error are at f
     side (inr right) = word_has_none (word_meaning names inverses t.1) p.1 error are.1 right
 sides_have_none names inverses (t ∷ sides) (p ∷ pairs) (suc k) s error are at fault = sides_have_none names inverses sides pairs k s error are.2 at fault
 
-equation_has_none : (given : Fields) (parts : Parts) (error : PresError) → HoldsPresentation given parts
+equation_has_none : (given : Fields) (parts : PresentationParts) (error : PresError) → HoldsPresentation given parts
     → (names : List (List ℕ)) (inverses : List (Option ℕ)) → HasNames given names → HasInverses given names inverses
     → (list : Places) → value_of given (codes "equations") ≡ Some (list_value list) → (k : ℕ) (s : Factors × Factors) → value_at list k ≡ Some (equation_value s)
     → SidesHaveFault names inverses s error → error ≡ errors.Memory
@@ -90,7 +91,7 @@ none_one_sided names places inverses name gives fault = at_letter (gives.letters
         let back = gives.both_ways (suc fault.k) (suc fault.y) (inverse_is inverses fault.k (suc fault.y) same) in
         at_place (place_at places fault.y) refl (inverse_read inverses fault.y (suc fault.k) back)
 
-module _ (given : Fields) (parts : Parts) (h : HoldsPresentation given parts) where
+module _ (given : Fields) (parts : PresentationParts) (h : HoldsPresentation given parts) where
   -- names and places that the text has are those of the presentation
   none_unknown_in : (error : PresError) (name : List ℕ) → (f : InversesHaveFault given error) → PlaceIsUnknown f.names f.places name → ⊥
   none_unknown_in error name f fault =
@@ -117,7 +118,7 @@ module _ (given : Fields) (parts : Parts) (h : HoldsPresentation given parts) wh
 text_same : {a b : List ℕ} → string_value a ≡ string_value b → a ≡ b
 text_same e = cc
 
-pub no_fault : (given : Fields) (parts : Parts) (error : PresError) → HoldsPresentation given parts → HasFieldFault given error → error ≡ errors.Memory
+pub no_fault : (given : Fields) (parts : PresentationParts) (error : PresError) → HoldsPresentation given parts → HasFieldFault given error → error ≡ errors.Memory
 no_fault given parts (errors.MissingField kinds.IsRws) h fault = let never = sym fault.1 ∙ h.is_rws in cc
 no_fault given parts (errors.MissingField kinds.Ordering) h fault = absurd fault.0
 no_fault given parts (errors.MissingField kinds.GeneratorOrder) h fault = let never = sym fault.1 ∙ h.named in cc
@@ -161,7 +162,7 @@ text_fault bytes text (errors.TooDeep at) formed shallow fault = absurd fault
 text_fault bytes text errors.Memory formed shallow fault = tt
 text_fault bytes text error formed shallow fault = (text, formed, shallow, fault)
 
-pub no_text_fault : (bytes : List ℕ) (parts : Parts) (error : PresError)
+pub no_text_fault : (bytes : List ℕ) (parts : PresentationParts) (error : PresError)
     → ((one other : TextTree) → TextOf bytes one → TextOf bytes other → one ≡ other)
     → ((text : TextTree) → TextOf bytes text → text_nesting text ≤ deepest → ¬ IsTooDeep (λ tokens. (other : TextTree) × IsText tokens other) bytes)
     → PresentationOf bytes parts → HasPresFault bytes error → error ≡ errors.Memory

@@ -6,7 +6,8 @@ use Rattle.kb_word.specs.Words.{Pair}
 use Rattle.kb_record.specs.Tree.{Factors, Value, Fields}
 use Rattle.kb_record.specs.Meaning.{WordFault}
 use Rattle.kb_presfile.specs.Kinds.{equation_value, list_of_equations}
-use Rattle.kb_presfile.specs.Holds.{Parts, place_at, HoldsPlaces, StandFor, HasInverses, AreMeanings, HasEquations, HoldsPresentation}
+use Rattle.kb_word.specs.Presentations.{PresentationParts}
+use Rattle.kb_presfile.specs.Holds.{place_at, HoldsPlaces, StandFor, HasInverses, AreMeanings, HasEquations, HoldsPresentation}
 use Rattle.kb_fields.proofs.ListingLemmas.{places_of-injective, list_same, some_value}
 use Rattle.kb_presfile.proofs.PlaceLemmas.{places_injective, one_list_of_names}
 use Rattle.kb_presfile.proofs.EquationLemmas.{list_of_equations-places_of}
@@ -93,7 +94,7 @@ one_list_of_equations given names inverses ps qs a b =
     let P : List (Factors × Factors) → Type 0 = λ sides. AreMeanings names inverses sides ps in
     one_list_of_meanings names inverses b.read.sides ps qs (subst P same a.read.meanings) b.read.meanings
 
-pub one_presentation : (given : Fields) (a b : Parts) → HoldsPresentation given a → HoldsPresentation given b → a ≡ b
+pub one_presentation : (given : Fields) (a b : PresentationParts) → HoldsPresentation given a → HoldsPresentation given b → a ≡ b
 one_presentation given a b h k = joined names inverses equations
   where
     names : a.names ≡ b.names

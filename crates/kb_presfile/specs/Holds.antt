@@ -2,7 +2,7 @@
 use Rattle.std.specs.Prelude.{◌≡◌, ℕ, ◌<◌, ◌≤◌, List, [], ◌∷◌, length, codes, Option, Some, None, slice_get, option_and_then, Ok}
 use Rattle.kb_word.specs.Words.{Pair}
 use Rattle.kb_word.specs.Relations.{inverse_letter}
-use Rattle.kb_word.specs.declared.presentation.Presentation.{Presentation}
+use Rattle.kb_word.specs.Presentations.{PresentationParts}
 use Rattle.kb_record.specs.Tree.{Factors, Value, string_value, list_value, Fields, Places, TextTree, record_value}
 use Rattle.kb_record.specs.Grammar.{TextOf}
 use Rattle.kb_record.specs.Nesting.{deepest, text_nesting}
@@ -14,12 +14,6 @@ use Rattle.kb_presfile.specs.Kinds.{list_of_places, list_of_equations, equation_
 -- a presentation has at most so many equations
 abbrev pub most_equations : ℕ
 most_equations = 65535
-
--- a presentation as files say it
-pub record Parts : Type 0 where
-  pub names : List (List ℕ)
-  pub inverses : List (Option ℕ)
-  pub equations : List Pair
 
 -- the ordering is absent or shortlex
 abbrev pub IsShortlex : Option Value → Type 0
@@ -92,7 +86,7 @@ pub record HasEquations (fields : Fields) (names : List (List ℕ)) (inverses : 
   pub read : AreEquations names inverses places equations
 
 -- the fields of a text say this presentation
-pub record HoldsPresentation (fields : Fields) (parts : Parts) : Type 0 where
+pub record HoldsPresentation (fields : Fields) (parts : PresentationParts) : Type 0 where
   pub once : (name : List ℕ) → ¬ HasFieldTwice (record_value fields) name
   pub is_rws : value_of fields (codes "isRWS") ≡ Some (bare_name (codes "true"))
   pub ordering : IsShortlex (value_of fields (codes "ordering"))
@@ -102,12 +96,8 @@ pub record HoldsPresentation (fields : Fields) (parts : Parts) : Type 0 where
   pub equations : HasEquations fields parts.names parts.inverses parts.equations
 
 -- the bytes are a text that says this presentation
-pub record PresentationOf (bytes : List ℕ) (parts : Parts) : Type 0 where
+pub record PresentationOf (bytes : List ℕ) (parts : PresentationParts) : Type 0 where
   pub text : TextTree
   pub formed : TextOf bytes text
   pub shallow : text_nesting text ≤ deepest
   pub holds : HoldsPresentation text.fields parts
-
--- what a presentation of the code says
-abbrev pub parts_of : Presentation → Parts
-parts_of presentation = record { names = presentation.names; inverses = presentation.inv; equations = presentation.eqs }

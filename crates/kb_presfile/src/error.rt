@@ -4,7 +4,7 @@ ghost use Rattle.kb_presfile.specs.Faults.{name_of};
 ghost use Rattle.kb_presfile.specs.declared.error.PresError.TheVariants as errors;
 ghost use Rattle.std.specs.Prelude.{◌≡◌};
 
-use kb_word::{Memory, Text};
+use kb_word::{Memory, OwnedText};
 use std::alloc::{AllocError, AllocFailed};
 use std::fmt;
 use thiserror::Error;
@@ -57,25 +57,25 @@ pub enum PresError {
     WrongKind { field: Field },
     /// A record has a field name twice.
     #[error("E6 FieldTwice {field}")]
-    FieldTwice { field: Text },
+    FieldTwice { field: OwnedText },
     /// The ordering is another than shortlex.
     #[error("E7 OtherOrdering")]
     OtherOrdering,
     /// A generator's name stands twice, or is `IdWord` or `_`.
     #[error("E8 NameTaken {name}")]
-    NameTaken { name: Text },
+    NameTaken { name: OwnedText },
     /// More than 126 generators.
     #[error("E9 TooManyGenerators")]
     TooManyGenerators,
     /// A name that is no generator's.
     #[error("E10 UnknownGenerator {name}")]
-    UnknownGenerator { name: Text },
+    UnknownGenerator { name: OwnedText },
     /// The first letter without inverse under a power below 0.
     #[error("E11 NoInverse {name}")]
-    NoInverse { name: Text },
+    NoInverse { name: OwnedText },
     /// The generator whose inverse hasn't it as its inverse.
     #[error("E12 InverseNotMutual {name}")]
-    InverseNotMutual { name: Text },
+    InverseNotMutual { name: OwnedText },
     /// A word, or a factor, group or product in it, of more than 65,535 letters.
     #[error("E13 WordTooLong")]
     WordTooLong,

@@ -12,7 +12,7 @@ use crate::error::{Field, PresError};
 use crate::values::places_listed;
 use kb_fields::field_named;
 use kb_record::Value;
-use kb_word::{Inverses, Letter, Names, Text};
+use kb_word::{Inverses, Letter, Names, OwnedText};
 use std::alloc::Global;
 
 /// The generators' inverses.
@@ -77,7 +77,7 @@ fn inverses_at(alloc: Global, places: &[Option<&str>], names: &Names) -> Result<
     let inverses = Inverses::from_vec(letters_at(alloc, places, names)?);
     match first_one_sided(&inverses, names) {
         Some(name) => Err(PresError::InverseNotMutual {
-            name: Text::from_str(alloc, name)?,
+            name: OwnedText::from_str(alloc, name)?,
         }),
         None => Ok(inverses),
     }
@@ -116,7 +116,7 @@ fn letter_at(
     match names.number_of(name) {
         Some(letter) => Ok(Some(letter)),
         None => Err(PresError::UnknownGenerator {
-            name: Text::from_str(alloc, name)?,
+            name: OwnedText::from_str(alloc, name)?,
         }),
     }
 }

@@ -5,7 +5,8 @@ ghost use Rattle.kb_record.specs.Grammar.{TextOf};
 ghost use Rattle.kb_record.specs.Nesting.{deepest, text_nesting};
 ghost use Rattle.kb_record.specs.View.{text_view};
 ghost use Rattle.kb_fields.specs.Fields.{fields_view};
-ghost use Rattle.kb_presfile.specs.Holds.{HoldsPresentation, PresentationOf, parts_of};
+ghost use Rattle.kb_word.specs.Presentations.{parts_of};
+ghost use Rattle.kb_presfile.specs.Holds.{HoldsPresentation, PresentationOf};
 ghost use Rattle.kb_presfile.specs.Faults.{HasFieldFault, HasPresFault};
 
 use crate::equations::read_equations;

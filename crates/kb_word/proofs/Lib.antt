@@ -4,3 +4,4 @@ pub mod PathLemmas
 pub mod Places
 pub mod Shortlex
 pub mod ComparisonLemmas
+pub mod PrintLemmas

@@ -7,3 +7,5 @@ pub mod Overlap
 pub mod Names
 pub mod Relations
 pub mod Comparison
+pub mod Presentations
+pub mod Printed

@@ -27,13 +27,13 @@ pub record OverlapOf (rules : List Pair) (i j place : ℕ) (first second : Pair)
   pub proper : i ≡ j → 0 < place
 
 -- both words have one normal form
-pub record Joins (rules : List Pair) (pair : Pair) : Type 0 where
+pub record IsResolved (rules : List Pair) (pair : Pair) : Type 0 where
   pub joint : List ℕ
   pub left : NormalForm rules pair.0 joint
   pub right : NormalForm rules pair.1 joint
 
 -- the words have different normal forms, u of the first word and v of the second
-pub record Parts (rules : List Pair) (pair : Pair) (u v : List ℕ) : Type 0 where
+pub record IsUnresolved (rules : List Pair) (pair : Pair) (u v : List ℕ) : Type 0 where
   pub left : NormalForm rules pair.0 u
   pub right : NormalForm rules pair.1 v
   pub different : u ≢ v
@@ -41,4 +41,4 @@ pub record Parts (rules : List Pair) (pair : Pair) (u v : List ℕ) : Type 0 whe
 -- the critical pair of each overlap joins
 abbrev pub IsConfluent : List Pair → Type 0
 IsConfluent rules = (i j place : ℕ) (first second : Pair) → OverlapOf rules i j place first second
-    → Joins rules (critical_pair first second place)
+    → IsResolved rules (critical_pair first second place)

@@ -5,12 +5,13 @@
 //! overlaps and confluence stand here, in `specs/`, since all crates above cite them. The crate's public
 //! contract: `less` decides the shortlex order, which is a reduction order along which `rank` falls,
 //! `factor_at` finds the first place of a factor, and a `Presentation`, with its names, inverses and
-//! equations, lists its defining relations and inverts words. Memory alone is a free answer.
+//! equations, lists its defining relations and inverts words. `print_word` appends a word as it is printed.
+//! Any call that allocates may fail for want of memory; no other failure is unspecified.
 //!
 //! Lemmas that proofs above may cite stand in `proofs/`: on paths and congruence in `PathLemmas`, on the
 //! order in `Shortlex`, on the places of factors in `Places`.
 //!
-//! Nothing stands below; `kb_record`, `kb_rules` and `kb_overlap` stand on it.
+//! Nothing stands below; all other crates but `kb_io` stand on it, directly or not.
 #![tactic(auto)]
 
 mod equations;
@@ -20,10 +21,11 @@ mod letter;
 mod memory;
 mod names;
 mod order;
+mod owned_text;
 mod presentation;
+mod printed;
 #[cfg(test)]
 mod tests;
-mod text;
 mod word;
 
 pub use equations::{Equations, copy_pair, copy_pairs};
@@ -33,6 +35,7 @@ pub use letter::Letter;
 pub use memory::Memory;
 pub use names::Names;
 pub use order::{less, rank_falls_along_shortlex, shortlex_is_a_reduction_order};
+pub use owned_text::OwnedText;
 pub use presentation::{Presentation, none_where_a_letter_has_no_inverse};
-pub use text::Text;
+pub use printed::print_word;
 pub use word::Word;

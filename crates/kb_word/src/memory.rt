@@ -3,7 +3,7 @@
 use std::alloc::{AllocError, AllocFailed};
 use std::fmt;
 
-/// Memory ran out. The call that answers this has changed nothing.
+/// Memory ran out. What the call was to change is as it was, unless its documentation says otherwise.
 #[derive(Clone, Copy, Debug, PartialEq, Eq)]
 pub struct Memory;
 

@@ -71,6 +71,14 @@ impl Names {
         self.names.get(place).map(|name| name.as_str())
     }
 
+    /// The name of a letter, and `None` exactly where it has none.
+    pub fn name_of(&self, letter: Letter) -> Option<&str>
+        ensures { option_copied result ≡ name_of self.now letter }
+    {
+        let place = letter.number().checked_sub(1)?;
+        self.get(place as usize)
+    }
+
     /// The first letter with this name, and `None` exactly where there is none.
     pub fn number_of(&self, name: &str) -> Option<Letter>
         ensures found { IfSome result (λ letter. name_of self.now letter ≡ Some name.now) }

@@ -1,4 +1,4 @@
-//! Words, and their shortlex order.
+//! Words: lists of letters.
 
 ghost use Rattle.std.specs.Prelude.{◌≡◌, ◌↔◌, ◌<◌, ◌≤◌, ◌^◌, [], ◌∷◌, ◌++◌, IsTrue, IfOk, OnOk, OnErr, IfSome, IfNone, IsNone, length, All, take, reverse};
 ghost use Rattle.kb_word.specs.Words.{EndsWith};

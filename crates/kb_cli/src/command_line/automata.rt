@@ -8,7 +8,7 @@ ghost use Rattle.kb_cli.specs.CommandLine.{combination_name, transformation_name
 use super::given::{length_given, number_given, text_given};
 use super::{Combination, Command, Transformation};
 use clap::{Arg, ArgAction, ArgMatches, value_parser};
-use kb_word::{Memory, Text};
+use kb_word::{Memory, OwnedText};
 use std::alloc::{AllocError, Global};
 
 /// Adds the commands on automata to the program.
@@ -284,9 +284,9 @@ pub(super) fn combine_of(
     };
     Ok(Some(Command::Combine {
         operation,
-        one: Text::from_str(alloc, one)?,
-        two: Text::from_str(alloc, two)?,
-        out: Text::from_str(alloc, out)?,
+        one: OwnedText::from_str(alloc, one)?,
+        two: OwnedText::from_str(alloc, two)?,
+        out: OwnedText::from_str(alloc, out)?,
         max_states,
     }))
 }
@@ -310,8 +310,8 @@ pub(super) fn transform_of(
     };
     Ok(Some(Command::Transform {
         operation,
-        file: Text::from_str(alloc, file)?,
-        out: Text::from_str(alloc, out)?,
+        file: OwnedText::from_str(alloc, file)?,
+        out: OwnedText::from_str(alloc, out)?,
         max_states,
     }))
 }
@@ -330,8 +330,8 @@ pub(super) fn minimise_of(
         return Ok(None);
     };
     Ok(Some(Command::Minimise {
-        file: Text::from_str(alloc, file)?,
-        out: Text::from_str(alloc, out)?,
+        file: OwnedText::from_str(alloc, file)?,
+        out: OwnedText::from_str(alloc, out)?,
     }))
 }
 
@@ -349,8 +349,8 @@ pub(super) fn compare_of(alloc: Global, matches: &ArgMatches<'_>) -> Result<Opti
         return Ok(None);
     };
     Ok(Some(Command::Compare {
-        one: Text::from_str(alloc, one)?,
-        two: Text::from_str(alloc, two)?,
+        one: OwnedText::from_str(alloc, one)?,
+        two: OwnedText::from_str(alloc, two)?,
         max_states,
     }))
 }
@@ -374,6 +374,6 @@ pub(super) fn enumerate_of(
     Ok(Some(Command::Enumerate {
         min,
         max,
-        file: Text::from_str(alloc, file)?,
+        file: OwnedText::from_str(alloc, file)?,
     }))
 }

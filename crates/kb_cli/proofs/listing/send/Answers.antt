@@ -1,4 +1,4 @@
-use Rattle.kb_cli.proofs.PrintLemmas.{on_err}
+use Rattle.kb_word.proofs.PrintLemmas.{on_err}
 use Rattle.kb_cli.proofs.ListLemmas.{listed-front}
 use Rattle.kb_cli.proofs.listing.send.Goals as goal
 

@@ -1,6 +1,6 @@
 use Rattle.std.proofs.Common.{List, ℕ, [], ◌∷◌, ◌++◌, append-nil, append_assoc, sym, rules, ◌∙◌, ap}
 use Rattle.kb_cli.specs.WordLines.{blank, word, newline}
-use Rattle.kb_cli.specs.Printed.{text_of_word}
+use Rattle.kb_word.specs.Printed.{text_of_word}
 use Rattle.kb_cli.proofs.word_lines.answer_line.Goals as goal
 
 pub returns-then-is_blank-clause-given : goal.returns-then-is_blank-clause-given

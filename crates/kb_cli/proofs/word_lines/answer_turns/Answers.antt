@@ -1,5 +1,5 @@
 use Rattle.std.proofs.Common.{arith}
-use Rattle.kb_presfile.specs.Holds.{parts_of}
+use Rattle.kb_word.specs.Presentations.{parts_of}
 use Rattle.kb_cli.proofs.ProgressLemmas.{reading-start, counts-further}
 use Rattle.kb_cli.proofs.word_lines.answer_turns.Goals as goal
 

@@ -1,5 +1,5 @@
 use Rattle.std.proofs.Common.{[], ◌∷◌, ◌++◌, append_assoc}
-use Rattle.kb_presfile.specs.Holds.{parts_of}
+use Rattle.kb_word.specs.Presentations.{parts_of}
 use Rattle.kb_cli.specs.WordLines.{newline}
 use Rattle.kb_cli.proofs.ProgressLemmas.{standing-ended, standing-stopped}
 use Rattle.kb_cli.proofs.word_lines.end_line.Goals as goal

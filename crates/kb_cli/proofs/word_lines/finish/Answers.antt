@@ -1,5 +1,5 @@
 use Rattle.std.proofs.Common.{[], append-nil}
-use Rattle.kb_presfile.specs.Holds.{parts_of}
+use Rattle.kb_word.specs.Presentations.{parts_of}
 use Rattle.kb_cli.proofs.ProgressLemmas.{standing-stopped}
 use Rattle.kb_cli.proofs.word_lines.finish.Goals as goal
 

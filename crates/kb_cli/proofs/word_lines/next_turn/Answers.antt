@@ -1,4 +1,4 @@
-use Rattle.kb_presfile.specs.Holds.{parts_of}
+use Rattle.kb_word.specs.Presentations.{parts_of}
 use Rattle.kb_cli.proofs.ProgressLemmas.{reading-stopped}
 use Rattle.kb_cli.proofs.word_lines.next_turn.Goals as goal
 

@@ -1,5 +1,5 @@
 use Rattle.std.proofs.Common.{◌+◌, ◌≤◌, List, ℕ, ◌++◌, take}
-use Rattle.kb_presfile.specs.Holds.{parts_of}
+use Rattle.kb_word.specs.Presentations.{parts_of}
 use Rattle.kb_cli.specs.Progress.{Standing}
 use Rattle.kb_cli.proofs.word_lines.take_bytes.Given as goal
 

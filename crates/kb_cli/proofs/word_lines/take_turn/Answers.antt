@@ -1,5 +1,5 @@
 use Rattle.std.proofs.Common.{◌≡◌, List, ℕ, ◌++◌, ◌+◌, ◌<◌, take, drop, length, ◌-◌, arith, length-take, length-append, subst, sym, ap, ◌∙◌}
-use Rattle.kb_presfile.specs.Holds.{parts_of}
+use Rattle.kb_word.specs.Presentations.{parts_of}
 use Rattle.kb_cli.specs.Stops.{StopSays}
 use Rattle.kb_cli.proofs.ProgressLemmas.{reading-took, whole-again, split-on, counts-widen}
 use Rattle.kb_cli.proofs.word_lines.take_turn.Goals as goal

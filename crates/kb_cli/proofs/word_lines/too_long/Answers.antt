@@ -1,5 +1,5 @@
 use Rattle.std.proofs.Common.{List, ℕ, ◌++◌, append_assoc}
-use Rattle.kb_presfile.specs.Holds.{parts_of}
+use Rattle.kb_word.specs.Presentations.{parts_of}
 use Rattle.kb_cli.specs.Stops.{most_input}
 use Rattle.kb_cli.proofs.ProgressLemmas.{standing-most}
 use Rattle.kb_cli.proofs.word_lines.too_long.Goals as goal

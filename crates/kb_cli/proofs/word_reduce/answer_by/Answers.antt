@@ -1,6 +1,6 @@
 use Rattle.std.proofs.Common.{length, ◌<◌, arith}
 use Rattle.kb_word.specs.Overlap.{IsConfluent}
-use Rattle.kb_presfile.specs.Holds.{parts_of}
+use Rattle.kb_word.specs.Presentations.{parts_of}
 use Rattle.kb_cli.proofs.RunLemmas.{rules-few, no-undecided}
 use Rattle.kb_cli.proofs.word_reduce.answer_by.Goals as goal
 

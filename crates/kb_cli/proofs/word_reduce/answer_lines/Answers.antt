@@ -1,5 +1,5 @@
 use Rattle.kb_word.specs.Relations.{relations_of}
-use Rattle.kb_presfile.specs.Holds.{parts_of}
+use Rattle.kb_word.specs.Presentations.{parts_of}
 use Rattle.kb_cli.proofs.word_reduce.answer_lines.Goals as goal
 
 pub answer_input-requires : goal.answer_input-requires

@@ -1,19 +1,19 @@
 //! Texts that statuses and refusals hold.
 
-ghost use Rattle.std.specs.Prelude.{◌≡◌, IfOk};
+ghost use Rattle.std.specs.Prelude.{◌≡◌, IfOk, string_bytes};
 
 use crate::memory::Memory;
 use std::alloc::Global;
 use std::fmt;
 use std::marker::Model;
 
-/// A text of its own, seen by contracts as its bytes.
+/// A text that is owned, seen by contracts as its bytes.
 #[derive(Drop)]
-pub struct Text {
+pub struct OwnedText {
     string: String,
 }
 
-impl Model for Text {
+impl Model for OwnedText {
     ghost use Rattle.std.specs.Prelude.{ℕ, List, string_bytes};
 
     ghost Value = { List ℕ };
@@ -21,12 +21,26 @@ impl Model for Text {
     ghost view = { λ text. string_bytes text.string };
 }
 
-impl Text {
+impl OwnedText {
+    /// The text of a string, made without taking memory.
+    pub fn from_string(string: String) -> OwnedText
+        ensures { result ≡ string_bytes string }
+    {
+        OwnedText { string }
+    }
+
+    /// The string, given back without taking memory.
+    pub fn into_string(self) -> String
+        ensures { string_bytes result ≡ self }
+    {
+        self.string
+    }
+
     /// A copy of the text.
-    pub fn from_str(alloc: Global, text: &str) -> Result<Text, Memory>
+    pub fn from_str(alloc: Global, text: &str) -> Result<OwnedText, Memory>
         ensures { IfOk result (λ copy. copy ≡ text.now) }
     {
-        Ok(Text {
+        Ok(OwnedText {
             string: String::from_str(alloc, text)?,
         })
     }
@@ -39,20 +53,20 @@ impl Text {
     }
 
     /// A text of the same bytes.
-    pub fn copy(&self, alloc: Global) -> Result<Text, Memory>
+    pub fn copy(&self, alloc: Global) -> Result<OwnedText, Memory>
         ensures { IfOk result (λ copy. copy ≡ self.now) }
     {
-        Text::from_str(alloc, self.as_str())
+        OwnedText::from_str(alloc, self.as_str())
     }
 }
 
-impl fmt::Display for Text {
+impl fmt::Display for OwnedText {
     fn fmt<W: fmt::Write>(&self, f: &mut fmt::Formatter<W>) -> fmt::Result {
         f.write_str(self.as_str())
     }
 }
 
-impl fmt::Debug for Text {
+impl fmt::Debug for OwnedText {
     fn fmt<W: fmt::Write>(&self, f: &mut fmt::Formatter<W>) -> fmt::Result {
         f.write_str(self.as_str())
     }

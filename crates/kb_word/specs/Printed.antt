@@ -1,10 +1,11 @@
 -- Words as they are printed.
-use Rattle.std.specs.Prelude.{ℕ, ◌-◌, List, [], ◌∷◌, map, codes, slice_get, unwrap_or}
+use Rattle.std.specs.Prelude.{ℕ, List, [], ◌∷◌, map, codes, unwrap_or}
 use Rattle.std.specs.List.{join_with_byte}
+use Rattle.kb_word.specs.Names.{name_of}
 
--- the name of letter x
+-- the name of letter x, and nothing where it has none
 abbrev pub letter_name : List (List ℕ) → ℕ → List ℕ
-letter_name names x = unwrap_or (slice_get names (x - 1)) []
+letter_name names x = unwrap_or (name_of names x) []
 
 -- `IdWord`, or the letters' names joined by `*`
 abbrev pub text_of_word : List (List ℕ) → List ℕ → List ℕ

@@ -2,7 +2,7 @@
 use Rattle.std.proofs.Common.{◌≡◌, ◌∙◌, ℕ, ◌+◌, ◌<◌, List, [], ◌∷◌, ◌++◌, length, take, get_or, map, refl, sym, ap, append_assoc, Result, Ok, Err, OnErr}
 use Rattle.std.proofs.lemmas.List.{take_more}
 use Rattle.std.specs.List.{join_with_byte}
-use Rattle.kb_cli.specs.Printed.{letter_name}
+use Rattle.kb_word.specs.Printed.{letter_name}
 
 -- one more piece comes after the byte between
 pub join_more : (c : ℕ) (f : ℕ → List ℕ) (x : ℕ) (xs : List ℕ) (y : ℕ)

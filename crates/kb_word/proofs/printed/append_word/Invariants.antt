@@ -1,6 +1,6 @@
 use Rattle.std.proofs.Common.{◌≡◌, ◌∷◌, ◌++◌, ℕ, take}
-use Rattle.kb_cli.proofs.PrintLemmas.{begun}
-use Rattle.kb_cli.proofs.printed.print_word.Given as goal
+use Rattle.kb_word.proofs.PrintLemmas.{begun}
+use Rattle.kb_word.proofs.printed.append_word.Given as goal
 
 -- the letters before this one are printed
 abbrev pub invariant-loop-letter : goal.invariant-loop-letter

@@ -1,8 +1,8 @@
 use Rattle.std.proofs.Common.{rules, ◌≡◌, ◌∙◌, ◌++◌, ℕ, List, [], ◌∷◌, ap, sym, take, append_assoc}
 use Rattle.std.proofs.lemmas.List.{take_all}
-use Rattle.kb_cli.specs.Printed.{text_of_word}
-use Rattle.kb_cli.proofs.PrintLemmas.{begun, begun_more, on_err}
-use Rattle.kb_cli.proofs.printed.print_word.Goals as goal
+use Rattle.kb_word.specs.Printed.{text_of_word}
+use Rattle.kb_word.proofs.PrintLemmas.{begun, begun_more, on_err}
+use Rattle.kb_word.proofs.printed.append_word.Goals as goal
 
 pub loop-letter-init : goal.loop-letter-init
 loop-letter-init c = record {
