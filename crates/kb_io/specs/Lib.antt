@@ -1,3 +1,5 @@
 pub mod Bytes
 pub mod Loading
 pub mod Shelves
+pub mod States
+pub mod Outside

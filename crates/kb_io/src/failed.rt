@@ -2,7 +2,7 @@
 
 use std::fmt;
 
-/// The device failed. What was to be read or written stays where it was.
+/// The device failed. The call that returns it says what was read or written before.
 #[derive(Clone, Copy, Debug, PartialEq, Eq)]
 pub struct Failed;
 

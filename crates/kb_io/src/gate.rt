@@ -3,11 +3,11 @@
 /// The points of a worker's round at which it comes to the gate.
 #[derive(Clone, Copy, Debug, PartialEq, Eq)]
 pub enum Point {
-    /// before it draws a job
+    /// Before it draws a job.
     Draw,
-    /// before it reduces the two words of a critical pair
+    /// Before it reduces the two words of a critical pair.
     Sift,
-    /// before it enters a pair that stayed apart
+    /// Before it enters a pair that has two normal forms.
     Enter,
 }
 

@@ -1,7 +1,8 @@
 //! What is kept: byte strings under names.
 
-ghost use Rattle.std.specs.Prelude.{◌≡◌, ◌≢◌, ◌<◌, ◌≤◌, ℕ, List, Option, Some, Err, IfOk, OnOk};
+ghost use Rattle.std.specs.Prelude.{◌≡◌, ◌<◌, Some, Err, IsTrue, IfOk, OnOk};
 ghost use Rattle.kb_io.specs.Loading.{LoadGives};
+ghost use Rattle.kb_io.specs.States.{ShelfState, ShelfGoesOn, HoldsSame, HoldsSameBut};
 ghost use Rattle.kb_io.specs.declared.shelf.ShelfFault.{ShelfFault};
 ghost use Rattle.kb_io.specs.declared.shelf.ShelfFault.TheVariants.{Failed, Memory};
 
@@ -11,20 +12,20 @@ use std::{fmt, io};
 /// What a shelf holds under a name.
 #[derive(Debug, Drop)]
 pub enum Load {
-    /// all its bytes
+    /// All its bytes.
     Text(Vec<u8>),
-    /// there is no such name
+    /// There is no such name.
     Missing,
-    /// more bytes than were asked for
+    /// It has more bytes than were asked for.
     TooLong,
 }
 
 /// Why a shelf did not answer.
 #[derive(Clone, Copy, Debug, PartialEq, Eq)]
 pub enum ShelfFault {
-    /// the device failed
+    /// The device failed.
     Failed,
-    /// memory ran out
+    /// Memory ran out.
     Memory,
 }
 
@@ -65,34 +66,26 @@ impl From<io::Error> for ShelfFault {
 
 /// Byte strings under names, each of which is loaded and stored as a whole.
 ///
-/// `tells` says whether contracts know its bytes. Where they do, `holds` gives what stands under a name.
-/// `load_faults` counts the loads that failed, `store_faults` the stores; neither ever falls.
+/// Its state is whether contracts know its bytes (`told`), what is held under each name where they do (`holds`), and
+/// how many loads and how many stores have failed (`load_faults`, `store_faults`); neither count ever falls.
 pub trait Shelf {
-    ghost tells: { Self → Type 0 };
-
-    ghost holds: { Self → List ℕ → Option (List ℕ) };
-
-    ghost load_faults: { Self → ℕ };
-
-    ghost store_faults: { Self → ℕ };
+    ghost state: { Self → ShelfState };
 
     /// The bytes under the name, if it has at most so many.
     fn load(&mut self, alloc: Global, name: &str, max: usize) -> Result<Load, ShelfFault>
-        ensures loaded { tells self.old → IfOk result (LoadGives (holds self.old name.now) max) }
-        ensures unchanged { (other : List ℕ) → holds self.new other ≡ holds self.old other }
-        ensures still_tells { tells self.old → tells self.new }
-        ensures count { load_faults self.old ≤ load_faults self.new }
-        ensures failed { result ≡ Err ShelfFault.Failed → load_faults self.old < load_faults self.new }
-        ensures stores { store_faults self.new ≡ store_faults self.old };
+        ensures loaded { IsTrue (state self.old).told → IfOk result (LoadGives ((state self.old).holds name.now) max) }
+        ensures unchanged { HoldsSame (state self.old) (state self.new) }
+        ensures goes_on { ShelfGoesOn (state self.old) (state self.new) }
+        ensures failed { result ≡ Err ShelfFault.Failed → (state self.old).load_faults < (state self.new).load_faults }
+        ensures stores { (state self.new).store_faults ≡ (state self.old).store_faults };
 
-    /// Puts the bytes under the name, in place of what stood there. After a failure anything may stand
-    /// under it. Where memory ran out nothing changed.
+    /// Puts the bytes under the name, in place of what was held there. After `Failed` the content under the name is
+    /// unspecified. Where memory ran out nothing changed.
     fn store(&mut self, alloc: Global, name: &str, bytes: &[u8]) -> Result<(), ShelfFault>
-        ensures stored { tells self.old → OnOk result (holds self.new name.now ≡ Some bytes.now) }
-        ensures others { (other : List ℕ) → other ≢ name.now → holds self.new other ≡ holds self.old other }
-        ensures unchanged { result ≡ Err ShelfFault.Memory → (other : List ℕ) → holds self.new other ≡ holds self.old other }
-        ensures still_tells { tells self.old → tells self.new }
-        ensures count { store_faults self.old ≤ store_faults self.new }
-        ensures failed { result ≡ Err ShelfFault.Failed → store_faults self.old < store_faults self.new }
-        ensures loads { load_faults self.new ≡ load_faults self.old };
+        ensures stored { IsTrue (state self.old).told → OnOk result ((state self.new).holds name.now ≡ Some bytes.now) }
+        ensures others { HoldsSameBut name.now (state self.old) (state self.new) }
+        ensures unchanged { result ≡ Err ShelfFault.Memory → HoldsSame (state self.old) (state self.new) }
+        ensures goes_on { ShelfGoesOn (state self.old) (state self.new) }
+        ensures failed { result ≡ Err ShelfFault.Failed → (state self.old).store_faults < (state self.new).store_faults }
+        ensures loads { (state self.new).load_faults ≡ (state self.old).load_faults };
 }

@@ -1,39 +1,37 @@
 //! What is written: a stream of bytes that grows at its end.
 
-ghost use Rattle.std.specs.Prelude.{◌≡◌, ◌<◌, ◌≤◌, ◌++◌, ℕ, List, IfOk, OnOk, OnErr, length, take};
+ghost use Rattle.std.specs.Prelude.{◌≡◌, ◌<◌, ◌≤◌, ◌++◌, IsTrue, IfOk, OnOk, OnErr, length, take};
 ghost use Rattle.kb_io.specs.Bytes.{AppendsPrefix};
+ghost use Rattle.kb_io.specs.States.{SinkState, SinkGoesOn};
 
 use crate::failed::Failed;
 
 /// A stream of bytes that is written at its end.
 ///
-/// `tells` says whether contracts know its bytes. Where they do, `written` is all that was written.
-/// `faults` counts the failures, and never falls. To take nothing is a failure.
+/// Its state is whether contracts know its bytes (`told`), all that was written where they do (`written`), and
+/// how many writes have failed (`faults`), which never falls. To take nothing is a failure.
 pub trait Sink {
-    ghost tells: { Self → Type 0 };
-
-    ghost written: { Self → List ℕ };
-
-    ghost faults: { Self → ℕ };
+    ghost state: { Self → SinkState };
 
     /// Appends the first bytes, at least one, and answers how many. After a failure none was appended.
     fn write(&mut self, bytes: &[u8]) -> Result<usize, Failed>
         requires { 0 < length bytes.now }
         ensures some { IfOk result (λ taken. (0 < taken) × (taken ≤ length bytes.now)) }
-        ensures appended { tells self.old → IfOk result (λ taken. written self.new ≡ written self.old ++ take taken bytes.now) }
-        ensures kept { tells self.old → OnErr result (written self.new ≡ written self.old) }
-        ensures still_tells { tells self.old → tells self.new }
-        ensures count { faults self.old ≤ faults self.new }
-        ensures failed { OnErr result (faults self.old < faults self.new) };
+        ensures appended { IsTrue (state self.old).told
+            → IfOk result (λ taken. (state self.new).written ≡ (state self.old).written ++ take taken bytes.now) }
+        ensures kept { IsTrue (state self.old).told → OnErr result ((state self.new).written ≡ (state self.old).written) }
+        ensures goes_on { SinkGoesOn (state self.old) (state self.new) }
+        ensures failed { OnErr result ((state self.old).faults < (state self.new).faults) };
 }
 
 /// Appends all the bytes. After a failure a prefix of them was appended.
 pub fn write_all<S: Sink>(sink: &mut S, bytes: &[u8]) -> Result<(), Failed>
-    ensures appended { S.tells sink.old → OnOk result (S.written sink.new ≡ S.written sink.old ++ bytes.now) }
-    ensures prefix { S.tells sink.old → OnErr result (AppendsPrefix (S.written sink.old) (S.written sink.new) bytes.now) }
-    ensures still_tells { S.tells sink.old → S.tells sink.new }
-    ensures count { S.faults sink.old ≤ S.faults sink.new }
-    ensures failed { OnErr result (S.faults sink.old < S.faults sink.new) }
+    ensures appended { IsTrue (S.state sink.old).told
+        → OnOk result ((S.state sink.new).written ≡ (S.state sink.old).written ++ bytes.now) }
+    ensures prefix { IsTrue (S.state sink.old).told
+        → OnErr result (AppendsPrefix (S.state sink.old).written (S.state sink.new).written bytes.now) }
+    ensures goes_on { SinkGoesOn (S.state sink.old) (S.state sink.new) }
+    ensures failed { OnErr result ((S.state sink.old).faults < (S.state sink.new).faults) }
 {
     let mut rest = bytes;
     while !rest.is_empty() {
