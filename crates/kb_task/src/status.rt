@@ -6,6 +6,7 @@ use kb_fsafile::FsaError;
 use kb_presfile::PresError;
 use kb_record::WordError;
 use kb_word::{OwnedText, Word};
+use std::fmt;
 
 /// How a run ends. [`Status::exit`] is the program's exit status.
 #[derive(Drop)]
@@ -100,29 +101,28 @@ pub enum Which {
 
 impl Construction {
     ghost use Rattle.std.specs.Prelude.{◌≡◌};
-    ghost use Rattle.kb_cli.specs.Automata.{undecided_line};
-    ghost use Rattle.kb_cli.specs.declared.status.Limit.TheVariants.{States};
+    ghost use Rattle.kb_task.specs.Limits.{construction_name};
 
-    /// The line that says that it has more states than may be.
-    pub fn undecided_line(self) -> &'static str
-        ensures { result.now ≡ undecided_line (States self) }
+    /// What it is called where a limit is named.
+    pub fn name(self) -> &'static str
+        ensures { result.now ≡ construction_name self }
     {
         match self {
-            Construction::And => "undecided states and\n",
-            Construction::Or => "undecided states or\n",
-            Construction::Not => "undecided states not\n",
-            Construction::Exists => "undecided states exists\n",
-            Construction::Concat => "undecided states concat\n",
-            Construction::Star => "undecided states star\n",
-            Construction::Reverse => "undecided states reverse\n",
-            Construction::Equal => "undecided states equal\n",
+            Construction::And => "and",
+            Construction::Or => "or",
+            Construction::Not => "not",
+            Construction::Exists => "exists",
+            Construction::Concat => "concat",
+            Construction::Star => "star",
+            Construction::Reverse => "reverse",
+            Construction::Equal => "equal",
         }
     }
 }
 
 impl Status {
     ghost use Rattle.std.specs.Prelude.{◌≡◌};
-    ghost use Rattle.kb_cli.specs.Exits.{exit_of};
+    ghost use Rattle.kb_task.specs.Statuses.{exit_of};
 
     /// The exit status of the program.
     pub fn exit(&self) -> u8
@@ -136,6 +136,41 @@ impl Status {
             Status::Memory => 4,
             Status::Fault(_) => 5,
             Status::Usage(_) => 6,
+        }
+    }
+}
+
+impl fmt::Display for Refusal {
+    fn fmt<W: fmt::Write>(&self, f: &mut fmt::Formatter<W>) -> fmt::Result {
+        match self {
+            Refusal::File { name, fault } => write!(f, "{name}: {fault}"),
+            Refusal::Line { number, fault } => write!(f, "line {number}: {fault}"),
+            Refusal::InputTooLong => write!(f, "E24 InputTooLong"),
+        }
+    }
+}
+
+impl fmt::Display for FileFault {
+    fn fmt<W: fmt::Write>(&self, f: &mut fmt::Formatter<W>) -> fmt::Result {
+        match self {
+            FileFault::Missing => write!(f, "E3 Missing"),
+            FileFault::TooLong => write!(f, "E15 TooLong"),
+            FileFault::Presentation(fault) => write!(f, "{fault}"),
+            FileFault::Automaton(fault) => write!(f, "{fault}"),
+            FileFault::NotPlain => write!(f, "E18 AlphabetOther"),
+            FileFault::NotPairs => write!(f, "E20 NotPairs"),
+            FileFault::AlphabetsDiffer => write!(f, "E22 AlphabetsDiffer"),
+        }
+    }
+}
+
+impl fmt::Display for Which {
+    fn fmt<W: fmt::Write>(&self, f: &mut fmt::Formatter<W>) -> fmt::Result {
+        match self {
+            Which::Load(name) => write!(f, "fault load {name}"),
+            Which::Store(name) => write!(f, "fault store {name}"),
+            Which::Input => write!(f, "fault input"),
+            Which::Output => write!(f, "fault output"),
         }
     }
 }
