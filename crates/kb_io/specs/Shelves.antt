@@ -1,6 +1,7 @@
 -- What the shelves over memory hold.
-use Rattle.std.specs.Prelude.{ℕ, List, Option, option_map}
+use Rattle.std.specs.Prelude.{ℕ, List, Option, option_map, true}
 use Rattle.std.specs.BTreeMap.{get_by_text}
+use Rattle.kb_io.specs.States.{ShelfState}
 use Rattle.kb_io.specs.declared.memory.whole_shelf.WholeShelf.{WholeShelf}
 use Rattle.kb_io.specs.declared.memory.mem_shelf.MemShelf.{MemShelf}
 
@@ -17,3 +18,10 @@ loads_to_fail shelf = shelf.loads.numbers.items
 
 abbrev pub stores_to_fail : MemShelf → List ℕ
 stores_to_fail shelf = shelf.stores.numbers.items
+
+-- the states of the shelves over memory
+abbrev pub whole_shelf_state : WholeShelf → ShelfState
+whole_shelf_state shelf = record { told = true; holds = whole_holds shelf; load_faults = 0; store_faults = 0 }
+
+abbrev pub mem_shelf_state : MemShelf → ShelfState
+mem_shelf_state shelf = record { told = true; holds = mem_holds shelf; load_faults = shelf.loads.failed; store_faults = shelf.stores.failed }

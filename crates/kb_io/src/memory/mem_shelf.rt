@@ -24,8 +24,8 @@ impl MemShelf {
         ensures empty { (name : List ℕ) → mem_holds result name ≡ None }
         ensures loads { loads_to_fail result ≡ failing_loads.items }
         ensures stores { stores_to_fail result ≡ failing_stores.items }
-        ensures load_faults { ⟦<MemShelf as Shelf>⟧.load_faults result ≡ 0 }
-        ensures store_faults { ⟦<MemShelf as Shelf>⟧.store_faults result ≡ 0 }
+        ensures load_faults { (⟦<MemShelf as Shelf>⟧.state result).load_faults ≡ 0 }
+        ensures store_faults { (⟦<MemShelf as Shelf>⟧.state result).store_faults ≡ 0 }
     {
         MemShelf {
             shelf: WholeShelf::new(alloc),
@@ -52,15 +52,9 @@ impl MemShelf {
 }
 
 impl Shelf for MemShelf {
-    ghost use Rattle.kb_io.specs.Shelves.{mem_holds};
+    ghost use Rattle.kb_io.specs.Shelves.{mem_shelf_state};
 
-    ghost tells = { λ _. Unit {0} };
-
-    ghost holds = { mem_holds };
-
-    ghost load_faults = { λ shelf. shelf.loads.failed };
-
-    ghost store_faults = { λ shelf. shelf.stores.failed };
+    ghost state = { mem_shelf_state };
 
     fn load(&mut self, alloc: Global, name: &str, max: usize) -> Result<Load, ShelfFault> {
         if self.loads.next_fails() {

@@ -1,6 +1,6 @@
 //! A sink over memory that takes pieces and fails where it is told to.
 
-ghost use Rattle.std.specs.Prelude.{◌≡◌, ◌<◌, []};
+ghost use Rattle.std.specs.Prelude.{◌≡◌, ◌<◌, [], true};
 
 use super::calls::FailingCalls;
 use super::whole_sink::WholeSink;
@@ -55,11 +55,7 @@ impl<R: Wait> MemSink<R> {
 }
 
 impl<R: Wait> Sink for MemSink<R> {
-    ghost tells = { λ _. Unit {0} };
-
-    ghost written = { λ sink. sink.bytes };
-
-    ghost faults = { λ sink. sink.faults };
+    ghost state = { λ sink. record { told = true; written = sink.bytes; faults = sink.faults } };
 
     fn write(&mut self, bytes: &[u8]) -> Result<usize, Failed> {
         if self.calls.next_fails() {

@@ -1,6 +1,6 @@
 //! A source over memory that hands over pieces and fails where it is told to.
 
-ghost use Rattle.std.specs.Prelude.{◌≡◌, ◌<◌};
+ghost use Rattle.std.specs.Prelude.{◌≡◌, ◌<◌, true};
 
 use super::calls::FailingCalls;
 use super::whole_source::WholeSource;
@@ -46,11 +46,7 @@ impl MemSource {
 }
 
 impl Source for MemSource {
-    ghost tells = { λ _. Unit {0} };
-
-    ghost left = { λ source. source.bytes };
-
-    ghost faults = { λ source. source.faults };
+    ghost state = { λ source. record { told = true; left = source.bytes; faults = source.faults } };
 
     fn read(&mut self, buf: &mut [u8]) -> Result<usize, Failed> {
         if self.calls.next_fails() {

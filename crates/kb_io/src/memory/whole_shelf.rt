@@ -48,15 +48,9 @@ impl WholeShelf {
 }
 
 impl Shelf for WholeShelf {
-    ghost use Rattle.kb_io.specs.Shelves.{whole_holds};
+    ghost use Rattle.kb_io.specs.Shelves.{whole_shelf_state};
 
-    ghost tells = { λ _. Unit {0} };
-
-    ghost holds = { whole_holds };
-
-    ghost load_faults = { λ _. 0 };
-
-    ghost store_faults = { λ _. 0 };
+    ghost state = { whole_shelf_state };
 
     fn load(&mut self, alloc: Global, name: &str, max: usize) -> Result<Load, ShelfFault> {
         match self.get(name) {

@@ -1,6 +1,6 @@
 //! A sink over memory that never fails.
 
-ghost use Rattle.std.specs.Prelude.{◌≡◌, ◌++◌, ℕ, List, []};
+ghost use Rattle.std.specs.Prelude.{◌≡◌, ◌++◌, ℕ, List, [], true};
 
 use crate::failed::Failed;
 use crate::sink::Sink;
@@ -53,11 +53,7 @@ impl<R: Wait> WholeSink<R> {
 }
 
 impl<R: Wait> Sink for WholeSink<R> {
-    ghost tells = { λ _. Unit {0} };
-
-    ghost written = { λ sink. sink };
-
-    ghost faults = { λ _. 0 };
+    ghost state = { λ sink. record { told = true; written = sink; faults = 0 } };
 
     fn write(&mut self, bytes: &[u8]) -> Result<usize, Failed> {
         self.append(bytes);

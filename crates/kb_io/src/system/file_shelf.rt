@@ -1,6 +1,6 @@
 //! The files of the system, by their paths.
 
-ghost use Rattle.std.specs.Prelude.{◌≡◌, Some, None, IfOk, IfSome};
+ghost use Rattle.std.specs.Prelude.{◌≡◌, Some, None, IfOk, IfSome, false};
 ghost use Rattle.kb_io.specs.Loading.{LoadGives};
 
 use super::faults::count_fault;
@@ -24,8 +24,8 @@ pub struct FileShelf<R> {
 impl<R: Files + Wait> FileShelf<R> {
     /// The files, of which none has failed.
     pub fn new(rt: R) -> FileShelf<R>
-        ensures loads { ⟦<FileShelf<R> as Shelf>⟧.load_faults result ≡ 0 }
-        ensures stores { ⟦<FileShelf<R> as Shelf>⟧.store_faults result ≡ 0 }
+        ensures loads { (⟦<FileShelf<R> as Shelf>⟧.state result).load_faults ≡ 0 }
+        ensures stores { (⟦<FileShelf<R> as Shelf>⟧.state result).store_faults ≡ 0 }
     {
         FileShelf {
             rt,
@@ -36,13 +36,12 @@ impl<R: Files + Wait> FileShelf<R> {
 }
 
 impl<R: Files + Wait> Shelf for FileShelf<R> {
-    ghost tells = { λ _. ⊥ };
-
-    ghost holds = { λ _ _. None };
-
-    ghost load_faults = { λ shelf. shelf.load_faults };
-
-    ghost store_faults = { λ shelf. shelf.store_faults };
+    ghost state = { λ shelf. record {
+      told = false;
+      holds = λ _. None;
+      load_faults = shelf.load_faults;
+      store_faults = shelf.store_faults;
+    } };
 
     fn load(&mut self, alloc: Global, name: &str, max: usize) -> Result<Load, ShelfFault> {
         match load_file(alloc, &self.rt, name, max) {

@@ -1,6 +1,6 @@
 //! The standard input.
 
-ghost use Rattle.std.specs.Prelude.{◌≡◌, ◌<◌, ◌≤◌, [], IfOk, length, take};
+ghost use Rattle.std.specs.Prelude.{◌≡◌, ◌<◌, ◌≤◌, [], false, IfOk, length, take};
 ghost use Rattle.std.specs.Io.KnownBytes.{Consumes, IsAtEnd};
 
 use super::faults::count_fault;
@@ -20,7 +20,7 @@ pub struct StdIn<R: Input> {
 impl<R: Input + Wait> StdIn<R> {
     /// The standard input, of which nothing was read by this value and nothing has failed.
     pub fn new(rt: R) -> StdIn<R>
-        ensures { ⟦<StdIn<R> as Source>⟧.faults result ≡ 0 }
+        ensures { (⟦<StdIn<R> as Source>⟧.state result).faults ≡ 0 }
     {
         StdIn {
             reader: rt.reader(),
@@ -31,11 +31,7 @@ impl<R: Input + Wait> StdIn<R> {
 }
 
 impl<R: Input + Wait> Source for StdIn<R> {
-    ghost tells = { λ _. ⊥ };
-
-    ghost left = { λ _. [] };
-
-    ghost faults = { λ input. input.faults };
+    ghost state = { λ input. record { told = false; left = []; faults = input.faults } };
 
     fn read(&mut self, buf: &mut [u8]) -> Result<usize, Failed> {
         match read_some(&mut self.reader, buf) {

@@ -1,6 +1,6 @@
 //! The standard output and the standard error.
 
-ghost use Rattle.std.specs.Prelude.{◌≡◌, ◌<◌, ◌≤◌, [], IfOk, length};
+ghost use Rattle.std.specs.Prelude.{◌≡◌, ◌<◌, ◌≤◌, [], false, IfOk, length};
 
 use super::faults::count_fault;
 use crate::failed::Failed;
@@ -18,18 +18,14 @@ pub struct StdOut<R> {
 impl<R: Print + Wait> StdOut<R> {
     /// The standard output, on which nothing has failed.
     pub fn new(rt: R) -> StdOut<R>
-        ensures { ⟦<StdOut<R> as Sink>⟧.faults result ≡ 0 }
+        ensures { (⟦<StdOut<R> as Sink>⟧.state result).faults ≡ 0 }
     {
         StdOut { rt, faults: 0 }
     }
 }
 
 impl<R: Print + Wait> Sink for StdOut<R> {
-    ghost tells = { λ _. ⊥ };
-
-    ghost written = { λ _. [] };
-
-    ghost faults = { λ output. output.faults };
+    ghost state = { λ output. record { told = false; written = []; faults = output.faults } };
 
     fn write(&mut self, bytes: &[u8]) -> Result<usize, Failed> {
         match print_some(&self.rt, bytes) {
@@ -53,7 +49,7 @@ pub struct StdErr<E, R> {
 impl<E: Print, R: Wait> StdErr<E, R> {
     /// The standard error, on which nothing has failed.
     pub fn new(stream: E, rt: R) -> StdErr<E, R>
-        ensures { ⟦<StdErr<E, R> as Sink>⟧.faults result ≡ 0 }
+        ensures { (⟦<StdErr<E, R> as Sink>⟧.state result).faults ≡ 0 }
     {
         StdErr {
             stream,
@@ -64,11 +60,7 @@ impl<E: Print, R: Wait> StdErr<E, R> {
 }
 
 impl<E: Print, R: Wait> Sink for StdErr<E, R> {
-    ghost tells = { λ _. ⊥ };
-
-    ghost written = { λ _. [] };
-
-    ghost faults = { λ output. output.faults };
+    ghost state = { λ output. record { told = false; written = []; faults = output.faults } };
 
     fn write(&mut self, bytes: &[u8]) -> Result<usize, Failed> {
         match print_some(&self.stream, bytes) {
