@@ -14,3 +14,7 @@ pub record Stream : Type 0 where
   pub bytes : List ℕ
   pub failing : List ℕ
   pub faults : ℕ
+
+-- the byte that ends a line
+abbrev pub newline : ℕ
+newline = 10

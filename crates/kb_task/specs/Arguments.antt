@@ -1,5 +1,5 @@
 -- Arguments and options of commands, by clap's own definition of what a command takes.
-use Rattle.std.specs.Prelude.{◌≡◌, ◌≤◌, ℕ, pos, true, List, [], ◌∷◌, Option, Some, codes, slice_get}
+use Rattle.std.specs.Prelude.{◌≡◌, ◌≤◌, ℕ, pos, true, List, [], ◌∷◌, Option, Some, None, codes, slice_get}
 use Rattle.std.specs.Str.Parse.{IsNumeral, digits_value}
 use Rattle.clap.specs.Words.{Row, Rule, Text, first_of, new_rule}
 use Rattle.clap.specs.declared.builder.action.ArgAction.TheVariants.{Set}
@@ -59,6 +59,17 @@ GivesText rows name text = first_of name rows ≡ Some text
 abbrev pub GivesStates : List Row → ℕ → Type 0
 GivesStates rows n = GivesNumber rows (codes "max-states") 1 4000000 n
 
--- clap entered the subcommand of this name, and its arguments and options say so
-abbrev pub IsEntered : Option (Text × List Row) → Text → (List Row → Type 0) → Type 0
-IsEntered entered name Say = (rows : List Row) × (entered ≡ Some (name, rows)) × Say rows
+-- the subcommand that clap entered, with what its arguments and options give
+abbrev pub Entered : Type 0
+Entered = Option (Text × List Row)
+
+-- the subcommand of this name was entered, and its arguments and options are so
+pub record IsEntered (entered : Entered) (name : Text) (AreSo : List Row → Type 0) : Type 0 where
+  pub rows : List Row
+  pub is : entered ≡ Some (name, rows)
+  pub so : AreSo rows
+
+-- what is read of the subcommand that was entered: the command that it is, or none where it is none of these
+abbrev pub ReadsAs : {Task : Type 0} → (Entered → Task → Type 0) → Entered → Option Task → Type 0
+ReadsAs IsCommand entered (Some task) = IsCommand entered task
+ReadsAs {Task} IsCommand entered None = (task : Task) → ¬ IsCommand entered task

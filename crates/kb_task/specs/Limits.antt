@@ -1,13 +1,10 @@
 -- Limits that are reached, and the lines that name them.
 use Rattle.std.specs.Prelude.{◌≡◌, ℕ, List, [], ◌∷◌, ◌++◌, codes}
+use Rattle.kb_io.specs.Bytes.{newline}
 use Rattle.kb_task.specs.declared.status.Limit.{Limit}
 use Rattle.kb_task.specs.declared.status.Limit.TheVariants.{States}
 use Rattle.kb_task.specs.declared.status.Construction.{Construction}
 use Rattle.kb_task.specs.declared.status.Construction.TheVariants.{And, Or, Not, Exists, Concat, Star, Reverse, Equal}
-
--- the byte that ends a line
-abbrev pub newline : ℕ
-newline = 10
 
 -- what a construction is called
 abbrev pub construction_name : Construction → List ℕ

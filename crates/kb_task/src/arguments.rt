@@ -1,20 +1,87 @@
-//! What the words give under the name of an argument or an option.
+//! Arguments and options that commands take, and what is given for them.
 
-ghost use Rattle.std.specs.Prelude.{◌≡◌, ◌<◌, ◌^◌, ℕ, IfSome, None, option_map};
-ghost use Rattle.clap.specs.Words.{first_of, found_of, rows_of};
-ghost use Rattle.kb_cli.specs.CommandLine.{GivesNumber, IsNumber, IsNumberWithin};
+ghost use Rattle.std.specs.Prelude.{◌≡◌, ◌<◌, ◌^◌, ℕ, IfSome, None, option_map, false};
+ghost use Rattle.clap.specs.Words.{first_of, found_of, rows_of, rule_of};
+ghost use Rattle.kb_task.specs.Arguments.{GivesNumber, GivesStates, IsNumber, IsNumberWithin, needed_rule, length_rule, states_rule, workers_rule};
 
-use clap::ArgMatches;
+use clap::{Arg, ArgAction, ArgMatches, value_parser};
+use std::alloc::Global;
+
+/// An argument that must be there.
+pub fn needed_argument<'a>(
+    alloc: Global,
+    id: &'a str,
+    value_name: &'a str,
+    help: &'a str,
+) -> Arg<'a>
+    ensures rule { rule_of result ≡ needed_rule id.entry.now }
+    ensures local { result.global ≡ false }
+{
+    Arg::new(alloc, id)
+        .value_name(value_name)
+        .required(true)
+        .action(ArgAction::Set)
+        .help(help)
+}
+
+/// An argument that is a length of words, 0 to 65,535.
+pub fn length_argument<'a>(
+    alloc: Global,
+    id: &'a str,
+    value_name: &'a str,
+    help: &'a str,
+) -> Arg<'a>
+    ensures rule { rule_of result ≡ length_rule id.entry.now }
+    ensures local { result.global ≡ false }
+{
+    needed_argument(alloc, id, value_name, help).value_parser(value_parser!(u16))
+}
+
+/// The option `--max-states N`.
+pub fn states_option<'a>(alloc: Global) -> Arg<'a>
+    ensures rule { rule_of result ≡ states_rule }
+    ensures local { result.global ≡ false }
+{
+    Arg::new(alloc, "max-states")
+        .long("max-states")
+        .value_name("N")
+        .default_value("262144")
+        .action(ArgAction::Set)
+        .value_parser(value_parser!(u32).range(1..=4_000_000))
+        .help("The most states that the construction may have, 1 to 4000000")
+}
+
+/// The option `--workers N`.
+pub fn workers_option<'a>(alloc: Global) -> Arg<'a>
+    ensures rule { rule_of result ≡ workers_rule }
+    ensures local { result.global ≡ false }
+{
+    Arg::new(alloc, "workers")
+        .long("workers")
+        .value_name("N")
+        .default_value("4")
+        .action(ArgAction::Set)
+        .value_parser(value_parser!(u32).range(1..=64))
+        .help("Number of threads, 1 to 64 (no effect yet)")
+}
 
 /// The text that is given under the name.
-pub(super) fn text_given<'a>(matches: &ArgMatches<'a>, name: &str) -> Option<&'a str>
+pub fn text_given<'a>(matches: &ArgMatches<'a>, name: &str) -> Option<&'a str>
     ensures { option_map (λ text. text.now) result ≡ first_of name.now (rows_of (found_of matches.now)) }
 {
     matches.get_str(name)
 }
 
+/// The most states that a construction may have, as `--max-states` gives them.
+pub fn states_given(matches: &ArgMatches<'_>) -> Option<u32>
+    ensures some { IfSome result (GivesStates (rows_of (found_of matches.now))) }
+    ensures none { result ≡ None → (n : ℕ) → ¬ GivesStates (rows_of (found_of matches.now)) n }
+{
+    number_given(matches, "max-states", 1, 4_000_000)
+}
+
 /// The number from `least` to `most` that is given under the name.
-pub(super) fn number_given(
+pub fn number_given(
     matches: &ArgMatches<'_>,
     name: &str,
     least: u32,
@@ -27,7 +94,7 @@ pub(super) fn number_given(
 }
 
 /// The length of words that is given under the name.
-pub(super) fn length_given(matches: &ArgMatches<'_>, name: &str) -> Option<u16>
+pub fn length_given(matches: &ArgMatches<'_>, name: &str) -> Option<u16>
     ensures some { IfSome result (λ length. GivesNumber (rows_of (found_of matches.now)) name.now 0 65535 length) }
     ensures none { result ≡ None → (n : ℕ) → ¬ GivesNumber (rows_of (found_of matches.now)) name.now 0 65535 n }
 {
