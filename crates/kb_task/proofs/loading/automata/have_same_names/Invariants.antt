@@ -1,5 +1,5 @@
 use Rattle.std.proofs.Common.{◌≡◌, ℕ, ◌<◌, length, slice_get}
-use Rattle.kb_cli.proofs.loading.have_same.Given as goal
+use Rattle.kb_task.proofs.loading.automata.have_same_names.Given as goal
 
 -- the names so far are the same
 abbrev pub invariant-loop-place : goal.invariant-loop-place

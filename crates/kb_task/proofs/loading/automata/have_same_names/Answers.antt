@@ -1,6 +1,6 @@
 use Rattle.std.proofs.Common.{refl, arith}
-use Rattle.kb_cli.proofs.LoadLemmas.{same_places}
-use Rattle.kb_cli.proofs.loading.have_same.Goals as goal
+use Rattle.kb_task.proofs.LoadLemmas.{same_places}
+use Rattle.kb_task.proofs.loading.automata.have_same_names.Goals as goal
 
 pub returns : goal.returns
 returns c = (

@@ -1,5 +1,5 @@
 use Rattle.std.proofs.Common.{rules, ◌≡◌, None}
-use Rattle.kb_cli.proofs.command_line.given.length_given.Goals as goal
+use Rattle.kb_task.proofs.arguments.length_given.Goals as goal
 
 pub returns-in_err-length-clause-none : goal.returns-in_err-length-clause-none
 returns-in_err-length-clause-none c _ n gives =
