@@ -6,6 +6,7 @@ ghost use Rattle.kb_io.specs.States.{ShelfState, ShelfGoesOn, HoldsSame, HoldsSa
 ghost use Rattle.kb_io.specs.declared.shelf.ShelfFault.{ShelfFault};
 ghost use Rattle.kb_io.specs.declared.shelf.ShelfFault.TheVariants.{Failed, Memory};
 
+use crate::failed::Failed as StreamFailed;
 use std::alloc::{AllocError, AllocFailed, Global};
 use std::{fmt, io};
 
@@ -53,6 +54,14 @@ impl<T: Drop> From<AllocFailed<T>> for ShelfFault {
 
     fn from(_: AllocFailed<T>) -> ShelfFault {
         ShelfFault::Memory
+    }
+}
+
+impl From<StreamFailed> for ShelfFault {
+    ghost from_gives = { λ _ fault. fault ≡ Failed };
+
+    fn from(_: StreamFailed) -> ShelfFault {
+        ShelfFault::Failed
     }
 }
 

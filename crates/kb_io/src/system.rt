@@ -5,6 +5,7 @@
 
 mod faults;
 mod file_shelf;
+mod retry;
 mod std_in;
 mod std_out;
 
