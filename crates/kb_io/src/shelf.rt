@@ -75,26 +75,32 @@ impl From<io::Error> for ShelfFault {
 
 /// Byte strings under names, each of which is loaded and stored as a whole.
 ///
-/// Its state is whether contracts know its bytes (`told`), what is held under each name where they do (`holds`), and
-/// how many loads and how many stores have failed (`load_faults`, `store_faults`); neither count ever falls.
+/// Its state is whether contracts know its bytes (`told`), what is held under each name where they do
+/// (`holds`), and how many loads and how many stores have failed (`load_faults`, `store_faults`);
+/// neither count ever falls.
 pub trait Shelf {
     ghost state: { Self → ShelfState };
 
     /// The bytes under the name, if it has at most so many.
     fn load(&mut self, alloc: Global, name: &str, max: usize) -> Result<Load, ShelfFault>
-        ensures loaded { IsTrue (state self.old).told → IfOk result (LoadGives ((state self.old).holds name.now) max) }
+        ensures loaded { IsTrue (state self.old).told
+            → IfOk result (LoadGives ((state self.old).holds name.now) max) }
         ensures unchanged { HoldsSame (state self.old) (state self.new) }
         ensures goes_on { ShelfGoesOn (state self.old) (state self.new) }
-        ensures failed { result ≡ Err ShelfFault.Failed → (state self.old).load_faults < (state self.new).load_faults }
+        ensures failed { result ≡ Err ShelfFault.Failed
+            → (state self.old).load_faults < (state self.new).load_faults }
         ensures stores { (state self.new).store_faults ≡ (state self.old).store_faults };
 
-    /// Puts the bytes under the name, in place of what was held there. After `Failed` the content under the name is
-    /// unspecified. Where memory ran out nothing changed.
+    /// Puts the bytes under the name, in place of what was held there. After `Failed` the content under
+    /// the name is unspecified. Where memory ran out nothing changed.
     fn store(&mut self, alloc: Global, name: &str, bytes: &[u8]) -> Result<(), ShelfFault>
-        ensures stored { IsTrue (state self.old).told → OnOk result ((state self.new).holds name.now ≡ Some bytes.now) }
+        ensures stored { IsTrue (state self.old).told
+            → OnOk result ((state self.new).holds name.now ≡ Some bytes.now) }
         ensures others { HoldsSameBut name.now (state self.old) (state self.new) }
-        ensures unchanged { result ≡ Err ShelfFault.Memory → HoldsSame (state self.old) (state self.new) }
+        ensures unchanged { result ≡ Err ShelfFault.Memory
+            → HoldsSame (state self.old) (state self.new) }
         ensures goes_on { ShelfGoesOn (state self.old) (state self.new) }
-        ensures failed { result ≡ Err ShelfFault.Failed → (state self.old).store_faults < (state self.new).store_faults }
+        ensures failed { result ≡ Err ShelfFault.Failed
+            → (state self.old).store_faults < (state self.new).store_faults }
         ensures loads { (state self.new).load_faults ≡ (state self.old).load_faults };
 }

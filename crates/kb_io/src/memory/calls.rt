@@ -35,7 +35,8 @@ impl FailingCalls {
         }
     }
 
-    /// Counts one more call, and returns whether it fails. A call past the last number does not fail.
+    /// Counts one more call, at most 2 ^ 64 - 1 in all, and returns whether it fails. A call past those
+    /// does not fail.
     pub fn next_fails(&mut self) -> bool
         ensures { CountsCall result self.old self.new }
     {

@@ -1,6 +1,6 @@
 //! A shelf over memory that never fails.
 
-ghost use Rattle.std.specs.Prelude.{◌≡◌, ℕ, List, Option, Some, None, IsOkUnless, IfOk, OnOk, OnErr, option_map};
+ghost use Rattle.std.specs.Prelude.{◌≡◌, ℕ, List, Option, Some, None, OnOk, OnErr, option_map};
 ghost use Rattle.kb_io.specs.States.{HoldsSame, HoldsSameBut};
 
 use crate::shelf::{Load, Shelf, ShelfFault};

@@ -90,7 +90,7 @@ fn read_up_to<F: Read>(alloc: Global, from: &mut F, max: usize) -> Result<Load, 
 }
 
 /// Writes the bytes to a new file beside, and moves that to the name, so that a store that fails
-/// half-way leaves what stood there. What is no plain file, as a device, is written to itself.
+/// half-way leaves what was there. What is no plain file, as a device, is written to itself.
 fn store_file<R: Files>(alloc: Global, rt: &R, name: &str, bytes: &[u8]) -> Result<(), ShelfFault> {
     if is_special(rt, name) {
         return Ok(fs::write(rt, name, bytes)?);
@@ -103,7 +103,7 @@ fn store_file<R: Files>(alloc: Global, rt: &R, name: &str, bytes: &[u8]) -> Resu
     Ok(())
 }
 
-/// Whether something stands under the name that is no plain file.
+/// Whether there is something under the name that is no plain file.
 fn is_special<R: Files>(rt: &R, name: &str) -> bool {
     fs::metadata(rt, name).is_ok_and(|metadata| !metadata.is_file())
 }
