@@ -1,6 +1,6 @@
 use Rattle.std.proofs.Common.{◌≡◌, length}
 use Rattle.std.specs.Io.KnownBytes.{Keeps}
-use Rattle.kb_io.proofs.system.std_in.read_some.Given as goal
+use Rattle.kb_io.proofs.system.retry.read_some.Given as goal
 
 -- a read that was cut short took nothing
 abbrev pub invariant-loop : goal.invariant-loop
