@@ -1,0 +1,3 @@
+pub mod ArgumentLemmas
+pub mod LoadEnds
+pub mod RunLemmas
