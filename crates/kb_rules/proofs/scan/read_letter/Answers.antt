@@ -4,7 +4,7 @@ use Rattle.kb_word.specs.Rewriting.{IsIrreducible}
 use Rattle.kb_rules.specs.Ending.{IsFirstEnding, NoneEnds}
 use Rattle.kb_rules.proofs.Endings.{irreducible_more}
 use Rattle.kb_rules.proofs.Scanning.{OnOk_then, cut_is, cut_irreducible, cut_reads, cut_range, ending_cut}
-use Rattle.kb_rules.proofs.scan.read.Goals as goal
+use Rattle.kb_rules.proofs.scan.read_letter.Goals as goal
 
 pub returns-in-None-clause-irreducible : goal.returns-in-None-clause-irreducible
 returns-in-None-clause-irreducible c =
