@@ -5,7 +5,7 @@ use std::io;
 use thiserror::Error;
 
 /// What is wrong with a section of a file of cases.
-#[derive(Clone, Copy, Debug, PartialEq, Eq, Error)]
+#[derive(Clone, Copy, Debug, Error)]
 pub(crate) enum Mistake {
     #[error("no memory")]
     Memory,

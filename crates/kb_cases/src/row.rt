@@ -23,28 +23,47 @@ pub(crate) struct Row {
 
 /// The rows of a case: those below `each`, or the numbers from one to another. A case without has one row of no columns.
 pub(crate) fn rows(alloc: Global, draft: &Draft) -> Result<Vec<Row>, Stop> {
-    let mut rows = Vec::new(alloc);
-    match draft.heading() {
-        None => rows.push(Row {
+    let Some(heading) = draft.heading() else {
+        let mut rows = Vec::new(alloc);
+        rows.push(Row {
             line: draft.line,
             shows: String::from_str(alloc, draft.shows)?,
             columns: Vec::new(alloc),
-        })?,
-        Some(heading) => match heading.argument.split_once(" from ") {
-            Some((name, range)) => {
-                let range = on_line(heading.line, range_of(range))?;
-                for number in range.first..=range.last {
-                    rows.push(counted(alloc, draft, heading.line, name, number)?)?;
-                }
-            }
-            None => {
-                for line in &heading.block {
-                    if !line.text.is_empty() {
-                        rows.push(on_line(line.number, listed(alloc, draft, heading, *line))?)?;
-                    }
-                }
-            }
-        },
+        })?;
+        return Ok(rows);
+    };
+    match heading.argument.split_once(" from ") {
+        Some((name, range)) => {
+            let range = on_line(heading.line, range_of(range))?;
+            counted_rows(alloc, draft, heading.line, name, range)
+        }
+        None => listed_rows(alloc, draft, heading),
+    }
+}
+
+/// A row for each line below the heading that is not empty.
+fn listed_rows(alloc: Global, draft: &Draft, heading: &Section) -> Result<Vec<Row>, Stop> {
+    let mut rows = Vec::new(alloc);
+    for line in &heading.block {
+        if !line.text.is_empty() {
+            let row = on_line(line.number, listed(alloc, draft, heading, *line))?;
+            rows.push(row)?;
+        }
+    }
+    Ok(rows)
+}
+
+/// A row for each number of the range.
+fn counted_rows(
+    alloc: Global,
+    draft: &Draft,
+    line: usize,
+    name: &str,
+    range: Range,
+) -> Result<Vec<Row>, Stop> {
+    let mut rows = Vec::new(alloc);
+    for number in range.first..=range.last {
+        rows.push(counted(alloc, draft, line, name, number)?)?;
     }
     Ok(rows)
 }
