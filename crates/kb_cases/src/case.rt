@@ -91,7 +91,7 @@ impl Case {
         texts: &[Named],
     ) -> Result<(), Mistake> {
         let alloc = rt.alloc();
-        match section.keyword {
+        match section.keyword.as_str() {
             "each" => {}
             "kb" => {
                 self.has_command = true;
@@ -100,7 +100,7 @@ impl Case {
             "file" => self.files.push(named(rt, section, texts)?)?,
             "input" => self.input = text_of(rt, section, texts)?,
             "pieces" => self.devices.piece = one_number(&line_of(rt, section, texts)?)?,
-            "fails" => self.devices.add(alloc, section.argument)?,
+            "fails" => self.devices.add(alloc, section.argument.as_str())?,
             "status" => self
                 .wanted
                 .set_status(alloc, &line_of(rt, section, texts)?)?,
@@ -123,7 +123,7 @@ fn line_of<R: Files + AllocGlobal>(
         let line = text_of(rt, section, texts)?;
         return tokens(rt.alloc(), as_text(line.as_slice())?);
     }
-    tokens(rt.alloc(), section.argument)
+    tokens(rt.alloc(), section.argument.as_str())
 }
 
 /// The words of a command line.
@@ -141,7 +141,7 @@ fn named<R: Files + AllocGlobal>(
     section: &Section,
     texts: &[Named],
 ) -> Result<Named, Mistake> {
-    let name = section.argument;
+    let name = section.argument.as_str();
     if name.is_empty() {
         return Err(Mistake::NoName);
     }

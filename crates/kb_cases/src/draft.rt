@@ -9,18 +9,18 @@ use std::rt::Files;
 
 /// The sections of a case.
 #[derive(Drop)]
-pub(crate) struct Draft<'a> {
+pub(crate) struct Draft {
     /// The line on which the case begins.
     pub line: usize,
     /// What it shows.
-    pub shows: &'a str,
+    pub shows: String,
     /// The sections below its first line.
-    pub sections: Vec<Section<'a>>,
+    pub sections: Vec<Section>,
 }
 
-impl<'a> Draft<'a> {
+impl Draft {
     /// A case that begins with this section.
-    pub(crate) fn begun(alloc: Global, section: &Section<'a>) -> Draft<'a> {
+    pub(crate) fn begun(alloc: Global, section: Section) -> Draft {
         Draft {
             line: section.line,
             shows: section.argument,
@@ -29,10 +29,10 @@ impl<'a> Draft<'a> {
     }
 
     /// The section with the rows.
-    pub(crate) fn heading(&self) -> Option<&Section<'a>> {
+    pub(crate) fn heading(&self) -> Option<&Section> {
         self.sections
             .iter()
-            .find(|section| section.keyword == "each")
+            .find(|section| section.keyword.as_str() == "each")
     }
 
     /// The case that these sections are, by texts that have a name.

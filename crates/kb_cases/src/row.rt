@@ -27,7 +27,7 @@ pub(crate) fn rows(alloc: Global, draft: &Draft) -> Result<Vec<Row>, Stop> {
         let mut rows = Vec::new(alloc);
         rows.push(Row {
             line: draft.line,
-            shows: String::from_str(alloc, draft.shows)?,
+            shows: draft.shows.clone()?,
             columns: Vec::new(alloc),
         })?;
         return Ok(rows);
@@ -46,7 +46,7 @@ fn listed_rows(alloc: Global, draft: &Draft, heading: &Section) -> Result<Vec<Ro
     let mut rows = Vec::new(alloc);
     for line in &heading.block {
         if !line.text.is_empty() {
-            let row = on_line(line.number, listed(alloc, draft, heading, *line))?;
+            let row = on_line(line.number, listed(alloc, draft, heading, line))?;
             rows.push(row)?;
         }
     }
@@ -105,7 +105,7 @@ fn counted(
 }
 
 /// The row on a line.
-fn listed(alloc: Global, draft: &Draft, heading: &Section, line: Line) -> Result<Row, Mistake> {
+fn listed(alloc: Global, draft: &Draft, heading: &Section, line: &Line) -> Result<Row, Mistake> {
     let mut columns = Vec::new(alloc);
     let mut names = heading.argument.split(BETWEEN);
     for column in line.text.split(BETWEEN) {

@@ -41,10 +41,10 @@ pub(crate) fn try_file<R: Files + AllocGlobal + Print + Wait>(
             differing: 0,
         },
     };
-    let mut draft: Option<Draft<'_>> = None;
+    let mut draft: Option<Draft> = None;
     for section in sections(alloc, text.as_str())? {
-        match section.keyword {
-            "case" => suite.end(rt, draft.replace(Draft::begun(alloc, &section)))?,
+        match section.keyword.as_str() {
+            "case" => suite.end(rt, draft.replace(Draft::begun(alloc, section)))?,
             "text" => {
                 suite.end(rt, draft.take())?;
                 suite.add_text(rt, &section)?;
@@ -57,7 +57,7 @@ pub(crate) fn try_file<R: Files + AllocGlobal + Print + Wait>(
 }
 
 /// Adds a section to the case that is begun.
-fn add_section<'a>(draft: &mut Option<Draft<'a>>, section: Section<'a>) -> Result<(), Stop> {
+fn add_section(draft: &mut Option<Draft>, section: Section) -> Result<(), Stop> {
     match draft {
         Some(draft) => {
             draft.sections.push(section)?;
@@ -72,7 +72,7 @@ impl Suite {
     fn add_text<R: Files + AllocGlobal>(&mut self, rt: &R, section: &Section) -> Result<(), Stop> {
         let bytes = on_line(section.line, text_of(rt, section, self.texts.as_slice()))?;
         self.texts
-            .push(Named::new(rt.alloc(), section.argument, bytes)?)?;
+            .push(Named::new(rt.alloc(), section.argument.as_str(), bytes)?)?;
         Ok(())
     }
 
@@ -80,7 +80,7 @@ impl Suite {
     fn end<R: Files + AllocGlobal + Print + Wait>(
         &mut self,
         rt: &R,
-        draft: Option<Draft<'_>>,
+        draft: Option<Draft>,
     ) -> Result<(), Stop> {
         let Some(draft) = draft else {
             return Ok(());

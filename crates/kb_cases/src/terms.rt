@@ -15,9 +15,9 @@ pub(crate) fn text_of<R: Files + AllocGlobal>(
     section: &Section,
     texts: &[Named],
 ) -> Result<Vec<u8>, Mistake> {
-    match section.terms {
+    match &section.terms {
         Some(_) if !section.block.is_empty() => Err(Mistake::TwoTexts),
-        Some(terms) => evaluate(rt, terms, texts),
+        Some(terms) => evaluate(rt, terms.as_str(), texts),
         None => lines_of(rt.alloc(), section),
     }
 }
