@@ -90,24 +90,66 @@ impl Case {
         section: &Section,
         texts: &[Named],
     ) -> Result<(), Mistake> {
-        let alloc = rt.alloc();
         match section.keyword.as_str() {
-            "each" => {}
+            "each" => Ok(()),
+            "kb" | "pieces" | "status" | "fails" => self.add_line(rt, section, texts),
+            "file" | "stored" => self.add_file(rt, section, texts),
+            "input" | "out" | "err" => self.add_text(rt, section, texts),
+            _ => Err(Mistake::Keyword),
+        }
+    }
+
+    /// Adds what a section of one line says.
+    fn add_line<R: Files + AllocGlobal>(
+        &mut self,
+        rt: &R,
+        section: &Section,
+        texts: &[Named],
+    ) -> Result<(), Mistake> {
+        let tokens = line_of(rt, section, texts)?;
+        match section.keyword.as_str() {
             "kb" => {
                 self.has_command = true;
-                self.words = words(alloc, &line_of(rt, section, texts)?)?;
+                self.words = words(rt.alloc(), &tokens)?;
+                Ok(())
             }
-            "file" => self.files.push(named(rt, section, texts)?)?,
-            "input" => self.input = text_of(rt, section, texts)?,
-            "pieces" => self.devices.piece = one_number(&line_of(rt, section, texts)?)?,
-            "fails" => self.devices.add(alloc, section.argument.as_str())?,
-            "status" => self
-                .wanted
-                .set_status(alloc, &line_of(rt, section, texts)?)?,
-            "out" => self.wanted.out = text_of(rt, section, texts)?,
-            "err" => self.wanted.err = Some(text_of(rt, section, texts)?),
-            "stored" => self.wanted.stored.push(named(rt, section, texts)?)?,
-            _ => return Err(Mistake::Keyword),
+            "status" => self.wanted.set_status(rt.alloc(), &tokens),
+            "pieces" => {
+                self.devices.piece = one_number(&tokens)?;
+                Ok(())
+            }
+            _ => self.devices.add(rt.alloc(), section.argument.as_str()),
+        }
+    }
+
+    /// Adds a file that is there, or one that has to be stored.
+    fn add_file<R: Files + AllocGlobal>(
+        &mut self,
+        rt: &R,
+        section: &Section,
+        texts: &[Named],
+    ) -> Result<(), Mistake> {
+        let file = named(rt, section, texts)?;
+        if section.keyword.as_str() == "file" {
+            self.files.push(file)?;
+        } else {
+            self.wanted.stored.push(file)?;
+        }
+        Ok(())
+    }
+
+    /// Adds the text of a stream.
+    fn add_text<R: Files + AllocGlobal>(
+        &mut self,
+        rt: &R,
+        section: &Section,
+        texts: &[Named],
+    ) -> Result<(), Mistake> {
+        let text = text_of(rt, section, texts)?;
+        match section.keyword.as_str() {
+            "input" => self.input = text,
+            "out" => self.wanted.out = text,
+            _ => self.wanted.err = Some(text),
         }
         Ok(())
     }
