@@ -21,6 +21,7 @@ pub mod OneToken
 pub mod Lexings
 pub mod TokenFronts
 pub mod Shallow
+pub mod WordFaults
 pub mod WordMeanings
 pub mod PrintedPieces
 pub mod Numerals

@@ -60,7 +60,8 @@ mod words;
 pub use error::{RecordError, WordError};
 pub use laws::{
     a_printed_text_is_read_again, a_shallow_text_is_not_too_deep, a_shallow_word_is_not_too_deep,
-    a_text_has_one_tree, a_word_has_one_tree, what_is_read_can_be_printed,
+    a_text_has_one_tree, a_word_has_one_meaning, a_word_has_one_tree, a_word_that_is_read_has_no_fault,
+    a_word_that_is_read_is_not_refused, what_is_read_can_be_printed,
 };
 pub use lexer::is_blank;
 pub use meaning::word_of;

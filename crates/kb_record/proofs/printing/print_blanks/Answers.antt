@@ -1,7 +1,7 @@
 use Rattle.std.proofs.Common.{◌≡◌, ◌++◌, ◌∙◌, ℕ, List}
 use Rattle.kb_record.specs.Layout.{indent}
 use Rattle.kb_record.proofs.PrintedPieces.{on_err, indent_goes}
-use Rattle.kb_record.proofs.printing.print_indent.Goals as goal
+use Rattle.kb_record.proofs.printing.print_blanks.Goals as goal
 
 pub returns-in_err-extend_from_slice-clause-kept : goal.returns-in_err-extend_from_slice-clause-kept
 returns-in_err-extend_from_slice-clause-kept c =
