@@ -1,6 +1,6 @@
 -- What a reading tells of the tokens: the tree that it gives has them, and a bracket that is too deep stands in a front of some tree's tokens.
 use Rattle.std.proofs.Common.{◌≡◌, ℕ, ◌+◌, ◌≤◌, List, [], ◌++◌, refl, sym, ap, ◌∙◌, subst, arith, append_assoc, append-nil}
-use Rattle.kb_record.specs.Token.{Token}
+use Rattle.kb_lexing.specs.Token.{Token}
 use Rattle.kb_record.specs.Nesting.{open_behind}
 use Rattle.kb_record.specs.Reading.{Reading, read, unexpected, too_deep, reading_map}
 

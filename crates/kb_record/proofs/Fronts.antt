@@ -1,6 +1,6 @@
 -- Fronts of words and texts.
 use Rattle.std.proofs.Common.{◌≡◌, ℕ, ◌≤◌, List, [], ◌∷◌, ◌++◌, sym, ◌∙◌, subst, arith, append-nil, ⊎_elim}
-use Rattle.kb_record.specs.Token.{Token, semicolon}
+use Rattle.kb_lexing.specs.Token.{Token, semicolon}
 use Rattle.kb_record.specs.Tree.{Factors, TextTree, record_value}
 use Rattle.kb_record.specs.Grammar.{IsText, IsWordText, word_tokens}
 use Rattle.kb_record.specs.Nesting.{open_behind, word_nesting, text_nesting}

@@ -14,12 +14,6 @@ pub mod ValueForms
 pub mod Views
 pub mod Whole
 pub mod Within
-pub mod FirstTokens
-pub mod LongestFronts
-pub mod Values
-pub mod OneToken
-pub mod Lexings
-pub mod TokenFronts
 pub mod Shallow
 pub mod WordFaults
 pub mod WordMeanings

@@ -1,6 +1,6 @@
 -- What stands where a mark was passed.
 use Rattle.std.proofs.Common.{◌≡◌, ◌<◌, List, [], ◌∷◌, length, Bool, true, false, if◌then◌else◌, Some, None, refl, ap, arith}
-use Rattle.kb_record.specs.Token.{Token, assign, open_round, close_round, open_square, close_square, comma, semicolon, star, caret, dots, rec_word}
+use Rattle.kb_lexing.specs.Token.{Token, assign, open_round, close_round, open_square, close_square, comma, semicolon, star, caret, dots, rec_word}
 use Rattle.kb_record.specs.Reading.{is_mark, behind}
 use Rattle.kb_record.specs.declared.cursor.Mark.{Mark}
 use Rattle.kb_record.specs.declared.cursor.Mark.TheVariants.{Assign, OpenRound, CloseRound, OpenSquare, CloseSquare, Comma, Semicolon, Star, Caret, Dots, Rec}

@@ -1,7 +1,7 @@
 -- Items in a row, one at a time.
 use Rattle.std.proofs.Common.{◌≡◌, ℕ, zero, suc, ◌-◌, ◌<◌, List, [], ◌∷◌, ◌++◌, map, length, Bool, true, false, if◌then◌else◌, Option, Some, None, Result, Err, refl, sym, ap, ◌∙◌, subst, arith, append_assoc}
 use Rattle.std.proofs.lemmas.List.{map-append}
-use Rattle.kb_record.specs.Token.{Token}
+use Rattle.kb_lexing.specs.Token.{Token}
 use Rattle.kb_record.specs.Reading.{Reading, read, unexpected, too_deep, Parse, and_then, reading_map, Reads, joined, behind, passes, passes_to, passes_comma, comma_unless, past}
 use Rattle.kb_record.specs.declared.cursor.Mark.{Mark}
 use Rattle.kb_record.specs.declared.cursor.Mark.TheVariants.{Comma}

@@ -1,6 +1,6 @@
 -- What reading a value tells of the tokens.
 use Rattle.std.proofs.Common.{◌≡◌, ℕ, zero, suc, ◌+◌, ◌-◌, max, ℤ, List, [], ◌∷◌, ◌++◌, Bool, true, false, if◌then◌else◌, Option, Some, None, refl, sym, ap, ◌∙◌, subst, arith, append_assoc, append-nil}
-use Rattle.kb_record.specs.Token.{Token, name, number, string, assign, open_round, close_round, open_square, close_square, comma, dots, rec_word}
+use Rattle.kb_lexing.specs.Token.{Token, name, number, string, assign, open_round, close_round, open_square, close_square, comma, dots, rec_word}
 use Rattle.kb_record.specs.Tree.{Value, number_value, string_value, record_value, list_value, range_value, word_value, no_places}
 use Rattle.kb_record.specs.Grammar.{word_tokens, value_tokens, field_tokens, more_fields, place_tokens, more_places, IsValue, AreFields, ArePlaces, IsPlaceList}
 use Rattle.kb_record.specs.Nesting.{open_behind, value_nesting, fields_nesting, places_nesting}

@@ -4,16 +4,16 @@ use Rattle.std.specs.Prelude.{slice_get, IsTrue, unwrap_or}
 use Rattle.std.proofs.lemmas.List.{take-map, take-append-drop, length-append, length-map}
 use Rattle.std.proofs.lemmas.Option.{slice_get-get_or}
 use Rattle.std.proofs.Math.Seq.{take-append_seam}
-use Rattle.kb_record.specs.Token.{Token, name, assign, semicolon, rec_word, open_round, close_round}
-use Rattle.kb_record.specs.Spelling.{TokensOf}
+use Rattle.kb_lexing.specs.Token.{Token, name, assign, semicolon, rec_word, open_round, close_round}
+use Rattle.kb_lexing.specs.Spelling.{TokensOf}
 use Rattle.kb_record.specs.Tree.{Factors, Value, Fields, TextTree}
 use Rattle.kb_record.specs.Grammar.{IsText, IsWordText, TextOf, WordOf, AreFields, word_tokens, field_tokens}
 use Rattle.kb_record.specs.Nesting.{deepest, open_behind, word_nesting, text_nesting, fields_nesting, IsTooDeep}
 use Rattle.kb_record.specs.Faults.{HasTextFault, HasTreeFault}
 use Rattle.kb_record.specs.View.{word_view, text_view}
-use Rattle.kb_record.specs.Lexemes.{token_view, tokens_view}
+use Rattle.kb_lexing.specs.Lexemes.{token_view, tokens_view}
 use Rattle.kb_record.specs.Reading.{Reading, read, unexpected, too_deep, and_then, reading_map, behind, past, read_word, read_text, read_ended, read_fields, skip_semicolon, rec_view, fields_from, FallsShort, ReadsAll, Says}
-use Rattle.kb_record.specs.declared.token.Lexeme.{Lexeme}
+use Rattle.kb_lexing.specs.declared.token.Lexeme.{Lexeme}
 use Rattle.kb_record.specs.declared.tree.Rec.{Rec as RecType}
 use Rattle.kb_record.specs.declared.cursor.Mark.TheVariants.{Assign, OpenRound, Rec, Semicolon}
 use Rattle.kb_record.specs.declared.cursor.Stop.{Stop}
@@ -27,7 +27,7 @@ use Rattle.kb_record.proofs.ValueForms.{fields_form, fields_meets}
 use Rattle.kb_record.proofs.Finds.{Finds}
 use Rattle.kb_record.proofs.Unique.{finds_word, finds_text, TextEnd}
 use Rattle.kb_record.proofs.Views.{fields_alike}
-use Rattle.kb_record.proofs.OneToken.{one_list}
+use Rattle.kb_lexing.proofs.OneToken.{one_list}
 
 -- what the lexer tells of the bytes
 pub record LexedOf (bytes : List ℕ) (whole : Bool) (lexemes : List Lexeme) : Type 0 where

@@ -1,6 +1,6 @@
 -- No front of a tree's tokens has more brackets open than the tree nests.
 use Rattle.std.proofs.Common.{◌≡◌, ℕ, suc, ◌+◌, ◌-◌, ◌≤◌, ℤ, List, [], ◌∷◌, ◌++◌, Option, Some, None, refl, sym, subst, arith, append_assoc}
-use Rattle.kb_record.specs.Token.{Token, open_round, close_round, open_square, close_square}
+use Rattle.kb_lexing.specs.Token.{Token, open_round, close_round, open_square, close_square}
 use Rattle.kb_record.specs.Tree.{Factor, named, grouped, Factors, no_factors, factor, Value, number_value, string_value, record_value, list_value, range_value, word_value, Fields, no_fields, field, Places, no_places, place, empty_place}
 use Rattle.kb_record.specs.Grammar.{power_tokens, word_tokens, factor_tokens, more_factors, value_tokens, field_tokens, more_fields, place_tokens, more_places}
 use Rattle.kb_record.specs.Nesting.{open_behind, word_nesting, factor_nesting, value_nesting, fields_nesting, places_nesting}

@@ -1,13 +1,13 @@
 -- Bytes have one meaning at most, and bytes that mean a word have no fault.
 use Rattle.std.proofs.Common.{◌≡◌, ◌≢◌, ℕ, List, Option, Result, Ok, Err, refl, sym, ap, ◌∙◌, subst}
-use Rattle.kb_record.specs.Token.{Token}
+use Rattle.kb_lexing.specs.Token.{Token}
 use Rattle.kb_record.specs.Tree.{Factors}
 use Rattle.kb_record.specs.Grammar.{IsWordText, WordOf}
 use Rattle.kb_record.specs.Meaning.{WordFault, word_meaning}
 use Rattle.kb_record.specs.Faults.{Meaning, HasWordFault}
 use Rattle.kb_record.specs.declared.error.WordError.{WordError}
 use Rattle.kb_record.specs.declared.error.WordError.TheVariants.{Syntax, TooDeep, UnknownGenerator, NoInverse, WordTooLong, Memory}
-use Rattle.kb_record.proofs.OneToken.{one_list}
+use Rattle.kb_lexing.proofs.OneToken.{one_list}
 use Rattle.kb_record.proofs.Unique.{one_word}
 use Rattle.kb_record.proofs.Shallow.{shallow_word}
 

@@ -1,6 +1,6 @@
 -- What reading a word tells of the tokens.
 use Rattle.std.proofs.Common.{◌≡◌, ℕ, zero, suc, ◌+◌, ◌≤◌, max, ℤ, List, [], ◌∷◌, ◌++◌, Option, Some, None, refl, sym, ap, ◌∙◌, arith, append_assoc, append-nil}
-use Rattle.kb_record.specs.Token.{Token, name, number, star, caret, open_round, close_round}
+use Rattle.kb_lexing.specs.Token.{Token, name, number, star, caret, open_round, close_round}
 use Rattle.kb_record.specs.Tree.{Factor, named, grouped, Factors, no_factors, factor}
 use Rattle.kb_record.specs.Grammar.{power_tokens, word_tokens, factor_tokens, more_factors, IsWord, IsFactorTree, AreFactorTrees}
 use Rattle.kb_record.specs.Nesting.{open_behind, word_nesting, factor_nesting}

@@ -4,11 +4,11 @@ ghost use Rattle.std.specs.Prelude.{◌≡◌, ◌≢◌, ◌<◌, ◌≤◌, �
 ghost use Rattle.kb_record.specs.declared.cursor.Stop.TheVariants as stops;
 ghost use Rattle.std.specs.Bool.{MatchBool};
 ghost use Rattle.kb_record.specs.View.{value_view};
-ghost use Rattle.kb_record.specs.Lexemes.{token_view, tokens_view};
+ghost use Rattle.kb_lexing.specs.Lexemes.{token_view, tokens_view};
 ghost use Rattle.kb_record.specs.Reading.{Reads, remaining, Begins, is_mark, behind, read_name, read_number, read_scalar, begins_word, begin_range, ends_place, passes_comma};
 
-use crate::token::{Lexeme, Token};
 use crate::tree::Value;
+use kb_lexing::{Expected, Lexeme, Token};
 use kb_word::Memory;
 use std::alloc::AllocFailed;
 
@@ -47,27 +47,6 @@ impl Mark {
             Mark::Rec => matches!(token, Token::Rec),
         }
     }
-}
-
-/// What may come next where the reading stops, of the tokens that have more than one byte.
-#[derive(Clone, Copy, Debug)]
-pub(crate) enum Expected {
-    /// A name, or an open bracket.
-    Name,
-    /// A number.
-    Number,
-    /// A number, a string, a name, `rec`, or an open bracket.
-    Value,
-    /// `:=`
-    Assign,
-    /// `..`, or marks of one byte.
-    Dots,
-    /// `rec`
-    Rec,
-    /// The open bracket behind the `rec` of a value, which might also go on as a name.
-    Fields,
-    /// Marks of one byte alone.
-    Mark,
 }
 
 /// Why the reading stops.

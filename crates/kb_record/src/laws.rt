@@ -1,11 +1,11 @@
 //! Laws of the grammar: trees are unique, and no text is both read and refused.
 
 ghost use Rattle.std.specs.Prelude.{◌≡◌, ◌≢◌, ◌≤◌, ℕ, List, Option, Result, Ok};
-ghost use Rattle.kb_record.specs.Token.{Token};
+ghost use Rattle.kb_lexing.specs.Token.{Token};
 ghost use Rattle.kb_record.specs.Tree.{Factors, TextTree};
 ghost use Rattle.kb_record.specs.Grammar.{AreFields, IsText, IsWordText, TextOf, WordOf};
 ghost use Rattle.kb_record.specs.Layout.{AreSpelledFields, printed};
-ghost use Rattle.kb_record.specs.Spelling.{IsName};
+ghost use Rattle.kb_lexing.specs.Spelling.{IsName};
 ghost use Rattle.kb_record.specs.Nesting.{deepest, text_nesting, word_nesting, IsTooDeep};
 ghost use Rattle.kb_record.specs.Meaning.{WordFault};
 ghost use Rattle.kb_record.specs.Faults.{Meaning, HasWordFault};
