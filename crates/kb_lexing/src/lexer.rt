@@ -11,9 +11,6 @@ ghost use Rattle.kb_lexing.specs.declared.token.Lexeme.{Lexeme};
 use crate::token::{Lexeme, Token};
 use std::alloc::{AllocError, Global};
 
-#[cfg(test)]
-mod tests;
-
 /// The tokens of a text up to its end, or up to the first byte that belongs to none.
 #[derive(Debug, Drop)]
 pub struct Lexed<'a> {

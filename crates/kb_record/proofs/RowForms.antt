@@ -3,7 +3,7 @@ use Rattle.std.proofs.Common.{◌≡◌, ℕ, zero, suc, ◌+◌, max, List, [],
 use Rattle.kb_lexing.specs.Token.{Token}
 use Rattle.kb_record.specs.Nesting.{open_behind}
 use Rattle.kb_record.specs.Reading.{Reading, read, unexpected, too_deep, Parse, and_then, reading_map, joined, row}
-use Rattle.kb_record.proofs.Forms.{Form, Stands, Meets, deepen}
+use Rattle.kb_record.proofs.ReadingForms.{Form, Stands, Meets, deepen}
 
 -- what is passed between the items and behind the last one
 abbrev pub Turns : Token → List Token → List Token → Reading Bool → Type 0

@@ -8,7 +8,7 @@ use Rattle.kb_record.specs.Nesting.{deepest, open_behind, word_nesting, text_nes
 use Rattle.kb_lexing.specs.Lexemes.{EndsInBracket}
 use Rattle.kb_lexing.proofs.Lexings.{UpTo, token_before}
 use Rattle.kb_lexing.proofs.TokenFronts.{front_tokens}
-use Rattle.kb_record.proofs.Fronts.{word_fronts, text_fronts}
+use Rattle.kb_record.proofs.TextFronts.{word_fronts, text_fronts}
 
 -- a front of the tokens that ends in a bracket, behind which more than n are open
 record Opened (n o : ℕ) (tokens : List Token) : Type 0 where

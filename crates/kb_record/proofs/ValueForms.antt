@@ -8,10 +8,10 @@ use Rattle.kb_record.specs.View.{places_of}
 use Rattle.kb_record.specs.Reading.{Reading, read, unexpected, too_deep, Parse, reading_map, behind, past, comma_unless, passes_comma, read_scalar, begin_range, begins_word, ends_place, place_with, field_with, fields_from, range_from, list_behind, fields_behind, value_behind, read_value, read_list, read_fields, read_word}
 use Rattle.kb_record.specs.declared.cursor.Mark.{Mark}
 use Rattle.kb_record.specs.declared.cursor.Mark.TheVariants.{Assign, OpenRound, CloseRound, OpenSquare, CloseSquare, Comma, Rec}
-use Rattle.kb_record.proofs.Marks.{behind-is}
+use Rattle.kb_record.proofs.PassedMarks.{behind-is}
 use Rattle.kb_record.proofs.Depths.{read_value_is}
 use Rattle.kb_record.proofs.Balanced.{value_balanced}
-use Rattle.kb_record.proofs.Forms.{Form, Meets, meets_as, meets_in, map_same}
+use Rattle.kb_record.proofs.ReadingForms.{Form, Meets, meets_as, meets_in, map_same}
 use Rattle.kb_record.proofs.RowForms.{Turns, row_form, row_tokens, more_tokens, GoodRow, AllGood, widest, row_meets}
 use Rattle.kb_record.proofs.WordForms.{word_form, word_meets}
 

@@ -102,7 +102,8 @@ impl<'t, 'a> Cursor<'t, 'a> {
     /// Passes the mark, if it comes next.
     pub fn take(&mut self, mark: Mark) -> bool
         ensures { MatchBool result (behind mark (remaining self.old) ≡ Some (remaining self.new))
-            ((behind mark (remaining self.old) ≡ None) × (remaining self.new ≡ remaining self.old)) }
+            ((behind mark (remaining self.old) ≡ None)
+                × (remaining self.new ≡ remaining self.old)) }
     {
         let Some(token) = self.peek() else {
             return false;
@@ -116,8 +117,10 @@ impl<'t, 'a> Cursor<'t, 'a> {
 
     /// Passes the mark, which has to come next.
     pub fn expect(&mut self, mark: Mark, expected: Expected) -> Result<(), Stop>
-        ensures { MatchResult result (λ _. behind mark (remaining self.old) ≡ Some (remaining self.new))
-            (λ stop. (behind mark (remaining self.old) ≡ None) × (stop ≡ stops.Unexpected expected)) }
+        ensures { MatchResult result
+            (λ _. behind mark (remaining self.old) ≡ Some (remaining self.new))
+            (λ stop. (behind mark (remaining self.old) ≡ None)
+                × (stop ≡ stops.Unexpected expected)) }
     {
         if self.take(mark) {
             Ok(())
@@ -129,7 +132,8 @@ impl<'t, 'a> Cursor<'t, 'a> {
     /// Passes the comma that goes on with a list or a record, or the mark that closes it. Answers
     /// whether it goes on.
     pub fn passes_comma(&mut self, close: Mark) -> Result<bool, Stop>
-        ensures { Reads (passes_comma close (remaining self.old)) (λ more. more) result (remaining self.new) }
+        ensures { Reads (passes_comma close (remaining self.old)) (λ more. more) result
+            (remaining self.new) }
     {
         if self.take(close) {
             return Ok(false);
@@ -140,7 +144,8 @@ impl<'t, 'a> Cursor<'t, 'a> {
 
     /// Passes the name that has to come next.
     pub fn name(&mut self) -> Result<&'a str, Stop>
-        ensures { Reads (read_name (remaining self.old)) (λ name. name.now) result (remaining self.new) }
+        ensures { Reads (read_name (remaining self.old)) (λ name. name.now) result
+            (remaining self.new) }
     {
         match self.peek() {
             Some(Token::Name(name)) => {
@@ -153,7 +158,8 @@ impl<'t, 'a> Cursor<'t, 'a> {
 
     /// Passes the number that has to come next.
     pub fn number(&mut self) -> Result<i64, Stop>
-        ensures { Reads (read_number (remaining self.old)) (λ number. number) result (remaining self.new) }
+        ensures { Reads (read_number (remaining self.old)) (λ number. number) result
+            (remaining self.new) }
     {
         match self.peek() {
             Some(Token::Number(number)) => {
@@ -216,7 +222,8 @@ impl<'t, 'a> Cursor<'t, 'a> {
     /// Nothing may be left, and the tokens have to be all that there are.
     pub fn end(&self, whole: bool) -> Result<(), Stop>
         ensures { MatchResult result (λ _. (remaining self.now ≡ []) × IsTrue whole)
-            (λ stop. ((remaining self.now ≢ []) ⊎ (whole ≡ false)) × (stop ≡ stops.Unexpected Expected.Mark)) }
+            (λ stop. ((remaining self.now ≢ []) ⊎ (whole ≡ false))
+                × (stop ≡ stops.Unexpected Expected.Mark)) }
     {
         if whole && self.left() == 0 {
             Ok(())

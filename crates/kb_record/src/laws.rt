@@ -32,7 +32,8 @@ pub fn a_shallow_text_is_not_too_deep()
 
 /// A word that nests as deep as it may has no front with too many brackets open.
 pub fn a_shallow_word_is_not_too_deep()
-    ensures { (bytes : List ℕ) (factors : Factors) → WordOf bytes factors → word_nesting factors ≤ deepest
+    ensures { (bytes : List ℕ) (factors : Factors) → WordOf bytes factors
+        → word_nesting factors ≤ deepest
         → ¬ IsTooDeep (λ tokens. (other : Factors) × IsWordText tokens other) bytes }
 {}
 
@@ -59,7 +60,8 @@ pub fn a_word_that_is_read_is_not_refused()
 
 /// The printed text of a tree whose names, numbers and strings can be spelled is a text of that tree.
 pub fn a_printed_text_is_read_again()
-    ensures { (text : TextTree) → IsName text.title → AreFields text.fields → AreSpelledFields text.fields
+    ensures { (text : TextTree) → IsName text.title → AreFields text.fields
+        → AreSpelledFields text.fields
         → TextOf (printed text) text }
 {}
 

@@ -47,23 +47,20 @@
 mod cursor;
 mod error;
 mod laws;
-mod lexer;
 mod meaning;
 mod parser;
-mod place;
 mod printing;
 mod records;
-mod token;
 mod tree;
 mod words;
 
 pub use error::{RecordError, WordError};
+pub use kb_lexing::is_blank;
 pub use laws::{
     a_printed_text_is_read_again, a_shallow_text_is_not_too_deep, a_shallow_word_is_not_too_deep,
     a_text_has_one_tree, a_word_has_one_meaning, a_word_has_one_tree, a_word_that_is_read_has_no_fault,
     a_word_that_is_read_is_not_refused, what_is_read_can_be_printed,
 };
-pub use lexer::is_blank;
 pub use meaning::word_of;
 pub use parser::{parse, parse_expr, parse_word};
 pub use printing::{print, print_indent, print_number};

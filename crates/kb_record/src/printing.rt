@@ -44,7 +44,8 @@ fn print_text(text: &Rec<'_>, out: &mut Vec<u8>) -> Result<(), Memory>
 /// Appends a value at a level: a record has a line for each field, a list of lists one for each place.
 #[cycle(levels)]
 fn print_value(level: usize, value: &Value<'_>, out: &mut Vec<u8>) -> Result<(), Memory>
-    ensures printed { OnOk result (out.new.items ≡ out.old.items ++ text_of_value level (value_view value.now)) }
+    ensures printed { OnOk result
+        (out.new.items ≡ out.old.items ++ text_of_value level (value_view value.now)) }
     ensures kept { OnErr result (Appended out.old.items out.new.items) }
 {
     match value {
@@ -76,7 +77,9 @@ fn print_record(level: usize, fields: &[(&str, Value<'_>)], out: &mut Vec<u8>) -
 #[cycle(levels)]
 fn print_field(level: usize, name: &str, value: &Value<'_>, out: &mut Vec<u8>) -> Result<(), Memory>
     ensures printed { OnOk result (out.new.items
-        ≡ out.old.items ++ (indent level ++ name.now ++ codes " := " ++ text_of_value level (value_view value.now))) }
+        ≡ out.old.items
+            ++ (indent level ++ name.now ++ codes " := "
+            ++ text_of_value level (value_view value.now))) }
     ensures kept { OnErr result (Appended out.old.items out.new.items) }
 {
     print_blanks(level, out)?;
@@ -120,7 +123,12 @@ fn print_row(level: usize, place: &Option<Value<'_>>, out: &mut Vec<u8>) -> Resu
 fn is_table(places: &[Option<Value<'_>>]) -> bool
     ensures { result ≡ layout.is_table (places_view places.now) }
 {
-    !places.is_empty() && places.iter().all(is_list)
+    for place in places {
+        if !is_list(place) {
+            return false;
+        }
+    }
+    !places.is_empty()
 }
 
 /// Whether the place holds a list.
@@ -177,7 +185,8 @@ fn print_name(name: &str, out: &mut Vec<u8>) -> Result<(), Memory>
 
 /// Ends the last line, and appends a closing bracket on a line of its own.
 fn print_close(level: usize, bracket: u8, out: &mut Vec<u8>) -> Result<(), Memory>
-    ensures printed { OnOk result (out.new.items ≡ out.old.items ++ (codes "\n" ++ indent level ++ bracket ∷ [])) }
+    ensures printed { OnOk result
+        (out.new.items ≡ out.old.items ++ (codes "\n" ++ indent level ++ bracket ∷ [])) }
     ensures kept { OnErr result (Appended out.old.items out.new.items) }
 {
     out.push(b'\n')?;
@@ -189,7 +198,8 @@ fn print_close(level: usize, bracket: u8, out: &mut Vec<u8>) -> Result<(), Memor
 /// Appends a value on one line.
 #[cycle(lines)]
 fn print_on_line(value: &Value<'_>, out: &mut Vec<u8>) -> Result<(), Memory>
-    ensures printed { OnOk result (out.new.items ≡ out.old.items ++ line_of (value_view value.now)) }
+    ensures printed { OnOk result
+        (out.new.items ≡ out.old.items ++ line_of (value_view value.now)) }
     ensures kept { OnErr result (Appended out.old.items out.new.items) }
 {
     match value {
@@ -256,7 +266,8 @@ fn print_range(from: i64, to: i64, out: &mut Vec<u8>) -> Result<(), Memory>
 
 /// Appends a string between its quotes.
 fn print_string(text: &str, out: &mut Vec<u8>) -> Result<(), Memory>
-    ensures printed { OnOk result (out.new.items ≡ out.old.items ++ line_of (string_value text.now)) }
+    ensures printed { OnOk result
+        (out.new.items ≡ out.old.items ++ line_of (string_value text.now)) }
     ensures kept { OnErr result (Appended out.old.items out.new.items) }
 {
     out.push(b'"')?;
@@ -268,7 +279,8 @@ fn print_string(text: &str, out: &mut Vec<u8>) -> Result<(), Memory>
 /// Appends factors with `*` between them.
 #[cycle(factors)]
 fn print_word(factors: &[Factor<'_>], out: &mut Vec<u8>) -> Result<(), Memory>
-    ensures printed { OnOk result (out.new.items ≡ out.old.items ++ word_text (factors_view factors.now)) }
+    ensures printed { OnOk result
+        (out.new.items ≡ out.old.items ++ word_text (factors_view factors.now)) }
     ensures kept { OnErr result (Appended out.old.items out.new.items) }
 {
     let mut before: &[u8] = b"";
@@ -283,7 +295,8 @@ fn print_word(factors: &[Factor<'_>], out: &mut Vec<u8>) -> Result<(), Memory>
 /// Appends a name or a group in brackets, and its power.
 #[cycle(factors)]
 fn print_factor(factor: &Factor<'_>, out: &mut Vec<u8>) -> Result<(), Memory>
-    ensures printed { OnOk result (out.new.items ≡ out.old.items ++ factor_text (factor_view factor.now)) }
+    ensures printed { OnOk result
+        (out.new.items ≡ out.old.items ++ factor_text (factor_view factor.now)) }
     ensures kept { OnErr result (Appended out.old.items out.new.items) }
 {
     match factor {

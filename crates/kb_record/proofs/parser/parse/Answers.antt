@@ -5,7 +5,7 @@ use Rattle.kb_lexing.specs.Token.{Token}
 use Rattle.kb_record.specs.Tree.{TextTree}
 use Rattle.kb_lexing.specs.Lexemes.{tokens_view}
 use Rattle.kb_record.specs.Reading.{ReadsAll, remaining, read_ended, rec_view}
-use Rattle.kb_record.proofs.Whole.{LexedOf, text_read, text_shallow, text_fault, text_alike}
+use Rattle.kb_record.proofs.TokensToBytes.{LexedOf, text_read, text_shallow, text_fault, text_alike}
 use Rattle.kb_record.proofs.parser.parse.Goals as goal
 
 pub returns-in-Ok-clause-read : goal.returns-in-Ok-clause-read

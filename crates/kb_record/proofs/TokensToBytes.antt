@@ -20,8 +20,8 @@ use Rattle.kb_record.specs.declared.cursor.Stop.{Stop}
 use Rattle.kb_record.specs.declared.cursor.Stop.TheVariants.{Unexpected, TooDeep, Memory}
 use Rattle.kb_record.specs.declared.error.RecordError.{RecordError}
 use Rattle.kb_record.specs.declared.error.RecordError.TheVariants as errors
-use Rattle.kb_record.proofs.Marks.{behind-is}
-use Rattle.kb_record.proofs.Forms.{Form, Stands, Deepens, Meets, meets_in}
+use Rattle.kb_record.proofs.PassedMarks.{behind-is}
+use Rattle.kb_record.proofs.ReadingForms.{Form, Stands, Deepens, Meets, meets_in}
 use Rattle.kb_record.proofs.WordForms.{word_form, word_meets}
 use Rattle.kb_record.proofs.ValueForms.{fields_form, fields_meets}
 use Rattle.kb_record.proofs.Finds.{Finds}

@@ -6,7 +6,7 @@ use Rattle.kb_record.specs.Reading.{Reading, read, unexpected, too_deep, Parse, 
 use Rattle.kb_record.specs.declared.cursor.Mark.{Mark}
 use Rattle.kb_record.specs.declared.cursor.Mark.TheVariants.{Comma}
 use Rattle.kb_record.specs.declared.cursor.Stop.{Stop}
-use Rattle.kb_record.proofs.Marks.{behind-shorter}
+use Rattle.kb_record.proofs.PassedMarks.{behind-shorter}
 use Rattle.kb_record.specs.declared.cursor.Stop.TheVariants.{Unexpected, TooDeep, Memory}
 
 -- the items before, and then those that are read

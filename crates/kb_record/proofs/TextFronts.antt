@@ -4,7 +4,7 @@ use Rattle.kb_lexing.specs.Token.{Token, semicolon}
 use Rattle.kb_record.specs.Tree.{Factors, TextTree, record_value}
 use Rattle.kb_record.specs.Grammar.{IsText, IsWordText, word_tokens}
 use Rattle.kb_record.specs.Nesting.{open_behind, word_nesting, text_nesting}
-use Rattle.kb_record.proofs.Within.{Within, front_within, word_within, value_within}
+use Rattle.kb_record.proofs.OpenBrackets.{Within, front_within, word_within, value_within}
 
 along : (m : ℕ) (a b : List Token) → a ≡ b → Within m 0 b → Within m 0 a
 along m a b e h = let P : List Token → Type 0 = λ ts. Within m 0 ts in subst P (sym e) h
