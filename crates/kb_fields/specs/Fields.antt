@@ -2,7 +2,6 @@
 use Rattle.std.specs.Prelude.{◌≡◌, ℕ, zero, suc, ◌<◌, ◌⊎◌, nat_eq, if◌then◌else◌, List, [], ◌∷◌, slice_get, Option, Some, None}
 use lib.Pointwise.{pointwise}
 use Rattle.kb_record.specs.Tree.{named, no_factors, factor, Value, number_value, string_value, record_value, list_value, range_value, word_value, Fields, no_fields, field, Places, no_places, place, empty_place}
-
 -- the fields, and the places of a list, as the code has them, as trees
 pub use Rattle.kb_record.specs.View.{fields_view, places_view}
 

@@ -37,7 +37,10 @@ fn name_alone<'a>(factor: &Factor<'a>) -> Option<&'a str>
 }
 
 /// The names of a value that is a list of Names.
-pub(crate) fn names_listed<'a>(alloc: Global, value: &Value<'a>) -> Result<Option<Vec<&'a str>>, Memory>
+pub(crate) fn names_listed<'a>(
+    alloc: Global,
+    value: &Value<'a>,
+) -> Result<Option<Vec<&'a str>>, Memory>
     ensures listed { IfOk result
         (λ names. IfSome names
         (λ names. IsListOf (map (λ name. name.now) names.items) (value_view value.now))) }

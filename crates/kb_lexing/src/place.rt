@@ -24,7 +24,6 @@ pub enum Expected {
     Mark,
 }
 
-
 /// The length of the longest front of the bytes with which some text begins, which no clause says. The
 /// good lexemes are those that begin some text, up to the first that doesn't, and `expected` is what may
 /// come behind them.

@@ -103,7 +103,7 @@ impl<'t, 'a> Cursor<'t, 'a> {
     pub fn take(&mut self, mark: Mark) -> bool
         ensures { MatchBool result (behind mark (remaining self.old) ≡ Some (remaining self.new))
             ((behind mark (remaining self.old) ≡ None)
-                × (remaining self.new ≡ remaining self.old)) }
+            × (remaining self.new ≡ remaining self.old)) }
     {
         let Some(token) = self.peek() else {
             return false;
@@ -120,7 +120,7 @@ impl<'t, 'a> Cursor<'t, 'a> {
         ensures { MatchResult result
             (λ _. behind mark (remaining self.old) ≡ Some (remaining self.new))
             (λ stop. (behind mark (remaining self.old) ≡ None)
-                × (stop ≡ stops.Unexpected expected)) }
+            × (stop ≡ stops.Unexpected expected)) }
     {
         if self.take(mark) {
             Ok(())
@@ -223,7 +223,7 @@ impl<'t, 'a> Cursor<'t, 'a> {
     pub fn end(&self, whole: bool) -> Result<(), Stop>
         ensures { MatchResult result (λ _. (remaining self.now ≡ []) × IsTrue whole)
             (λ stop. ((remaining self.now ≢ []) ⊎ (whole ≡ false))
-                × (stop ≡ stops.Unexpected Expected.Mark)) }
+            × (stop ≡ stops.Unexpected Expected.Mark)) }
     {
         if whole && self.left() == 0 {
             Ok(())

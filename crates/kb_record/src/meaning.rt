@@ -34,7 +34,7 @@ fn product_of(
 ) -> Result<Word, WordError>
     ensures { Evaluates
         (product_meaning presentation.now.names presentation.now.inv [] (factors_view factors.now))
-            result }
+        result }
 {
     let mut so_far = Word::new(alloc);
     for factor in factors {
@@ -49,7 +49,7 @@ fn product_of(
 fn factor_of(alloc: Global, factor: &Factor, presentation: &Presentation) -> Result<Word, WordError>
     ensures { Evaluates
         (factor_meaning presentation.now.names presentation.now.inv (factor_view factor.now))
-            result }
+        result }
 {
     match factor {
         Factor::Name(name, power) => {
@@ -122,7 +122,7 @@ fn negative_power(
     requires { 0 < count }
     ensures { Evaluates
         (power_meaning presentation.now.names presentation.now.inv (Some (negsuc (count - 1)))
-            word.now)
+        word.now)
         result }
 {
     let Some(inverse) = presentation.inverse_of(alloc, word)? else {
@@ -140,7 +140,7 @@ fn name_without_inverse(
 ) -> Result<OwnedText, Memory>
     ensures { IfOk result
         (λ name. name
-            ≡ first_without_inverse presentation.now.names presentation.now.inv word.now) }
+        ≡ first_without_inverse presentation.now.names presentation.now.inv word.now) }
 {
     for letter in word.letters() {
         if presentation.letter_inverse(*letter).is_none() {

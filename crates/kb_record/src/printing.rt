@@ -78,8 +78,8 @@ fn print_record(level: usize, fields: &[(&str, Value<'_>)], out: &mut Vec<u8>) -
 fn print_field(level: usize, name: &str, value: &Value<'_>, out: &mut Vec<u8>) -> Result<(), Memory>
     ensures printed { OnOk result (out.new.items
         ≡ out.old.items
-            ++ (indent level ++ name.now ++ codes " := "
-            ++ text_of_value level (value_view value.now))) }
+        ++ (indent level ++ name.now ++ codes " := "
+        ++ text_of_value level (value_view value.now))) }
     ensures kept { OnErr result (Appended out.old.items out.new.items) }
 {
     print_blanks(level, out)?;
