@@ -9,9 +9,8 @@ ghost use Rattle.kb_fsabool.specs.Products.{IsFirstAccepting, NoneAccepts};
 use crate::connective::Connective;
 use crate::equality::Equality;
 use crate::product::Product;
-use crate::symbols::Symbols;
 use kb_explore::{Det, explore, text_to};
-use kb_fsa::{Fsa, Table};
+use kb_fsa::{Fsa, Symbols, Table};
 use std::alloc::Global;
 
 /// Whether the languages are the same, and otherwise the shortlex least text in exactly one.

@@ -8,9 +8,9 @@ ghost use Rattle.kb_explore.specs.declared.det.Det.TheVariants.{TooManyStates};
 ghost use Rattle.kb_fsabool.specs.Answers.{IsComplement};
 ghost use Rattle.kb_fsabool.specs.Complements.{complement};
 
-use crate::ended::{Ended, Place};
+use crate::place::Place;
 use kb_explore::{Det, Machine, explore};
-use kb_fsa::Fsa;
+use kb_fsa::{Ended, Fsa};
 use kb_word::Memory;
 use std::alloc::Global;
 

@@ -15,14 +15,11 @@
 mod comparison;
 mod complement;
 mod connective;
-mod ended;
 mod equality;
 mod intersection;
 mod merging;
+mod place;
 mod product;
-mod symbols;
-#[cfg(test)]
-mod tests;
 mod union;
 
 pub use comparison::equal;
@@ -30,5 +27,4 @@ pub use complement::not;
 pub use equality::Equality;
 pub use intersection::and;
 pub use kb_explore::Det;
-pub use symbols::Symbols;
 pub use union::or;
