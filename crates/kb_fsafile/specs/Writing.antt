@@ -9,13 +9,6 @@ use Rattle.kb_fsafile.specs.Printed.{targets_from}
 abbrev pub number_text : ℕ → List ℕ
 number_text n = signed_decimal (pos n)
 
--- the row leads by the symbol to the state, or to 0, and its moves by greater symbols are left
-pub record IsSplit (row : Moves) (symbol state : ℕ) (left : Moves) : Type 0 where
-  pub leads : state ≡ target row symbol
-  pub is_row : IsRow left
-  pub above : All (λ move. symbol < move.0) left
-  pub same : (later : ℕ) → symbol < later → target left later ≡ target row later
-
 -- the row's targets are printed up to the symbol, from which on so many are to come: the moves that are left give them
 pub record IsRowPrinted (row : Moves) (symbol columns : ℕ) (left : Moves) (whole old before now : List ℕ) : Type 0 where
   pub printed : IsPrintedUpTo number_text (codes ",") (codes "]") (targets_from row symbol columns) whole old 0 before now

@@ -1,24 +1,20 @@
 //! From automata to bytes.
 
-ghost use Rattle.std.specs.Prelude.{◌≡◌, ◌≢◌, ◌≤◌, ◌<◌, ◌^◌, ◌-◌, ◌++◌, [], All, IfOk, OnOk, length, pos};
+ghost use Rattle.std.specs.Prelude.{◌≡◌, ◌≢◌, ◌≤◌, ◌<◌, ◌^◌, ◌-◌, ◌++◌, [], IfOk, OnOk, length, pos};
 ghost use Rattle.kb_record.specs.Tree.{record_value, list_value};
 ghost use Rattle.kb_record.specs.Layout.{indent, line_of, text_of_value};
 ghost use Rattle.kb_fields.specs.Fields.{list_of_names};
-ghost use Rattle.kb_fsa.specs.Table.{IsRow};
 ghost use Rattle.kb_fsa.specs.Language.{generators};
 ghost use Rattle.kb_fsa.specs.Canonical.{IsCanonical};
 ghost use Rattle.kb_fsa.specs.declared.alphabet.Alphabet.TheVariants.{Pair};
 ghost use Rattle.kb_fsafile.specs.Printed as printed;
 ghost use Rattle.kb_fsafile.specs.Printed.{text_of_automaton, alphabet_fields, names_fields, table_fields, numbers_value, accepting_from, accepting_value, targets_from, dense_rows};
-ghost use Rattle.kb_fsafile.specs.Writing.{number_text, IsSplit};
+ghost use Rattle.kb_fsafile.specs.Writing.{number_text};
 
-use kb_fsa::{Alphabet, Fsa, Row, Table};
+use kb_fsa::{Alphabet, Fsa, Row, Table, split_at_symbol};
 use kb_record::{print_indent, print_number};
 use kb_word::{Memory, Names};
 use std::alloc::Global;
-
-#[cfg(test)]
-mod tests;
 
 /// The text of a canonical automaton over letters with these names.
 pub fn write(alloc: Global, names: &Names, fsa: &Fsa) -> Result<Vec<u8>, Memory>
@@ -42,10 +38,8 @@ fn write_automaton(names: &Names, fsa: &Fsa, out: &mut Vec<u8>) -> Result<(), Me
     out.extend_from_slice(b",\n  states := rec(\n    type := \"simple\",\n    size := ")?;
     write_number(fsa.len(), out)?;
     out.extend_from_slice(
-        b"\n  ),\n  flags := [\"DFA\",\"minimized\",\"BFS\",\"accessible\",\"trim\"],\n  initial := [",
+        b"\n  ),\n  flags := [\"DFA\",\"minimized\",\"BFS\",\"accessible\",\"trim\"],\n  initial := [1],\n  accepting := ",
     )?;
-    write_number(1, out)?;
-    out.extend_from_slice(b"],\n  accepting := ")?;
     write_accepting(fsa.table().accepting(), out)?;
     out.extend_from_slice(b",\n  table := ")?;
     write_table(fsa.table(), alphabet.symbols(), out)?;
@@ -71,9 +65,7 @@ fn write_pairs(n: u16, names: &Names, out: &mut Vec<u8>) -> Result<(), Memory>
 {
     out.extend_from_slice(b"rec(\n    type := \"product\",\n    size := ")?;
     write_number(Alphabet::Pair(n).symbols(), out)?;
-    out.extend_from_slice(b",\n    arity := ")?;
-    write_number(2, out)?;
-    out.extend_from_slice(b",\n    padding := _,\n    base := ")?;
+    out.extend_from_slice(b",\n    arity := 2,\n    padding := _,\n    base := ")?;
     write_names(2, names, out)?;
     out.extend_from_slice(b"\n  )")?;
     Ok(())
@@ -133,9 +125,7 @@ fn write_accepting(accepting: &[bool], out: &mut Vec<u8>) -> Result<(), Memory>
     ensures { OnOk result (out.new.items ≡ out.old.items ++ text_of_value 1 (accepting_value accepting.now)) }
 {
     if accepting.iter().all(|accepts| *accepts) && accepting.len() >= 2 {
-        out.push(b'[')?;
-        write_number(1, out)?;
-        out.extend_from_slice(b"..")?;
+        out.extend_from_slice(b"[1..")?;
         write_number(accepting.len() as u32, out)?;
         out.push(b']')?;
         return Ok(());
@@ -223,23 +213,11 @@ fn write_row(row: &Row, symbols: u32, out: &mut Vec<u8>) -> Result<(), Memory>
     let mut left = row.as_slice();
     for symbol in 1..symbols + 1 {
         out.extend_from_slice(before)?;
-        let (target, later) = split(left, symbol);
+        let (target, later) = split_at_symbol(left, symbol);
         write_number(target, out)?;
         before = b",";
         left = later;
     }
     out.push(b']')?;
     Ok(())
-}
-
-/// Where the row leads by the symbol, or 0, and its moves by greater symbols. It has none by lesser ones.
-fn split(row: &[(u32, u32)], symbol: u32) -> (u32, &[(u32, u32)])
-    requires row { IsRow row.now }
-    requires low { All (λ move. symbol ≤ move.0) row.now }
-    ensures { IsSplit row.now symbol result.0 result.1.now }
-{
-    match row.split_first() {
-        Some((least, later)) if least.0 == symbol => (least.1, later),
-        _ => (0, row),
-    }
 }
