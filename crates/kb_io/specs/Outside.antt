@@ -1,5 +1,5 @@
 -- The whole outside of a run: the shelf, the input and the output.
-use Rattle.std.specs.Prelude.{◌≡◌, ℕ, List, IsTrue}
+use Rattle.std.specs.Prelude.{◌≡◌, IsTrue}
 use Rattle.kb_io.specs.States.{SourceState, SinkState, ShelfState, SourceGoesOn, SinkGoesOn, ShelfGoesOn, HoldsSame}
 
 -- the outside at one moment

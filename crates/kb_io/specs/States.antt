@@ -1,5 +1,5 @@
 -- What contracts know of the outside at one moment, and how it goes on.
-use Rattle.std.specs.Prelude.{◌≡◌, ◌≢◌, ℕ, ◌≤◌, List, Bool, IsTrue, Option}
+use Rattle.std.specs.Prelude.{◌≡◌, ◌≢◌, ℕ, ◌≤◌, List, Bool, Option}
 
 -- a source: whether it tells its bytes, those that are left to be read, and how many reads have failed
 pub record SourceState : Type 0 where

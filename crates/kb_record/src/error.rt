@@ -4,7 +4,7 @@ ghost use Rattle.kb_record.specs.declared.error.RecordError.TheVariants as recor
 ghost use Rattle.kb_record.specs.declared.error.WordError.TheVariants as word_errors;
 ghost use Rattle.std.specs.Prelude.{◌≡◌};
 
-use kb_word::{Memory, Text};
+use kb_word::{Memory, OwnedText};
 use std::alloc::AllocError;
 use thiserror::Error;
 
@@ -33,10 +33,10 @@ pub enum WordError {
     TooDeep { at: usize },
     /// A name that is no generator's.
     #[error("E10 UnknownGenerator {name}")]
-    UnknownGenerator { name: Text },
+    UnknownGenerator { name: OwnedText },
     /// The first letter without inverse under a power below 0.
     #[error("E11 NoInverse {name}")]
-    NoInverse { name: Text },
+    NoInverse { name: OwnedText },
     /// A word, or a factor, group or product in it, of more than 65,535 letters.
     #[error("E13 WordTooLong")]
     WordTooLong,

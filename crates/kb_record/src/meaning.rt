@@ -7,7 +7,7 @@ ghost use Rattle.kb_record.specs.Faults.{Evaluates};
 
 use crate::error::WordError;
 use crate::tree::{Expr, Factor};
-use kb_word::{Memory, Presentation, Text, Word};
+use kb_word::{Memory, Presentation, OwnedText, Word};
 use std::alloc::Global;
 
 #[cfg(test)]
@@ -84,7 +84,7 @@ fn name_of(alloc: Global, name: &str, presentation: &Presentation) -> Result<Wor
         return Ok(word);
     }
     let Some(letter) = presentation.names.number_of(name) else {
-        let name = Text::from_str(alloc, name)?;
+        let name = OwnedText::from_str(alloc, name)?;
         return Err(WordError::UnknownGenerator { name });
     };
     word.push(letter)?;
@@ -137,17 +137,17 @@ fn name_without_inverse(
     alloc: Global,
     word: &Word,
     presentation: &Presentation,
-) -> Result<Text, Memory>
+) -> Result<OwnedText, Memory>
     ensures { IfOk result
         (λ name. name ≡ first_without_inverse presentation.now.names presentation.now.inv word.now) }
 {
     for letter in word.letters() {
         if presentation.letter_inverse(*letter).is_none() {
             let place = letter.number().saturating_sub(1) as usize;
-            return Text::from_str(alloc, presentation.names.get(place).unwrap_or(""));
+            return OwnedText::from_str(alloc, presentation.names.get(place).unwrap_or(""));
         }
     }
-    Text::from_str(alloc, "")
+    OwnedText::from_str(alloc, "")
 }
 
 /// The word, so many times, where that isn't too long.

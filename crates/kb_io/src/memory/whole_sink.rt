@@ -1,6 +1,6 @@
 //! A sink over memory that never fails.
 
-ghost use Rattle.std.specs.Prelude.{◌≡◌, ◌++◌, ℕ, List, []};
+ghost use Rattle.std.specs.Prelude.{◌≡◌, ◌++◌, ℕ, List, [], true};
 
 use crate::failed::Failed;
 use crate::sink::Sink;
@@ -10,8 +10,8 @@ use std::sync::Wait;
 
 /// Bytes in memory, written at the end. Contracts see it as what was written.
 ///
-/// Where memory runs out a write waits until there is some, so it may not return. That is what makes
-/// a sink that never fails.
+/// Where memory runs out a write waits until there is some, so it may not return. Without that a sink
+/// that grows would fail.
 #[derive(Drop)]
 pub struct WholeSink<R> {
     bytes: Vec<u8>,
@@ -53,11 +53,7 @@ impl<R: Wait> WholeSink<R> {
 }
 
 impl<R: Wait> Sink for WholeSink<R> {
-    ghost tells = { λ _. Unit {0} };
-
-    ghost written = { λ sink. sink };
-
-    ghost faults = { λ _. 0 };
+    ghost state = { λ sink. record { told = true; written = sink; faults = 0 } };
 
     fn write(&mut self, bytes: &[u8]) -> Result<usize, Failed> {
         self.append(bytes);

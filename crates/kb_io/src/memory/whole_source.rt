@@ -1,6 +1,6 @@
 //! A source over memory that never fails.
 
-ghost use Rattle.std.specs.Prelude.{◌≡◌, ◌≤◌, ℕ, List, ◌++◌, length, min, take, drop};
+ghost use Rattle.std.specs.Prelude.{◌≡◌, ◌≤◌, ℕ, List, ◌++◌, length, min, take, drop, true};
 
 use crate::failed::Failed;
 use crate::source::Source;
@@ -45,11 +45,7 @@ impl WholeSource {
 }
 
 impl Source for WholeSource {
-    ghost tells = { λ _. Unit {0} };
-
-    ghost left = { λ source. source };
-
-    ghost faults = { λ _. 0 };
+    ghost state = { λ source. record { told = true; left = source; faults = 0 } };
 
     fn read(&mut self, buf: &mut [u8]) -> Result<usize, Failed> {
         let most = buf.len();

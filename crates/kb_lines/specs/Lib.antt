@@ -1,0 +1,3 @@
+pub mod WordLines
+pub mod Streams
+pub mod Answered

@@ -1,0 +1,4 @@
+pub mod ArgumentLemmas
+pub mod LoadEnds
+pub mod LoadLemmas
+pub mod RunLemmas

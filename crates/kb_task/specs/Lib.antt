@@ -1,0 +1,10 @@
+pub mod Statuses
+pub mod Runs
+pub mod Effects
+pub mod Loads
+pub mod Presentations
+pub mod Automata
+pub mod Stored
+pub mod Limits
+pub mod Lines
+pub mod Arguments

@@ -1,0 +1,64 @@
+-- What is true of a run of any command, and the laws of what a command's statuses mean.
+use Rattle.std.specs.Prelude.{◌≡◌, ◌≢◌, ℕ, ◌<◌, List, ◌++◌, IfSome}
+use Rattle.kb_io.specs.Outside.{Outside, IsTold, GoesOn}
+use Rattle.kb_task.specs.declared.status.Status.{Status}
+use Rattle.kb_task.specs.declared.status.Which.{Which}
+use Rattle.kb_task.specs.declared.status.Which.TheVariants.{Load, Store, Input, Output}
+use Rattle.kb_task.specs.Statuses.{fault_of, IsYes, IsConclusive, IsFaultless}
+
+-- the count of the device's failures rose
+abbrev pub HasFailed : Outside → Outside → Which → Type 0
+HasFailed before after (Load name) = before.shelf.load_faults < after.shelf.load_faults
+HasFailed before after (Store name) = before.shelf.store_faults < after.shelf.store_faults
+HasFailed before after Input = before.input.faults < after.input.faults
+HasFailed before after Output = before.output.faults < after.output.faults
+
+-- a fault is a failure that was counted
+abbrev pub FaultIsCounted : Outside → Outside → Status → Type 0
+FaultIsCounted before after status = IfSome (fault_of status) (HasFailed before after)
+
+-- every file is as it was, but those that may be stored
+abbrev pub HoldsSameBesides : (List ℕ → Type 0) → Outside → Outside → Type 0
+HoldsSameBesides MayStore before after = (name : List ℕ) → ¬ MayStore name → after.shelf.holds name ≡ before.shelf.holds name
+
+-- A run from one moment of the outside to another that ended with the status: what the status means, where the outside
+-- tells its bytes; and, also where it doesn't, the cause of a fault, and that counts never fall and other files stay.
+pub record IsRun (Means : Outside → Outside → Status → Type 0) (MayStore : List ℕ → Type 0)
+    (before after : Outside) (status : Status) : Type 0 where
+  pub means : IsTold before → Means before after status
+  pub fault : FaultIsCounted before after status
+  pub goes_on : GoesOn before after
+  pub files : HoldsSameBesides MayStore before after
+
+-- two shelves hold the same under the names that are read
+abbrev pub ReadsSame : (List ℕ → Type 0) → Outside → Outside → Type 0
+ReadsSame IsRead one other = (name : List ℕ) → IsRead name → one.shelf.holds name ≡ other.shelf.holds name
+
+-- two runs wrote the same bytes, and stored the same
+pub record HasSameEffect (MayStore : List ℕ → Type 0) (before after other_before other_after : Outside) : Type 0 where
+  pub bytes : List ℕ
+  pub written : after.output.written ≡ before.output.written ++ bytes
+  pub other_written : other_after.output.written ≡ other_before.output.written ++ bytes
+  pub stored : (name : List ℕ) → MayStore name → after.shelf.holds name ≡ other_after.shelf.holds name
+
+-- Where nothing that the command reads is refused and no device failed, it has one of its answers.
+abbrev pub IsComplete : {Task : Type 0} → (Task → Outside → Outside → Status → Type 0) → (Task → Outside → Type 0)
+    → (Task → Status → Type 0) → Type 0
+IsComplete {Task} Means IsUnrefused Answers = (task : Task) (before after : Outside) (status : Status)
+    → Means task before after status → IsUnrefused task before → IsFaultless status → Answers task status
+
+-- The files that are read settle the answer: two runs of one command that end with yes, no or a limit have one status.
+abbrev pub IsSettledByFiles : {Task : Type 0} → (Task → Outside → Outside → Status → Type 0) → (Task → List ℕ → Type 0) → Type 0
+IsSettledByFiles {Task} Means IsRead = (task : Task) (before after other_before other_after : Outside) (status other : Status)
+    → Means task before after status → Means task other_before other_after other → ReadsSame (IsRead task) before other_before
+    → IsConclusive status → IsConclusive other → status ≡ other
+
+-- What status 0 writes and stores is one function of the command without its options, of the files that are read and
+-- of the input.
+abbrev pub IsFunctionOfInputs : {Task : Type 0} → (Task → Outside → Outside → Status → Type 0) → (Task → Task → Type 0)
+    → (Task → List ℕ → Type 0) → (Task → List ℕ → Type 0) → Type 0
+IsFunctionOfInputs {Task} Means DifferInOptions IsRead MayStore =
+    (task other_task : Task) (before after other_before other_after : Outside) (status other : Status)
+    → Means task before after status → Means other_task other_before other_after other → IsYes status → IsYes other
+    → DifferInOptions task other_task → ReadsSame (IsRead task) before other_before → before.input.left ≡ other_before.input.left
+    → HasSameEffect (MayStore task) before after other_before other_after

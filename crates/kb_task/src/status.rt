@@ -1,0 +1,176 @@
+//! How a run ends.
+
+use clap::error::ErrorKind;
+use kb_fsabool::Symbols;
+use kb_fsafile::FsaError;
+use kb_presfile::PresError;
+use kb_record::WordError;
+use kb_word::{OwnedText, Word};
+use std::fmt;
+
+/// How a run ends. [`Status::exit`] is the program's exit status.
+#[derive(Drop)]
+pub enum Status {
+    /// All that the command says was done, and its lines were written.
+    Yes,
+    /// What was given is refused.
+    Refused(Refusal),
+    /// A named limit was reached before there was an answer.
+    Undecided(Limit),
+    /// The answer is no, and this shows it.
+    No(Cert),
+    /// Memory ran out.
+    Memory,
+    /// Something outside failed.
+    Fault(Which),
+    /// The words aren't a line of the program, or ask for help.
+    Usage(ErrorKind),
+}
+
+/// What is refused.
+#[derive(Debug, Drop)]
+pub enum Refusal {
+    /// The file of this name.
+    File { name: OwnedText, fault: FileFault },
+    /// The word line of this number, counted from 1 over all lines.
+    Line { number: u32, fault: WordError },
+    /// More than 67,108,864 bytes of word lines.
+    InputTooLong,
+}
+
+/// Why a file is refused.
+#[derive(Debug, Drop)]
+pub enum FileFault {
+    /// There is no such file.
+    Missing,
+    /// It has more than 16,777,216 bytes.
+    TooLong,
+    /// It holds no presentation.
+    Presentation(PresError),
+    /// It holds no automaton.
+    Automaton(FsaError),
+    /// It holds an automaton of pairs, where a plain one is needed.
+    NotPlain,
+    /// It holds a plain automaton, where one of pairs is needed.
+    NotPairs,
+    /// Its letters, or what it reads, differ from those of the automaton before it.
+    AlphabetsDiffer,
+}
+
+/// A limit that was reached.
+#[derive(Clone, Copy, Debug, PartialEq, Eq)]
+pub enum Limit {
+    /// The construction has more states than may be.
+    States(Construction),
+}
+
+/// A construction of an automaton whose states are counted.
+#[derive(Clone, Copy, Debug, PartialEq, Eq)]
+pub enum Construction {
+    And,
+    Or,
+    Not,
+    Exists,
+    Concat,
+    Star,
+    Reverse,
+    Equal,
+}
+
+/// What shows that the answer is no.
+#[derive(Drop)]
+pub enum Cert {
+    /// The oriented relations aren't confluent: `u` and `v` are congruent, different and irreducible.
+    NotConfluent { u: Word, v: Word },
+    /// The languages differ: the text is the least that exactly one of the automata accepts.
+    NotEqual { text: Symbols },
+}
+
+/// What failed outside.
+#[derive(Debug, Drop)]
+pub enum Which {
+    /// A load of the file of this name.
+    Load(OwnedText),
+    /// A store of the file of this name.
+    Store(OwnedText),
+    /// The input.
+    Input,
+    /// The output.
+    Output,
+}
+
+impl Construction {
+    ghost use Rattle.std.specs.Prelude.{◌≡◌};
+    ghost use Rattle.kb_task.specs.Limits.{construction_name};
+
+    /// What it is called where a limit is named.
+    pub fn name(self) -> &'static str
+        ensures { result.now ≡ construction_name self }
+    {
+        match self {
+            Construction::And => "and",
+            Construction::Or => "or",
+            Construction::Not => "not",
+            Construction::Exists => "exists",
+            Construction::Concat => "concat",
+            Construction::Star => "star",
+            Construction::Reverse => "reverse",
+            Construction::Equal => "equal",
+        }
+    }
+}
+
+impl Status {
+    ghost use Rattle.std.specs.Prelude.{◌≡◌};
+    ghost use Rattle.kb_task.specs.Statuses.{exit_of};
+
+    /// The exit status of the program.
+    pub fn exit(&self) -> u8
+        ensures { result ≡ exit_of self.now }
+    {
+        match self {
+            Status::Yes => 0,
+            Status::Refused(_) => 1,
+            Status::Undecided(_) => 2,
+            Status::No(_) => 3,
+            Status::Memory => 4,
+            Status::Fault(_) => 5,
+            Status::Usage(_) => 6,
+        }
+    }
+}
+
+impl fmt::Display for Refusal {
+    fn fmt<W: fmt::Write>(&self, f: &mut fmt::Formatter<W>) -> fmt::Result {
+        match self {
+            Refusal::File { name, fault } => write!(f, "{name}: {fault}"),
+            Refusal::Line { number, fault } => write!(f, "line {number}: {fault}"),
+            Refusal::InputTooLong => write!(f, "E24 InputTooLong"),
+        }
+    }
+}
+
+impl fmt::Display for FileFault {
+    fn fmt<W: fmt::Write>(&self, f: &mut fmt::Formatter<W>) -> fmt::Result {
+        match self {
+            FileFault::Missing => write!(f, "E3 Missing"),
+            FileFault::TooLong => write!(f, "E15 TooLong"),
+            FileFault::Presentation(fault) => write!(f, "{fault}"),
+            FileFault::Automaton(fault) => write!(f, "{fault}"),
+            FileFault::NotPlain => write!(f, "E18 AlphabetOther"),
+            FileFault::NotPairs => write!(f, "E20 NotPairs"),
+            FileFault::AlphabetsDiffer => write!(f, "E22 AlphabetsDiffer"),
+        }
+    }
+}
+
+impl fmt::Display for Which {
+    fn fmt<W: fmt::Write>(&self, f: &mut fmt::Formatter<W>) -> fmt::Result {
+        match self {
+            Which::Load(name) => write!(f, "fault load {name}"),
+            Which::Store(name) => write!(f, "fault store {name}"),
+            Which::Input => write!(f, "fault input"),
+            Which::Output => write!(f, "fault output"),
+        }
+    }
+}
