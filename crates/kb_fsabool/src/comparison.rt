@@ -18,7 +18,8 @@ pub fn equal(alloc: Global, one: &Fsa, two: &Fsa, limit: u32) -> Result<Equality
     requires { one.now.alphabet ≡ two.now.alphabet }
     ensures comparison { IfOk result (IsComparison one.now two.now) }
     ensures few { IsOk result → ¬ CountedOr one.now.table two.now.table limit }
-    ensures many { (most : ℕ) → result ≡ Err (TooManyStates most) → (most ≡ limit) × CountedOr one.now.table two.now.table limit }
+    ensures many { (most : ℕ) → result ≡ Err (TooManyStates most)
+        → (most ≡ limit) × CountedOr one.now.table two.now.table limit }
 {
     let machine = Product {
         connective: Connective::Xor,

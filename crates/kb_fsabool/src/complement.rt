@@ -19,7 +19,8 @@ pub fn not(alloc: Global, fsa: &Fsa, limit: u32) -> Result<Fsa, Det>
     ensures language { IfOk result (IsComplement fsa.now) }
     ensures alphabet { IfOk result (λ rest. rest.alphabet ≡ fsa.now.alphabet) }
     ensures few { IsOk result → ¬ CountedNot fsa.now limit }
-    ensures many { (most : ℕ) → result ≡ Err (TooManyStates most) → (most ≡ limit) × CountedNot fsa.now limit }
+    ensures many { (most : ℕ) → result ≡ Err (TooManyStates most)
+        → (most ≡ limit) × CountedNot fsa.now limit }
 {
     let machine = Complement { fsa };
     let exploration = explore(alloc, &machine, limit)?;

@@ -9,7 +9,11 @@
 //! pair have ended. Rows are merged move by move, so that nothing costs states times symbols, but for `not`,
 //! whose answer has a move by each symbol.
 //!
-//! `kb_fsa` and `kb_explore` stand below; the programs stand above.
+//! In `specs/`, `Answers` has what each operation returns, `Products` and `Complements` the machines. In `proofs/`,
+//! `RowMerges` has the merging of rows, `ProductLemmas` and `ComplementLemmas` the languages and the counts, and
+//! `Differences` the least text.
+//!
+//! `kb_fsa` and `kb_explore` are below; the commands are above.
 #![tactic(auto)]
 
 mod comparison;

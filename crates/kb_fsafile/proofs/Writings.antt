@@ -1,8 +1,7 @@
 -- The text of an automaton, piece by piece.
-use Rattle.std.proofs.Common.{◌≡◌, ◌≢◌, ℕ, suc, ◌+◌, ◌<◌, ◌≤◌, Bool, true, false, nat_le, ◌&&◌, if◌then◌else◌, List, [], ◌∷◌, ◌++◌, length, get_or, drop, map, pos, All, refl, sym, ap, ◌∙◌, subst, arith, append_assoc, append-nil}
+use Rattle.std.proofs.Common.{◌≡◌, ◌≢◌, ℕ, suc, ◌+◌, ◌<◌, ◌≤◌, Bool, true, false, nat_le, ◌&&◌, if◌then◌else◌, List, [], ◌∷◌, ◌++◌, length, get_or, drop, map, pos, refl, sym, ap, ◌∙◌, subst, arith, append_assoc, append-nil}
 use Rattle.std.specs.Prelude.{codes}
 use Rattle.std.specs.List.{list_all}
-use Rattle.std.specs.Option.{unwrap_or}
 use Rattle.std.proofs.lemmas.Bool.{and_from, le-leb}
 use Rattle.std.proofs.lemmas.List.{drop_more}
 use Rattle.kb_record.specs.Tree.{Value, range_value, string_value, record_value, list_value, Fields, no_fields, field}
@@ -12,7 +11,6 @@ use Rattle.kb_record.proofs.PrintedPieces.{pieces_go, pieces_end}
 use Rattle.kb_fields.specs.Fields.{bare_name, list_of_names}
 use Rattle.kb_fsa.specs.Table.{Moves, IsRow, IsSplit, target}
 use Rattle.kb_fsa.proofs.RowSplits.{rest_of_split}
-use Rattle.std.proofs.lemmas.List.Elements.{All-cons, All-tail}
 use Rattle.kb_fsafile.specs.Kinds.{count_value, list_of_numbers}
 use Rattle.kb_fsafile.specs.Printed.{numbers_value, names_fields, states_fields, flags_value, targets_from, dense_rows, accepting_from, accepting_value}
 use Rattle.kb_fsafile.specs.Writing.{number_text, IsRowPrinted}
@@ -214,8 +212,8 @@ names_record level inside names is = ap (λ k. joined (names_texts level k names
 -- the record of an alphabet of pairs, at level 1
 abbrev pub pairs_texts : ℕ → Value → List (List ℕ)
 pairs_texts size base =
-    codes "rec(\n    type := \"product\",\n    size := " ∷ number_text size
-    ∷ codes ",\n    arity := 2,\n    padding := _,\n    base := " ∷ text_of_value 2 base ∷ codes "\n  )" ∷ []
+    codes "rec(\n    type := \"product\",\n    size := " ∷ number_text size ∷ codes ",\n    arity := " ∷ number_text 2
+    ∷ codes ",\n    padding := _,\n    base := " ∷ text_of_value 2 base ∷ codes "\n  )" ∷ []
 
 pub pairs_record : (size : ℕ) (base : Value)
     → joined (pairs_texts size base)
@@ -254,8 +252,8 @@ abbrev pub whole_texts : Value → Value → Value → ℕ → List (List ℕ)
 whole_texts alphabet accepting table count =
     codes "_FSA := rec(\n  isFSA := true,\n  alphabet := " ∷ text_of_value 1 alphabet
     ∷ codes ",\n  states := rec(\n    type := \"simple\",\n    size := " ∷ number_text count
-    ∷ codes "\n  ),\n  flags := [\"DFA\",\"minimized\",\"BFS\",\"accessible\",\"trim\"],\n  initial := [1],\n  accepting := "
-    ∷ text_of_value 1 accepting ∷ codes ",\n  table := " ∷ text_of_value 1 table ∷ codes "\n);\n" ∷ []
+    ∷ codes "\n  ),\n  flags := [\"DFA\",\"minimized\",\"BFS\",\"accessible\",\"trim\"],\n  initial := [" ∷ number_text 1
+    ∷ codes "],\n  accepting := " ∷ text_of_value 1 accepting ∷ codes ",\n  table := " ∷ text_of_value 1 table ∷ codes "\n);\n" ∷ []
 
 -- its fields
 abbrev whole_fields : Value → Value → Value → ℕ → Fields
@@ -299,7 +297,7 @@ whole_text alphabet accepting table count =
 -- ---- the states that accept, as a range or as a list
 
 abbrev pub range_texts : ℕ → List (List ℕ)
-range_texts count = codes "[1.." ∷ number_text count ∷ codes "]" ∷ []
+range_texts count = codes "[" ∷ number_text 1 ∷ codes ".." ∷ number_text count ∷ codes "]" ∷ []
 
 accepting_as : Bool → List Bool → List ℕ
 accepting_as ranged accepting =

@@ -1,5 +1,5 @@
 -- Writing an automaton's text: rows and lists on their way.
-use Rattle.std.specs.Prelude.{◌≡◌, ℕ, ◌<◌, ◌≤◌, pos, List, All, codes}
+use Rattle.std.specs.Prelude.{◌≡◌, ℕ, ◌≤◌, pos, List, All, codes}
 use Rattle.std.specs.Fmt.{signed_decimal}
 use Rattle.kb_record.specs.Printing.{IsPrintedUpTo}
 use Rattle.kb_fsa.specs.Table.{Moves, target, IsRow}
