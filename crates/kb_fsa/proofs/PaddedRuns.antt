@@ -1,53 +1,52 @@
 -- Texts of the alphabet are those through which a run of ended words goes.
-use Rattle.std.proofs.Common.{◌≡◌, ◌≢◌, ◌↔◌, ℕ, ◌+◌, ◌-◌, ◌*◌, ◌/◌, ◌%◌, ◌<◌, ◌≤◌, Bool, true, false, if◌then◌else◌, nat_eq, nat_lt, nat_le, List, [], ◌∷◌, length, Option, Some, None, refl, sym, ap, ◌∙◌, subst, inl, inr, arith}
-use Rattle.std.proofs.Math.Nat.{mod_self, mod-eq_of_lt}
-use Rattle.std.proofs.lemmas.Bool.{cases_eq, cases_lt, lt-ltb, le-ltb, le-leb, lt-leb, eq-eqb, ne_eqb, and_from, and_left, and_right}
+use Rattle.std.proofs.Common.{◌≡◌, ◌≢◌, ◌↔◌, ℕ, ◌+◌, ◌-◌, ◌*◌, ◌/◌, ◌%◌, ◌<◌, ◌≤◌, Bool, true, false, if◌then◌else◌, nat_lt, nat_le, List, [], ◌∷◌, length, Option, Some, None, refl, sym, ap, ap₂, ◌∙◌, subst, inl, inr, arith}
+use Rattle.std.proofs.Math.Nat.{mod-eq_of_lt}
+use Rattle.std.proofs.lemmas.Bool.{cases_lt, lt-ltb, le-ltb, le-leb, lt-leb, and_from, and_left, and_right}
 use Rattle.std.proofs.lemmas.List.Elements.{All-nil, All-cons, All-head, All-tail}
 use Rattle.std.proofs.lemmas.Nat.{mod-mul-add, div-add-mod'}
 use Rattle.std.proofs.lemmas.Option.{none-some, same_Some}
 use Rattle.kb_word.specs.Relations.{IsOver}
-use Rattle.kb_fsa.specs.Padding.{pair_symbol, padded, IsPadded, IsTextOfPair}
+use Rattle.kb_fsa.specs.PairSymbols.{pair_symbol, pads_first, pads_second}
+use Rattle.kb_fsa.specs.Padding.{padded, IsPadded, IsTextOfPair}
 use Rattle.kb_fsa.specs.declared.alphabet.Alphabet.{Alphabet}
 use Rattle.kb_fsa.specs.declared.alphabet.Alphabet.TheVariants.{Plain, Pair}
 use Rattle.kb_fsa.specs.Language.{IsTextOf, symbols}
 use Rattle.kb_fsa.specs.Counted.{FirstEnds, SecondEnds, EndAlike}
-use Rattle.kb_fsa.proofs.PairSymbols.{IsLetter, IsPairSymbol, IsPairSymbol-first, IsPairSymbol-second, last_row, before_last_row, last_column, before_last_column, SymbolCase, two_letters, first_padded, second_padded, symbol_case}
+use Rattle.kb_fsa.proofs.PairSymbolLaws.{IsLetter, IsPairSymbol, IsPairSymbol-first, IsPairSymbol-second, last_row, last_column, pads_first-padding, pads_first-letter, pads_second-padding, pads_second-letter, SymbolCase, two_letters, first_padded, second_padded, symbol_case}
 use Rattle.kb_fsa.proofs.Paddings.{IsPadded-from_pair, IsTextOfPair-nil, IsTextOfPair-first, IsTextOfPair-second, IsPadded-letters}
-use Rattle.kb_fsabool.specs.declared.ended.Ended.{Ended}
-use Rattle.kb_fsabool.specs.declared.ended.Ended.TheVariants.{Neither, First, Second}
-use Rattle.kb_fsabool.specs.Complements.{word_padded, ended_next, is_symbol, ended_after, ended_by, first_after, stride_after, IsInStride}
+use Rattle.kb_fsa.specs.declared.ended.Ended.{Ended}
+use Rattle.kb_fsa.specs.declared.ended.Ended.TheVariants.{Neither, First, Second}
+use Rattle.kb_fsa.specs.EndedWords.{word_padded, ended_next, is_symbol, ended_after, ended_by, first_after, stride_after, IsInStride}
 
 -- ---- symbols
 
--- which word a symbol pads, by its number
-pads_first : (n symbol : ℕ) → (n + 1) * n < symbol → word_padded n symbol ≡ First
-pads_first n symbol above =
-    ap (λ (b : Bool). if b then First else (if nat_eq (symbol % (n + 1)) 0 then Second else Neither)) (lt-ltb ((n + 1) * n) symbol above)
+-- which word is padded, by which letters are the padding
+padded_by : Bool → Bool → Ended
+padded_by first second = if first then First else (if second then Second else Neither)
 
-pads_second : (n symbol : ℕ) → symbol ≤ (n + 1) * n → symbol % (n + 1) ≡ 0 → word_padded n symbol ≡ Second
-pads_second n symbol low last =
-    ap (λ (b : Bool). if b then First else (if nat_eq (symbol % (n + 1)) 0 then Second else Neither)) (le-ltb ((n + 1) * n) symbol low)
-    ∙ ap (λ (b : Bool). if b then Second else Neither) (eq-eqb (symbol % (n + 1)) 0 last)
-
-pads_none : (n symbol : ℕ) → symbol ≤ (n + 1) * n → symbol % (n + 1) ≢ 0 → word_padded n symbol ≡ Neither
-pads_none n symbol low inner =
-    ap (λ (b : Bool). if b then First else (if nat_eq (symbol % (n + 1)) 0 then Second else Neither)) (le-ltb ((n + 1) * n) symbol low)
-    ∙ ap (λ (b : Bool). if b then Second else Neither) (ne_eqb (symbol % (n + 1)) 0 inner)
+word_padded-letters : (n symbol : ℕ) (first second : Bool) → pads_first n symbol ≡ first → pads_second n symbol ≡ second
+    → word_padded n symbol ≡ padded_by first second
+unfolding padded_by
+word_padded-letters n symbol first second one two = ap₂ padded_by one two
 
 -- what the symbol of a pair of letters, or of one and the padding, pads
 first_pads : (n symbol y : ℕ) → IsLetter n y → symbol ≡ pair_symbol n (n + 1) y → word_padded n symbol ≡ First
-first_pads n symbol y letter is = let row = last_row n y in pads_first n symbol (omega arith)
+unfolding padded_by
+first_pads n symbol y letter is =
+    word_padded-letters n symbol true false (pads_first-padding n symbol (n + 1) y is refl (letter.0, omega (arith, letter.1)))
+    (pads_second-letter n symbol (n + 1) y is letter)
 
 second_pads : (n symbol x : ℕ) → IsLetter n x → symbol ≡ pair_symbol n x (n + 1) → word_padded n symbol ≡ Second
+unfolding padded_by
 second_pads n symbol x letter is =
-    let low = before_last_row n x (n + 1) letter (omega arith) in
-    pads_second n symbol (omega arith) (ap (λ s. s % (n + 1)) is ∙ last_column n x letter.0)
+    word_padded-letters n symbol false true (pads_first-letter n symbol x (n + 1) is letter (omega arith, omega arith))
+    (pads_second-padding n symbol x (n + 1) is refl)
 
 none_pads : (n symbol x y : ℕ) → IsLetter n x → IsLetter n y → symbol ≡ pair_symbol n x y → word_padded n symbol ≡ Neither
+unfolding padded_by
 none_pads n symbol x y first second is =
-    let low = before_last_row n x y first (omega arith) in
-    let remainder = ap (λ s. s % (n + 1)) is ∙ before_last_column n x y second.1 in
-    pads_none n symbol (omega arith) (λ last. omega (arith, remainder, second.0))
+    word_padded-letters n symbol false false (pads_first-letter n symbol x y is first (second.0, omega (arith, second.1)))
+    (pads_second-letter n symbol x y is second)
 
 -- whether a number is that of a symbol
 symbol_true : (alphabet : Alphabet) (symbol : ℕ) → 0 < symbol → symbol ≤ symbols alphabet → is_symbol alphabet symbol ≡ true
@@ -347,18 +346,20 @@ runs_of_alike (Pair n) text other Neither Neither here there alike = refl
 
 -- a word that has ended stays so
 only_first : (n symbol : ℕ) → symbol ≤ (n + 1) * n → IsPairSymbol n symbol → ended_next First (word_padded n symbol) ≡ None
-only_first n symbol low is =
-    elim (cases_eq (symbol % (n + 1)) 0) [
-      | inl last ↦ ap (ended_next First) (pads_second n symbol low last)
-      | inr inner ↦ ap (ended_next First) (pads_none n symbol low inner)
-    ]
+only_first n symbol low is = by (symbol_case n symbol is)
+  where
+    by : SymbolCase n symbol → ended_next First (word_padded n symbol) ≡ None
+    by (two_letters x y one two same) = ap (ended_next First) (none_pads n symbol x y one two same)
+    by (first_padded y letter same) = absurd (let row = last_row n y in let some = letter.0 in let no : ⊥ = omega arith in no)
+    by (second_padded x letter same) = ap (ended_next First) (second_pads n symbol x letter same)
 
 only_second : (n symbol : ℕ) → symbol % (n + 1) ≢ 0 → IsPairSymbol n symbol → ended_next Second (word_padded n symbol) ≡ None
-only_second n symbol inner is =
-    elim (cases_lt ((n + 1) * n) symbol) [
-      | inl above ↦ ap (ended_next Second) (pads_first n symbol above)
-      | inr low ↦ ap (ended_next Second) (pads_none n symbol low inner)
-    ]
+only_second n symbol inner is = by (symbol_case n symbol is)
+  where
+    by : SymbolCase n symbol → ended_next Second (word_padded n symbol) ≡ None
+    by (two_letters x y one two same) = ap (ended_next Second) (none_pads n symbol x y one two same)
+    by (first_padded y letter same) = ap (ended_next Second) (first_pads n symbol y letter same)
+    by (second_padded x letter same) = absurd (inner (ap (λ s. s % (n + 1)) same ∙ last_column n x letter.0))
 
 none_where : (n : ℕ) (ended : Ended) (symbol : ℕ) → (IsPairSymbol n symbol → ended_next ended (word_padded n symbol) ≡ None)
     → ended_after (Pair n) ended symbol ≡ None
@@ -371,19 +372,23 @@ none_where n ended symbol none =
       | inr least ↦ none_foreign (Pair n) ended symbol (λ is. omega (arith, is.0))
     ]
 
+low_column : (n symbol : ℕ) → symbol < pair_symbol n 1 (n + 1) → symbol < n + 1
+low_column n symbol less = omega arith
+
 -- none before the first may follow
 pub none_before : (alphabet : Alphabet) (ended : Ended) (symbol : ℕ) → symbol < first_after alphabet ended → ended_after alphabet ended symbol ≡ None
 none_before (Plain n) ended symbol less = none_foreign (Plain n) ended symbol (λ is. omega (arith, is.0))
 none_before (Pair n) Neither symbol less = none_foreign (Pair n) Neither symbol (λ is. omega (arith, is.0))
-none_before (Pair n) First symbol less = none_where n First symbol (λ is. only_first n symbol (omega arith) is)
+none_before (Pair n) First symbol less =
+    let row = last_row n 1 in none_where n First symbol (λ is. only_first n symbol (omega arith) is)
 none_before (Pair n) Second symbol less =
-    none_where n Second symbol (λ is. only_second n symbol (λ last. let own = mod-eq_of_lt less in omega (arith, is.0)) is)
+    none_where n Second symbol (λ is. only_second n symbol (λ last. let own = mod-eq_of_lt (low_column n symbol less) in omega (arith, is.0)) is)
 
 pub first_in_stride : (alphabet : Alphabet) (ended : Ended) → IsInStride alphabet ended (first_after alphabet ended)
 first_in_stride (Plain n) ended = omega arith
 first_in_stride (Pair n) Neither = omega arith
-first_in_stride (Pair n) First = omega arith
-first_in_stride (Pair n) Second = (omega arith, mod_self (n + 1))
+first_in_stride (Pair n) First = let row = last_row n 1 in omega arith
+first_in_stride (Pair n) Second = (omega arith, last_column n 1 (omega arith))
 
 -- nor may one between two neighbours
 pub none_between : (alphabet : Alphabet) (ended : Ended) (symbol other : ℕ) → IsInStride alphabet ended symbol → symbol < other

@@ -1,5 +1,5 @@
 use Rattle.kb_fsafile.proofs.TextLemmas.{plain_automaton}
-use Rattle.kb_fsafile.proofs.reader.cleaned.Goals as goal
+use Rattle.kb_fsafile.proofs.reader.automaton_table.Goals as goal
 
 pub returns-in-Plain-clause-automaton : goal.returns-in-Plain-clause-automaton
 returns-in-Plain-clause-automaton c =

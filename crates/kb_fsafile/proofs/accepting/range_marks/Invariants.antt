@@ -1,5 +1,5 @@
 use Rattle.std.proofs.Common.{◌≡◌, ◌↔◌, ◌≤◌, ℕ, suc, IsTrue, length, get_or, false}
-use Rattle.kb_fsafile.proofs.accepting.range_marked.Given as goal
+use Rattle.kb_fsafile.proofs.accepting.range_marks.Given as goal
 
 abbrev pub invariant-loop-place : goal.invariant-loop-place
 invariant-loop-place l = record {

@@ -1,7 +1,7 @@
 use Rattle.std.proofs.Common.{◌↔◌, ◌<◌, ℕ, suc, List, IsTrue, get_or, false, Contains, length, ap, subst, ◌∙◌, arith}
 use Rattle.std.proofs.lemmas.List.{take_all, length-set, length-replicate}
 use Rattle.kb_fsafile.proofs.NumberLemmas.{states_unmarked, states_marked}
-use Rattle.kb_fsafile.proofs.accepting.marked.Goals as goal
+use Rattle.kb_fsafile.proofs.accepting.accepting_marks.Goals as goal
 
 pub loop-state-init : goal.loop-state-init
 loop-state-init c =

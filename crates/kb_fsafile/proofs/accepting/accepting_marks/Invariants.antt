@@ -1,5 +1,5 @@
 use Rattle.std.proofs.Common.{◌≡◌, ◌↔◌, ℕ, suc, IsTrue, length, get_or, false, take, Contains}
-use Rattle.kb_fsafile.proofs.accepting.marked.Given as goal
+use Rattle.kb_fsafile.proofs.accepting.accepting_marks.Given as goal
 
 abbrev pub invariant-loop-state : goal.invariant-loop-state
 invariant-loop-state l = record {

@@ -1,7 +1,7 @@
 use Rattle.std.proofs.Common.{false, length, ap, ◌∙◌}
 use Rattle.std.proofs.lemmas.List.{length-replicate}
 use Rattle.kb_fsafile.proofs.NumberLemmas.{range_unmarked}
-use Rattle.kb_fsafile.proofs.accepting.range_marked.Goals as goal
+use Rattle.kb_fsafile.proofs.accepting.range_marks.Goals as goal
 
 pub loop-place-init : goal.loop-place-init
 loop-place-init c =

@@ -2,9 +2,10 @@
 
 ghost use Rattle.std.specs.Prelude.{◌≡◌, ◌≤◌};
 ghost use Rattle.kb_fsa.specs.Language.{generators};
-ghost use Rattle.kb_fsabool.specs.Complements.{ended_after, ended_next, first_after, stride_after, word_padded};
+ghost use Rattle.kb_fsa.specs.EndedWords.{ended_after, ended_next, first_after, stride_after, word_padded};
 
-use kb_fsa::Alphabet;
+use crate::alphabet::Alphabet;
+use crate::pair_symbols::PairSymbols;
 
 /// Which word of a pair has ended, so that its padding has begun.
 #[derive(Clone, Copy, Debug, PartialEq, Eq, Hash)]
@@ -15,15 +16,6 @@ pub enum Ended {
     First,
     /// The second.
     Second,
-}
-
-/// A state of an automaton, 0 standing for none, with which word has ended on the way.
-#[derive(Clone, Copy, Debug, PartialEq, Eq, Hash)]
-pub struct Place {
-    /// The state.
-    pub state: u32,
-    /// Which word has ended.
-    pub ended: Ended,
 }
 
 impl Ended {
@@ -49,12 +41,12 @@ impl Ended {
     {
         match (alphabet, self) {
             (Alphabet::Pair(n), Ended::First) => {
-                let n = u32::from(n);
-                ((n + 1) * n + 1, 1)
+                let symbols = PairSymbols { n };
+                (symbols.symbol(symbols.padding(), 1), 1)
             }
             (Alphabet::Pair(n), Ended::Second) => {
-                let padding = u32::from(n) + 1;
-                (padding, padding)
+                let symbols = PairSymbols { n };
+                (symbols.symbol(1, symbols.padding()), symbols.padding())
             }
             _ => (1, 1),
         }
@@ -73,10 +65,10 @@ fn word_padded(n: u16, symbol: u32) -> Ended
     requires { n ≤ 65534 }
     ensures { result ≡ word_padded n symbol }
 {
-    let n = u32::from(n);
-    if symbol > (n + 1) * n {
+    let symbols = PairSymbols { n };
+    if symbols.pads_first(symbol) {
         Ended::First
-    } else if symbol % (n + 1) == 0 {
+    } else if symbols.pads_second(symbol) {
         Ended::Second
     } else {
         Ended::Neither

@@ -1,4 +1,4 @@
-//! Texts as answers hold them.
+//! Texts of symbols.
 
 ghost use Rattle.std.specs.Prelude.{◌≡◌};
 
