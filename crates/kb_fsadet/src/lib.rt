@@ -16,8 +16,6 @@ mod first_words;
 mod nfa;
 mod projection;
 mod subset;
-#[cfg(test)]
-mod tests;
 
 pub use determined::determinise;
 pub use kb_explore::Det;

@@ -2,9 +2,9 @@
 use Rattle.std.proofs.Common.{◌≡◌, ℕ, suc, ◌<◌, ◌≤◌, List, length, get_or, All, refl, sym, ap, ◌∙◌, subst, inl, inr, arith}
 use Rattle.std.proofs.lemmas.Bool.{cases_eq, cases_lt}
 use Rattle.std.proofs.lemmas.List.{get_or_default}
-use Rattle.kb_fsamin.specs.declared.parts.Part.{Part}
+use Rattle.kb_fsamin.specs.declared.partition.Part.{Part}
 use Rattle.kb_reach.specs.Graphs.{AreLinked, IsWalk}
-use Rattle.kb_fsamin.specs.Parts.{part_of, targets, AreEntered, AreEntries, AreTargets, AreOpened}
+use Rattle.kb_fsamin.specs.Partitions.{part_of, targets, AreEntered, AreEntries, AreTargets, AreOpened}
 use Rattle.kb_fsamin.proofs.Openings.{length-targets}
 
 module _ (edges : List (ℕ × ℕ)) (count : ℕ) (last earlier : List ℕ) (linked : AreLinked edges (length edges) count last earlier) where

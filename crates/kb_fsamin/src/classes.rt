@@ -17,8 +17,8 @@ ghost use Rattle.kb_fsamin.specs.Firsts.{acceptance};
 ghost use Rattle.kb_reach.specs.Graphs.{IsMarked};
 ghost use Rattle.kb_fsamin.specs.Rounds.{IsClassing, IsStable, class_of};
 
-use crate::rounds::settled;
-use crate::splitting::refined;
+use crate::rounds::refine_until_stable;
+use crate::splitting::split_by_splitters;
 use kb_fsa::Table;
 use kb_reach::{live, reversed};
 use kb_word::Memory;
@@ -31,8 +31,8 @@ pub(crate) fn representatives(alloc: Global, table: &Table) -> Result<Vec<u32>, 
     let moves = reversed(alloc, table)?;
     let marks = live(alloc, table, &moves)?;
     let start = by_acceptance(alloc, table, marks.as_slice())?;
-    let split = refined(alloc, &moves, start.as_slice())?;
-    let classes = settled(alloc, table, split.as_slice())?;
+    let split = split_by_splitters(alloc, &moves, start.as_slice())?;
+    let classes = refine_until_stable(alloc, table, split.as_slice())?;
     first_of_each(alloc, table, classes.as_slice())
 }
 

@@ -18,8 +18,6 @@ mod layers;
 mod restarts;
 mod reversal;
 mod successor;
-#[cfg(test)]
-mod tests;
 
 pub use concatenation::concat;
 pub use enumeration::Enumerate;
