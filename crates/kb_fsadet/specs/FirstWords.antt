@@ -7,7 +7,7 @@ use Rattle.kb_fsa.specs.Table.{Moves, Table, AcceptsFrom}
 use Rattle.kb_fsa.specs.Padding.{padded}
 use Rattle.kb_fsa.specs.Language.{Automaton, generators}
 use Rattle.kb_fsa.specs.Counted.{IsAfterFirst}
-use Rattle.kb_fsadet.specs.Nondeterministic.{Nondeterministic, IsAmong, accepts_at}
+use Rattle.kb_fsadet.specs.Nondeterministic.{Nondeterministic, LeadsSomehow, accepts_at}
 
 -- the first of the pair that is a symbol, given the padding's number
 abbrev pub first_of : ℕ → ℕ → ℕ
@@ -53,5 +53,5 @@ first_words n table ends = record {
 -- and it accepts where a longer one may end the pair.
 pub record IsFirstWords (pairs : Automaton) (automaton : Nondeterministic) : Type 0 where
   pub alphabet : automaton.alphabet ≡ Plain (generators pairs.alphabet)
-  pub among : (word : List ℕ) (state : ℕ) → IsAmong automaton word state ↔ IsAfterFirst pairs word state
+  pub among : (word : List ℕ) (state : ℕ) → LeadsSomehow automaton word state ↔ IsAfterFirst pairs word state
   pub accepts : (state : ℕ) → IsTrue (accepts_at automaton state) ↔ EndsFrom (generators pairs.alphabet) pairs.table state

@@ -143,8 +143,8 @@ impl Nfa {
     }
 }
 
-/// The moves of a state; none where there is no such state.
-fn moves_at(rows: &[Branches], state: u32) -> &[(u32, u32)]
+/// The moves of a state, by those of states 1, 2, and so on; none where there is no such state.
+pub fn moves_at(rows: &[Branches], state: u32) -> &[(u32, u32)]
     ensures { result.now ≡ moves_at rows.now state }
 {
     match state.checked_sub(1) {
