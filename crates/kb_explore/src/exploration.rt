@@ -65,10 +65,12 @@ fn next_row<M: Machine>(
     seen: &mut Seen<M::State>,
     rows: &[Row],
 ) -> Result<Row, Det>
-    requires progress { IsUnderWay (M.machine machine.now) (M.symbols machine.now) seen.old rows.now }
+    requires progress { IsUnderWay (M.machine machine.now) (M.symbols machine.now)
+        seen.old rows.now }
     requires more { length rows.now < seen_count seen.old }
     requires room { seen_count seen.old ≤ limit }
-    ensures progress { IfOk result (λ row. IsUnderWay (M.machine machine.now) (M.symbols machine.now)
+    ensures progress { IfOk result (λ row.
+        IsUnderWay (M.machine machine.now) (M.symbols machine.now)
         seen.new (rows.now ++ row ∷ [])) }
     ensures room { OnOk result (seen_count seen.new ≤ limit) }
     ensures many { (most : ℕ) → result ≡ Err (TooManyStates most)

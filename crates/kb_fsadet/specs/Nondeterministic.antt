@@ -12,6 +12,9 @@ pub record Nondeterministic : Type 0 where
   pub rows : List Moves
   pub accepting : List Bool
 
+abbrev pub automaton_of : Alphabet → List ℕ → List Moves → List Bool → Nondeterministic
+automaton_of alphabet initial rows accepting = record { alphabet = alphabet; initial = initial; rows = rows; accepting = accepting }
+
 -- the moves of a state, by those of states 1, 2, and so on; what is no state has none
 abbrev pub moves_at : List Moves → ℕ → Moves
 moves_at rows zero = []

@@ -7,8 +7,8 @@
 //! minimization", Information Processing Letters 112, 2012. Of this it is proved that it never separates states of one right
 //! language. Then Moore's rounds ("Gedanken-experiments on sequential machines", 1956) refine the classes: each tells apart
 //! the states of a class that have moves by different symbols, or to different classes. Once a round changes nothing, the
-//! states of a class have one right language. Splitting leaves nothing for the rounds to refine, so that there are as
-//! many as it takes to see that; but nothing rests on it, and without it the answer is the same.
+//! states of a class have one right language. That the splitters leave the rounds nothing to refine is not proved, and
+//! no clause rests on it: without them the answer is the same, after more rounds.
 
 ghost use Rattle.std.specs.Prelude.{◌≡◌, ◌↔◌, ◌+◌, ◌<◌, ◌≤◌, ℕ, length, All, IfOk};
 ghost use Rattle.kb_fsa.specs.Table.{IsLive};

@@ -180,7 +180,8 @@ fn count_hits(
 ) -> Result<Vec<u32>, Memory>
     requires known { All (λ part. part < length parts.old.items) of.now }
     requires items { All (λ item. item < length of.now) items.now }
-    ensures touched { IfOk result (λ touched. All (λ part. part < length parts.old.items) touched.items) }
+    ensures touched { IfOk result (λ touched.
+        All (λ part. part < length parts.old.items) touched.items) }
     ensures destinations { destinations parts.new.items ≡ destinations parts.old.items }
 {
     let mut touched = Vec::new(alloc);
@@ -204,8 +205,10 @@ fn open_parts(
     touched: &[u32],
 ) -> Result<(), Memory>
     requires touched { All (λ part. part < length parts.old.items) touched.now }
-    requires opened { AreOpened (length parts.old.items) last.old.items parts.old.items last.old.items queue.old.items }
-    ensures { OnOk result (AreOpened (length parts.old.items) last.old.items parts.new.items last.new.items queue.new.items) }
+    requires opened { AreOpened (length parts.old.items) last.old.items parts.old.items
+        last.old.items queue.old.items }
+    ensures { OnOk result (AreOpened (length parts.old.items) last.old.items parts.new.items
+        last.new.items queue.new.items) }
 {
     for part in touched {
         let hit = parts[*part as usize];
@@ -255,11 +258,14 @@ fn relabel(
     bound: usize,
     items: &[u32],
 ) -> Result<(), Memory>
-    requires entered { AreEntered of.old.items (length parts.now) entries.old.items last.old.items earlier.old.items }
+    requires entered { AreEntered of.old.items (length parts.now) entries.old.items last.old.items
+        earlier.old.items }
     requires destinations { AreDestinations bound (destinations parts.now) }
     requires items { All (λ item. item < length of.old.items) items.now }
-    ensures entered { OnOk result (AreEntered of.new.items (length parts.now) entries.new.items last.new.items earlier.new.items) }
-    ensures moved { OnOk result (AreMoved bound (destinations parts.now) items.now of.old.items of.new.items) }
+    ensures entered { OnOk result (AreEntered of.new.items (length parts.now) entries.new.items
+        last.new.items earlier.new.items) }
+    ensures moved { OnOk result (AreMoved bound (destinations parts.now) items.now of.old.items
+        of.new.items) }
 {
     for item in items {
         let part = of[*item as usize];

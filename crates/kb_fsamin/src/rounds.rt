@@ -20,7 +20,8 @@ pub(crate) fn refine_until_stable(alloc: Global, table: &Table, start: &[u32]) -
     requires { IsClassing table.now start.now }
     ensures classing { IfOk result (λ classes. IsClassing table.now classes.items) }
     ensures stable { IfOk result (λ classes. IsStable table.now classes.items) }
-    ensures small { IfOk result (λ classes. (state : ℕ) → class_of classes.items state ≤ length table.now.rows) }
+    ensures small { IfOk result (λ classes. (state : ℕ)
+        → class_of classes.items state ≤ length table.now.rows) }
 {
     let mut classes = round(alloc, table, start)?;
     loop {

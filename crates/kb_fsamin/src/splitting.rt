@@ -60,7 +60,8 @@ fn turn(
     requires states { All (λ edge. edge.1 < length start.now) edges.now }
     requires paired { ArePaired edges.now start.now blocks.old cords.old }
     ensures paired { OnOk result (ArePaired edges.now start.now blocks.new cords.new) }
-    ensures keeps { OnOk result ((symbols : List ℕ) → KeepsSplitting edges.now symbols start.now blocks.old cords.old blocks.new cords.new) }
+    ensures keeps { OnOk result ((symbols : List ℕ)
+        → KeepsSplitting edges.now symbols start.now blocks.old cords.old blocks.new cords.new) }
 {
     if let Some(block) = blocks.take() {
         let moves = entering(alloc, edges, links, blocks, block)?;
@@ -78,7 +79,8 @@ fn turn(
 /// The blocks as classes, but for what has class 0.
 fn classes_of_blocks(alloc: Global, start: &[u32], blocks: &[u32]) -> Result<Vec<u32>, Memory>
     requires { length blocks.now ≡ length start.now }
-    ensures { IfOk result (λ classes. AreClassesOfBlocks start.now blocks.now (length start.now) classes.items) }
+    ensures { IfOk result (λ classes.
+        AreClassesOfBlocks start.now blocks.now (length start.now) classes.items) }
 {
     let mut classes = Vec::new(alloc);
     for (state, class) in start.iter().enumerate() {
@@ -92,8 +94,10 @@ fn by_symbol(alloc: Global, symbols: &[u32]) -> Result<Partition, Memory>
     requires { length symbols.now ≤ 2 ^ 32 }
     ensures partition { IfOk result (λ cords. IsPartition cords) }
     ensures one_each { IfOk result (λ cords. length cords.of.items ≡ length symbols.now) }
-    ensures same { IfOk result (λ cords. (k other : ℕ) → k < length symbols.now → other < length symbols.now
-        → get_or symbols.now k 0 ≡ get_or symbols.now other 0 → part_of cords.of.items k ≡ part_of cords.of.items other) }
+    ensures same { IfOk result (λ cords. (k other : ℕ) → k < length symbols.now
+        → other < length symbols.now
+        → get_or symbols.now k 0 ≡ get_or symbols.now other 0
+        → part_of cords.of.items k ≡ part_of cords.of.items other) }
 {
     let mut seen = IndexSet::new(alloc);
     let mut numbers = Vec::new(alloc);
@@ -143,7 +147,8 @@ fn leaving(
     requires known { All (λ edge. edge.0 < length start.now) edges.now }
     requires cords { IsPartition cords.now }
     requires cord { cord < length cords.now.parts.items }
-    ensures { IfOk result (λ listed. AreLeaving edges.now start.now cords.now.of.items cord listed.items) }
+    ensures { IfOk result (λ listed.
+        AreLeaving edges.now start.now cords.now.of.items cord listed.items) }
 {
     let mut listed = Vec::new(alloc);
     let moves = cords.members(alloc, cord)?;

@@ -25,7 +25,8 @@ pub fn concat(alloc: Global, one: &Fsa, two: &Fsa, limit: u32) -> Result<Fsa, De
     ensures language { IfOk result (IsConcatenation one.now two.now) }
     ensures alphabet { IfOk result (λ answer. answer.alphabet ≡ one.now.alphabet) }
     ensures few { IsOk result → ¬ CountedConcat one.now two.now limit }
-    ensures many { (most : ℕ) → result ≡ Err (TooManyStates most) → (most ≡ limit) × CountedConcat one.now two.now limit }
+    ensures many { (most : ℕ) → result ≡ Err (TooManyStates most)
+        → (most ≡ limit) × CountedConcat one.now two.now limit }
 {
     let both = concat_nfa(alloc, one, two)?;
     determinise(alloc, &both, limit)
@@ -39,7 +40,8 @@ fn concat_nfa(alloc: Global, one: &Fsa, two: &Fsa) -> Result<Nfa, Memory>
     ensures alphabet { IfOk result (λ nfa. nfa.alphabet ≡ one.now.alphabet) }
     ensures sets { IfOk result (λ nfa. (text : List ℕ) (state : ℕ) → LeadsSomehow nfa text state
         ↔ IsAfterConcat one.now two.now text (of_two (length one.now.table.rows) state)) }
-    ensures language { IfOk result (λ nfa. (text : List ℕ) → AcceptsSomehow nfa text ↔ IsSplit one.now two.now text) }
+    ensures language { IfOk result (λ nfa. (text : List ℕ)
+        → AcceptsSomehow nfa text ↔ IsSplit one.now two.now text) }
     ensures table { IfOk result (λ _. IsTable one.now.table) }
 {
     let (first, second) = (one.table(), two.table());

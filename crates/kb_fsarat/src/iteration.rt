@@ -23,7 +23,8 @@ pub fn star(alloc: Global, one: &Fsa, limit: u32) -> Result<Fsa, Det>
     ensures language { IfOk result (IsStar one.now) }
     ensures alphabet { IfOk result (λ answer. answer.alphabet ≡ one.now.alphabet) }
     ensures few { IsOk result → ¬ CountedStar one.now limit }
-    ensures many { (most : ℕ) → result ≡ Err (TooManyStates most) → (most ≡ limit) × CountedStar one.now limit }
+    ensures many { (most : ℕ) → result ≡ Err (TooManyStates most)
+        → (most ≡ limit) × CountedStar one.now limit }
 {
     let products = star_nfa(alloc, one)?;
     let answer = determinise(alloc, &products, limit)?;
@@ -64,7 +65,8 @@ fn star_nfa(alloc: Global, one: &Fsa) -> Result<Nfa, Memory>
 /// The rows of the table, where each move to an accepting state is also one by its symbol to each start, and then that
 /// of the mark.
 fn star_rows(alloc: Global, table: &Table, starts: &[u32]) -> Result<Vec<Branches>, Memory>
-    ensures { IfOk result (λ rows. rows.items ≡ map (restarting table.now starts.now) table.now.rows ++ [] ∷ []) }
+    ensures { IfOk result (λ rows.
+        rows.items ≡ map (restarting table.now starts.now) table.now.rows ++ [] ∷ []) }
 {
     let mut rows = restarting_rows(alloc, table, starts)?;
     rows.push(Branches::new(alloc))?;

@@ -76,9 +76,11 @@ impl<'a> Model for Layers<'a> {
 
     ghost Value = { Layering };
 
-    ghost view = { λ layers. record { table = layers.table.now; count = lengths layers.settled layers.sets.items } };
+    ghost view = { λ layers.
+        record { table = layers.table.now; count = lengths layers.settled layers.sets.items } };
 
-    ghost invariant = { λ layers. IsLayering layers.table.now layers.sets.items layers.settled × IfSome layers.turned (λ rows. AreTurned layers.table.now rows.items) };
+    ghost invariant = { λ layers. IsLayering layers.table.now layers.sets.items layers.settled
+        × IfSome layers.turned (λ rows. AreTurned layers.table.now rows.items) };
 }
 
 impl<'a> Layers<'a> {

@@ -22,7 +22,8 @@ pub fn reverse(alloc: Global, one: &Fsa, limit: u32) -> Result<Fsa, Det>
     ensures language { IfOk result (IsReversal one.now) }
     ensures alphabet { IfOk result (λ answer. answer.alphabet ≡ one.now.alphabet) }
     ensures few { IsOk result → ¬ CountedReverse one.now limit }
-    ensures many { (most : ℕ) → result ≡ Err (TooManyStates most) → (most ≡ limit) × CountedReverse one.now limit }
+    ensures many { (most : ℕ) → result ≡ Err (TooManyStates most)
+        → (most ≡ limit) × CountedReverse one.now limit }
 {
     let backwards = reversed_nfa(alloc, one)?;
     determinise(alloc, &backwards, limit)
@@ -32,8 +33,10 @@ pub fn reverse(alloc: Global, one: &Fsa, limit: u32) -> Result<Fsa, Det>
 fn reversed_nfa(alloc: Global, one: &Fsa) -> Result<Nfa, Memory>
     requires { (n : ℕ) × (one.now.alphabet ≡ Plain n) }
     ensures alphabet { IfOk result (λ nfa. nfa.alphabet ≡ one.now.alphabet) }
-    ensures sets { IfOk result (λ nfa. (text : List ℕ) (state : ℕ) → LeadsSomehow nfa text state ↔ IsBefore one.now text state) }
-    ensures language { IfOk result (λ nfa. (text : List ℕ) → AcceptsSomehow nfa text ↔ Accepts one.now (reverse text)) }
+    ensures sets { IfOk result (λ nfa. (text : List ℕ) (state : ℕ)
+        → LeadsSomehow nfa text state ↔ IsBefore one.now text state) }
+    ensures language { IfOk result (λ nfa. (text : List ℕ)
+        → AcceptsSomehow nfa text ↔ Accepts one.now (reverse text)) }
 {
     let table = one.table();
     let rows = reversed_rows(alloc, table.rows())?;
@@ -46,7 +49,8 @@ fn reversed_nfa(alloc: Global, one: &Fsa) -> Result<Nfa, Memory>
 pub(crate) fn reversed_rows(alloc: Global, rows: &[Row]) -> Result<Vec<Branches>, Memory>
     requires size { length rows.now < 2 ^ 32 }
     requires targets { All (All (λ move. (0 < move.1) × (move.1 ≤ length rows.now))) rows.now }
-    ensures { IfOk result (λ turned. HaveAdded (replicate (length rows.now) []) turned.items (TurnsFirst rows.now (length rows.now))) }
+    ensures { IfOk result (λ turned. HaveAdded (replicate (length rows.now) []) turned.items
+        (TurnsFirst rows.now (length rows.now))) }
 {
     let mut turned = empty_rows(alloc, rows.len())?;
     for (place, row) in rows.iter().enumerate() {
@@ -81,7 +85,8 @@ fn add_reversed(turned: &mut [Branches], state: u32, moves: &[(u32, u32)]) -> Re
 /// The numbers of the states that accept.
 pub(crate) fn accepting_states(alloc: Global, accepting: &[bool]) -> Result<Vec<u32>, Memory>
     requires { length accepting.now < 2 ^ 32 }
-    ensures { IfOk result (λ states. (state : ℕ) → Contains states.items state ↔ IsListed accepting.now (length accepting.now) state) }
+    ensures { IfOk result (λ states. (state : ℕ)
+        → Contains states.items state ↔ IsListed accepting.now (length accepting.now) state) }
 {
     let mut states = Vec::new(alloc);
     for (place, accepts) in accepting.iter().enumerate() {
