@@ -53,8 +53,8 @@ fn power(alloc: Global, letters: u32) -> Result<Fsa, Memory>
 
 #[test]
 fn a_long_chain_is_split_in_time(rt: HostRuntime) -> Result<(), Fail> {
-    let chain = power(rt.alloc(), 50_000)?;
+    let chain = power(rt.alloc(), 100_000)?;
     let canonical = canonical(rt.alloc(), &chain)?;
-    assert_eq!(rt; canonical.len(), 50_001);
+    assert_eq!(rt; canonical.len(), 100_001);
     Ok(())
 }

@@ -70,7 +70,7 @@ new-requires c =
     subst P (sym c.new-table.ensures)
     (plain_automaton 1 _ (omega arith)
     (record {
-      one_answer_each = ?;
+      one_answer_each = omega (arith, ap length c.in_ok-push.ensures.items, count);
       size = omega arith;
       initial = omega arith;
       rows = c.in_ok-rows.ensures.rows;
