@@ -14,3 +14,4 @@ pub mod Openings
 pub mod Walks
 pub mod Numberings
 pub mod Splittings
+pub mod NoMoves

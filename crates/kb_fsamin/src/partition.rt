@@ -215,7 +215,11 @@ fn open_parts(
         let destination = parts.len();
         if hit.hits < hit.size && destination < u32::MAX as usize {
             let (rest, new) = halves(hit, destination as u32);
-            queue.push(if new.waiting { destination as u32 } else { *part })?;
+            queue.push(if new.waiting {
+                destination as u32
+            } else {
+                *part
+            })?;
             last.push(0)?;
             parts.push(new)?;
             parts[*part as usize] = rest;

@@ -19,7 +19,11 @@ use kb_word::Memory;
 use std::alloc::Global;
 
 /// Splits the classes, of which there are at most three, as far as splitters do.
-pub(crate) fn split_by_splitters(alloc: Global, moves: &Backward, start: &[u32]) -> Result<Vec<u32>, Memory>
+pub(crate) fn split_by_splitters(
+    alloc: Global,
+    moves: &Backward,
+    start: &[u32],
+) -> Result<Vec<u32>, Memory>
     requires count { length start.now ≤ 2 ^ 32 }
     requires classes { All (λ class. class < 3) start.now }
     requires symbols { length moves.now.symbols.items ≡ length moves.now.edges.items }

@@ -91,8 +91,12 @@ fn next_after(
     requires table { layers.old.table ≡ fsa.now.table }
     requires given { IfSome (option_copied given) (IsGiven fsa.now min max) }
     ensures table { layers.new.table ≡ layers.old.table }
-    ensures next { IfOk result (IsNextOf (record { automaton = fsa.now; min = min; max = max;
-        given = option_copied given.entry })) }
+    ensures next { IfOk result (IsNextOf (record {
+      automaton = fsa.now;
+      min = min;
+      max = max;
+      given = option_copied given.entry;
+    })) }
 {
     match given {
         None => first_of_length(alloc, layers, usize::from(min), usize::from(max)),

@@ -1,12 +1,14 @@
-use Rattle.std.proofs.Common.{◌≡◌, ◌≢◌, ◌+◌, ◌<◌, ◌≤◌, ℕ, zero, suc, List, [], ◌∷◌, length, get_or, Option, Some, None, refl, sym, ap, ◌∙◌, subst, arith, rules}
+use Rattle.std.proofs.Common.{◌≡◌, ◌≢◌, ◌+◌, ◌<◌, ◌≤◌, ℕ, zero, suc, List, [], ◌∷◌, length, get_or, Option, Some, None, true, false, refl, sym, ap, ◌∙◌, subst, arith, rules}
 use Rattle.std.specs.List.{All}
 use Rattle.std.specs.Option.{unwrap_or}
+use Rattle.std.proofs.lemmas.List.{length_push, length-replicate}
 use Rattle.std.proofs.lemmas.List.Elements.{All-nil, All-cons, All-head, All-tail, All-contains}
 use Rattle.kb_word.specs.Relations.{IsOver}
 use Rattle.kb_fsa.specs.declared.alphabet.Alphabet.TheVariants.{Plain}
 use Rattle.kb_fsa.specs.Table.{Moves, Table, IsTable, IsRow, HasSymbols, lookup, target, moves_of, step, after}
 use Rattle.kb_fsa.specs.Language.{IsAutomaton}
 use Rattle.kb_fsa.proofs.Lookups.{after_none, entry_from_lookup}
+use Rattle.kb_fsamin.proofs.NoMoves.{no_moves}
 use Rattle.kb_fsamin.proofs.tests.power.Goals as goal
 
 -- a symbol by which the moves lead somewhere is one of theirs
@@ -27,12 +29,6 @@ row_known : (P : Moves → Type 0) (rows : List Moves) (place : ℕ) → P [] �
 row_known P [] place none all = none
 row_known P (row ∷ rows) zero none all = All-head P row rows all
 row_known P (row ∷ rows) (suc place) none all = row_known P rows place none (All-tail P row rows all)
-
-no_moves : IsRow []
-no_moves = record {
-  ascends = λ i j d less within. absurd (let no : ⊥ = omega arith in no);
-  numbers = All-nil (λ (move : ℕ × ℕ). (0 < move.0) × (0 < move.1));
-}
 
 state_row : (table : Table) (state : ℕ) → IsTable table → IsRow (moves_of table state)
 state_row table zero is = no_moves
@@ -70,7 +66,9 @@ new-requires c =
     subst P (sym c.new-table.ensures)
     (plain_automaton 1 _ (omega arith)
     (record {
-      one_answer_each = omega (arith, ap length c.in_ok-push.ensures.items, count);
+      one_answer_each = ap length c.in_ok-push.ensures.items ∙ length_push c.in_ok-accepting.accepting.items true
+          ∙ ap (λ n. n + 1) (ap length (c.in_ok-accepting.ensures.items_if_clones_equal (λ y is. is)) ∙ length-replicate c.args.letters false)
+          ∙ sym count;
       size = omega arith;
       initial = omega arith;
       rows = c.in_ok-rows.ensures.rows;
