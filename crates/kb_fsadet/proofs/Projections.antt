@@ -14,7 +14,7 @@ use Rattle.kb_fsa.specs.Counted.{IsAfterFirst, MoreSetsThan}
 use Rattle.kb_fsa.proofs.Lookups.{after_none, accepting_positive, after-append}
 use Rattle.kb_fsa.proofs.PairSymbolLaws.{first_within}
 use Rattle.kb_explore.proofs.CountingLemmas.{MoreThan-kept}
-use Rattle.kb_fsadet.specs.Nondeterministic.{Nondeterministic, IsNondeterministic, IsAmong, AcceptsSomehow, IsOneOf, accepts_at}
+use Rattle.kb_fsadet.specs.Nondeterministic.{Nondeterministic, IsNondeterministic, LeadsSomehow, AcceptsSomehow, IsOneOf, accepts_at}
 use Rattle.kb_fsadet.specs.Projection.{HasSecond}
 use Rattle.kb_fsadet.specs.FirstWords.{by_first, first_words, where_some, EndsFrom, AreEnds, IsFirstWords}
 use Rattle.kb_fsadet.proofs.Sets.{All-from_contains, Contains-none, Contains-here, Contains-cons_cases}
@@ -45,7 +45,7 @@ module _ (pairs : Automaton) (is : IsTable pairs.table)
   abbrev words : Nondeterministic
   words = first_words n pairs.table marks
 
-  after_first : (word : List ℕ) (state : ℕ) → IsAmong words word state → IsAfterFirst pairs word state
+  after_first : (word : List ℕ) (state : ℕ) → LeadsSomehow words word state → IsAfterFirst pairs word state
   after_first word state among =
       let start = from_where_some pairs.table.initial among.start among.is_initial in
       let initial_texts : (text : List ℕ) → after pairs.table among.start text ≢ 0 → IsPadded n text =
@@ -60,7 +60,7 @@ module _ (pairs : Automaton) (is : IsTable pairs.table)
         some = by.some;
       }
 
-  among_from : (word : List ℕ) (state : ℕ) → IsAfterFirst pairs word state → IsAmong words word state
+  among_from : (word : List ℕ) (state : ℕ) → IsAfterFirst pairs word state → LeadsSomehow words word state
   among_from word state first =
       let leads = first.leads in
       let positive : 0 < pairs.table.initial = elim (cases_lt 0 pairs.table.initial) [

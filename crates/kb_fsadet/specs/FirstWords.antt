@@ -8,7 +8,7 @@ use Rattle.kb_fsa.specs.PairSymbols.{first_letter, pads_first}
 use Rattle.kb_fsa.specs.Padding.{padded}
 use Rattle.kb_fsa.specs.Language.{Automaton, generators}
 use Rattle.kb_fsa.specs.Counted.{IsAfterFirst}
-use Rattle.kb_fsadet.specs.Nondeterministic.{Nondeterministic, IsAmong, accepts_at}
+use Rattle.kb_fsadet.specs.Nondeterministic.{Nondeterministic, LeadsSomehow, accepts_at}
 
 -- the move by the first letter alone, and none after the first word
 abbrev pub by_first : ℕ → ℕ × ℕ → Option (ℕ × ℕ)
@@ -50,5 +50,5 @@ first_words n table ends = record {
 -- and it accepts where a longer one may end the pair.
 pub record IsFirstWords (pairs : Automaton) (automaton : Nondeterministic) : Type 0 where
   pub alphabet : automaton.alphabet ≡ Plain (generators pairs.alphabet)
-  pub among : (word : List ℕ) (state : ℕ) → IsAmong automaton word state ↔ IsAfterFirst pairs word state
+  pub among : (word : List ℕ) (state : ℕ) → LeadsSomehow automaton word state ↔ IsAfterFirst pairs word state
   pub accepts : (state : ℕ) → IsTrue (accepts_at automaton state) ↔ EndsFrom (generators pairs.alphabet) pairs.table state
