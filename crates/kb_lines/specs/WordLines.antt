@@ -67,3 +67,9 @@ pub record IsFirstRefused (parts : PresentationParts) (Answers : List ℕ → Li
   pub given : List ℕ
   pub answered : LinesGive parts Answers lines given
   pub faulty : LineHasFault parts line fault
+
+-- what the line gives was added to what was pending
+pub record AddsGiven (parts : PresentationParts) (Answers : List ℕ → List ℕ → Type 0) (line pending pending' : List ℕ) : Type 0 where
+  pub given : List ℕ
+  pub gives : LineGives parts Answers line given
+  pub added : pending' ≡ pending ++ given
