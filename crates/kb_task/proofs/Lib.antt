@@ -1,3 +1,4 @@
+pub mod LoadLemmas
 pub mod ArgumentLemmas
 pub mod LoadEnds
 pub mod RunLemmas
