@@ -88,22 +88,22 @@ IsMadeOfTwo operation one two made = (made.alphabet ≡ one.alphabet) × IsCombi
 abbrev pub ExceedsCombined : Combination → ℕ → Automaton → Automaton → Limit → Type 0
 ExceedsCombined operation most one two limit = (limit ≡ States (combined_by operation)) × HasMoreCombined operation one two most
 
-abbrev pub combine_means : Combine → Outside → Outside → Status → Type 0
-combine_means task = TwoMean (combined_kind task.operation) task.one task.two (λ names one two.
+abbrev pub CombineMeans : Combine → Outside → Outside → Status → Type 0
+CombineMeans task = TwoMean (combined_kind task.operation) task.one task.two (λ names one two.
     MakeMeans (IsMadeOfTwo task.operation one two) (ExceedsCombined task.operation task.max_states one two) task.out names)
 
-abbrev pub combine_stores : Combine → List ℕ → Type 0
-combine_stores task name = name ≡ task.out
+abbrev pub combine_may_store : Combine → List ℕ → Type 0
+combine_may_store task name = name ≡ task.out
 
 abbrev pub combine_reads : Combine → List ℕ → Type 0
 combine_reads task name = (name ≡ task.one) ⊎ (name ≡ task.two)
 
-abbrev pub combine_unrefused : Combine → Outside → Type 0
-combine_unrefused task = AreBothUnrefused (combined_kind task.operation) task.one task.two
+abbrev pub combine_is_unrefused : Combine → Outside → Type 0
+combine_is_unrefused task = AreBothUnrefused (combined_kind task.operation) task.one task.two
 
 -- the other is the same command but for its limit
-abbrev pub combine_same : Combine → Combine → Type 0
-combine_same task other = other ≡ record task { max_states = other.max_states }
+abbrev pub CombinesDifferInOptions : Combine → Combine → Type 0
+CombinesDifferInOptions task other = other ≡ record task { max_states = other.max_states }
 
 -- ---- `fsanot`, `fsaexists`, `fsastar`, `fsareverse`
 
@@ -135,21 +135,21 @@ HasMoreTransformed transformations.Reverse one limit = CountedReverse one limit
 abbrev pub ExceedsTransformed : Transformation → ℕ → Automaton → Limit → Type 0
 ExceedsTransformed operation most one limit = (limit ≡ States (transformed_by operation)) × HasMoreTransformed operation one most
 
-abbrev pub transform_means : Transform → Outside → Outside → Status → Type 0
-transform_means task = OneMeans (transformed_kind task.operation) task.file (λ names one.
+abbrev pub TransformMeans : Transform → Outside → Outside → Status → Type 0
+TransformMeans task = OneMeans (transformed_kind task.operation) task.file (λ names one.
     MakeMeans (IsTransformed task.operation one) (ExceedsTransformed task.operation task.max_states one) task.out names)
 
-abbrev pub transform_stores : Transform → List ℕ → Type 0
-transform_stores task name = name ≡ task.out
+abbrev pub transform_may_store : Transform → List ℕ → Type 0
+transform_may_store task name = name ≡ task.out
 
 abbrev pub transform_reads : Transform → List ℕ → Type 0
 transform_reads task name = name ≡ task.file
 
-abbrev pub transform_unrefused : Transform → Outside → Type 0
-transform_unrefused task = IsUnrefusedAs (transformed_kind task.operation) task.file
+abbrev pub transform_is_unrefused : Transform → Outside → Type 0
+transform_is_unrefused task = IsUnrefusedAs (transformed_kind task.operation) task.file
 
-abbrev pub transform_same : Transform → Transform → Type 0
-transform_same task other = other ≡ record task { max_states = other.max_states }
+abbrev pub TransformsDifferInOptions : Transform → Transform → Type 0
+TransformsDifferInOptions task other = other ≡ record task { max_states = other.max_states }
 
 -- ---- `fsamin`
 
@@ -158,18 +158,18 @@ abbrev pub IsMinimised : Automaton → Automaton → Type 0
 IsMinimised one made = (made.alphabet ≡ one.alphabet) × SameLanguage one made
 
 -- it has no limit
-abbrev pub minimise_means : Minimise → Outside → Outside → Status → Type 0
-minimise_means task = OneMeans WordsOrPairs task.file (λ names one. MakeMeans (IsMinimised one) (λ limit. ⊥) task.out names)
+abbrev pub MinimiseMeans : Minimise → Outside → Outside → Status → Type 0
+MinimiseMeans task = OneMeans WordsOrPairs task.file (λ names one. MakeMeans (IsMinimised one) (λ limit. ⊥) task.out names)
 
-abbrev pub minimise_stores : Minimise → List ℕ → Type 0
-minimise_stores task name = name ≡ task.out
+abbrev pub minimise_may_store : Minimise → List ℕ → Type 0
+minimise_may_store task name = name ≡ task.out
 
 abbrev pub minimise_reads : Minimise → List ℕ → Type 0
 minimise_reads task name = name ≡ task.file
 
-abbrev pub minimise_unrefused : Minimise → Outside → Type 0
-minimise_unrefused task = IsUnrefusedAs WordsOrPairs task.file
+abbrev pub minimise_is_unrefused : Minimise → Outside → Type 0
+minimise_is_unrefused task = IsUnrefusedAs WordsOrPairs task.file
 
 -- it has no options
-abbrev pub minimise_same : Minimise → Minimise → Type 0
-minimise_same task other = other ≡ task
+abbrev pub MinimisesDifferInOptions : Minimise → Minimise → Type 0
+MinimisesDifferInOptions task other = other ≡ task

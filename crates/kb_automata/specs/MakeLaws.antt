@@ -15,7 +15,7 @@ use Rattle.kb_task.specs.declared.status.Status.{Status}
 use Rattle.kb_task.specs.declared.status.Status.TheVariants.{Yes, Undecided, No, Memory, Fault}
 use Rattle.kb_automata.specs.Loaded.{OneMeans, TwoMean}
 use Rattle.kb_automata.specs.LoadedLaws.{one_answers, two_answer, over_one, over_two, yes-conclusive}
-use Rattle.kb_automata.specs.Make.{MakeMeans, IsWithin, StoresMade, IsCombined, IsMadeOfTwo, ExceedsCombined, IsTransformed, ExceedsTransformed, IsMinimised, combined_kind, combine_means, combine_stores, combine_reads, combine_unrefused, combine_same, transformed_kind, transform_means, transform_stores, transform_reads, transform_unrefused, transform_same, minimise_means, minimise_stores, minimise_reads, minimise_unrefused, minimise_same}
+use Rattle.kb_automata.specs.Make.{MakeMeans, IsWithin, StoresMade, IsCombined, IsMadeOfTwo, ExceedsCombined, IsTransformed, ExceedsTransformed, IsMinimised, combined_kind, CombineMeans, combine_may_store, combine_reads, combine_is_unrefused, CombinesDifferInOptions, transformed_kind, TransformMeans, transform_may_store, transform_reads, transform_is_unrefused, TransformsDifferInOptions, MinimiseMeans, minimise_may_store, minimise_reads, minimise_is_unrefused, MinimisesDifferInOptions}
 use Rattle.kb_automata.specs.declared.combine.Combination.{Combination}
 use Rattle.kb_automata.specs.declared.combine.Combination.TheVariants as combinations
 use Rattle.kb_automata.specs.declared.combine.Combine.{Combine}
@@ -112,14 +112,14 @@ module _ (IsMade : Automaton → Type 0) (out : List ℕ) (names : List (List �
 
 -- ---- `fsaand`, `fsaor`, `fsaconcat`
 
-pub combine_complete : IsComplete combine_means combine_unrefused (λ task. AnswersYesOrLimit)
+pub combine_complete : IsComplete CombineMeans combine_is_unrefused (λ task. AnswersYesOrLimit)
 combine_complete = λ task before after status means unrefused faultless.
     two_answer AnswersYesOrLimit tt before after status faultless (combined_kind task.operation) task.one task.two _
     (λ names one two made. make_answers (IsMadeOfTwo task.operation one two) task.out names (ExceedsCombined task.operation task.max_states one two)
     before after status faultless made)
     unrefused means
 
-pub combine_settled : IsSettledByFiles combine_means combine_reads
+pub combine_settled : IsSettledByFiles CombineMeans combine_reads
 combine_settled = λ task before after other_before other_after status other means others same conclusive also.
     over_two before after other_before other_after status other conclusive also (status ≡ other) (combined_kind task.operation) task.one task.two _ _
     (λ names one two made mades. make_settled (IsMadeOfTwo task.operation one two) task.out names
@@ -127,26 +127,26 @@ combine_settled = λ task before after other_before other_after status other mea
     before after other_before other_after status other conclusive also made mades)
     (same task.one (inl refl)) (same task.two (inr refl)) means others
 
-pub combine_function : IsFunctionOfInputs combine_means combine_same combine_reads combine_stores
-combine_function = λ task other_task before after other_before other_after status other means others yes also differ same input.
+pub combine_one_function : IsFunctionOfInputs CombineMeans CombinesDifferInOptions combine_reads combine_may_store
+combine_one_function = λ task other_task before after other_before other_after status other means others yes also differ same input.
     over_two before after other_before other_after status other (yes-conclusive status yes) (yes-conclusive other also)
-    (HasSameEffect (combine_stores task) before after other_before other_after) (combined_kind task.operation) task.one task.two _ _
+    (HasSameEffect (combine_may_store task) before after other_before other_after) (combined_kind task.operation) task.one task.two _ _
     (λ names one two made mades. make_function (IsMadeOfTwo task.operation one two) task.out names
     (ExceedsCombined task.operation task.max_states one two) (ExceedsCombined task.operation other_task.max_states one two)
     (made_of_two-alike task.operation one two) before after other_before other_after status other yes also made mades)
     (same task.one (inl refl)) (same task.two (inr refl)) means
-    (subst (λ t. combine_means t other_before other_after other) differ others)
+    (subst (λ t. CombineMeans t other_before other_after other) differ others)
 
 -- ---- `fsanot`, `fsaexists`, `fsastar`, `fsareverse`
 
-pub transform_complete : IsComplete transform_means transform_unrefused (λ task. AnswersYesOrLimit)
+pub transform_complete : IsComplete TransformMeans transform_is_unrefused (λ task. AnswersYesOrLimit)
 transform_complete = λ task before after status means unrefused faultless.
     one_answers AnswersYesOrLimit tt before after status faultless (transformed_kind task.operation) task.file _
     (λ names one made. make_answers (IsTransformed task.operation one) task.out names (ExceedsTransformed task.operation task.max_states one)
     before after status faultless made)
     unrefused means
 
-pub transform_settled : IsSettledByFiles transform_means transform_reads
+pub transform_settled : IsSettledByFiles TransformMeans transform_reads
 transform_settled = λ task before after other_before other_after status other means others same conclusive also.
     over_one before after other_before other_after status other conclusive also (status ≡ other) (transformed_kind task.operation) task.file _ _
     (λ names one made mades. make_settled (IsTransformed task.operation one) task.out names
@@ -154,15 +154,15 @@ transform_settled = λ task before after other_before other_after status other m
     before after other_before other_after status other conclusive also made mades)
     (same task.file refl) means others
 
-pub transform_function : IsFunctionOfInputs transform_means transform_same transform_reads transform_stores
-transform_function = λ task other_task before after other_before other_after status other means others yes also differ same input.
+pub transform_one_function : IsFunctionOfInputs TransformMeans TransformsDifferInOptions transform_reads transform_may_store
+transform_one_function = λ task other_task before after other_before other_after status other means others yes also differ same input.
     over_one before after other_before other_after status other (yes-conclusive status yes) (yes-conclusive other also)
-    (HasSameEffect (transform_stores task) before after other_before other_after) (transformed_kind task.operation) task.file _ _
+    (HasSameEffect (transform_may_store task) before after other_before other_after) (transformed_kind task.operation) task.file _ _
     (λ names one made mades. make_function (IsTransformed task.operation one) task.out names
     (ExceedsTransformed task.operation task.max_states one) (ExceedsTransformed task.operation other_task.max_states one)
     (transformed-alike task.operation one) before after other_before other_after status other yes also made mades)
     (same task.file refl) means
-    (subst (λ t. transform_means t other_before other_after other) differ others)
+    (subst (λ t. TransformMeans t other_before other_after other) differ others)
 
 -- ---- `fsamin`
 
@@ -175,24 +175,24 @@ within_answers IsMade out names before after (Undecided limit) faultless means =
 within_answers IsMade out names before after (Fault which) faultless means = cc
 within_answers IsMade out names before after _ faultless means = means
 
-pub minimise_complete : IsComplete minimise_means minimise_unrefused (λ task. AnswersYes)
+pub minimise_complete : IsComplete MinimiseMeans minimise_is_unrefused (λ task. AnswersYes)
 minimise_complete = λ task before after status means unrefused faultless.
     one_answers AnswersYes tt before after status faultless WordsOrPairs task.file _
     (λ names one made. within_answers (IsMinimised one) task.out names before after status faultless made)
     unrefused means
 
-pub minimise_settled : IsSettledByFiles minimise_means minimise_reads
+pub minimise_settled : IsSettledByFiles MinimiseMeans minimise_reads
 minimise_settled = λ task before after other_before other_after status other means others same conclusive also.
     over_one before after other_before other_after status other conclusive also (status ≡ other) WordsOrPairs task.file _ _
     (λ names one made mades. make_settled (IsMinimised one) task.out names (λ limit. ⊥) (λ limit found a b. absurd a)
     before after other_before other_after status other conclusive also made mades)
     (same task.file refl) means others
 
-pub minimise_function : IsFunctionOfInputs minimise_means minimise_same minimise_reads minimise_stores
-minimise_function = λ task other_task before after other_before other_after status other means others yes also differ same input.
+pub minimise_one_function : IsFunctionOfInputs MinimiseMeans MinimisesDifferInOptions minimise_reads minimise_may_store
+minimise_one_function = λ task other_task before after other_before other_after status other means others yes also differ same input.
     over_one before after other_before other_after status other (yes-conclusive status yes) (yes-conclusive other also)
-    (HasSameEffect (minimise_stores task) before after other_before other_after) WordsOrPairs task.file _ _
+    (HasSameEffect (minimise_may_store task) before after other_before other_after) WordsOrPairs task.file _ _
     (λ names one made mades. make_function (IsMinimised one) task.out names (λ limit. ⊥) (λ limit. ⊥)
     (minimised-alike one) before after other_before other_after status other yes also made mades)
     (same task.file refl) means
-    (subst (λ t. minimise_means t other_before other_after other) differ others)
+    (subst (λ t. MinimiseMeans t other_before other_after other) differ others)

@@ -45,26 +45,20 @@ pub struct Combine {
 
 impl Task for Combine {
     ghost use Rattle.kb_task.specs.Statuses.{AnswersYesOrLimit};
-    ghost use Rattle.kb_automata.specs.Make.{combine_means, combine_stores, combine_reads, combine_unrefused, combine_same};
-    ghost use Rattle.kb_automata.specs.MakeLaws.{combine_complete, combine_settled, combine_function};
+    ghost use Rattle.kb_automata.specs.Make.{CombineMeans, combine_may_store, combine_reads, combine_is_unrefused, CombinesDifferInOptions};
+    ghost use Rattle.kb_automata.specs.MakeLaws.{combine_complete, combine_settled, combine_one_function};
 
-    ghost means = { combine_means };
+    ghost means = { CombineMeans };
 
-    ghost may_store = { combine_stores };
+    ghost may_store = { combine_may_store };
 
     ghost reads = { combine_reads };
 
-    ghost is_unrefused = { combine_unrefused };
+    ghost is_unrefused = { combine_is_unrefused };
 
     ghost answers = { λ task. AnswersYesOrLimit };
 
-    ghost differs_in_options = { combine_same };
-
-    ghost complete = { combine_complete };
-
-    ghost settled = { combine_settled };
-
-    ghost one_function = { combine_function };
+    ghost differs_in_options = { CombinesDifferInOptions };
 
     fn run<F: Shelf, I: Source, O: Sink>(
         self,
@@ -90,6 +84,12 @@ impl Task for Combine {
             Err(Det::Memory) => Status::Memory,
         }
     }
+
+    ghost complete = { combine_complete };
+
+    ghost settled = { combine_settled };
+
+    ghost one_function = { combine_one_function };
 }
 
 impl Combination {

@@ -16,6 +16,7 @@ mod combine;
 mod compare;
 mod enumerate;
 mod line;
+mod listing;
 mod minimise;
 mod task;
 mod transform;

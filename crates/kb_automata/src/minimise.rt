@@ -16,26 +16,20 @@ pub struct Minimise {
 
 impl Task for Minimise {
     ghost use Rattle.kb_task.specs.Statuses.{AnswersYes};
-    ghost use Rattle.kb_automata.specs.Make.{minimise_means, minimise_stores, minimise_reads, minimise_unrefused, minimise_same};
-    ghost use Rattle.kb_automata.specs.MakeLaws.{minimise_complete, minimise_settled, minimise_function};
+    ghost use Rattle.kb_automata.specs.Make.{MinimiseMeans, minimise_may_store, minimise_reads, minimise_is_unrefused, MinimisesDifferInOptions};
+    ghost use Rattle.kb_automata.specs.MakeLaws.{minimise_complete, minimise_settled, minimise_one_function};
 
-    ghost means = { minimise_means };
+    ghost means = { MinimiseMeans };
 
-    ghost may_store = { minimise_stores };
+    ghost may_store = { minimise_may_store };
 
     ghost reads = { minimise_reads };
 
-    ghost is_unrefused = { minimise_unrefused };
+    ghost is_unrefused = { minimise_is_unrefused };
 
     ghost answers = { λ task. AnswersYes };
 
-    ghost differs_in_options = { minimise_same };
-
-    ghost complete = { minimise_complete };
-
-    ghost settled = { minimise_settled };
-
-    ghost one_function = { minimise_function };
+    ghost differs_in_options = { MinimisesDifferInOptions };
 
     fn run<F: Shelf, I: Source, O: Sink>(
         self,
@@ -49,4 +43,10 @@ impl Task for Minimise {
             Err(status) => status,
         }
     }
+
+    ghost complete = { minimise_complete };
+
+    ghost settled = { minimise_settled };
+
+    ghost one_function = { minimise_one_function };
 }

@@ -46,26 +46,20 @@ pub struct Transform {
 
 impl Task for Transform {
     ghost use Rattle.kb_task.specs.Statuses.{AnswersYesOrLimit};
-    ghost use Rattle.kb_automata.specs.Make.{transform_means, transform_stores, transform_reads, transform_unrefused, transform_same};
-    ghost use Rattle.kb_automata.specs.MakeLaws.{transform_complete, transform_settled, transform_function};
+    ghost use Rattle.kb_automata.specs.Make.{TransformMeans, transform_may_store, transform_reads, transform_is_unrefused, TransformsDifferInOptions};
+    ghost use Rattle.kb_automata.specs.MakeLaws.{transform_complete, transform_settled, transform_one_function};
 
-    ghost means = { transform_means };
+    ghost means = { TransformMeans };
 
-    ghost may_store = { transform_stores };
+    ghost may_store = { transform_may_store };
 
     ghost reads = { transform_reads };
 
-    ghost is_unrefused = { transform_unrefused };
+    ghost is_unrefused = { transform_is_unrefused };
 
     ghost answers = { λ task. AnswersYesOrLimit };
 
-    ghost differs_in_options = { transform_same };
-
-    ghost complete = { transform_complete };
-
-    ghost settled = { transform_settled };
-
-    ghost one_function = { transform_function };
+    ghost differs_in_options = { TransformsDifferInOptions };
 
     fn run<F: Shelf, I: Source, O: Sink>(
         self,
@@ -86,6 +80,12 @@ impl Task for Transform {
             Err(Det::Memory) => Status::Memory,
         }
     }
+
+    ghost complete = { transform_complete };
+
+    ghost settled = { transform_settled };
+
+    ghost one_function = { transform_one_function };
 }
 
 impl Transformation {
