@@ -6,21 +6,18 @@ use Rattle.std.proofs.Math.Seq.{get_or-append_seam}
 use Rattle.std.proofs.lemmas.List.{get_or_append_left}
 use Rattle.std.proofs.lemmas.Bool.{cases_lt}
 use Rattle.std.proofs.lemmas.List.Elements.{All-head, All-tail, Contains-append_left, Contains-push, Contains-push_cases, Contains-get_or}
-use Rattle.kb_io.specs.Bytes.{AppendsPrefix}
+use Rattle.kb_io.specs.Bytes.{AppendsPrefix, newline}
 use Rattle.kb_word.specs.Words.{Less}
 use Rattle.kb_word.specs.Order.{rank}
 use Rattle.kb_word.proofs.Shortlex.{shortlex_transitive, shortlex_total}
 use Rattle.kb_fsa.specs.Language.{Automaton}
 use Rattle.kb_fsarat.specs.Enumeration.{Enumeration, ComesAfter, IsLeft, IsNext}
-use Rattle.kb_cli.specs.Outside.{World, Streams, IsWritten, IsKept}
 use Rattle.kb_word.specs.Printed.{text_of_word}
-use Rattle.kb_cli.specs.WordLines.{newline}
-use Rattle.kb_cli.specs.Automata.{IsAsked, AreFirstAsked, AreAllAsked, IsFrontOfWords, lines_of_words, EnumerationSays, EnumerateSays, FileHolds, IsOfKind}
-use Rattle.kb_cli.specs.declared.loading.Kind.TheVariants.{Words}
-use Rattle.kb_cli.specs.declared.status.Status.{Status}
-use Rattle.kb_cli.specs.declared.status.Status.TheVariants.{Yes, Refused, Undecided, No, Memory, Fault, Usage}
-use Rattle.kb_cli.specs.declared.status.Which.TheVariants.{Load, Store, Input, Output}
-use Rattle.kb_cli.specs.Listed.{HasGiven, Listed, HasLetters, Steps, ListingStops, over, word_count, next_rank}
+use Rattle.kb_task.specs.declared.status.Status.{Status}
+use Rattle.kb_task.specs.declared.status.Status.TheVariants.{Yes, Memory, Fault}
+use Rattle.kb_task.specs.declared.status.Which.TheVariants.{Output}
+use Rattle.kb_automata.specs.Enumerate.{IsAsked, AreFirstAsked, AreAllAsked, IsFrontOfWords, lines_of_words, WordsArePrinted, printed, failed, no_memory}
+use Rattle.kb_automata.specs.Listed.{HasGiven, Listed, HasLetters, Steps, EnumerationIsPrinted, over, word_count, next_rank}
 
 -- one more element, behind which all the others stand
 pairs-snoc : {X : Type 0} (R : X → X → Type 0) (xs : List X) (x : X) → AllPairs R xs → ((y : X) → Contains xs y → R y x) → AllPairs R (xs ++ x ∷ [])
@@ -159,30 +156,33 @@ listed-sent names enumeration before written pending now none listed sent empty 
 }
 
 -- where a front of what is pending was sent
-pub listed-front : (names : List (List ℕ)) (enumeration : Enumeration) (before written pending now input : List ℕ)
+listed-front : (names : List (List ℕ)) (enumeration : Enumeration) (before written pending now : List ℕ)
     → Listed names enumeration before written pending → AppendsPrefix written now pending
-    → IsFrontOfWords names enumeration.automaton enumeration.min enumeration.max (record { input = input; left = input; before = before; written = now })
-listed-front names enumeration before written pending now input listed appends = record {
+    → IsFrontOfWords names enumeration.automaton enumeration.min enumeration.max before now
+listed-front names enumeration before written pending now listed appends = record {
   words = listed.words;
   first = listed.given.first;
   front = record {
-    sent = listed.sent ++ appends.prefix;
+    prefix = listed.sent ++ appends.prefix;
     rest = appends.rest;
-    front = listed.held ∙ ap (λ p. listed.sent ++ p) appends.splits ∙ sym (append_assoc listed.sent appends.prefix appends.rest);
-    written = record {
-      unread = refl;
-      appended = appends.appends ∙ ap (λ w. w ++ appends.prefix) listed.appended ∙ append_assoc before listed.sent appends.prefix;
-    };
+    splits = listed.held ∙ ap (λ p. listed.sent ++ p) appends.splits ∙ sym (append_assoc listed.sent appends.prefix appends.rest);
+    appends = appends.appends ∙ ap (λ w. w ++ appends.prefix) listed.appended ∙ append_assoc before listed.sent appends.prefix;
   };
 }
 
--- where nothing more was sent
-pub listed-stopped : (names : List (List ℕ)) (enumeration : Enumeration) (before written pending input : List ℕ)
-    → Listed names enumeration before written pending
-    → IsFrontOfWords names enumeration.automaton enumeration.min enumeration.max (record { input = input; left = input; before = before; written = written })
-listed-stopped names enumeration before written pending input listed =
-    listed-front names enumeration before written pending written input listed
-    (record { prefix = []; rest = pending; splits = refl; appends = sym (append-nil written) })
+-- the output failed after a front of what is pending
+pub listed-failed : (names : List (List ℕ)) (enumeration : Enumeration) (before written pending now : List ℕ)
+    → Listed names enumeration before written pending → AppendsPrefix written now pending
+    → EnumerationIsPrinted names enumeration before now (Fault Output)
+listed-failed names enumeration before written pending now listed appends =
+    failed (listed-front names enumeration before written pending now listed appends)
+
+-- memory ran out before more was sent
+pub listed-no_memory : (names : List (List ℕ)) (enumeration : Enumeration) (before written pending : List ℕ)
+    → Listed names enumeration before written pending → EnumerationIsPrinted names enumeration before written Memory
+listed-no_memory names enumeration before written pending listed =
+    no_memory (listed-front names enumeration before written pending written listed
+    (record { prefix = []; rest = pending; splits = refl; appends = sym (append-nil written) }))
 
 -- a word's rank is below the number of words that are no longer
 rank-below : (word : List ℕ) → All (λ letter. letter < 2 ^ 16) word → rank word < word_count (length word)
@@ -238,45 +238,23 @@ steps-ended before after letters none is =
     })
 
 -- all that is asked for is written
-pub listing-ended : (names : List (List ℕ)) (automaton : Automaton) (least most : ℕ) (enumeration : Enumeration) (pending : List ℕ) (world : World)
+pub listing-ended : (names : List (List ℕ)) (automaton : Automaton) (least most : ℕ) (enumeration : Enumeration) (before written pending : List ℕ)
     → enumeration ≡ over automaton least most enumeration.given
-    → Listed names enumeration world.streams.before world.streams.written pending → pending ≡ [] → ((word : List ℕ) → ¬ IsLeft enumeration word)
-    → world.streams.left ≡ world.streams.input → IsKept world → EnumerationSays names automaton least most world Yes
-listing-ended names automaton least most enumeration pending world is listed empty none unread kept = (
-  listed.words,
-  subst (λ (e : Enumeration). AreAllAsked e.automaton e.min e.max listed.words) is (given-all enumeration listed.words listed.given none),
-  record {
-    unread = unread;
-    appended = listed.appended ∙ ap (λ s. world.streams.before ++ s) (sym (append-nil listed.sent) ∙ ap (λ p. listed.sent ++ p) (sym empty) ∙ sym listed.held);
-  },
-  kept,
-)
+    → Listed names enumeration before written pending → pending ≡ [] → ((word : List ℕ) → ¬ IsLeft enumeration word)
+    → WordsArePrinted names automaton least most before written Yes
+listing-ended names automaton least most enumeration before written pending is listed empty none =
+    printed (subst (λ (e : Enumeration). AreAllAsked e.automaton e.min e.max listed.words) is (given-all enumeration listed.words listed.given none))
+    (listed.appended ∙ ap (λ s. before ++ s) (sym (append-nil listed.sent) ∙ ap (λ p. listed.sent ++ p) (sym empty) ∙ sym listed.held))
 
 -- a listing that stopped
-pub listing-stopped : (names : List (List ℕ)) (automaton : Automaton) (least most : ℕ) (enumeration : Enumeration) (world : World) (status : Status)
-    → enumeration ≡ over automaton least most enumeration.given
-    → ListingStops names enumeration.automaton enumeration.min enumeration.max world.streams status
-    → IsKept world → EnumerationSays names automaton least most world status
-listing-stopped names automaton least most enumeration world (Fault Output) is stops kept =
-    (subst (λ (e : Enumeration). IsFrontOfWords names e.automaton e.min e.max world.streams) is stops, kept)
-listing-stopped names automaton least most enumeration world Memory is stops kept =
-    (subst (λ (e : Enumeration). IsFrontOfWords names e.automaton e.min e.max world.streams) is stops, kept)
-listing-stopped names automaton least most enumeration world (Fault (Load name)) is stops kept = stops
-listing-stopped names automaton least most enumeration world (Fault (Store name)) is stops kept = stops
-listing-stopped names automaton least most enumeration world (Fault Input) is stops kept = stops
-listing-stopped names automaton least most enumeration world Yes is stops kept = absurd stops
-listing-stopped names automaton least most enumeration world (Undecided limit) is stops kept = stops
-listing-stopped names automaton least most enumeration world (No cert) is stops kept = stops
-listing-stopped names automaton least most enumeration world (Refused refusal) is stops kept = stops
-listing-stopped names automaton least most enumeration world (Usage kind) is stops kept = stops
+pub listing-stopped : (names : List (List ℕ)) (automaton : Automaton) (least most : ℕ) (enumeration : Enumeration) (before written : List ℕ) (status : Status)
+    → enumeration ≡ over automaton least most enumeration.given → EnumerationIsPrinted names enumeration before written status
+    → WordsArePrinted names automaton least most before written status
+listing-stopped names automaton least most enumeration before written status is stops =
+    subst (λ (e : Enumeration). EnumerationIsPrinted names e before written status) is stops
 
 -- the listing that stopped after one more word was given
-pub stopped-before : (names : List (List ℕ)) (before after : Enumeration) (more : Bool) (streams : Streams) → Steps before after more
-    → IsFrontOfWords names after.automaton after.min after.max streams → IsFrontOfWords names before.automaton before.min before.max streams
-stopped-before names before after more streams steps front =
-    subst (λ (e : Enumeration). IsFrontOfWords names e.automaton e.min e.max streams) steps.same front
-
-pub enumerate-says : (least most : ℕ) (file : List ℕ) (names : List (List ℕ)) (automaton : Automaton) (world : World) (status : Status)
-    → FileHolds world.holds file names automaton → IsOfKind Words automaton.alphabet → EnumerationSays names automaton least most world status
-    → EnumerateSays least most file world status
-enumerate-says least most file names automaton world status says of_kind said = inr (names, automaton, says, of_kind, said)
+pub stopped-before : (names : List (List ℕ)) (before after : Enumeration) (more : Bool) (begun written : List ℕ) (status : Status) → Steps before after more
+    → EnumerationIsPrinted names after begun written status → EnumerationIsPrinted names before begun written status
+stopped-before names before after more begun written status steps stops =
+    subst (λ (e : Enumeration). EnumerationIsPrinted names e begun written status) steps.same stops

@@ -1,7 +1,7 @@
 use Rattle.std.proofs.Common.{◌∙◌, ap, subst, sym, ◌≡◌, ◌++◌, [], ◌∷◌}
-use Rattle.kb_cli.proofs.CompareLemmas.{word-line, pair-line}
-use Rattle.kb_cli.proofs.comparing.difference_line.Goals.{in-Plain+in_ok-word_of-in-Plain+in_ok-print_word-in-Plain, in-Pair+in_ok-u-in-Pair+in_ok-print_word-in-Pair+in_ok-push-in-Pair+in_ok-print_word-in-Pair-2}
-use Rattle.kb_cli.proofs.comparing.difference_line.Goals as goal
+use Rattle.kb_automata.proofs.PrintLemmas.{word-line, pair-line}
+use Rattle.kb_automata.proofs.compare.difference_line.Goals.{in-Plain+in_ok-word_of-in-Plain+in_ok-print_word-in-Plain, in-Pair+in_ok-u-in-Pair+in_ok-print_word-in-Pair+in_ok-push-in-Pair+in_ok-print_word-in-Pair-2}
+use Rattle.kb_automata.proofs.compare.difference_line.Goals as goal
 
 pub returns : goal.returns
 returns c =

@@ -1,6 +1,6 @@
 use Rattle.std.proofs.Common.{All, ◌<◌, ◌^◌, sym, subst}
-use Rattle.kb_cli.proofs.ListLemmas.{listed-more, steps-more}
-use Rattle.kb_cli.proofs.listing.add_next.Goals as goal
+use Rattle.kb_automata.proofs.ListLemmas.{listed-more, steps-more}
+use Rattle.kb_automata.proofs.listing.add_next.Goals as goal
 
 pub returns-clause-listed : goal.returns-clause-listed
 returns-clause-listed c = λ before written listed.
