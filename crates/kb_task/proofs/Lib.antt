@@ -2,3 +2,4 @@ pub mod LoadLemmas
 pub mod ArgumentLemmas
 pub mod LoadEnds
 pub mod RunLemmas
+pub mod EffectLemmas
