@@ -59,8 +59,8 @@ same_combine rows task other same a b =
     let twos : task.two ≡ other.two = text_given-at rows (codes "second") task.two a.two ∙ sym (text_given-at rows (codes "second") other.two b.two) in
     let outs : task.out ≡ other.out = text_given-at rows (codes "out") task.out a.out ∙ sym (text_given-at rows (codes "out") other.out b.out) in
     let mosts : task.max_states ≡ other.max_states =
-        number_given-at rows (codes "max-states") 1 4000000 task.max_states a.max_states
-        ∙ sym (number_given-at rows (codes "max-states") 1 4000000 other.max_states b.max_states) in
+    number_given-at rows (codes "max-states") 1 4000000 task.max_states a.max_states
+    ∙ sym (number_given-at rows (codes "max-states") 1 4000000 other.max_states b.max_states) in
     λ i. record { operation = same i; one = ones i; two = twos i; out = outs i; max_states = mosts i }
 
 same_transform : (rows : List Row) (task other : Transform) → task.operation ≡ other.operation → GivesTransform rows task → GivesTransform rows other → task ≡ other
@@ -68,8 +68,8 @@ same_transform rows task other same a b =
     let files : task.file ≡ other.file = text_given-at rows (codes "first") task.file a.file ∙ sym (text_given-at rows (codes "first") other.file b.file) in
     let outs : task.out ≡ other.out = text_given-at rows (codes "out") task.out a.out ∙ sym (text_given-at rows (codes "out") other.out b.out) in
     let mosts : task.max_states ≡ other.max_states =
-        number_given-at rows (codes "max-states") 1 4000000 task.max_states a.max_states
-        ∙ sym (number_given-at rows (codes "max-states") 1 4000000 other.max_states b.max_states) in
+    number_given-at rows (codes "max-states") 1 4000000 task.max_states a.max_states
+    ∙ sym (number_given-at rows (codes "max-states") 1 4000000 other.max_states b.max_states) in
     λ i. record { operation = same i; file = files i; out = outs i; max_states = mosts i }
 
 same_minimise : (rows : List Row) (task other : Minimise) → GivesMinimise rows task → GivesMinimise rows other → task ≡ other
@@ -83,16 +83,16 @@ same_compare rows task other a b =
     let ones : task.one ≡ other.one = text_given-at rows (codes "first") task.one a.one ∙ sym (text_given-at rows (codes "first") other.one b.one) in
     let twos : task.two ≡ other.two = text_given-at rows (codes "second") task.two a.two ∙ sym (text_given-at rows (codes "second") other.two b.two) in
     let mosts : task.max_states ≡ other.max_states =
-        number_given-at rows (codes "max-states") 1 4000000 task.max_states a.max_states
-        ∙ sym (number_given-at rows (codes "max-states") 1 4000000 other.max_states b.max_states) in
+    number_given-at rows (codes "max-states") 1 4000000 task.max_states a.max_states
+    ∙ sym (number_given-at rows (codes "max-states") 1 4000000 other.max_states b.max_states) in
     λ i. record { one = ones i; two = twos i; max_states = mosts i }
 
 same_enumerate : (rows : List Row) (task other : Enumerate) → GivesEnumerate rows task → GivesEnumerate rows other → task ≡ other
 same_enumerate rows task other a b =
     let leasts : task.min ≡ other.min =
-        number_given-at rows (codes "min") 0 65535 task.min a.min ∙ sym (number_given-at rows (codes "min") 0 65535 other.min b.min) in
+    number_given-at rows (codes "min") 0 65535 task.min a.min ∙ sym (number_given-at rows (codes "min") 0 65535 other.min b.min) in
     let mosts : task.max ≡ other.max =
-        number_given-at rows (codes "max") 0 65535 task.max a.max ∙ sym (number_given-at rows (codes "max") 0 65535 other.max b.max) in
+    number_given-at rows (codes "max") 0 65535 task.max a.max ∙ sym (number_given-at rows (codes "max") 0 65535 other.max b.max) in
     let files : task.file ≡ other.file = text_given-at rows (codes "first") task.file a.file ∙ sym (text_given-at rows (codes "first") other.file b.file) in
     λ i. record { min = leasts i; max = mosts i; file = files i }
 

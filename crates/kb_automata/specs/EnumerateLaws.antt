@@ -77,7 +77,7 @@ one_ascending (x ∷ xs) [] ascend also among back = absurd (none_in_empty x (am
 one_ascending (x ∷ xs) (y ∷ ys) ascend also among back =
     let first : x ≡ y = one_first x y xs ys ascend also (among x (contains_first x xs)) (back y (contains_first y ys)) in
     let others : xs ≡ ys = one_ascending xs ys (others_ascend x xs ascend) (others_ascend y ys also)
-        (others_among x y xs ys first ascend among) (others_among y x ys xs (sym first) also back) in
+    (others_among x y xs ys first ascend among) (others_among y x ys xs (sym first) also back) in
     ap₂ (λ (z : List ℕ) (zs : List (List ℕ)). z ∷ zs) first others
 
 -- all words that are asked for are one list

@@ -128,7 +128,8 @@ fn combined(
     ensures language { IfOk result (IsCombined operation one.now two.now) }
     ensures alphabet { IfOk result (λ made. made.alphabet ≡ one.now.alphabet) }
     ensures few { IsOk result → ¬ HasMoreCombined operation one.now two.now limit }
-    ensures many { (most : ℕ) → result ≡ Err (TooManyStates most) → HasMoreCombined operation one.now two.now limit }
+    ensures many { (most : ℕ) → result ≡ Err (TooManyStates most)
+        → HasMoreCombined operation one.now two.now limit }
 {
     match operation {
         Combination::And => and(alloc, one, two, limit),

@@ -79,10 +79,11 @@ fn print_comparison<O: Sink>(
 ) -> Status
     requires alphabets { second.now.alphabet ≡ first.now.fsa.alphabet }
     requires letters { length first.now.names ≡ generators first.now.fsa.alphabet }
-    ensures printed { IsTrue (O.state out.old).told → ComparisonIsPrinted first.now.names first.now.fsa second.now max_states
+    ensures printed { IsTrue (O.state out.old).told
+        → ComparisonIsPrinted first.now.names first.now.fsa second.now max_states
         (O.state out.old).written (O.state out.new).written result }
-    ensures fault { (shelf : ShelfState) (input : SourceState)
-        → FaultIsCounted (outside shelf input (O.state out.old)) (outside shelf input (O.state out.new)) result }
+    ensures fault { (shelf : ShelfState) (input : SourceState) → FaultIsCounted
+        (outside shelf input (O.state out.old)) (outside shelf input (O.state out.new)) result }
     ensures goes_on { SinkGoesOn (O.state out.old) (O.state out.new) }
 {
     // Of an automaton's alphabet it is known which texts it may accept.
@@ -108,10 +109,10 @@ fn print_difference<O: Sink>(
 ) -> Status
     requires text { IsTextOf alphabet text }
     requires generators { generators alphabet ≤ 65534 }
-    ensures printed { IsTrue (O.state out.old).told
-        → DifferenceIsPrinted names.now alphabet text (O.state out.old).written (O.state out.new).written result }
-    ensures fault { (shelf : ShelfState) (input : SourceState)
-        → FaultIsCounted (outside shelf input (O.state out.old)) (outside shelf input (O.state out.new)) result }
+    ensures printed { IsTrue (O.state out.old).told → DifferenceIsPrinted names.now alphabet text
+        (O.state out.old).written (O.state out.new).written result }
+    ensures fault { (shelf : ShelfState) (input : SourceState) → FaultIsCounted
+        (outside shelf input (O.state out.old)) (outside shelf input (O.state out.new)) result }
     ensures goes_on { SinkGoesOn (O.state out.old) (O.state out.new) }
 {
     match difference_line(alloc, names, alphabet, text.as_slice()) {

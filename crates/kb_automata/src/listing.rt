@@ -29,10 +29,11 @@ pub(crate) fn list_words<O: Sink>(
     out: &mut O,
 ) -> Status
     requires { HasKind kinds.Words given.now.fsa.alphabet }
-    ensures printed { IsTrue (O.state out.old).told → WordsArePrinted given.now.names given.now.fsa min max
+    ensures printed { IsTrue (O.state out.old).told
+        → WordsArePrinted given.now.names given.now.fsa min max
         (O.state out.old).written (O.state out.new).written result }
-    ensures fault { (shelf : ShelfState) (input : SourceState)
-        → FaultIsCounted (outside shelf input (O.state out.old)) (outside shelf input (O.state out.new)) result }
+    ensures fault { (shelf : ShelfState) (input : SourceState) → FaultIsCounted
+        (outside shelf input (O.state out.old)) (outside shelf input (O.state out.new)) result }
     ensures goes_on { SinkGoesOn (O.state out.old) (O.state out.new) }
 {
     let mut words = Enumerate::new(&given.fsa, min, max);
@@ -46,8 +47,8 @@ pub(crate) fn list_words<O: Sink>(
     }
 }
 
-/// Lists the next word, and returns whether there was one. What is pending is written where it is long enough, or
-/// where no word was left.
+/// Lists the next word, and returns whether there was one. What is pending is written where it is
+/// long enough, or where no word was left.
 fn list_next<O: Sink>(
     alloc: Global,
     names: &Names,
@@ -59,15 +60,16 @@ fn list_next<O: Sink>(
     // The lines of the words that were given are written or pending.
     ensures listed { (before : List ℕ) → IsTrue (O.state out.old).told
         → Listed names.now words.old before (O.state out.old).written pending.old.items
-        → IfOk result (λ more. Listed names.now words.new before (O.state out.new).written pending.new.items) }
+        → IfOk result (λ more. Listed names.now words.new before
+        (O.state out.new).written pending.new.items) }
     ensures sent { IfOk result (λ more. more ≡ false → pending.new.items ≡ []) }
     ensures steps { IfOk result (Steps words.old words.new) }
     // Where it stops, a front of the lines was written.
     ensures stops { (before : List ℕ) → IsTrue (O.state out.old).told
         → Listed names.now words.old before (O.state out.old).written pending.old.items
         → IfErr result (EnumerationIsPrinted names.now words.old before (O.state out.new).written) }
-    ensures fault { IfErr result (λ status. (shelf : ShelfState) (input : SourceState)
-        → FaultIsCounted (outside shelf input (O.state out.old)) (outside shelf input (O.state out.new)) status) }
+    ensures fault { IfErr result (λ status. (shelf : ShelfState) (input : SourceState) → FaultIsCounted
+        (outside shelf input (O.state out.old)) (outside shelf input (O.state out.new)) status) }
     ensures goes_on { SinkGoesOn (O.state out.old) (O.state out.new) }
 {
     match add_next(alloc, names, words, pending) {
@@ -82,12 +84,14 @@ fn list_next<O: Sink>(
 
 /// Writes what is pending.
 fn send<O: Sink>(pending: &mut Vec<u8>, out: &mut O) -> Result<(), Failed>
-    ensures listed { (names : List (List ℕ)) (enumeration : Enumeration) (before : List ℕ) → IsTrue (O.state out.old).told
+    ensures listed { (names : List (List ℕ)) (enumeration : Enumeration) (before : List ℕ)
+        → IsTrue (O.state out.old).told
         → Listed names enumeration before (O.state out.old).written pending.old.items
-        → OnOk result (Listed names enumeration before (O.state out.new).written pending.new.items) }
+        → OnOk result (Listed names enumeration before
+        (O.state out.new).written pending.new.items) }
     ensures sent { OnOk result (pending.new.items ≡ []) }
-    ensures stops { IsTrue (O.state out.old).told
-        → OnErr result (AppendsPrefix (O.state out.old).written (O.state out.new).written pending.old.items) }
+    ensures stops { IsTrue (O.state out.old).told → OnErr result
+        (AppendsPrefix (O.state out.old).written (O.state out.new).written pending.old.items) }
     ensures failed { OnErr result ((O.state out.old).faults < (O.state out.new).faults) }
     ensures goes_on { SinkGoesOn (O.state out.old) (O.state out.new) }
 {
@@ -104,7 +108,8 @@ fn add_next(
     pending: &mut Vec<u8>,
 ) -> Result<bool, Memory>
     requires { HasLetters words.old }
-    ensures listed { (before written : List ℕ) → Listed names.now words.old before written pending.old.items
+    ensures listed { (before written : List ℕ)
+        → Listed names.now words.old before written pending.old.items
         → IfOk result (λ more. Listed names.now words.new before written pending.new.items) }
     ensures steps { IfOk result (Steps words.old words.new) }
 {

@@ -1,4 +1,5 @@
-//! `fsanot A OUT`, `fsaexists A OUT`, `fsastar A OUT` and `fsareverse A OUT`: an automaton that is made of another.
+//! `fsanot A OUT`, `fsaexists A OUT`, `fsastar A OUT` and `fsareverse A OUT`: an automaton that is
+//! made of another.
 
 ghost use Rattle.std.specs.Prelude.{◌≡◌, ℕ, Err, IsOk, IfOk};
 ghost use Rattle.kb_explore.specs.declared.det.Det.TheVariants.{TooManyStates};
@@ -119,7 +120,8 @@ fn transformed(alloc: Global, operation: Transformation, fsa: &Fsa, limit: u32) 
     ensures language { IfOk result (IsTransformed operation fsa.now) }
     ensures letters { IfOk result (λ made. generators made.alphabet ≡ generators fsa.now.alphabet) }
     ensures few { IsOk result → ¬ HasMoreTransformed operation fsa.now limit }
-    ensures many { (most : ℕ) → result ≡ Err (TooManyStates most) → HasMoreTransformed operation fsa.now limit }
+    ensures many { (most : ℕ) → result ≡ Err (TooManyStates most)
+        → HasMoreTransformed operation fsa.now limit }
 {
     match operation {
         Transformation::Not => not(alloc, fsa, limit),

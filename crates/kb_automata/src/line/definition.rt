@@ -29,10 +29,7 @@ pub(super) fn definition<'a>(alloc: Global, name: Name) -> Result<Command<'a>, A
 }
 
 /// `fsaand A B OUT`, `fsaor A B OUT` and `fsaconcat A B OUT`.
-fn combine_definition<'a>(
-    alloc: Global,
-    operation: Combination,
-) -> Result<Command<'a>, AllocError>
+fn combine_definition<'a>(alloc: Global, operation: Combination) -> Result<Command<'a>, AllocError>
     ensures app { IfOk result (λ command. app_of command ≡ command_app (names.Combine operation)) }
     ensures local { IfOk result (λ command. (fields_of command).has_globals ≡ false) }
 {
@@ -48,7 +45,8 @@ fn transform_definition<'a>(
     alloc: Global,
     operation: Transformation,
 ) -> Result<Command<'a>, AllocError>
-    ensures app { IfOk result (λ command. app_of command ≡ command_app (names.Transform operation)) }
+    ensures app { IfOk result
+        (λ command. app_of command ≡ command_app (names.Transform operation)) }
     ensures local { IfOk result (λ command. (fields_of command).has_globals ≡ false) }
 {
     labelled(alloc, Name::Transform(operation))

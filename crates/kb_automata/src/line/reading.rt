@@ -89,10 +89,7 @@ fn transform_given(
 }
 
 /// The command that the matches of `fsamin` give.
-fn minimise_given(
-    alloc: Global,
-    matches: &ArgMatches<'_>,
-) -> Result<Option<AutomataTask>, Memory>
+fn minimise_given(alloc: Global, matches: &ArgMatches<'_>) -> Result<Option<AutomataTask>, Memory>
     ensures { IfOk result (IsRead names.Minimise (rows_of (found_of matches.now))) }
 {
     let Some(file) = text_given(matches, "first") else {
@@ -108,10 +105,7 @@ fn minimise_given(
 }
 
 /// The command that the matches of `fsalequal` give.
-fn compare_given(
-    alloc: Global,
-    matches: &ArgMatches<'_>,
-) -> Result<Option<AutomataTask>, Memory>
+fn compare_given(alloc: Global, matches: &ArgMatches<'_>) -> Result<Option<AutomataTask>, Memory>
     ensures { IfOk result (IsRead names.Compare (rows_of (found_of matches.now))) }
 {
     let Some(one) = text_given(matches, "first") else {
@@ -131,10 +125,7 @@ fn compare_given(
 }
 
 /// The command that the matches of `fsaenumerate` give.
-fn enumerate_given(
-    alloc: Global,
-    matches: &ArgMatches<'_>,
-) -> Result<Option<AutomataTask>, Memory>
+fn enumerate_given(alloc: Global, matches: &ArgMatches<'_>) -> Result<Option<AutomataTask>, Memory>
     ensures { IfOk result (IsRead names.Enumerate (rows_of (found_of matches.now))) }
 {
     let Some(min) = length_given(matches, "min") else {
