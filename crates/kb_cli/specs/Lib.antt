@@ -1,14 +1,3 @@
+pub mod Commands
 pub mod CommandLine
-pub mod WordLines
-pub mod Progress
-pub mod LineFaults
-pub mod Stops
-pub mod Exits
-pub mod Outside
-pub mod Loads
-pub mod FaultCounts
-pub mod Automata
-pub mod Listed
 pub mod Headline
-pub mod Answering
-pub mod Unrefused

@@ -1,51 +1,66 @@
-//! Laws of what a run says. None of them does anything when it runs.
+//! Laws of what a run means, over all commands. None of them does anything when it runs.
 
 ghost use Rattle.std.specs.Prelude.{◌≡◌, ℕ, List};
-ghost use Rattle.kb_word.specs.Presentations.{PresentationParts};
-ghost use Rattle.kb_cli.specs.CommandLine.{IsLine};
-ghost use Rattle.kb_cli.specs.Headline.{Headline, IsDecided, IsUndecided};
-ghost use Rattle.kb_cli.specs.Outside.{World};
-ghost use Rattle.kb_cli.specs.Answering.{IsAnswer, IsConclusive, IsFaultless};
-ghost use Rattle.kb_cli.specs.Unrefused.{NothingRefused};
-ghost use Rattle.kb_cli.specs.declared.command_line.Command.{Command};
-ghost use Rattle.kb_cli.specs.declared.status.Status.{Status};
+ghost use Rattle.clap.specs.declared.error.kind.ErrorKind.{ErrorKind};
+ghost use Rattle.kb_io.specs.Outside.{Outside};
+ghost use Rattle.kb_task.specs.Runs.{ReadsSame, HasSameEffect};
+ghost use Rattle.kb_task.specs.Statuses.{IsYes, IsConclusive, IsFaultless};
+ghost use Rattle.kb_task.specs.declared.status.Status.{Status};
+ghost use Rattle.kb_cli.specs.CommandLine.{IsLine, IsNoLine};
+ghost use Rattle.kb_cli.specs.Commands.{command_may_store, command_reads, command_is_unrefused, command_answers, CommandsDifferInOptions};
+ghost use Rattle.kb_cli.specs.Headline.{Headline};
+ghost use Rattle.kb_cli.specs.declared.command.Command.{Command};
 
-use crate::command_line::{a_line_is_not_faulty, a_line_says_one_command};
-use kb_fsafile::a_text_says_one_automaton;
-use kb_presfile::a_text_says_one_presentation;
-
-/// Yes and no exclude each other: a presentation whose oriented relations are confluent has no overlap that
-/// doesn't join. So a run says yes exactly where they are confluent, and no exactly where they aren't.
-pub fn no_presentation_is_decided_and_undecided()
-    ensures { (parts : PresentationParts) (u v : List ℕ) → IsDecided parts → ¬ IsUndecided parts u v }
+/// No arguments are both a line of the program and none.
+pub fn no_line_is_faulty()
+    ensures { (arguments : List (List ℕ)) (command : Command) (kind : ErrorKind)
+        → IsLine arguments command → ¬ IsNoLine arguments kind }
 {}
 
-/// Where the words are the line of a command, nothing that it reads is refused and no device failed, a run says yes
-/// or no, or a limit is reached, or memory ran out.
-pub fn where_nothing_is_refused_there_is_an_answer()
-    ensures { (words : List (List ℕ)) (command : Command) (world : World) (status : Status)
-        → IsLine words command
-        → Headline words world status
-        → NothingRefused command world
-        → IsFaultless status
-        → IsAnswer status }
-{
-    a_line_is_not_faulty();
-    a_line_says_one_command();
-}
+/// Arguments are the line of one command at most.
+pub fn arguments_are_one_command()
+    ensures { (arguments : List (List ℕ)) (one other : Command)
+        → IsLine arguments one → IsLine arguments other → one ≡ other }
+{}
 
-/// The words and the files settle the answer: two runs on the same words, over shelves that hold the same, have the
-/// same status where each says yes or no or reaches a limit.
-pub fn an_answer_is_the_only_one()
-    ensures { (words : List (List ℕ)) (one other : World) (status another : Status)
-        → ((name : List ℕ) → one.holds name ≡ other.holds name)
-        → Headline words one status
-        → Headline words other another
+/// Where the arguments are the line of a command, nothing that it reads is refused and no device failed, the run has one
+/// of the command's answers: yes, for some no or a limit too, or want of memory.
+pub fn where_nothing_is_refused_there_is_an_answer()
+    ensures { (arguments : List (List ℕ)) (command : Command) (before after : Outside) (status : Status)
+        → IsLine arguments command
+        → Headline arguments before after status
+        → command_is_unrefused command before
+        → IsFaultless status
+        → command_answers command status }
+{}
+
+/// The answer depends only on the arguments and on the files that the command reads: two runs that end with yes, no or a
+/// limit have one status.
+pub fn one_answer_by_the_files()
+    ensures { (arguments : List (List ℕ)) (command : Command) (before after other_before other_after : Outside)
+        (status other : Status)
+        → IsLine arguments command
+        → Headline arguments before after status
+        → Headline arguments other_before other_after other
+        → ReadsSame (command_reads command) before other_before
         → IsConclusive status
-        → IsConclusive another
-        → status ≡ another }
-{
-    a_line_says_one_command();
-    a_text_says_one_presentation();
-    a_text_says_one_automaton();
-}
+        → IsConclusive other
+        → status ≡ other }
+{}
+
+/// What status 0 writes and stores is one function of the command without its options, of the files that it reads and
+/// of the input: no option changes a byte of it.
+pub fn status_0_is_one_function()
+    ensures { (arguments other_arguments : List (List ℕ)) (command other_command : Command)
+        (before after other_before other_after : Outside) (status other : Status)
+        → IsLine arguments command
+        → IsLine other_arguments other_command
+        → CommandsDifferInOptions command other_command
+        → Headline arguments before after status
+        → Headline other_arguments other_before other_after other
+        → IsYes status
+        → IsYes other
+        → ReadsSame (command_reads command) before other_before
+        → before.input.left ≡ other_before.input.left
+        → HasSameEffect (command_may_store command) before after other_before other_after }
+{}

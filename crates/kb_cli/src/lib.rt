@@ -1,57 +1,33 @@
 //! The program `kb` as one call over the outside.
 //!
-//! The one public contract is that of [`run`]: by its status a run says what `specs/Headline.antt` states of the
-//! words it was given, the files that the shelf held, the input that it read and the bytes that it wrote.
-//! Status 0 of `wordreduce` says that the file is a presentation whose oriented relations are confluent, that the
-//! input was read to its end, and that each line written is the shortlex least word congruent to the line
-//! read. Status 0 of a command that makes an automaton says that the file that is named holds the text of the
-//! canonical automaton of the stated language; of `fsalequal`, that the two languages are the same; and of
-//! `fsaenumerate`, that the lines written are the accepted words that were asked for. Every other status has its
-//! cause there: the file that is refused and its fault, the first line that is refused, the overlap that doesn't
-//! join, the text that tells two languages apart, the limit that a construction exceeds, the device whose count of
-//! failures rose, the fault of the words. Want of memory alone is free.
+//! The public contract of the program is that of [`run`]. The exit status decides which statement of
+//! `specs/Headline.antt` holds of the arguments, the files, the input and the output: where the arguments are the line
+//! of a command, what that command's status means by its own crate; else why they are none. With every status a fault
+//! is a failure that was counted, counts never fall, and no file changes but those that the command may store.
 //!
-//! # How it is made
+//! The laws over all commands are public too: where nothing is refused there is an answer, the files settle it, and what
+//! status 0 writes and stores is one function of the command without its options, of the files and of the input.
 //!
-//! - `command_line` reads the words by `clap`, whose own definition of a faultless line is part of the contract.
-//! - `loading` loads files, and the automata that they say.
-//! - `making` makes an automaton and stores its canonical form, `comparing` compares two languages, and `listing`
-//!   lists the words that are accepted.
-//! - `word_reduce` loads the presentation, orients its relations (`orienting`), has them checked for
-//!   confluence, and answers.
-//! - `word_lines` cuts the input into lines in a stream, answers each, and sends the answers.
-//! - `printed` prints words, `report` the messages to err, of which no clause speaks.
+//! - `command` is the list of the families of commands, each of which is a crate; `program_line` is the program's
+//!   command line, made of the families' parts, and `arguments` reads it.
+//! - `program` is [`run`], and `report` the messages to err, of which no clause speaks.
 //!
-//! Below stand all other libraries; above stand the program `kb`, which makes the real outside and calls
-//! `run`, `kb_rows`, whose tests run it over memory, and `kb_examples`, which runs the examples.
+//! Below are the families of commands and what they have in common, `kb_task`; above are the program `kb`, which makes
+//! the real outside and calls `run`, and `kb_cases`, which runs worked cases over memory.
 #![tactic(auto)]
 
-mod command_line;
-mod comparing;
+mod arguments;
+mod command;
 mod laws;
-mod listing;
-mod loading;
-mod making;
-mod orienting;
-mod printed;
 mod program;
+mod program_line;
 mod report;
-mod status;
-mod word_lines;
-mod word_reduce;
 
-pub use command_line::{
-    Combination, Command, Transformation, UsageError, a_line_is_not_faulty,
-    a_line_says_one_command, read_words,
-};
+pub use arguments::{UsageError, read_arguments};
+pub use command::Command;
+pub use kb_task::Status;
 pub use laws::{
-    an_answer_is_the_only_one, no_presentation_is_decided_and_undecided,
-    where_nothing_is_refused_there_is_an_answer,
+    arguments_are_one_command, no_line_is_faulty, one_answer_by_the_files,
+    status_0_is_one_function, where_nothing_is_refused_there_is_an_answer,
 };
-pub use orienting::{
-    oriented, oriented_relations_are_one_list, oriented_relations_keep_the_congruence,
-    oriented_rules_decrease,
-};
-pub use printed::print_word;
 pub use program::run;
-pub use status::{Cert, Construction, FileFault, Limit, Refusal, Status, Which};

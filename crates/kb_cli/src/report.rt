@@ -1,7 +1,7 @@
-//! Messages to err. No clause speaks of them, and one that err doesn't take changes nothing.
+//! Messages to err. No clause speaks of them, and a failed write to err doesn't change the status.
 
-use crate::status::{FileFault, Refusal, Status, Which};
 use kb_io::{Sink, write_all};
+use kb_task::Status;
 use std::alloc::Global;
 use std::fmt;
 
@@ -24,40 +24,5 @@ fn message<E: Sink>(alloc: Global, what: &impl fmt::Display, err: &mut E) {
     match format!(in alloc; "kb: {what}\n") {
         Ok(text) => tell(err, text.as_str()),
         Err(_) => tell(err, "kb: no memory\n"),
-    }
-}
-
-impl fmt::Display for Refusal {
-    fn fmt<W: fmt::Write>(&self, f: &mut fmt::Formatter<W>) -> fmt::Result {
-        match self {
-            Refusal::File { name, fault } => write!(f, "{name}: {fault}"),
-            Refusal::Line { number, fault } => write!(f, "line {number}: {fault}"),
-            Refusal::InputTooLong => write!(f, "E24 InputTooLong"),
-        }
-    }
-}
-
-impl fmt::Display for FileFault {
-    fn fmt<W: fmt::Write>(&self, f: &mut fmt::Formatter<W>) -> fmt::Result {
-        match self {
-            FileFault::Missing => write!(f, "E3 Missing"),
-            FileFault::TooLong => write!(f, "E15 TooLong"),
-            FileFault::Presentation(fault) => write!(f, "{fault}"),
-            FileFault::Automaton(fault) => write!(f, "{fault}"),
-            FileFault::NotPlain => write!(f, "E18 AlphabetOther"),
-            FileFault::NotPairs => write!(f, "E20 NotPairs"),
-            FileFault::AlphabetsDiffer => write!(f, "E22 AlphabetsDiffer"),
-        }
-    }
-}
-
-impl fmt::Display for Which {
-    fn fmt<W: fmt::Write>(&self, f: &mut fmt::Formatter<W>) -> fmt::Result {
-        match self {
-            Which::Load(name) => write!(f, "fault load {name}"),
-            Which::Store(name) => write!(f, "fault store {name}"),
-            Which::Input => write!(f, "fault input"),
-            Which::Output => write!(f, "fault output"),
-        }
     }
 }

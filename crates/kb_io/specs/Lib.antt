@@ -1,4 +1,5 @@
 pub mod Bytes
+pub mod Calls
 pub mod Loading
 pub mod Shelves
 pub mod States

@@ -1,7 +1,7 @@
 //! The outside over memory: streams and shelves whose bytes contracts know.
 //!
-//! Those whose names begin with `Whole` never fail. The others hand over at most a stated number of
-//! bytes a call, and fail at the calls that they are told to.
+//! Those whose names begin with `Whole` never fail. The others fail exactly at the calls that they are
+//! told to, and the streams among them move at most a stated number of bytes a call.
 
 mod calls;
 mod mem_shelf;

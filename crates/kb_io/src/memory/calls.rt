@@ -1,6 +1,9 @@
 //! Which calls fail.
 
-ghost use Rattle.std.specs.Prelude.{◌≡◌, ◌↔◌, ◌+◌, ◌^◌, ◌<◌, ◌≤◌, IsTrue, Contains, if◌then◌else◌};
+ghost use Rattle.std.specs.Prelude.{◌≡◌};
+ghost use Rattle.kb_io.specs.Calls.{CountsCall, no_calls};
+
+use std::marker::Model;
 
 /// The calls that are made one after another, numbered from 1, and the numbers of those that fail.
 #[derive(Drop)]
@@ -8,14 +11,22 @@ pub(crate) struct FailingCalls {
     numbers: Vec<u64>,
     made: u64,
     failed: u64,
-    ghost counted: { failed ≤ made },
+}
+
+impl Model for FailingCalls {
+    ghost use Rattle.std.specs.Prelude.{◌≤◌};
+    ghost use Rattle.kb_io.specs.Calls.{Calls};
+
+    ghost Value = { Calls };
+
+    ghost view = { λ it. record { failing = it.numbers.items; made = it.made; faults = it.failed } };
+
+    ghost invariant = { λ it. it.failed ≤ it.made };
 }
 
 impl FailingCalls {
     pub fn new(numbers: Vec<u64>) -> FailingCalls
-        ensures numbers { result.numbers.items ≡ numbers.items }
-        ensures made { result.made ≡ 0 }
-        ensures failed { result.failed ≡ 0 }
+        ensures { result ≡ no_calls numbers.items }
     {
         FailingCalls {
             numbers,
@@ -24,12 +35,10 @@ impl FailingCalls {
         }
     }
 
-    /// Counts one more call, and says whether it fails. Calls past the last number don't fail.
+    /// Counts one more call, at most 2 ^ 64 - 1 in all, and returns whether it fails. A call past those
+    /// does not fail.
     pub fn next_fails(&mut self) -> bool
-        ensures listed { IsTrue result ↔ ((self.old.made + 1 < 2 ^ 64) × Contains self.old.numbers.items (self.old.made + 1)) }
-        ensures numbers { self.new.numbers.items ≡ self.old.numbers.items }
-        ensures made { self.old.made + 1 < 2 ^ 64 → self.new.made ≡ self.old.made + 1 }
-        ensures failed { self.new.failed ≡ self.old.failed + (if result then 1 else 0) }
+        ensures { CountsCall result self.old self.new }
     {
         let Some(call) = self.made.checked_add(1) else {
             return false;

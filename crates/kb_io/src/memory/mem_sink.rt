@@ -1,6 +1,7 @@
 //! A sink over memory that takes pieces and fails where it is told to.
 
-ghost use Rattle.std.specs.Prelude.{◌≡◌, ◌<◌, [], true};
+ghost use Rattle.std.specs.Prelude.{◌≡◌, ◌<◌, ◌≤◌, ◌++◌, [], true, is_err, IfOk, OnErr, length, take};
+ghost use Rattle.kb_io.specs.Calls.{CountsCall, no_calls};
 
 use super::calls::FailingCalls;
 use super::whole_sink::WholeSink;
@@ -10,8 +11,8 @@ use std::alloc::Global;
 use std::marker::Model;
 use std::sync::Wait;
 
-/// Bytes in memory, written at the end, at most `piece` a call. Contracts see what was written and how
-/// many calls failed. Where memory runs out a write waits until there is some.
+/// Bytes in memory, written at the end, at most `piece` a call. Contracts see what was written, the
+/// piece and the calls. Where memory runs out a write waits until there is some.
 #[derive(Drop)]
 pub struct MemSink<R> {
     sink: WholeSink<R>,
@@ -25,19 +26,18 @@ impl<R> Model for MemSink<R> {
 
     ghost Value = { Stream };
 
-    ghost view = { λ it. record { bytes = it.sink; failing = it.calls.numbers.items; faults = it.calls.failed } };
+    ghost view = { λ it. record { bytes = it.sink; piece = it.piece; calls = it.calls } };
 
     ghost invariant = { λ it. 0 < it.piece };
 }
 
 impl<R: Wait> MemSink<R> {
-    /// A sink to which nothing is written. The calls with these numbers, counted from 1, fail; such a
-    /// call takes nothing, and the next goes on.
+    /// A sink to which nothing is written, whose writes with these numbers, counted from 1, are to fail.
     pub fn new(alloc: Global, rt: R, piece: usize, failing: Vec<u64>) -> MemSink<R>
         requires { 0 < piece }
         ensures bytes { result.bytes ≡ [] }
-        ensures failing { result.failing ≡ failing.items }
-        ensures faults { result.faults ≡ 0 }
+        ensures piece { result.piece ≡ piece }
+        ensures calls { result.calls ≡ no_calls failing.items }
     {
         MemSink {
             sink: WholeSink::new(alloc, rt),
@@ -55,9 +55,18 @@ impl<R: Wait> MemSink<R> {
 }
 
 impl<R: Wait> Sink for MemSink<R> {
-    ghost state = { λ sink. record { told = true; written = sink.bytes; faults = sink.faults } };
+    ghost state = { λ sink. record { told = true; written = sink.bytes; faults = sink.calls.faults } };
 
-    fn write(&mut self, bytes: &[u8]) -> Result<usize, Failed> {
+    /// Takes at most `piece` bytes, and fails exactly where the number of the call is to fail.
+    fn write(&mut self, bytes: &[u8]) -> Result<usize, Failed>
+        requires { 0 < length bytes.now }
+        ensures some { IfOk result (λ taken. (0 < taken) × (taken ≤ length bytes.now)) }
+        ensures most { IfOk result (λ taken. taken ≤ self.old.piece) }
+        ensures appended { IfOk result (λ taken. self.new.bytes ≡ self.old.bytes ++ take taken bytes.now) }
+        ensures kept { OnErr result (self.new.bytes ≡ self.old.bytes) }
+        ensures piece { self.new.piece ≡ self.old.piece }
+        ensures calls { CountsCall (is_err result) self.old.calls self.new.calls }
+    {
         if self.calls.next_fails() {
             return Err(Failed);
         }

@@ -1,6 +1,7 @@
 //! A shelf over memory that never fails.
 
-ghost use Rattle.std.specs.Prelude.{◌≡◌, ◌≢◌, ℕ, List, Option, Some, None, OnOk, OnErr, option_map};
+ghost use Rattle.std.specs.Prelude.{◌≡◌, ℕ, List, Option, Some, None, OnOk, OnErr, option_map};
+ghost use Rattle.kb_io.specs.States.{HoldsSame, HoldsSameBut};
 
 use crate::shelf::{Load, Shelf, ShelfFault};
 use std::alloc::{AllocError, Global};
@@ -13,7 +14,7 @@ pub struct WholeShelf {
 }
 
 impl WholeShelf {
-    ghost use Rattle.kb_io.specs.Shelves.{whole_holds};
+    ghost use Rattle.kb_io.specs.Shelves.{whole_holds, whole_state};
 
     /// A shelf that holds nothing.
     pub fn new(alloc: Global) -> WholeShelf
@@ -28,17 +29,14 @@ impl WholeShelf {
     pub fn get(&self, name: &str) -> Option<&[u8]>
         ensures { option_map (λ bytes. bytes.now) result ≡ whole_holds self.now name.now }
     {
-        match self.files.get(name) {
-            Some(bytes) => Some(bytes.as_slice()),
-            None => None,
-        }
+        self.files.get(name).map(|bytes| bytes.as_slice())
     }
 
     /// Puts the bytes under the name. Where memory runs out nothing changes.
     pub fn insert(&mut self, alloc: Global, name: &str, bytes: &[u8]) -> Result<(), AllocError>
         ensures put { OnOk result (whole_holds self.new name.now ≡ Some bytes.now) }
-        ensures others { (other : List ℕ) → other ≢ name.now → whole_holds self.new other ≡ whole_holds self.old other }
-        ensures err { OnErr result ((other : List ℕ) → whole_holds self.new other ≡ whole_holds self.old other) }
+        ensures others { HoldsSameBut name.now (whole_state self.old) (whole_state self.new) }
+        ensures err { OnErr result (HoldsSame (whole_state self.old) (whole_state self.new)) }
     {
         let key = String::from_str(alloc, name)?;
         let value = Vec::from_slice(alloc, bytes)?;
@@ -48,9 +46,9 @@ impl WholeShelf {
 }
 
 impl Shelf for WholeShelf {
-    ghost use Rattle.kb_io.specs.Shelves.{whole_shelf_state};
+    ghost use Rattle.kb_io.specs.Shelves.{whole_holds, whole_state};
 
-    ghost state = { whole_shelf_state };
+    ghost state = { whole_state };
 
     fn load(&mut self, alloc: Global, name: &str, max: usize) -> Result<Load, ShelfFault> {
         match self.get(name) {

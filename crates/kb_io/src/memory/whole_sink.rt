@@ -10,8 +10,8 @@ use std::sync::Wait;
 
 /// Bytes in memory, written at the end. Contracts see it as what was written.
 ///
-/// Where memory runs out a write waits until there is some, so it may not return. That is what makes
-/// a sink that never fails.
+/// Where memory runs out a write waits until there is some, so it may not return. Without that a sink
+/// that grows would fail.
 #[derive(Drop)]
 pub struct WholeSink<R> {
     bytes: Vec<u8>,

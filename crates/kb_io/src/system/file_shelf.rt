@@ -4,7 +4,7 @@ ghost use Rattle.std.specs.Prelude.{◌≡◌, Some, None, IfOk, IfSome, false};
 ghost use Rattle.kb_io.specs.Loading.{LoadGives};
 
 use super::faults::count_fault;
-use super::std_in::read_some;
+use super::retry::read_some;
 use crate::shelf::{Load, Shelf, ShelfFault};
 use std::alloc::Global;
 use std::fs::File;
@@ -44,23 +44,19 @@ impl<R: Files + Wait> Shelf for FileShelf<R> {
     } };
 
     fn load(&mut self, alloc: Global, name: &str, max: usize) -> Result<Load, ShelfFault> {
-        match load_file(alloc, &self.rt, name, max) {
-            Err(ShelfFault::Failed) => {
-                count_fault(&self.rt, &mut self.load_faults);
-                Err(ShelfFault::Failed)
-            }
-            answer => answer,
+        let answer = load_file(alloc, &self.rt, name, max);
+        if matches!(answer, Err(ShelfFault::Failed)) {
+            count_fault(&self.rt, &mut self.load_faults);
         }
+        answer
     }
 
     fn store(&mut self, alloc: Global, name: &str, bytes: &[u8]) -> Result<(), ShelfFault> {
-        match store_file(alloc, &self.rt, name, bytes) {
-            Err(ShelfFault::Failed) => {
-                count_fault(&self.rt, &mut self.store_faults);
-                Err(ShelfFault::Failed)
-            }
-            answer => answer,
+        let answer = store_file(alloc, &self.rt, name, bytes);
+        if answer == Err(ShelfFault::Failed) {
+            count_fault(&self.rt, &mut self.store_faults);
         }
+        answer
     }
 }
 
@@ -84,18 +80,17 @@ fn read_up_to<F: Read>(alloc: Global, from: &mut F, max: usize) -> Result<Load, 
     let mut piece = [0u8; PIECE];
     for _ in 0..u64::MAX {
         let room = (max - bytes.len()).saturating_add(1).min(PIECE);
-        match read_some(from, &mut piece[..room]) {
-            Ok(0) => return Ok(Load::Text(bytes)),
-            Ok(count) if count > max - bytes.len() => return Ok(Load::TooLong),
-            Ok(count) => bytes.extend_from_slice(&piece[..count])?,
-            Err(_) => return Err(ShelfFault::Failed),
+        match read_some(from, &mut piece[..room])? {
+            0 => return Ok(Load::Text(bytes)),
+            count if count > max - bytes.len() => return Ok(Load::TooLong),
+            count => bytes.extend_from_slice(&piece[..count])?,
         }
     }
     Err(ShelfFault::Failed)
 }
 
 /// Writes the bytes to a new file beside, and moves that to the name, so that a store that fails
-/// half-way leaves what stood there. What is no plain file, as a device, is written to itself.
+/// half-way leaves what was there. What is no plain file, as a device, is written to itself.
 fn store_file<R: Files>(alloc: Global, rt: &R, name: &str, bytes: &[u8]) -> Result<(), ShelfFault> {
     if is_special(rt, name) {
         return Ok(fs::write(rt, name, bytes)?);
@@ -108,12 +103,9 @@ fn store_file<R: Files>(alloc: Global, rt: &R, name: &str, bytes: &[u8]) -> Resu
     Ok(())
 }
 
-/// Whether something stands under the name that is no plain file.
+/// Whether there is something under the name that is no plain file.
 fn is_special<R: Files>(rt: &R, name: &str) -> bool {
-    match fs::metadata(rt, name) {
-        Ok(metadata) => !metadata.is_file(),
-        Err(_) => false,
-    }
+    fs::metadata(rt, name).is_ok_and(|metadata| !metadata.is_file())
 }
 
 /// How many names beside a file are tried.

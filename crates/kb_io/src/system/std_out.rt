@@ -1,11 +1,11 @@
 //! The standard output and the standard error.
 
-ghost use Rattle.std.specs.Prelude.{◌≡◌, ◌<◌, ◌≤◌, [], false, IfOk, length};
+ghost use Rattle.std.specs.Prelude.{◌≡◌, [], false};
 
 use super::faults::count_fault;
+use super::retry::print_some;
 use crate::failed::Failed;
 use crate::sink::Sink;
-use std::io::ErrorKind;
 use std::sync::Wait;
 
 /// The standard output of the runtime. Contracts know none of its bytes.
@@ -28,13 +28,11 @@ impl<R: Print + Wait> Sink for StdOut<R> {
     ghost state = { λ output. record { told = false; written = []; faults = output.faults } };
 
     fn write(&mut self, bytes: &[u8]) -> Result<usize, Failed> {
-        match print_some(&self.rt, bytes) {
-            Ok(count) => Ok(count),
-            Err(failed) => {
-                count_fault(&self.rt, &mut self.faults);
-                Err(failed)
-            }
+        let answer = print_some(&self.rt, bytes);
+        if answer.is_err() {
+            count_fault(&self.rt, &mut self.faults);
         }
+        answer
     }
 }
 
@@ -63,27 +61,10 @@ impl<E: Print, R: Wait> Sink for StdErr<E, R> {
     ghost state = { λ output. record { told = false; written = []; faults = output.faults } };
 
     fn write(&mut self, bytes: &[u8]) -> Result<usize, Failed> {
-        match print_some(&self.stream, bytes) {
-            Ok(count) => Ok(count),
-            Err(failed) => {
-                count_fault(&self.rt, &mut self.faults);
-                Err(failed)
-            }
+        let answer = print_some(&self.stream, bytes);
+        if answer.is_err() {
+            count_fault(&self.rt, &mut self.faults);
         }
+        answer
     }
-}
-
-/// One write, made again where a signal cut it short. A stream that takes nothing has failed.
-fn print_some<P: Print>(to: &P, bytes: &[u8]) -> Result<usize, Failed>
-    ensures { IfOk result (λ taken. (0 < taken) × (taken ≤ length bytes.now)) }
-{
-    for _ in 0..u64::MAX {
-        match to.write_some(bytes) {
-            Ok(0) => return Err(Failed),
-            Ok(count) => return Ok(count),
-            Err(error) if error.kind() == ErrorKind::Interrupted => {}
-            Err(_) => return Err(Failed),
-        }
-    }
-    Err(Failed)
 }
