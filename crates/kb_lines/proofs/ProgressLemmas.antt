@@ -131,7 +131,6 @@ ends-sent new ends line number none sent = record {
 -- ---- lines among bytes
 
 module _ {parts : PresentationParts} {Answers : List ℕ → List ℕ → Type 0} where
-
   pub advances-start : (bytes : List ℕ) {progress : Progress} {a : SinkState} → IsReady progress a
       → Advances parts Answers bytes bytes progress progress a a
   advances-start bytes {progress} {a} ready = record {
@@ -271,7 +270,7 @@ module _ {parts : PresentationParts} {Answers : List ℕ → List ℕ → Type 0
       → LineFront parts Answers long b c → FrontIn parts Answers bytes old a c
   advances-line_front {bytes} {rest} {old} {middle} {a} {b} {c} line behind long so_far split one longer pending front =
       let goes_on : PendingGoesOn (so_far.given ++ front.given) old.pending.items front.unsent a c =
-          pending-then so_far.pending (subst (λ p. PendingGoesOn front.given p front.unsent b c) pending front.pending) in
+      pending-then so_far.pending (subst (λ p. PendingGoesOn front.given p front.unsent b c) pending front.pending) in
       let whole = whole-line line behind long so_far split longer in
       elim front.answered [
         | inl none ↦ record {

@@ -1,6 +1,7 @@
 -- How the reading of word lines goes on, and how it ends.
-use Rattle.std.proofs.Common.{◌≡◌, ◌⊎◌, ℕ, suc, ◌+◌, ◌<◌, ◌≤◌, List, [], ◌∷◌, ◌++◌, length, take, refl, sym, ◌∙◌, ap, subst, append_assoc, append-nil, arith, length-append}
+use Rattle.std.proofs.Common.{◌≡◌, ◌⊎◌, ℕ, suc, ◌+◌, ◌<◌, ◌≤◌, List, [], ◌∷◌, ◌++◌, length, take, drop, refl, sym, ◌∙◌, ap, subst, append_assoc, append-nil, arith, length-append, Result, Ok, Err, IfErr, OnOk}
 use Rattle.std.specs.Prelude.{IsTrue}
+use Rattle.std.proofs.lemmas.List.{take-append-drop, take-take}
 use Rattle.std.proofs.Math.Seq.{take-append_seam}
 use Rattle.std.specs.List.{AllByRecursion}
 use Rattle.kb_io.specs.Bytes.{newline}
@@ -49,12 +50,12 @@ told-later told goes_on = record {
 }
 
 -- a stop of the lines is counted, also over a longer time
-pub stop-counted : {a b c : Streams} (stop : Stop) → StreamsGoOn a b → LineStopIsCounted b.output c.output stop → StopIsCounted a c stop
-stop-counted (Refused number fault) goes_on counted = tt
-stop-counted TooLong goes_on counted = tt
-stop-counted Memory goes_on counted = tt
-stop-counted Output goes_on counted = let before = goes_on.output.faults in omega (arith, before, counted)
-stop-counted Input goes_on counted = absurd counted
+pub stop-counted : {a b : Streams} (c : Streams) (stop : Stop) → StreamsGoOn a b → LineStopIsCounted b.output c.output stop → StopIsCounted a c stop
+stop-counted c (Refused number fault) goes_on counted = tt
+stop-counted c TooLong goes_on counted = tt
+stop-counted c Memory goes_on counted = tt
+stop-counted c Output goes_on counted = let before = goes_on.output.faults in omega (arith, before, counted)
+stop-counted c Input goes_on counted = absurd counted
 
 -- a list with no element
 no-length : {X : Type 0} (xs : List X) → length xs ≡ 0 → xs ≡ []
@@ -73,8 +74,25 @@ all-sent {given} {a = a} goes_on none none' =
     goes_on.appended ∙ ap (λ s. a.written ++ s) (sym (append-nil goes_on.sent) ∙ ap (λ p. goes_on.sent ++ p) (sym none')
     ∙ sym goes_on.held ∙ ap (λ p. p ++ given) none)
 
-module _ {parts : PresentationParts} {Answers : List ℕ → List ℕ → Type 0} where
+-- the bytes from the first on are what a fresh line and these bytes are
+from-fresh : {start : Progress} (bytes whole : List ℕ) → IsFresh start → start.line.items ++ bytes ≡ whole → bytes ≡ whole
+from-fresh bytes whole fresh is = ap (λ l. l ++ bytes) (sym fresh.line) ∙ is
 
+-- what follows for an error, and for both facts of a success
+pub err-then : {T : Type 0} (P Q : Stop → Type 0) (result : Result T Stop) → ((stop : Stop) → P stop → Q stop) → IfErr result P → IfErr result Q
+err-then P Q (Ok x) then_so holds = tt
+err-then P Q (Err stop) then_so holds = then_so stop holds
+
+pub ok-then : {T : Type 0} (A B C : Type 0) (result : Result T Stop) → (A → B → C) → OnOk result A → OnOk result B → OnOk result C
+ok-then A B C (Ok x) then_so one other = then_so one other
+ok-then A B C (Err stop) then_so one other = tt
+
+-- what was read is what may be taken of it, and the rest
+pub split-read : (buffer : List ℕ) (n more : ℕ) → n ≤ more → take more buffer ≡ take n buffer ++ drop n (take more buffer)
+split-read buffer n more less =
+    sym (take-append-drop n (take more buffer)) ∙ ap (λ f. f ++ drop n (take more buffer)) (take-take n more buffer less)
+
+module _ {parts : PresentationParts} {Answers : List ℕ → List ℕ → Type 0} where
   -- nothing was read
   pub reading-start : (start : Progress) (before : Streams) → IsFresh start → IsReading parts Answers before before start 0
   reading-start start before fresh = record {
@@ -117,10 +135,6 @@ module _ {parts : PresentationParts} {Answers : List ℕ → List ℕ → Type 0
   }
 
   -- ---- from the first byte
-
-  -- the bytes from the first on are what a fresh line and these bytes are
-  from-fresh : {start : Progress} (bytes whole : List ℕ) → IsFresh start → start.line.items ++ bytes ≡ whole → bytes ≡ whole
-  from-fresh bytes whole fresh is = ap (λ l. l ++ bytes) (sym fresh.line) ∙ is
 
   -- all lines that ended were answered
   pub ended-answered : {bytes : List ℕ} {start progress : Progress} (before after : Streams)
@@ -185,30 +199,39 @@ module _ {parts : PresentationParts} {Answers : List ℕ → List ℕ → Type 0
       }
 
 -- what a stop among the bytes means
-stop-means : (parts : PresentationParts) (Answers : List ℕ → List ℕ → Type 0) {bytes : List ℕ} {start : Progress} (later taken : List ℕ)
+stop-means : (parts : PresentationParts) (Answers : List ℕ → List ℕ → Type 0) {start : Progress} (bytes later taken : List ℕ)
     (before after : Streams) (stop : Stop) → IsFresh start
     → before.input.left ≡ bytes ++ later → length bytes ≤ length taken → length bytes ≤ most_input
     → StopsIn parts Answers bytes start before.output after.output stop → StopMeans parts Answers taken before after stop
-stop-means parts Answers later taken before after (Refused number fault) fresh input seen short stops =
+stop-means parts Answers bytes later taken before after (Refused number fault) fresh input seen short stops =
     refused-at later taken before after fresh input seen short stops
-stop-means parts Answers {bytes} later taken before after Output fresh input seen short stops =
+stop-means parts Answers bytes later taken before after Output fresh input seen short stops =
     front-answered (later ++ newline ∷ []) before after fresh (ap (λ i. i ++ newline ∷ []) input ∙ append_assoc bytes later (newline ∷ [])) stops
-stop-means parts Answers {bytes} later taken before after Memory fresh input seen short stops =
+stop-means parts Answers bytes later taken before after Memory fresh input seen short stops =
     front-answered (later ++ newline ∷ []) before after fresh (ap (λ i. i ++ newline ∷ []) input ∙ append_assoc bytes later (newline ∷ [])) stops
-stop-means parts Answers later taken before after TooLong fresh input seen short stops = absurd stops
-stop-means parts Answers later taken before after Input fresh input seen short stops = absurd stops
+stop-means parts Answers bytes later taken before after TooLong fresh input seen short stops = absurd stops
+stop-means parts Answers bytes later taken before after Input fresh input seen short stops = absurd stops
 
 module _ {parts : PresentationParts} {Answers : List ℕ → List ℕ → Type 0} where
-
   -- ---- the ends of the reading
 
   -- memory ran out before the first read
-  pub start-stops : (start : Progress) (before : Streams) → IsFresh start → Stops parts Answers before before Memory
-  start-stops start before fresh = record {
+  pub start-stops : (before : Streams) → Stops parts Answers before before Memory
+  start-stops before = record {
     taken = [];
     takes = refl;
-    means = stop-means parts Answers before.input.left [] before before Memory fresh refl (omega arith) (omega arith)
-        (advances-none (reading-start start before fresh).advances);
+    means = record {
+      lines = [];
+      each = tt;
+      rest = before.input.left ++ newline ∷ [];
+      at_front = refl;
+      given = [];
+      answered = refl;
+      sent = [];
+      unsent = [];
+      front = refl;
+      sends = sym (append-nil before.output.written);
+    };
   }
 
   -- the answers stop among the bytes that were read
@@ -221,7 +244,7 @@ module _ {parts : PresentationParts} {Answers : List ℕ → List ℕ → Type 0
       record {
         taken = reading.taken ++ read;
         takes = reading.takes ∙ ap (λ l. reading.taken ++ l) moved ∙ sym (append_assoc reading.taken read after.input.left);
-        means = stop-means parts Answers (extra ++ after.input.left) (reading.taken ++ read) before after stop reading.fresh
+        means = stop-means parts Answers (reading.taken ++ bytes) (extra ++ after.input.left) (reading.taken ++ read) before after stop reading.fresh
             (reading.takes ∙ ap (λ l. reading.taken ++ l) (moved ∙ ap (λ r. r ++ after.input.left) split ∙ append_assoc bytes extra after.input.left)
             ∙ sym (append_assoc reading.taken bytes (extra ++ after.input.left)))
             (omega (arith, length-append reading.taken bytes, length-append reading.taken read, ap length split, length-append bytes extra))
@@ -239,11 +262,11 @@ module _ {parts : PresentationParts} {Answers : List ℕ → List ℕ → Type 0
       let counted = reading.counted in
       let bytes_taken : List ℕ = reading.taken ++ bytes in
       let whole : before.input.left ≡ bytes_taken ++ (extra ++ after.input.left) =
-          reading.takes ∙ ap (λ l. reading.taken ++ l) (moved ∙ ap (λ r. r ++ after.input.left) split ∙ append_assoc bytes extra after.input.left)
-          ∙ sym (append_assoc reading.taken bytes (extra ++ after.input.left)) in
+      reading.takes ∙ ap (λ l. reading.taken ++ l) (moved ∙ ap (λ r. r ++ after.input.left) split ∙ append_assoc bytes extra after.input.left)
+      ∙ sym (append_assoc reading.taken bytes (extra ++ after.input.left)) in
       let size : most_input ≡ length bytes_taken = omega (arith, counted, full, length-append reading.taken bytes) in
       let most_taken : take most_input before.input.left ≡ bytes_taken =
-          ap (λ n. take n before.input.left) size ∙ ap (λ b. take (length bytes_taken) b) whole ∙ take-append_seam bytes_taken (extra ++ after.input.left) in
+      ap (λ n. take n before.input.left) size ∙ ap (λ b. take (length bytes_taken) b) whole ∙ take-append_seam bytes_taken (extra ++ after.input.left) in
       record {
         taken = reading.taken ++ read;
         takes = reading.takes ∙ ap (λ l. reading.taken ++ l) moved ∙ sym (append_assoc reading.taken read after.input.left);
@@ -326,7 +349,7 @@ module _ {parts : PresentationParts} {Answers : List ℕ → List ℕ → Type 0
       let counted = reading.counted in
       let front : List ℕ = ended advances.lines ++ progress.line.items in
       let is : reading.taken ≡ front =
-          from-fresh reading.taken _ reading.fresh (advances.whole ∙ ap (λ l. ended advances.lines ++ l) (append-nil progress.line.items)) in
+      from-fresh reading.taken _ reading.fresh (advances.whole ∙ ap (λ l. ended advances.lines ++ l) (append-nil progress.line.items)) in
       let size = ap length is in
       record {
         refused = record {

@@ -6,7 +6,7 @@ use Rattle.kb_word.specs.Presentations.{PresentationParts}
 use Rattle.kb_word.specs.Printed.{text_of_word}
 use Rattle.kb_record.specs.Meaning.{WordFault}
 use Rattle.kb_record.specs.declared.error.WordError.{WordError}
-use Rattle.kb_record.proofs.WordFaults.{one_meaning, no_word_fault}
+use Rattle.kb_lines.proofs.WordLemmas.{one_meaning, no_word_fault}
 use Rattle.kb_lines.specs.WordLines.{IsOneLine, ended, LineGives, blank, word, LineHasFault, LinesGive, IsFunction, IsFirstRefused}
 use Rattle.kb_lines.specs.Streams.{Streams, Sends}
 use Rattle.kb_lines.specs.Answered.{AllAnswered}
@@ -44,7 +44,7 @@ one-cut (line ∷ lines) [] rest last each too one also is =
     absurd (no-newline last line (ended lines ++ rest) also (sym is ∙ append_assoc line (newline ∷ ended lines) rest))
 one-cut (line ∷ lines) (other ∷ others) rest last each too one also is =
     let first = one-front line other (ended lines ++ rest) (ended others ++ last) each.0 too.0
-        (sym (append_assoc line (newline ∷ ended lines) rest) ∙ is ∙ append_assoc other (newline ∷ ended others) last) in
+    (sym (append_assoc line (newline ∷ ended lines) rest) ∙ is ∙ append_assoc other (newline ∷ ended others) last) in
     let more = one-cut lines others rest last each.1 too.1 one also first.1 in
     (ap₂ (λ l ls. l ∷ ls) first.0 more.0, more.1)
 
@@ -62,27 +62,29 @@ module _ {parts : PresentationParts} {Answers : List ℕ → List ℕ → Type 0
       let same : v ≡ w = cc in
       ap (λ a. text_of_word parts.names a ++ newline ∷ []) (functional w m n answer (subst (λ x. Answers x n) same answered))
 
-  -- lines give one text
-  pub one-text : (lines : List (List ℕ)) (given other : List ℕ) → IsFunction Answers → LinesGive parts Answers lines given
-      → LinesGive parts Answers lines other → given ≡ other
-  one-text [] given other functional one also = one ∙ sym also
-  one-text (line ∷ lines) given other functional (first, rest, gives, rest_gives, whole) (first', rest', gives', rest_gives', whole') =
-      whole ∙ ap₂ (λ a b. a ++ b) (one-line first first' functional gives gives') (one-text lines rest rest' functional rest_gives rest_gives') ∙ sym whole'
-
   -- no line is both answered and refused
   pub not_both : {line given : List ℕ} (fault : WordError) → LineGives parts Answers line given → ¬ LineHasFault parts line fault
   not_both fault (blank none) refused = refused.not_blank none
   not_both {line} fault (word {w = w} some meaning answer) refused =
       refused.named (no_word_fault line parts.names parts.inverses w fault meaning refused.faulty)
 
+-- lines give one text
+pub one-text : (parts : PresentationParts) (Answers : List ℕ → List ℕ → Type 0) (lines : List (List ℕ)) (given other : List ℕ)
+    → IsFunction Answers → LinesGive parts Answers lines given → LinesGive parts Answers lines other → given ≡ other
+one-text parts Answers [] given other functional one also = one ∙ sym also
+one-text parts Answers (line ∷ lines) given other functional (first, rest, gives, rest_gives, whole) (first', rest', gives', rest_gives', whole') =
+    whole ∙ ap₂ (λ a b. a ++ b) (one-line first first' functional gives gives')
+    (one-text parts Answers lines rest rest' functional rest_gives rest_gives') ∙ sym whole'
+
+module _ {parts : PresentationParts} {Answers : List ℕ → List ℕ → Type 0} where
   -- one input gives one text
   pub one-answered : (a b c d : Streams) → IsFunction Answers → (one : AllAnswered parts Answers a b) → (other : AllAnswered parts Answers c d)
       → a.input.left ≡ c.input.left → one.given ≡ other.given
   one-answered a b c d functional one other same =
       let cut = one-cut one.lines other.lines one.last other.last one.cuts.each other.cuts.each one.cuts.open_line other.cuts.open_line
-          (sym one.cuts.whole ∙ same ∙ other.cuts.whole) in
+      (sym one.cuts.whole ∙ same ∙ other.cuts.whole) in
       let lines = ap₂ (λ ls l. ls ++ l ∷ []) cut.0 cut.1 in
-      one-text (other.lines ++ other.last ∷ []) one.given other.given functional
+      one-text parts Answers (other.lines ++ other.last ∷ []) one.given other.given functional
       (subst (λ ls. LinesGive parts Answers ls one.given) lines one.answered) other.answered
 
   pub one-sent : (a b c d : Streams) → IsFunction Answers → AllAnswered parts Answers a b → AllAnswered parts Answers c d

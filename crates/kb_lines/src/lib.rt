@@ -14,11 +14,15 @@
 #![tactic(auto)]
 
 mod answerer;
+mod laws;
 mod line;
 mod lines;
 mod progress;
 mod stop;
 
 pub use answerer::Answerer;
+pub use laws::{
+    an_input_has_one_text_of_answers, lines_give_one_text, no_line_is_answered_and_refused,
+};
 pub use lines::answer_lines;
 pub use stop::Stop;

@@ -7,7 +7,7 @@ ghost use Rattle.kb_lines.specs.Answered.{AllAnswered, Stops, StopIsCounted};
 use crate::answerer::Answerer;
 use crate::progress::Progress;
 use crate::stop::Stop;
-use kb_io::{Sink, Source};
+use kb_io::{Failed, Sink, Source};
 use std::alloc::Global;
 
 /// At most so many bytes of word lines are read.
@@ -41,8 +41,9 @@ pub fn answer_lines<A: Answerer, I: Source, O: Sink>(
     let mut progress = Progress::new(alloc);
     let mut count = 0;
     loop {
-        let Ok(more) = input.read(buffer) else {
-            return Err(Stop::Input);
+        let more = match input.read(buffer) {
+            Ok(more) => more,
+            Err(Failed) => return Err(Stop::Input),
         };
         if more == 0 {
             return progress.finish(alloc, answerer, out);

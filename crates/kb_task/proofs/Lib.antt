@@ -3,3 +3,4 @@ pub mod ArgumentLemmas
 pub mod LoadEnds
 pub mod RunLemmas
 pub mod EffectLemmas
+pub mod EquationLemmas

@@ -64,8 +64,11 @@ WordReduceMeans given before after status =
     ⊎ ((parts : PresentationParts) × HoldsPresentation before.shelf.holds given.file parts × AnswersMean parts before after status)
 
 -- nothing is stored, and one file is read
+abbrev pub StoresNothing : List ℕ → Type 0
+StoresNothing name = ⊥
+
 abbrev pub wordreduce_may_store : Given → List ℕ → Type 0
-wordreduce_may_store given name = ⊥
+wordreduce_may_store given = StoresNothing
 
 abbrev pub wordreduce_reads : Given → List ℕ → Type 0
 wordreduce_reads given name = name ≡ given.file

@@ -1,15 +1,15 @@
 //! A run of the command.
 
-ghost use Rattle.std.specs.Prelude.{◌≡◌, ◌≤◌, IfOk, IsTrue, length};
+ghost use Rattle.std.specs.Prelude.{◌≡◌, ◌≤◌, IfOk, length};
 ghost use Rattle.kb_io.specs.Outside.{outside};
-ghost use Rattle.kb_io.specs.States.{ShelfState, SourceState, SinkGoesOn, HoldsSame};
+ghost use Rattle.kb_io.specs.States.{ShelfState, SourceState};
 ghost use Rattle.kb_word.specs.Overlap.{IsConfluent};
 ghost use Rattle.kb_word.specs.Presentations.{parts_of};
 ghost use Rattle.kb_word.specs.Relations.{AreOriented};
-ghost use Rattle.kb_lines.specs.Streams.{streams, AreTold, StreamsGoOn};
-ghost use Rattle.kb_task.specs.Runs.{FaultIsCounted};
+ghost use Rattle.kb_presfile.specs.Holds.{most_equations};
+ghost use Rattle.kb_task.specs.Runs.{IsRun};
 ghost use Rattle.kb_wordreduce.specs.Confluence.{relations, OrientedAreNotConfluent, no_line};
-ghost use Rattle.kb_wordreduce.specs.WordReduce.{AnswersMean, stop_status};
+ghost use Rattle.kb_wordreduce.specs.WordReduce.{AnswersMean, StoresNothing, stop_status};
 
 use crate::normal_forms::NormalForms;
 use crate::orienting::{oriented, oriented_relations_keep_the_congruence, oriented_rules_decrease};
@@ -71,21 +71,19 @@ fn answer_by<I: Source, O: Sink>(
     out: &mut O,
 ) -> Status
     requires workers { (1 ≤ workers) × (workers ≤ 64) }
-    requires few { length presentation.eqs ≤ 65535 }
-    ensures means { AreTold (streams (I.state input.old) (O.state out.old)) → (one other : ShelfState) → HoldsSame one other
-        → AnswersMean (parts_of presentation) (outside one (I.state input.old) (O.state out.old))
-        (outside other (I.state input.new) (O.state out.new)) result }
-    ensures fault { (one other : ShelfState) → FaultIsCounted (outside one (I.state input.old) (O.state out.old))
-        (outside other (I.state input.new) (O.state out.new)) result }
-    ensures goes_on { StreamsGoOn (streams (I.state input.old) (O.state out.old)) (streams (I.state input.new) (O.state out.new)) }
+    requires few { length presentation.eqs ≤ most_equations }
+    ensures { (shelf : ShelfState) → IsRun (AnswersMean (parts_of presentation)) StoresNothing
+        (outside shelf (I.state input.old) (O.state out.old)) (outside shelf (I.state input.new) (O.state out.new)) result }
 {
     // The range of the number of generators bounds the number of rules.
     let _generators = presentation.n;
-    let Ok(rules) = oriented(alloc, &presentation) else {
-        return Status::Memory;
+    let rules = match oriented(alloc, &presentation) {
+        Ok(rules) => rules,
+        Err(Memory) => return Status::Memory,
     };
-    let Ok(scan) = Scan::of(alloc, &rules) else {
-        return Status::Memory;
+    let scan = match Scan::of(alloc, &rules) {
+        Ok(scan) => scan,
+        Err(Memory) => return Status::Memory,
     };
     match check(alloc, &rules, &scan, workers) {
         Ok(Verdict::Yes) => answer_all(alloc, presentation, &rules, scan, input, out),
@@ -106,12 +104,8 @@ fn answer_all<I: Source, O: Sink>(
     requires oriented { AreOriented (relations (parts_of presentation)) rules.now }
     requires confluent { IsConfluent rules.now }
     requires scan { scan ≡ rules.now }
-    ensures means { AreTold (streams (I.state input.old) (O.state out.old)) → (one other : ShelfState)
-        → AnswersMean (parts_of presentation) (outside one (I.state input.old) (O.state out.old))
-        (outside other (I.state input.new) (O.state out.new)) result }
-    ensures fault { (one other : ShelfState) → FaultIsCounted (outside one (I.state input.old) (O.state out.old))
-        (outside other (I.state input.new) (O.state out.new)) result }
-    ensures goes_on { StreamsGoOn (streams (I.state input.old) (O.state out.old)) (streams (I.state input.new) (O.state out.new)) }
+    ensures { (shelf : ShelfState) → IsRun (AnswersMean (parts_of presentation)) StoresNothing
+        (outside shelf (I.state input.old) (O.state out.old)) (outside shelf (I.state input.new) (O.state out.new)) result }
 {
     oriented_rules_decrease();
     oriented_relations_keep_the_congruence();
@@ -146,16 +140,13 @@ fn print_no<O: Sink>(
     out: &mut O,
 ) -> Status
     requires { OrientedAreNotConfluent (parts_of presentation.now) u v }
-    ensures means { IsTrue (O.state out.old).told → (one other : ShelfState) (input : SourceState) → HoldsSame one other
-        → AnswersMean (parts_of presentation.now) (outside one input (O.state out.old)) (outside other input (O.state out.new)) result }
-    ensures fault { (one other : ShelfState) (input later : SourceState)
-        → FaultIsCounted (outside one input (O.state out.old)) (outside other later (O.state out.new)) result }
-    ensures goes_on { SinkGoesOn (O.state out.old) (O.state out.new) }
+    ensures { (shelf : ShelfState) (input : SourceState) → IsRun (AnswersMean (parts_of presentation.now)) StoresNothing
+        (outside shelf input (O.state out.old)) (outside shelf input (O.state out.new)) result }
 {
-    let Ok(line) = line_of_no(alloc, &presentation.names, &u, &v) else {
-        return Status::Memory;
-    };
-    print_line(&line, Status::No(Cert::NotConfluent { u, v }), out)
+    match line_of_no(alloc, &presentation.names, &u, &v) {
+        Ok(line) => print_line(&line, Status::No(Cert::NotConfluent { u, v }), out),
+        Err(Memory) => Status::Memory,
+    }
 }
 
 /// `no confluent U V` and a newline.

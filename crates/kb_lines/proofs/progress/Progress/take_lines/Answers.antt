@@ -11,7 +11,7 @@ returns-in_err-end_line-clause-stops g c = λ ready.
     let long : Progress = record { line = c.extend_from_slice.new.self; number = c.loop-line.self.number; pending = c.loop-line.self.pending } in
     let p = err_from_is_err_and c.from_residual-in_err-end_line.result c.from_residual-in_err-end_line.ensures.1 in
     rw (p.1, p.2)
-    (advances-stops (g.O.Sink.state c.end_line.new.out) c.in-Some.line.now c.in-Some.behind.now long c.in_err-end_line.field-0
+    (advances-stops (g.O.Sink.state c.end_line.new.out) c.in-Some.line.now c.in-Some.behind.now long c.in_err-end_line.field-0.0
     (kept.advances ready) c.in-Some.ensures.split c.in-Some.ensures.line c.in_ok-extend_from_slice.ensures.items refl refl
     (c.in_err-end_line.ensures.stops (rw kept.goes_on.told ready.told)))
 
