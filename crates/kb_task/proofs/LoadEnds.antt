@@ -1,6 +1,8 @@
 -- Runs that end at a load, and files that are read twice.
 use Rattle.std.proofs.Common.{◌≡◌, ◌∙◌, ℕ, Option, Some, None, List, refl, sym, ap, subst}
+use Rattle.std.proofs.Math.Path.{fun_ext}
 use Rattle.std.proofs.lemmas.Option.{same_Some}
+use Rattle.kb_io.specs.States.{ShelfState}
 use Rattle.kb_record.specs.Grammar.{IsText, TextOf}
 use Rattle.kb_record.specs.Token.{Token}
 use Rattle.kb_record.specs.Tree.{TextTree}
@@ -10,7 +12,7 @@ use Rattle.kb_fsa.specs.Language.{Automaton}
 use Rattle.kb_fsafile.specs.Holds.{AutomatonOf, HoldsAutomaton as TreeHoldsAutomaton}
 use Rattle.kb_fsafile.proofs.UniqueAutomaton.{one_automaton}
 use Rattle.kb_task.specs.Automata.{HoldsAutomaton, IsUnrefused}
-use Rattle.kb_task.specs.Loads.{Files, IsHeld, IsCause, EndsAtLoad, stopped_at}
+use Rattle.kb_task.specs.Loads.{Files, IsHeld, IsCause, EndsAtLoad, OnlyLoads, stopped_at}
 use Rattle.kb_task.specs.Statuses.{IsConclusive, IsFaultless}
 use Rattle.kb_task.specs.declared.loading.LoadStop.{LoadStop}
 use Rattle.kb_task.specs.declared.loading.LoadStop.TheVariants as stops
@@ -64,3 +66,7 @@ pub one_held : {files others : Files} {name : List ℕ} {names found : List (Lis
 one_held {names = names} {found = found} {first = first} {second = second} same held other =
     one_automaton_text other.bytes names found first second
     (subst (λ b. AutomatonOf b names first) (same_bytes same held.held other.held) held.says) other.says
+
+-- after files were only loaded, the shelf holds the same
+pub same_files : {before after : ShelfState} → OnlyLoads before after → after.holds ≡ before.holds
+same_files loads = fun_ext loads.files

@@ -98,3 +98,20 @@ loads-along one two = record {
   files = λ name. two.files name ∙ one.files name;
   stores = two.stores ∙ one.stores;
 }
+
+-- a run that only wrote on the output
+pub run-prints : {Means : Outside → Outside → Status → Type 0} {MayStore : List ℕ → Type 0} (shelf : ShelfState) (input : SourceState)
+    (before after : SinkState) (status : Status) → SinkGoesOn before after
+    → FaultIsCounted (outside shelf input before) (outside shelf input after) status
+    → (IsTold (outside shelf input before) → Means (outside shelf input before) (outside shelf input after) status)
+    → IsRun Means MayStore (outside shelf input before) (outside shelf input after) status
+run-prints shelf input before after status goes_on fault means = record {
+  means = means;
+  fault = fault;
+  goes_on = record {
+    shelf = record { told = refl; load_faults = omega arith; store_faults = omega arith };
+    input = record { told = refl; faults = omega arith };
+    output = goes_on;
+  };
+  files = λ name may_not. refl;
+}

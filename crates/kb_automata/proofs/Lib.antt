@@ -1,0 +1,4 @@
+pub mod MakeLemmas
+pub mod PrintLemmas
+pub mod ListLemmas
+pub mod LineLemmas

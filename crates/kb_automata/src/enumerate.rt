@@ -1,0 +1,55 @@
+//! `fsaenumerate MIN MAX A`: the words that an automaton accepts.
+
+use crate::listing::list_words;
+use kb_io::{Shelf, Sink, Source};
+use kb_task::{Kind, Status, Task, load_automaton};
+use kb_word::OwnedText;
+use std::alloc::Global;
+
+/// Prints the words that the automaton in a file accepts.
+#[derive(Drop)]
+pub struct Enumerate {
+    /// The least length.
+    pub(crate) min: u16,
+    /// The greatest length.
+    pub(crate) max: u16,
+    /// The name of the file.
+    pub(crate) file: OwnedText,
+}
+
+impl Task for Enumerate {
+    ghost use Rattle.kb_task.specs.Statuses.{AnswersYes};
+    ghost use Rattle.kb_automata.specs.Enumerate.{EnumerateMeans, enumerate_may_store, enumerate_reads, enumerate_is_unrefused, EnumeratesDifferInOptions};
+    ghost use Rattle.kb_automata.specs.EnumerateLaws.{enumerate_complete, enumerate_settled, enumerate_one_function};
+
+    ghost means = { EnumerateMeans };
+
+    ghost may_store = { enumerate_may_store };
+
+    ghost reads = { enumerate_reads };
+
+    ghost is_unrefused = { enumerate_is_unrefused };
+
+    ghost answers = { λ task. AnswersYes };
+
+    ghost differs_in_options = { EnumeratesDifferInOptions };
+
+    fn run<F: Shelf, I: Source, O: Sink>(
+        self,
+        alloc: Global,
+        shelf: &mut F,
+        _input: &mut I,
+        out: &mut O,
+    ) -> Status {
+        match load_automaton(alloc, Kind::Words, self.file, shelf) {
+            Ok(given) => list_words(alloc, &given, self.min, self.max, out),
+            Err(status) => status,
+        }
+    }
+
+    ghost complete = { enumerate_complete };
+
+    ghost settled = { enumerate_settled };
+
+    ghost one_function = { enumerate_one_function };
+}

@@ -1,0 +1,64 @@
+//! The ten commands in one type.
+
+use crate::combine::Combine;
+use crate::compare::Compare;
+use crate::enumerate::Enumerate;
+use crate::minimise::Minimise;
+use crate::transform::Transform;
+use kb_io::{Shelf, Sink, Source};
+use kb_task::{Status, Task};
+use std::alloc::Global;
+
+/// A command on automata.
+#[derive(Drop)]
+pub enum AutomataTask {
+    /// `fsaand`, `fsaor`, `fsaconcat`
+    Combine(Combine),
+    /// `fsanot`, `fsaexists`, `fsastar`, `fsareverse`
+    Transform(Transform),
+    /// `fsamin`
+    Minimise(Minimise),
+    /// `fsalequal`
+    Compare(Compare),
+    /// `fsaenumerate`
+    Enumerate(Enumerate),
+}
+
+impl Task for AutomataTask {
+    ghost use Rattle.kb_automata.specs.Tasks.{AutomataMeans, automata_may_store, automata_reads, automata_is_unrefused, automata_answers, AutomataDifferInOptions};
+    ghost use Rattle.kb_automata.specs.TaskLaws.{automata_complete, automata_settled, automata_one_function};
+
+    ghost means = { AutomataMeans };
+
+    ghost may_store = { automata_may_store };
+
+    ghost reads = { automata_reads };
+
+    ghost is_unrefused = { automata_is_unrefused };
+
+    ghost answers = { automata_answers };
+
+    ghost differs_in_options = { AutomataDifferInOptions };
+
+    fn run<F: Shelf, I: Source, O: Sink>(
+        self,
+        alloc: Global,
+        shelf: &mut F,
+        input: &mut I,
+        out: &mut O,
+    ) -> Status {
+        match self {
+            AutomataTask::Combine(task) => task.run(alloc, shelf, input, out),
+            AutomataTask::Transform(task) => task.run(alloc, shelf, input, out),
+            AutomataTask::Minimise(task) => task.run(alloc, shelf, input, out),
+            AutomataTask::Compare(task) => task.run(alloc, shelf, input, out),
+            AutomataTask::Enumerate(task) => task.run(alloc, shelf, input, out),
+        }
+    }
+
+    ghost complete = { automata_complete };
+
+    ghost settled = { automata_settled };
+
+    ghost one_function = { automata_one_function };
+}
