@@ -6,7 +6,7 @@ use Rattle.kb_word.specs.Presentations.{PresentationParts}
 use Rattle.kb_word.specs.Printed.{text_of_word}
 use Rattle.kb_record.specs.Meaning.{WordFault}
 use Rattle.kb_record.specs.declared.error.WordError.{WordError}
-use Rattle.kb_lines.proofs.WordLemmas.{one_meaning, no_word_fault}
+use Rattle.kb_record.proofs.WordFaults.{one_meaning, no_word_fault}
 use Rattle.kb_lines.specs.WordLines.{IsOneLine, ended, LineGives, blank, word, LineHasFault, LinesGive, IsFunction, IsFirstRefused}
 use Rattle.kb_lines.specs.Streams.{Streams, Sends}
 use Rattle.kb_lines.specs.Answered.{AllAnswered}
