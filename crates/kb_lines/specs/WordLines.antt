@@ -9,7 +9,7 @@ use Rattle.kb_record.specs.Faults.{Meaning, HasWordFault}
 use Rattle.kb_record.specs.declared.error.WordError.{WordError}
 use Rattle.kb_record.specs.declared.error.WordError.TheVariants as word_errors
 
--- so many bytes of word lines are read
+-- the most bytes of word lines that are read
 abbrev pub most_input : ℕ
 most_input = 67108864
 
