@@ -1,5 +1,5 @@
-pub mod LoadLemmas
 pub mod ArgumentLemmas
-pub mod LoadEnds
-pub mod RunLemmas
 pub mod EffectLemmas
+pub mod LoadEnds
+pub mod LoadLemmas
+pub mod RunLemmas
