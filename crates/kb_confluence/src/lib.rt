@@ -1,18 +1,16 @@
 //! Confluence of rules: the test, and what it is good for.
 //!
-//! The public contract: `check` answers `Yes` exactly where the critical pairs of the rules join, and
-//! otherwise names the first overlap that doesn't, with its two normal forms. By the law
+//! The public contract: `check` answers `Yes` exactly where the critical pair of each overlap is resolved, and
+//! otherwise names the first overlap whose pair isn't, with its two normal forms. By the law
 //! `normal_forms_by_confluent_rules_are_least` each word's normal form is then the least word that is
 //! congruent to it; `least_by_the_same_congruence` carries that over to any other list of pairs that
 //! generates the same congruence, such as a presentation's relations.
 //!
-//! `kb_word`, `kb_rules` and `kb_overlap` stand below; the programs stand above.
+//! Below are `kb_word`, `kb_rules` and `kb_overlap`; above are the commands that work with confluent rules.
 #![tactic(auto)]
 
 mod confluence;
 mod laws;
-#[cfg(test)]
-mod tests;
 
 pub use confluence::{Verdict, check};
 pub use laws::{least_by_the_same_congruence, normal_forms_by_confluent_rules_are_least};

@@ -4,7 +4,7 @@ mod Lists
 mod Continuations
 mod Inserting
 mod Leading
-mod Steps
+mod ExplorationSteps
 mod Rows
 mod Traces
 mod Starting

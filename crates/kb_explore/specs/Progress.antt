@@ -5,6 +5,7 @@ use Rattle.kb_word.specs.Words.{Less}
 use Rattle.kb_fsa.specs.Table.{Moves}
 use Rattle.kb_explore.specs.Machine.{Machine, AreMovesOf, leads}
 use Rattle.kb_explore.specs.Exploration.{numbered, IsTraced, AreFromEarlier}
+use Rattle.kb_explore.specs.declared.seen.Seen.{Seen}
 
 -- each state stands at one place of the list
 abbrev pub AreDistinct : {S : Type 0} → List S → Type 0
@@ -84,3 +85,18 @@ pub record Partway {S : Type 0} (machine : Machine S) (k : ℕ) (states : List S
   pub is_word : slice_get words (length rows) ≡ Some word
   pub are_numbered : AllZip (IsNumbered states words word) row passed
   pub next : (symbol : ℕ) → All (λ move. move.0 < symbol) passed → Precede words word symbol
+
+-- ---- the same of the states that are seen
+
+-- how many are seen
+abbrev pub seen_count : {S : Type 0} → Seen S → ℕ
+seen_count seen = length seen.states.keys
+
+-- so many rows are done
+abbrev pub IsUnderWay : {S : Type 0} → Machine S → ℕ → Seen S → List Moves → Type 0
+IsUnderWay machine k seen rows = Progress machine k seen.states.keys seen.origins.items rows
+
+-- The state has the number among those that are seen after. Where it wasn't seen before it is added, with its origin.
+abbrev pub HasNumber : {S : Type 0} → Seen S → S → ℕ × ℕ → Seen S → ℕ → Type 0
+HasNumber before state origin after number =
+    Numbers before.states.keys before.origins.items state origin after.states.keys after.origins.items number

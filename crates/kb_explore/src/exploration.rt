@@ -1,10 +1,10 @@
 //! The exploration.
 
-ghost use Rattle.std.specs.Prelude.{◌≡◌, ◌<◌, ◌≤◌, Err, [], ◌∷◌, ◌++◌, length, map, IsOk, IfOk, OnOk};
+ghost use Rattle.std.specs.Prelude.{◌≡◌, ◌<◌, ◌≤◌, ℕ, List, Err, [], ◌∷◌, ◌++◌, length, map, IsOk, IfOk, OnOk};
 ghost use Rattle.kb_fsa.specs.Table.{HasSymbols};
 ghost use Rattle.kb_explore.specs.Machine.{HasMoreStates};
 ghost use Rattle.kb_explore.specs.Exploration.{AreFromEarlier, IsExploration, IsTraced};
-ghost use Rattle.kb_explore.specs.Progress.{Progress};
+ghost use Rattle.kb_explore.specs.Progress.{IsUnderWay, seen_count};
 ghost use Rattle.kb_explore.specs.declared.det.Det.TheVariants.{TooManyStates};
 
 use crate::det::Det;
@@ -34,10 +34,11 @@ pub fn explore<M: Machine>(
     machine: &M,
     limit: u32,
 ) -> Result<Exploration<M::State>, Det>
-    ensures explored { IfOk result (λ e. IsExploration (M.machine machine.now) e.table e.states.keys e.origins.items) }
+    ensures explored { IfOk result (λ e. IsExploration (M.machine machine.now)
+        e.table e.states.keys e.origins.items) }
     ensures symbols { IfOk result (λ e. HasSymbols (M.symbols machine.now) e.table) }
     ensures few { IsOk result → ¬ HasMoreStates (M.machine machine.now) limit }
-    ensures many { (most : Rattle.std.specs.Prelude.ℕ) → result ≡ Err (TooManyStates most)
+    ensures many { (most : ℕ) → result ≡ Err (TooManyStates most)
         → (most ≡ limit) × HasMoreStates (M.machine machine.now) limit }
 {
     let mut seen = start(alloc, machine, limit)?;
@@ -64,13 +65,15 @@ fn next_row<M: Machine>(
     seen: &mut Seen<M::State>,
     rows: &[Row],
 ) -> Result<Row, Det>
-    requires progress { Progress (M.machine machine.now) (M.symbols machine.now) seen.old.states.keys seen.old.origins.items rows.now }
-    requires more { length rows.now < length seen.old.states.keys }
-    requires room { length seen.old.states.keys ≤ limit }
-    ensures progress { IfOk result (λ row. Progress (M.machine machine.now) (M.symbols machine.now)
-        seen.new.states.keys seen.new.origins.items (rows.now ++ row ∷ [])) }
-    ensures room { OnOk result (length seen.new.states.keys ≤ limit) }
-    ensures many { (most : Rattle.std.specs.Prelude.ℕ) → result ≡ Err (TooManyStates most)
+    requires progress { IsUnderWay (M.machine machine.now) (M.symbols machine.now)
+        seen.old rows.now }
+    requires more { length rows.now < seen_count seen.old }
+    requires room { seen_count seen.old ≤ limit }
+    ensures progress { IfOk result (λ row.
+        IsUnderWay (M.machine machine.now) (M.symbols machine.now)
+        seen.new (rows.now ++ row ∷ [])) }
+    ensures room { OnOk result (seen_count seen.new ≤ limit) }
+    ensures many { (most : ℕ) → result ≡ Err (TooManyStates most)
         → (most ≡ limit) × HasMoreStates (M.machine machine.now) limit }
 {
     let moves = machine.moves(alloc, &seen.states[rows.len()])?;
@@ -89,7 +92,8 @@ fn answers<M: Machine>(
     machine: &M,
     states: &IndexSet<M::State>,
 ) -> Result<Vec<bool>, Memory>
-    ensures { IfOk result (λ answers. answers.items ≡ map (M.machine machine.now).accepts states.now.keys) }
+    ensures { IfOk result (λ answers.
+        answers.items ≡ map (M.machine machine.now).accepts states.now.keys) }
 {
     let mut answers = Vec::with_capacity(alloc, states.len())?;
     for state in states.as_slice() {
@@ -98,9 +102,9 @@ fn answers<M: Machine>(
     Ok(answers)
 }
 
-/// The text by which a state was first seen, which is the least that leads to it: its symbols in order.
+/// The text by which a state was first seen: its symbols in order.
 pub fn text_to(alloc: Global, origins: &[(u32, u32)], state: u32) -> Result<Vec<u32>, Memory>
-    requires traced { (text : Rattle.std.specs.Prelude.List Rattle.std.specs.Prelude.ℕ) × IsTraced origins.now state text }
+    requires traced { (text : List ℕ) × IsTraced origins.now state text }
     requires from_earlier { AreFromEarlier origins.now }
     ensures { IfOk result (λ text. IsTraced origins.now state text.items) }
 {

@@ -1,19 +1,29 @@
 //! Exploration: from a machine with states of any kind to a table of numbered states.
 //!
-//! Products, subsets and quotients of automata are machines: each says where it starts, where the symbols lead
-//! from a state, and which states accept. The public contract is that of `explore`: its table has exactly
+//! Products, subsets and quotients of automata are machines: each has an initial state, moves (transitions) from a
+//! state, and a test which states accept. The public contract is that of `explore`: its table has exactly
 //! the states that texts lead to, each once, numbered breadth first, and so in the shortlex order of the least
-//! texts that lead to them; and it answers `TooManyStates` exactly where there are more than the limit.
+//! texts that lead to them; and it answers `TooManyStates` exactly where there are more than the limit. `text_to`
+//! returns the least text that leads to a state of it.
 //!
-//! `kb_fsa` stands below; the operations on automata, which are machines, stand above.
+//! `kb_fsa` is below; the operations on automata, which are machines, are above.
+//!
+//! # Where the proofs are
+//!
+//! - `Starting`, `ExplorationSteps` and `Finishing`: the start, the steps and the end of an exploration.
+//! - `Inserting`: what inserting into the set of states tells of a state's number.
+//! - `Rows`: rows by numbers beside the moves of a machine.
+//! - `Leading` and `CountingLemmas`: texts that lead to different states, and how many states they lead to.
+//! - `Continuations`: texts with a symbol more at the end, in the shortlex order.
+//! - `Traces`: following the origins back from a state.
+//! - `ExplorationLemmas`: what an exploration tells of its machine, for the crates above.
+//! - `Lists`: lists with an item more at the end.
 #![tactic(auto)]
 
 mod det;
 mod exploration;
 mod machine;
 mod seen;
-#[cfg(test)]
-mod tests;
 
 pub use det::Det;
 pub use exploration::{Exploration, explore, text_to};

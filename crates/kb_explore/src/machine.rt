@@ -16,17 +16,19 @@ pub trait Machine {
 
     ghost symbols: { Self → ℕ };
 
-    /// Where it starts; `None` where it accepts nothing.
+    /// The initial state; `None` where there is none.
     fn start(&self, alloc: Global) -> Result<Option<Self::State>, Memory>
         ensures { IfOk result (λ start. start ≡ (machine self.now).start) };
 
-    /// The moves from a state, each a symbol with where it leads, by ascending symbols.
+    /// The moves from a state, each a symbol with the state to which it leads, by ascending symbols.
     fn moves(&self, alloc: Global, state: &Self::State) -> Result<Vec<(u32, Self::State)>, Memory>
-        ensures { IfOk result (λ moves. AreMovesOf (machine self.now) (symbols self.now) state.now moves.items) };
+        ensures { IfOk result (λ moves.
+            AreMovesOf (machine self.now) (symbols self.now) state.now moves.items) };
 
     /// Whether the state accepts.
     fn accepts(&self, state: &Self::State) -> bool
         ensures { result ≡ (machine self.now).accepts state.now };
 
-    ghost same_state: { (state other : Self.State) → Self.State.eq state other ≡ true → state ≡ other };
+    ghost same_state: { (state other : Self.State) → Self.State.eq state other ≡ true
+        → state ≡ other };
 }

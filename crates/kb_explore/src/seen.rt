@@ -1,8 +1,8 @@
 //! The states that are seen so far.
 
-ghost use Rattle.std.specs.Prelude.{◌≡◌, ◌≤◌, Err, [], length, IfOk, OnOk};
+ghost use Rattle.std.specs.Prelude.{◌≡◌, ◌≤◌, ℕ, Err, [], IfOk, OnOk};
 ghost use Rattle.kb_explore.specs.Machine.{HasMoreStates};
-ghost use Rattle.kb_explore.specs.Progress.{AreDistinct, IsOneTooMany, Numbers, Progress};
+ghost use Rattle.kb_explore.specs.Progress.{AreDistinct, HasNumber, IsOneTooMany, IsUnderWay, seen_count};
 ghost use Rattle.kb_explore.specs.declared.det.Det.TheVariants.{TooManyStates};
 
 use crate::det::Det;
@@ -22,10 +22,10 @@ pub struct Seen<S: Eq + Hash + Drop> {
 
 /// The initial state, where there is one.
 pub fn start<M: Machine>(alloc: Global, machine: &M, limit: u32) -> Result<Seen<M::State>, Det>
-    ensures progress { IfOk result (λ seen. Progress (M.machine machine.now) (M.symbols machine.now)
-        seen.states.keys seen.origins.items []) }
-    ensures room { IfOk result (λ seen. length seen.states.keys ≤ limit) }
-    ensures many { (most : Rattle.std.specs.Prelude.ℕ) → result ≡ Err (TooManyStates most)
+    ensures progress { IfOk result (λ seen.
+        IsUnderWay (M.machine machine.now) (M.symbols machine.now) seen []) }
+    ensures room { IfOk result (λ seen. seen_count seen ≤ limit) }
+    ensures many { (most : ℕ) → result ≡ Err (TooManyStates most)
         → (most ≡ limit) × HasMoreStates (M.machine machine.now) limit }
 {
     let mut seen = Seen {
@@ -46,12 +46,11 @@ pub fn number<M: Machine>(
     state: M::State,
     origin: (u32, u32),
 ) -> Result<u32, Det>
-    requires { length seen.old.states.keys ≤ limit }
-    ensures numbers { IfOk result (Numbers seen.old.states.keys seen.old.origins.items state origin
-        seen.new.states.keys seen.new.origins.items) }
+    requires { seen_count seen.old ≤ limit }
+    ensures numbers { IfOk result (HasNumber seen.old state origin seen.new) }
     ensures distinct { OnOk result (AreDistinct seen.new.states.keys) }
-    ensures room { OnOk result (length seen.new.states.keys ≤ limit) }
-    ensures many { (most : Rattle.std.specs.Prelude.ℕ) → result ≡ Err (TooManyStates most)
+    ensures room { OnOk result (seen_count seen.new ≤ limit) }
+    ensures many { (most : ℕ) → result ≡ Err (TooManyStates most)
         → (most ≡ limit) × IsOneTooMany limit seen.old.states.keys state }
 {
     let (index, is_new) = seen.states.insert_full(state)?;

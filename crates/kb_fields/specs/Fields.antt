@@ -1,19 +1,9 @@
 -- Fields of records, and values that are names or lists of names.
-use Rattle.std.specs.Prelude.{◌≡◌, ℕ, zero, suc, ◌<◌, ◌⊎◌, nat_eq, if◌then◌else◌, List, [], ◌∷◌, map, slice_get, Option, Some, None}
-use Rattle.std.specs.Borrow.{Bor}
-use Rattle.std.specs.Option.{option_map}
+use Rattle.std.specs.Prelude.{◌≡◌, ℕ, zero, suc, ◌<◌, ◌⊎◌, nat_eq, if◌then◌else◌, List, [], ◌∷◌, slice_get, Option, Some, None}
 use lib.Pointwise.{pointwise}
-use Rattle.kb_record.specs.View.{fields_of, places_of, value_view}
-use Rattle.kb_record.specs.declared.tree.Value as code
 use Rattle.kb_record.specs.Tree.{named, no_factors, factor, Value, number_value, string_value, record_value, list_value, range_value, word_value, Fields, no_fields, field, Places, no_places, place, empty_place}
-
--- the fields as the code has them, as a tree
-abbrev pub fields_view : List (Bor (List ℕ) × code.Value) → Fields
-fields_view fields = fields_of (map (λ (f : Bor (List ℕ) × code.Value). (f.0, value_view f.1)) fields)
-
--- the places of a list as the code has them, as a tree
-abbrev pub places_view : List (Option code.Value) → Places
-places_view places = places_of (map (option_map value_view) places)
+-- the fields, and the places of a list, as the code has them, as trees
+pub use Rattle.kb_record.specs.View.{fields_view, places_view}
 
 -- the value of the first field with this name
 abbrev pub value_of : Fields → List ℕ → Option Value

@@ -13,7 +13,8 @@ use std::collections::BTreeSet;
 
 /// The value of the first field with this name.
 pub fn field_named<'r, 'a>(fields: &'r [(&'a str, Value<'a>)], name: &str) -> Option<&'r Value<'a>>
-    ensures { value_of (fields_view fields.now) name.now ≡ option_map (λ value. value_view value.now) result }
+    ensures { value_of (fields_view fields.now) name.now
+        ≡ option_map (λ value. value_view value.now) result }
 {
     for (text, value) in fields {
         if *text == name {
@@ -30,8 +31,11 @@ pub fn repeated_name<'a>(
     alloc: Global,
     fields: &[(&'a str, Value<'a>)],
 ) -> Result<Option<OwnedText>, Memory>
-    ensures some { IfOk result (λ found. IfSome found (HasFieldTwice (record_value (fields_view fields.now)))) }
-    ensures none { IfOk result (λ found. IfNone found ((name : List ℕ) → ¬ HasFieldTwice (record_value (fields_view fields.now)) name)) }
+    ensures some { IfOk result
+        (λ found. IfSome found (HasFieldTwice (record_value (fields_view fields.now)))) }
+    ensures none { IfOk result
+        (λ found. IfNone found
+        ((name : List ℕ) → ¬ HasFieldTwice (record_value (fields_view fields.now)) name)) }
 {
     let mut seen = BTreeSet::new(alloc);
     for (name, value) in fields {
@@ -49,7 +53,8 @@ pub fn repeated_name<'a>(
 #[cycle(repeats)]
 fn repeated_within<'a>(alloc: Global, value: &Value<'a>) -> Result<Option<OwnedText>, Memory>
     ensures some { IfOk result (λ found. IfSome found (HasFieldTwice (value_view value.now))) }
-    ensures none { IfOk result (λ found. IfNone found ((name : List ℕ) → ¬ HasFieldTwice (value_view value.now) name)) }
+    ensures none { IfOk result
+        (λ found. IfNone found ((name : List ℕ) → ¬ HasFieldTwice (value_view value.now) name)) }
 {
     match value {
         Value::Record(fields) => repeated_name(alloc, fields.as_slice()),

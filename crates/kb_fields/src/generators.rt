@@ -13,7 +13,7 @@ use kb_word::{Memory, Names, OwnedText};
 use std::alloc::Global;
 
 /// There are at most so many generators.
-pub const MOST_GENERATORS: usize = 126;
+const MOST_GENERATORS: usize = 126;
 
 /// The names of generators that the value lists, of which none stands twice or is `IdWord` or `_`.
 pub fn names_of<'a>(alloc: Global, value: &Value<'a>) -> Result<Names, NamesFault>
@@ -38,7 +38,8 @@ pub fn names_of<'a>(alloc: Global, value: &Value<'a>) -> Result<Names, NamesFaul
 /// The first name that stands earlier too, or is `IdWord` or `_`.
 fn first_taken<'a>(names: &[&'a str]) -> Option<&'a str>
     ensures taken { IfSome result (λ name. IsTaken (map (λ name. name.now) names.now) name.now) }
-    ensures none { IfNone result ((name : List ℕ) → ¬ IsTaken (map (λ name. name.now) names.now) name) }
+    ensures none { IfNone result
+        ((name : List ℕ) → ¬ IsTaken (map (λ name. name.now) names.now) name) }
 {
     for (place, name) in names.iter().enumerate() {
         if is_reserved(name) || names[..place].contains(name) {

@@ -5,8 +5,7 @@
 //! - [`field_named`] looks a field up. Where a name stands twice, "the value of the field" is that of the first.
 //! - [`repeated_name`] answers the name of a field that stands twice in some record, nested ones too, and none
 //!   where no name does.
-//! - [`bare_name`] and [`names_listed`] take a value that is a Name, or a list of Names, and answer none for any
-//!   other.
+//! - [`bare_name`] takes a value that is a Name, and answers none for any other.
 //! - [`names_of`] answers the names of generators that a value lists: at most 126 Names, none of them twice and
 //!   none `IdWord` or `_`. A refusal names a fault that the value has (`HasNamesFault` of
 //!   `specs/Generators.antt`), and by the law [`names_of_generators_have_no_fault`] a value that lists such names
@@ -24,8 +23,17 @@
 //! - `generators` joins them to names of generators.
 //!
 //! Definitions speak of the tree of the text (`specs/Tree.antt` of `kb_record`): `specs/Fields.antt` of fields and
-//! of values, `specs/Generators.antt` of names of generators. The lemmas in `proofs/` say how the code's values
-//! are trees, and that a list of names is determined by its value, and serve the crates above too.
+//! of values, `specs/Generators.antt` of names of generators.
+//!
+//! # Where the proofs are
+//!
+//! These serve the crates above too.
+//!
+//! - `proofs/ViewLemmas.antt`: the trees of the code's values, variant by variant.
+//! - `proofs/PlaceLemmas.antt`, `proofs/ListingLemmas.antt`: places of lists, and lists that are taken whole.
+//! - `proofs/RepeatLemmas.antt`, `proofs/TakenLemmas.antt`: names that stand twice in a record, and taken names.
+//! - `proofs/NameFaults.antt`: names of generators have no fault.
+//! - `proofs/Outcomes.antt`: what follows from a clause on an outcome.
 //!
 //! Below stand `kb_record`, which reads trees, and `kb_word`, whose names are the answers. Above stand
 //! `kb_presfile` and the crate of automaton files.
@@ -39,6 +47,6 @@ mod values;
 
 pub use error::NamesFault;
 pub use fields::{field_named, repeated_name};
-pub use generators::{MOST_GENERATORS, names_of};
+pub use generators::names_of;
 pub use laws::names_of_generators_have_no_fault;
-pub use values::{bare_name, names_listed};
+pub use values::bare_name;

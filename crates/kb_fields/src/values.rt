@@ -37,9 +37,16 @@ fn name_alone<'a>(factor: &Factor<'a>) -> Option<&'a str>
 }
 
 /// The names of a value that is a list of Names.
-pub fn names_listed<'a>(alloc: Global, value: &Value<'a>) -> Result<Option<Vec<&'a str>>, Memory>
-    ensures listed { IfOk result (λ names. IfSome names (λ names. IsListOf (map (λ name. name.now) names.items) (value_view value.now))) }
-    ensures other { IfOk result (λ names. IfNone names ((names : List (List ℕ)) → ¬ IsListOf names (value_view value.now))) }
+pub(crate) fn names_listed<'a>(
+    alloc: Global,
+    value: &Value<'a>,
+) -> Result<Option<Vec<&'a str>>, Memory>
+    ensures listed { IfOk result
+        (λ names. IfSome names
+        (λ names. IsListOf (map (λ name. name.now) names.items) (value_view value.now))) }
+    ensures other { IfOk result
+        (λ names. IfNone names
+        ((names : List (List ℕ)) → ¬ IsListOf names (value_view value.now))) }
 {
     let Value::List(places) = value else {
         return Ok(None);
@@ -56,11 +63,10 @@ pub fn names_listed<'a>(alloc: Global, value: &Value<'a>) -> Result<Option<Vec<&
 
 /// The Name at a place of a list.
 fn name_at<'a>(place: &Option<Value<'a>>) -> Option<&'a str>
-    ensures found { IfSome result (λ name. option_map value_view place.now ≡ Some (kinds.bare_name name.now)) }
-    ensures none { IfNone result ((name : List ℕ) → option_map value_view place.now ≢ Some (kinds.bare_name name)) }
+    ensures found { IfSome result
+        (λ name. option_map value_view place.now ≡ Some (kinds.bare_name name.now)) }
+    ensures none { IfNone result
+        ((name : List ℕ) → option_map value_view place.now ≢ Some (kinds.bare_name name)) }
 {
-    match place {
-        Some(value) => bare_name(value),
-        None => None,
-    }
+    place.as_ref().and_then(bare_name)
 }

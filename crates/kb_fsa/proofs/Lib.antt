@@ -1,4 +1,6 @@
 pub mod Lookups
-pub mod PairSymbols
+pub mod RowSplits
+pub mod PairSymbolLaws
 pub mod Paddings
 pub mod Unpadding
+pub mod PaddedRuns

@@ -5,8 +5,9 @@ use Rattle.std.proofs.lemmas.Bool.{cases_lt}
 use Rattle.std.proofs.lemmas.List.{get_or_past, take_at}
 use Rattle.std.proofs.lemmas.List.Elements.{All-nil, All-cons, All-head, All-tail, All-take, All-get_or}
 use Rattle.kb_word.specs.Relations.{IsOver}
-use Rattle.kb_fsa.specs.Padding.{pair_symbol, padded, IsPadded, IsTextOfPair}
-use Rattle.kb_fsa.proofs.PairSymbols.{IsLetter, IsPairSymbol, IsPairSymbol-first, IsPairSymbol-second, pair_symbol-injective}
+use Rattle.kb_fsa.specs.PairSymbols.{pair_symbol}
+use Rattle.kb_fsa.specs.Padding.{padded, IsPadded, IsTextOfPair}
+use Rattle.kb_fsa.proofs.PairSymbolLaws.{IsLetter, IsPairSymbol, IsPairSymbol-first, IsPairSymbol-second, pair_symbol-injective}
 
 pub length-padded : (n : ℕ) (u v : List ℕ) → length (padded n u v) ≡ max (length u) (length v)
 length-padded n [] [] = refl

@@ -1,9 +1,10 @@
 -- Automata over an alphabet, and their languages.
-use Rattle.std.specs.Prelude.{◌≢◌, ◌↔◌, ℕ, ◌+◌, ◌-◌, ◌*◌, ◌≤◌, List}
+use Rattle.std.specs.Prelude.{◌≢◌, ◌↔◌, ℕ, ◌≤◌, List}
 use Rattle.kb_word.specs.Relations.{IsOver}
 use Rattle.kb_fsa.specs.declared.alphabet.Alphabet.{Alphabet}
 use Rattle.kb_fsa.specs.declared.alphabet.Alphabet.TheVariants.{Plain, Pair}
 use Rattle.kb_fsa.specs.Table.{Table, IsTable, HasSymbols, AcceptsFrom, state_after}
+use Rattle.kb_fsa.specs.PairSymbols.{pair_symbols}
 use Rattle.kb_fsa.specs.Padding.{padded, IsPadded}
 
 -- the generators of the alphabet's words
@@ -14,7 +15,7 @@ generators (Pair n) = n
 -- how many symbols there are: the letters, or the pairs of letters and padding without the pair of two paddings
 abbrev pub symbols : Alphabet → ℕ
 symbols (Plain n) = n
-symbols (Pair n) = (n + 1) * (n + 1) - 1
+symbols (Pair n) = pair_symbols n
 
 -- the text is one of the alphabet: a word over its generators, or that of a pair of words
 abbrev pub IsTextOf : Alphabet → List ℕ → Type 0

@@ -1,11 +1,8 @@
 -- Pairs of words as texts: the shorter word is padded at its end, and each two letters make one symbol.
 -- Epstein et al., Word Processing in Groups, 1.4.
-use Rattle.std.specs.Prelude.{◌≡◌, ℕ, ◌+◌, ◌-◌, ◌*◌, ◌/◌, ◌%◌, nat_eq, if◌then◌else◌, List, [], ◌∷◌, ◌++◌}
+use Rattle.std.specs.Prelude.{◌≡◌, ℕ, ◌+◌, nat_eq, if◌then◌else◌, List, [], ◌∷◌, ◌++◌}
 use Rattle.kb_word.specs.Relations.{IsOver}
-
--- the symbol of a pair of letters, numbered row by row; n + 1 is the padding
-abbrev pub pair_symbol : ℕ → ℕ → ℕ → ℕ
-pair_symbol n i j = (n + 1) * (i - 1) + j
+use Rattle.kb_fsa.specs.PairSymbols.{pair_symbol, first_letter, second_letter}
 
 -- the text of a pair of words over n generators
 abbrev pub padded : ℕ → List ℕ → List ℕ → List ℕ
@@ -30,13 +27,13 @@ pub record IsTextOfPair (n : ℕ) (text first second : List ℕ) : Type 0 where
 
 -- the letter of a number, or none for the padding
 abbrev pub letters_of : ℕ → ℕ → List ℕ
-letters_of padding number = if nat_eq number padding then [] else number ∷ []
+letters_of n number = if nat_eq number (n + 1) then [] else number ∷ []
 
 -- the letters that the symbols of a text have on the first track, and on the second
 abbrev pub first_letters : ℕ → List ℕ → List ℕ
-first_letters padding [] = []
-first_letters padding (symbol ∷ text) = letters_of padding ((symbol - 1) / padding + 1) ++ first_letters padding text
+first_letters n [] = []
+first_letters n (symbol ∷ text) = letters_of n (first_letter n symbol) ++ first_letters n text
 
 abbrev pub second_letters : ℕ → List ℕ → List ℕ
-second_letters padding [] = []
-second_letters padding (symbol ∷ text) = letters_of padding ((symbol - 1) % padding + 1) ++ second_letters padding text
+second_letters n [] = []
+second_letters n (symbol ∷ text) = letters_of n (second_letter n symbol) ++ second_letters n text

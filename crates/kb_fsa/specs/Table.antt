@@ -1,7 +1,7 @@
 -- Tables of deterministic automata, and the states to which texts lead.
 use Rattle.std.specs.Prelude.{◌≡◌, ◌↔◌, ℕ, zero, suc, ◌^◌, ◌<◌, ◌≤◌, nat_eq, Bool, false, IsTrue, List, [], ◌∷◌, length, get_or, All, AllPairs, Option, Some, None, unwrap_or, if◌then◌else◌}
 
--- what stands beside a number in a list of numbered things: the first that does
+-- what is beside a number in a list of numbered things: the first that is
 abbrev pub lookup : {X : Type 0} → List (ℕ × X) → ℕ → Option X
 lookup [] x = None
 lookup (entry ∷ rest) x = if nat_eq entry.0 x then Some entry.1 else lookup rest x
@@ -22,6 +22,12 @@ Ascends entries = AllPairs (λ earlier later. earlier.0 < later.0) entries
 pub record IsRow (moves : Moves) : Type 0 where
   pub ascends : Ascends moves
   pub numbers : All (λ move. (0 < move.0) × (0 < move.1)) moves
+
+-- A row, none of whose symbols is below this one, splits into where it leads by the symbol, or 0, and its moves by
+-- greater symbols.
+pub data IsSplit (row : Moves) (symbol : ℕ) : ℕ → Moves → Type 0 where
+  without : All (λ move. symbol < move.0) row → IsSplit row symbol 0 row
+  with_move : {state : ℕ} {rest : Moves} → row ≡ (symbol, state) ∷ rest → IsSplit row symbol state rest
 
 -- States are numbered from 1, and 0 stands for no state. The lists say of state 1, of state 2, and so on, what its
 -- moves are and whether it accepts.

@@ -1,15 +1,16 @@
 //! Alphabets: the letters of words, or the symbols of padded pairs of words.
 
-ghost use Rattle.std.specs.Prelude.{◌≡◌, ◌↔◌, ◌≤◌, IsTrue};
+ghost use Rattle.std.specs.Prelude.{◌≡◌, ◌≤◌};
 ghost use Rattle.kb_fsa.specs.Language.{generators, symbols};
+
+use crate::pair_symbols::PairSymbols;
 
 /// What an automaton reads.
 #[derive(Clone, Copy, Debug, PartialEq, Eq)]
 pub enum Alphabet {
     /// Words over so many generators; a letter is a symbol.
     Plain(u16),
-    /// Pairs of words over so many generators n. With padding as number n + 1, the pair of letters i and j is
-    /// the symbol (n + 1)(i - 1) + j.
+    /// Pairs of words over so many generators, whose symbols are those of `PairSymbols`.
     Pair(u16),
 }
 
@@ -30,11 +31,8 @@ impl Alphabet {
         ensures { result ≡ symbols self.now }
     {
         match self {
-            Alphabet::Plain(n) => *n as u32,
-            Alphabet::Pair(n) => {
-                let columns = *n as u32 + 1;
-                columns * columns - 1
-            }
+            Alphabet::Plain(n) => u32::from(*n),
+            Alphabet::Pair(n) => PairSymbols { n: *n }.count(),
         }
     }
 }

@@ -1,6 +1,6 @@
 //! Automata over an alphabet.
 
-ghost use Rattle.std.specs.Prelude.{◌≡◌, ◌↔◌, ◌≤◌, ◌<◌, ◌+◌, ◌-◌, ◌*◌, ◌^◌, length, get_or, IsTrue, IfOk};
+ghost use Rattle.std.specs.Prelude.{◌≡◌, ◌↔◌, ◌≤◌, ℕ, length, get_or, IsTrue, IfOk};
 ghost use Rattle.std.specs.Slice.Iter.{iter_rest};
 ghost use Rattle.kb_word.specs.Relations.{IsOver};
 ghost use Rattle.kb_fsa.specs.Table.{moves_of, is_accepting, step, IsRow, IsTable};
@@ -8,6 +8,7 @@ ghost use Rattle.kb_fsa.specs.Language.{IsAutomaton, Accepts, AcceptsPair, gener
 ghost use Rattle.kb_fsa.specs.declared.alphabet.Alphabet.TheVariants.{Plain, Pair};
 
 use crate::alphabet::Alphabet;
+use crate::pair_symbols::PairSymbols;
 use crate::table::Table;
 use kb_word::{Letter, Memory, Word};
 use std::alloc::Global;
@@ -99,7 +100,7 @@ impl Fsa {
 
     /// Whether a plain automaton accepts the word.
     pub fn accepts(&self, w: &Word) -> bool
-        requires { (n : Rattle.std.specs.Prelude.ℕ) × (self.now.alphabet ≡ Plain n) }
+        requires { (n : ℕ) × (self.now.alphabet ≡ Plain n) }
         ensures { IsTrue result ↔ Accepts self.now w.now }
     {
         let mut state = self.table.initial();
@@ -111,12 +112,15 @@ impl Fsa {
 
     /// Whether an automaton of pairs accepts the pair of words over its generators.
     pub fn accepts_pair(&self, u: &Word, v: &Word) -> bool
-        requires alphabet { (n : Rattle.std.specs.Prelude.ℕ) × (self.now.alphabet ≡ Pair n) }
+        requires alphabet { (n : ℕ) × (self.now.alphabet ≡ Pair n) }
         requires first { IsOver (generators self.now.alphabet) u.now }
         requires second { IsOver (generators self.now.alphabet) v.now }
         ensures { IsTrue result ↔ AcceptsPair self.now u.now v.now }
     {
-        let padding = u32::from(self.alphabet.generators()) + 1;
+        let symbols = PairSymbols {
+            n: self.alphabet.generators(),
+        };
+        let padding = symbols.padding();
         let (first, second) = (u.letters(), v.letters());
         let mut state = self.table.initial();
         for place in 0..first.len().max(second.len()) {
@@ -124,7 +128,7 @@ impl Fsa {
                 number_at(first, place, padding),
                 number_at(second, place, padding),
             );
-            state = self.table.step(state, symbol_of_pair(padding, x, y));
+            state = self.table.step(state, symbols.symbol(x, y));
         }
         self.table.is_accepting(state)
     }
@@ -146,15 +150,4 @@ fn number_at(letters: &[Letter], place: usize, padding: u32) -> u32
         Some(letter) => u32::from(letter.number()),
         None => padding,
     }
-}
-
-/// The symbol of a pair of numbers, each that of a letter or the padding's, which is the greatest.
-fn symbol_of_pair(padding: u32, x: u32, y: u32) -> u32
-    requires padding { padding < 2 ^ 16 }
-    requires positive { 0 < x }
-    requires first { x ≤ padding }
-    requires second { y ≤ padding }
-    ensures { result ≡ padding * (x - 1) + y }
-{
-    padding * (x - 1) + y
 }

@@ -1,25 +1,44 @@
 //! Finite state automata, and the definitions of languages that the crates above share.
 //!
 //! An automaton reads words over the generators, or pairs of words as padded texts. Its table keeps for each
-//! state a sparse row: the moves, each a symbol with its target, symbols ascending. The crate's public
-//! contract: `Fsa::step` and `Fsa::moves` are the table, and `accepts` and `accepts_pair` are the language.
-//! Calls that read an automaton take no memory.
+//! state a sparse row: its moves (transitions), each a symbol with its target, symbols ascending. The crate's
+//! public contract: `Fsa::step` and `Fsa::moves` are the table, and `accepts` and `accepts_pair` are the
+//! language. Calls that read an automaton take no memory, but for `copy`.
 //!
-//! The definitions stand in `specs/`: tables and right languages in `Table`, pairs as texts in `Padding`,
-//! languages in `Language`, canonical automata in `Canonical`, and the counted states of each construction in
-//! `Counted`.
+//! `PairSymbols` numbers the symbols of pairs, and `Ended` follows which word of a pair has ended.
 //!
-//! `kb_word` stands below; the operations on automata, their files and the programs stand above.
+//! # Where the definitions are
+//!
+//! In `specs/`: tables and right languages in `Table`, the symbols of pairs in `PairSymbols`, pairs as texts in
+//! `Padding`, which word has ended in `EndedWords`, languages in `Language`, canonical automata in `Canonical`,
+//! and the counted states of each construction in `Counted`.
+//!
+//! # Where the proofs are
+//!
+//! In `proofs/`, for the crates above too: `Lookups` of rows and of the states to which texts lead, `PairSymbolLaws`
+//! of the numbers of pairs, `Paddings` and `Unpadding` of the texts of pairs and of their words, `PaddedRuns` of
+//! which word has ended along a text.
+//!
+//! `kb_word` is below; the operations on automata, their files and the commands are above.
 #![tactic(auto)]
 
 mod alphabet;
+mod ended;
 mod fsa;
+mod pair_symbols;
 mod row;
+mod symbols;
 mod table;
+#[cfg(test)]
+#[cfg(test)]
+mod tests;
 mod texts;
 
 pub use alphabet::Alphabet;
+pub use ended::Ended;
 pub use fsa::Fsa;
-pub use row::Row;
+pub use pair_symbols::PairSymbols;
+pub use row::{Row, split_at_symbol};
+pub use symbols::Symbols;
 pub use table::Table;
 pub use texts::{pair_of, word_of};

@@ -1,8 +1,8 @@
 //! The moves of one state.
 
-ghost use Rattle.std.specs.Prelude.{◌≡◌, ◌<◌, [], ◌∷◌, ◌++◌, All, IfOk, OnOk, OnErr, length};
+ghost use Rattle.std.specs.Prelude.{◌≡◌, ◌<◌, ◌≤◌, [], ◌∷◌, ◌++◌, All, IfOk, OnOk, OnErr, length};
 ghost use Rattle.std.specs.Slice.Iter.{iter_rest};
-ghost use Rattle.kb_fsa.specs.Table.{IsRow, target};
+ghost use Rattle.kb_fsa.specs.Table.{IsRow, IsSplit, target};
 
 use kb_word::Memory;
 use std::alloc::Global;
@@ -99,5 +99,17 @@ impl Row {
         let mut moves = Vec::with_capacity(alloc, self.len())?;
         moves.extend_from_slice(self.as_slice())?;
         Ok(Row { moves })
+    }
+}
+
+/// Where moves by ascending symbols, none below this one, lead by the symbol, or 0, and the moves by greater symbols.
+pub fn split_at_symbol(moves: &[(u32, u32)], symbol: u32) -> (u32, &[(u32, u32)])
+    requires row { IsRow moves.now }
+    requires low { All (λ move. symbol ≤ move.0) moves.now }
+    ensures { IsSplit moves.now symbol result.0 result.1.now }
+{
+    match moves.split_first() {
+        Some((least, rest)) if least.0 == symbol => (least.1, rest),
+        _ => (0, moves),
     }
 }

@@ -3,6 +3,7 @@
 ghost use Rattle.std.specs.Prelude.{◌≡◌, ◌≤◌, ◌<◌, ◌^◌, ◌++◌, All, IfOk, OnOk};
 ghost use Rattle.kb_fsa.specs.Padding.{IsPadded, IsTextOfPair, letters_of};
 
+use crate::pair_symbols::PairSymbols;
 use kb_word::{Letter, Memory, Word};
 use std::alloc::Global;
 
@@ -24,22 +25,22 @@ pub fn pair_of(alloc: Global, n: u16, text: &[u32]) -> Result<(Word, Word), Memo
     requires padded { IsPadded n text.now }
     ensures { IfOk result (λ pair. IsTextOfPair n text.now pair.0 pair.1) }
 {
-    let padding = u32::from(n) + 1;
+    let symbols = PairSymbols { n };
     let mut first = Word::new(alloc);
     let mut second = Word::new(alloc);
     for symbol in text {
-        push_letter(&mut first, padding, (*symbol - 1) / padding + 1)?;
-        push_letter(&mut second, padding, (*symbol - 1) % padding + 1)?;
+        push_letter(&mut first, symbols, symbols.first(*symbol))?;
+        push_letter(&mut second, symbols, symbols.second(*symbol))?;
     }
     Ok((first, second))
 }
 
 /// Adds the letter of this number, or nothing for the padding.
-fn push_letter(word: &mut Word, padding: u32, number: u32) -> Result<(), Memory>
+fn push_letter(word: &mut Word, symbols: PairSymbols, number: u32) -> Result<(), Memory>
     requires { number < 2 ^ 16 }
-    ensures { OnOk result (word.new ≡ word.old ++ letters_of padding number) }
+    ensures { OnOk result (word.new ≡ word.old ++ letters_of symbols.n number) }
 {
-    if number != padding {
+    if number != symbols.padding() {
         word.push(Letter::new(number as u16))?;
     }
     Ok(())

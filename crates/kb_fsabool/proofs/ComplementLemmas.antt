@@ -11,12 +11,13 @@ use Rattle.kb_explore.specs.Machine.{MachineAccepts, AreMovesOf, HasMoreStates, 
 use Rattle.kb_explore.specs.Exploration.{IsExploration}
 use Rattle.kb_explore.proofs.CountingLemmas.{MoreThan-kept}
 use Rattle.kb_explore.proofs.ExplorationLemmas.{accepts_same, leads_nowhere}
-use Rattle.kb_fsabool.specs.declared.ended.Ended.{Ended}
-use Rattle.kb_fsabool.specs.declared.ended.Ended.TheVariants.{Neither}
-use Rattle.kb_fsabool.specs.declared.ended.Place.{Place}
+use Rattle.kb_fsa.specs.declared.ended.Ended.{Ended}
+use Rattle.kb_fsa.specs.declared.ended.Ended.TheVariants.{Neither}
+use Rattle.kb_fsabool.specs.declared.place.Place.{Place}
 use Rattle.kb_fsabool.specs.Answers.{IsComplement}
-use Rattle.kb_fsabool.specs.Complements.{ended_after, ended_by, place_at, complement, first_after, stride_after, AreMovesBefore}
-use Rattle.kb_fsabool.proofs.PaddedRuns.{symbol_of_after, none_foreign, none_before, none_between, first_in_stride, next_in_stride, stride_positive, run_of_text, text_of_run, alike_of_runs, runs_of_alike}
+use Rattle.kb_fsa.specs.EndedWords.{ended_after, ended_by, first_after, stride_after}
+use Rattle.kb_fsabool.specs.Complements.{place_at, complement, AreMovesBefore}
+use Rattle.kb_fsa.proofs.PaddedRuns.{symbol_of_after, none_foreign, none_before, none_between, first_in_stride, next_in_stride, stride_positive, run_of_text, text_of_run, alike_of_runs, runs_of_alike}
 
 -- ---- moves
 

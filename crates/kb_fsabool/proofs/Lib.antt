@@ -1,5 +1,4 @@
 pub mod RowMerges
 pub mod ProductLemmas
 pub mod Differences
-pub mod PaddedRuns
 pub mod ComplementLemmas

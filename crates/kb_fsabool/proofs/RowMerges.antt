@@ -6,13 +6,14 @@ use Rattle.std.proofs.lemmas.Bool.{cases_eq, cases_lt}
 use Rattle.std.proofs.lemmas.List.{append-nil}
 use Rattle.std.proofs.lemmas.List.Elements.{All-nil, All-cons, All-head, All-tail, All-contains}
 use Rattle.std.proofs.lemmas.Option.{none-some, same_Some}
-use Rattle.kb_fsa.specs.Table.{Moves, Ascends, IsRow, lookup, target}
+use Rattle.kb_fsa.specs.Table.{Moves, Ascends, IsRow, IsSplit, lookup, target}
+use Rattle.kb_fsa.specs.Table.IsSplit.{without, with_move}
+use Rattle.kb_fsa.proofs.RowSplits.{IsRest, rest_of_split}
 use Rattle.kb_fsa.proofs.Lookups.{lookup_here, lookup_there, lookup_below, lookup_at, target_none, target_some, Ascends-tail, Ascends-head}
 use Rattle.kb_fsabool.specs.declared.connective.Connective.{Connective}
 use Rattle.kb_fsabool.specs.declared.connective.Connective.TheVariants.{And, Or, Xor}
 use Rattle.kb_fsabool.specs.declared.connective.StatePair.{StatePair}
-use Rattle.kb_fsabool.specs.Products.{paired, AreMerged, IsMerging, IsParted, IsLeastSymbol}
-use Rattle.kb_fsabool.specs.Products.IsParted.{without, with_move}
+use Rattle.kb_fsabool.specs.Products.{paired, AreMerged, IsMerging, IsLeastSymbol}
 
 -- ---- the least symbol
 
@@ -72,70 +73,26 @@ least_of_second first second two is none at = record {
 
 -- ---- a row in parts
 
-pub part_here : (row : Moves) (symbol : ℕ) (least : ℕ × ℕ) (rest : Moves) → row ≡ least ∷ rest → least.0 ≡ symbol
-    → IsParted row symbol least.1 rest
-part_here row symbol least rest is same = with_move (is ∙ ap (λ x. (x, least.1) ∷ rest) same)
-
-pub part_later : (row : Moves) (symbol : ℕ) (least : ℕ × ℕ) (rest : Moves) → IsRow row → All (λ m. symbol ≤ m.0) row
-    → row ≡ least ∷ rest → least.0 ≢ symbol → IsParted row symbol 0 row
-part_later row symbol least rest row_is low is differ =
-    let ascends = subst Ascends is row_is.ascends in
-    let P = λ (m : ℕ × ℕ). symbol ≤ m.0 in
-    let Q = λ (m : ℕ × ℕ). symbol < m.0 in
-    let head = All-head P least rest (subst (All P) is low) in
-    let above = Ascends-head least rest ascends in
-    without (subst (All Q) (sym is) (All-cons Q least rest (omega arith) (λ k d h. omega (arith, above k d h))))
-
-pub part_nil : (row : Moves) (symbol : ℕ) → length row ≡ 0 → IsParted row symbol 0 row
-part_nil row symbol none = without (λ k d h. absurd (omega arith))
-
--- what the rest has: no lower symbols, and the same targets
-pub record IsRest (row : Moves) (symbol state : ℕ) (rest : Moves) : Type 0 where
-  pub is_row : IsRow rest
-  pub above : All (λ m. symbol < m.0) rest
-  pub here : target row symbol ≡ state
-  pub others : (other : ℕ) → symbol ≢ other → target row other ≡ target rest other
-
-pub rest_of_part : {row : Moves} {symbol state : ℕ} {rest : Moves} → IsRow row → IsParted row symbol state rest → IsRest row symbol state rest
-rest_of_part {row} {symbol} is (without above) = record {
-  is_row = is;
-  above = above;
-  here = target_none row symbol (lookup_below row symbol above);
-  others = λ other differ. refl;
-}
-rest_of_part {row} {symbol} {state} {rest} is (with_move e) =
-    let is' = subst IsRow e is in
-    record {
-      is_row = record {
-        ascends = Ascends-tail (symbol, state) rest is'.ascends;
-        numbers = All-tail (λ (m : ℕ × ℕ). (0 < m.0) × (0 < m.1)) (symbol, state) rest is'.numbers;
-      };
-      above = Ascends-head (symbol, state) rest is'.ascends;
-      here = ap (λ moves. target moves symbol) e ∙ target_some ((symbol, state) ∷ rest) symbol state (lookup_here (symbol, state) rest symbol refl);
-      others = λ other differ.
-          ap (λ moves. target moves other) e ∙ ap (λ o. unwrap_or o 0) (lookup_there (symbol, state) rest other differ);
-    }
-
 -- the rest is no longer, and shorter where the row has the symbol
-pub part_no_longer : {row : Moves} {symbol state : ℕ} {rest : Moves} → IsParted row symbol state rest → length rest ≤ length row
-part_no_longer (without above) = omega arith
-part_no_longer (with_move e) = omega (arith, ap length e)
+pub split_no_longer : {row : Moves} {symbol state : ℕ} {rest : Moves} → IsSplit row symbol state rest → length rest ≤ length row
+split_no_longer (without above) = omega arith
+split_no_longer (with_move e) = omega (arith, ap length e)
 
-part_shorter : {row : Moves} {symbol state : ℕ} {rest : Moves} → IsParted row symbol state rest → HasSymbol row symbol
+split_shorter : {row : Moves} {symbol state : ℕ} {rest : Moves} → IsSplit row symbol state rest → HasSymbol row symbol
     → length rest < length row
 unfolding HasSymbol
-part_shorter {row} {symbol} (without above) has =
+split_shorter {row} {symbol} (without above) has =
     absurd (let no = All-contains (λ (m : ℕ × ℕ). symbol < m.0) row (symbol, has.0) above has.1 in omega arith)
-part_shorter (with_move e) has = omega (arith, ap length e)
+split_shorter (with_move e) has = omega (arith, ap length e)
 
-pub parts_shorter : {first second : Moves} {symbol p q : ℕ} {after_first after_second : Moves} → IsLeastSymbol first second symbol
-    → IsParted first symbol p after_first → IsParted second symbol q after_second
+pub splits_shorter : {first second : Moves} {symbol p q : ℕ} {after_first after_second : Moves} → IsLeastSymbol first second symbol
+    → IsSplit first symbol p after_first → IsSplit second symbol q after_second
     → length after_first + length after_second < length first + length second
 unfolding HasSymbol
-parts_shorter least one two =
+splits_shorter least one two =
     elim least.in_row [
-      | inl has ↦ omega (arith, part_shorter one has, part_no_longer two)
-      | inr has ↦ omega (arith, part_shorter two has, part_no_longer one)
+      | inl has ↦ omega (arith, split_shorter one has, split_no_longer two)
+      | inr has ↦ omega (arith, split_shorter two has, split_no_longer one)
     ]
 
 -- ---- the merged moves
@@ -221,12 +178,12 @@ merging_starts connective first second one two = record { first_row = one; secon
 module _ {connective : Connective} {first second : Moves} {moves : List (ℕ × StatePair)} {left_first left_second : Moves}
     (merging : IsMerging connective first second moves left_first left_second)
     {symbol p q : ℕ} {after_first after_second : Moves}
-    (one : IsParted left_first symbol p after_first) (two : IsParted left_second symbol q after_second) where
+    (one : IsSplit left_first symbol p after_first) (two : IsSplit left_second symbol q after_second) where
   pub merging_with : (state : StatePair) → paired connective p q ≡ Some state
       → IsMerging connective first second (moves ++ (symbol, state) ∷ []) after_first after_second
   merging_with state is =
-      let rest_one = rest_of_part merging.first_row one in
-      let rest_two = rest_of_part merging.second_row two in
+      let rest_one = rest_of_split merging.first_row one in
+      let rest_two = rest_of_split merging.second_row two in
       record {
         first_row = rest_one.is_row;
         second_row = rest_two.is_row;
@@ -237,8 +194,8 @@ module _ {connective : Connective} {first second : Moves} {moves : List (ℕ × 
 
   pub merging_without : paired connective p q ≡ None → IsMerging connective first second moves after_first after_second
   merging_without none =
-      let rest_one = rest_of_part merging.first_row one in
-      let rest_two = rest_of_part merging.second_row two in
+      let rest_one = rest_of_split merging.first_row one in
+      let rest_two = rest_of_split merging.second_row two in
       record {
         first_row = rest_one.is_row;
         second_row = rest_two.is_row;

@@ -49,11 +49,6 @@ pub record AreMerged (connective : Connective) (first second : Moves) (moves : L
   pub ascends : Ascends moves
   pub lookup : (symbol : ℕ) → lookup moves symbol ≡ paired connective (target first symbol) (target second symbol)
 
--- a row parts into where it leads by the symbol, which none of its own is below, and its moves by greater symbols
-pub data IsParted (row : Moves) (symbol : ℕ) : ℕ → Moves → Type 0 where
-  without : All (λ move. symbol < move.0) row → IsParted row symbol 0 row
-  with_move : {state : ℕ} {rest : Moves} → row ≡ (symbol, state) ∷ rest → IsParted row symbol state rest
-
 -- a row has a move by the symbol, which is the least of the two rows
 pub record IsLeastSymbol (first second : Moves) (symbol : ℕ) : Type 0 where
   pub in_row : ((state : ℕ) × Contains first (symbol, state)) ⊎ ((state : ℕ) × Contains second (symbol, state))

@@ -9,9 +9,8 @@ ghost use Rattle.kb_fsabool.specs.Products.{IsFirstAccepting, NoneAccepts};
 use crate::connective::Connective;
 use crate::equality::Equality;
 use crate::product::Product;
-use crate::symbols::Symbols;
 use kb_explore::{Det, explore, text_to};
-use kb_fsa::{Fsa, Table};
+use kb_fsa::{Fsa, Symbols, Table};
 use std::alloc::Global;
 
 /// Whether the languages are the same, and otherwise the shortlex least text in exactly one.
@@ -19,7 +18,8 @@ pub fn equal(alloc: Global, one: &Fsa, two: &Fsa, limit: u32) -> Result<Equality
     requires { one.now.alphabet ≡ two.now.alphabet }
     ensures comparison { IfOk result (IsComparison one.now two.now) }
     ensures few { IsOk result → ¬ CountedOr one.now.table two.now.table limit }
-    ensures many { (most : ℕ) → result ≡ Err (TooManyStates most) → (most ≡ limit) × CountedOr one.now.table two.now.table limit }
+    ensures many { (most : ℕ) → result ≡ Err (TooManyStates most)
+        → (most ≡ limit) × CountedOr one.now.table two.now.table limit }
 {
     let machine = Product {
         connective: Connective::Xor,

@@ -8,9 +8,9 @@ ghost use Rattle.kb_explore.specs.declared.det.Det.TheVariants.{TooManyStates};
 ghost use Rattle.kb_fsabool.specs.Answers.{IsComplement};
 ghost use Rattle.kb_fsabool.specs.Complements.{complement};
 
-use crate::ended::{Ended, Place};
+use crate::place::Place;
 use kb_explore::{Det, Machine, explore};
-use kb_fsa::Fsa;
+use kb_fsa::{Ended, Fsa};
 use kb_word::Memory;
 use std::alloc::Global;
 
@@ -19,7 +19,8 @@ pub fn not(alloc: Global, fsa: &Fsa, limit: u32) -> Result<Fsa, Det>
     ensures language { IfOk result (IsComplement fsa.now) }
     ensures alphabet { IfOk result (λ rest. rest.alphabet ≡ fsa.now.alphabet) }
     ensures few { IsOk result → ¬ CountedNot fsa.now limit }
-    ensures many { (most : ℕ) → result ≡ Err (TooManyStates most) → (most ≡ limit) × CountedNot fsa.now limit }
+    ensures many { (most : ℕ) → result ≡ Err (TooManyStates most)
+        → (most ≡ limit) × CountedNot fsa.now limit }
 {
     let machine = Complement { fsa };
     let exploration = explore(alloc, &machine, limit)?;

@@ -1,6 +1,6 @@
 //! What the comparison of two languages finds.
 
-use crate::symbols::Symbols;
+use kb_fsa::Symbols;
 
 /// What the comparison of two languages finds.
 #[derive(Debug, Drop)]

@@ -17,7 +17,8 @@ pub fn and(alloc: Global, one: &Fsa, two: &Fsa, limit: u32) -> Result<Fsa, Det>
     ensures language { IfOk result (IsIntersection one.now two.now) }
     ensures alphabet { IfOk result (λ both. both.alphabet ≡ one.now.alphabet) }
     ensures few { IsOk result → ¬ CountedAnd one.now.table two.now.table limit }
-    ensures many { (most : ℕ) → result ≡ Err (TooManyStates most) → (most ≡ limit) × CountedAnd one.now.table two.now.table limit }
+    ensures many { (most : ℕ) → result ≡ Err (TooManyStates most)
+        → (most ≡ limit) × CountedAnd one.now.table two.now.table limit }
 {
     combine(alloc, Connective::And, one, two, limit)
 }

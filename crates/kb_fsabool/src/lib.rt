@@ -9,20 +9,21 @@
 //! pair have ended. Rows are merged move by move, so that nothing costs states times symbols, but for `not`,
 //! whose answer has a move by each symbol.
 //!
-//! `kb_fsa` and `kb_explore` stand below; the programs stand above.
+//! In `specs/`, `Answers` has what each operation returns, `Products` and `Complements` the machines. In `proofs/`,
+//! `RowMerges` has the merging of rows, `ProductLemmas` and `ComplementLemmas` the languages and the counts, and
+//! `Differences` the least text.
+//!
+//! `kb_fsa` and `kb_explore` are below; the commands are above.
 #![tactic(auto)]
 
 mod comparison;
 mod complement;
 mod connective;
-mod ended;
 mod equality;
 mod intersection;
 mod merging;
+mod place;
 mod product;
-mod symbols;
-#[cfg(test)]
-mod tests;
 mod union;
 
 pub use comparison::equal;
@@ -30,5 +31,4 @@ pub use complement::not;
 pub use equality::Equality;
 pub use intersection::and;
 pub use kb_explore::Det;
-pub use symbols::Symbols;
 pub use union::or;

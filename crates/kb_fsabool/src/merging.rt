@@ -1,10 +1,11 @@
 //! The moves of a product, from the rows of two states.
 
-ghost use Rattle.std.specs.Prelude.{◌≡◌, ◌≤◌, [], All, IfOk, IfSome, IfNone};
+ghost use Rattle.std.specs.Prelude.{◌≡◌, [], IfOk, IfSome, IfNone};
 ghost use Rattle.kb_fsa.specs.Table.{IsRow};
-ghost use Rattle.kb_fsabool.specs.Products.{AreMerged, IsLeastSymbol, IsParted};
+ghost use Rattle.kb_fsabool.specs.Products.{AreMerged, IsLeastSymbol};
 
 use crate::connective::{Connective, StatePair};
+use kb_fsa::split_at_symbol;
 use kb_word::Memory;
 use std::alloc::Global;
 
@@ -22,8 +23,8 @@ pub fn merge(
     let mut moves = Vec::new(alloc);
     let (mut first, mut second) = (first, second);
     while let Some(symbol) = least_symbol(first, second) {
-        let (one, after_first) = part(first, symbol);
-        let (two, after_second) = part(second, symbol);
+        let (one, after_first) = split_at_symbol(first, symbol);
+        let (two, after_second) = split_at_symbol(second, symbol);
         if let Some(state) = connective.pair(one, two) {
             moves.push((symbol, state))?;
         }
@@ -44,17 +45,5 @@ fn least_symbol(first: &[(u32, u32)], second: &[(u32, u32)]) -> Option<u32>
         (Some(one), None) => Some(one.0),
         (None, Some(two)) => Some(two.0),
         (None, None) => None,
-    }
-}
-
-/// Where the row leads by the symbol, or 0, and its moves by greater symbols.
-fn part(row: &[(u32, u32)], symbol: u32) -> (u32, &[(u32, u32)])
-    requires row { IsRow row.now }
-    requires low { All (λ move. symbol ≤ move.0) row.now }
-    ensures { IsParted row.now symbol result.0 result.1.now }
-{
-    match row.split_first() {
-        Some((least, rest)) if least.0 == symbol => (least.1, rest),
-        _ => (0, row),
     }
 }

@@ -17,7 +17,8 @@ pub fn or(alloc: Global, one: &Fsa, two: &Fsa, limit: u32) -> Result<Fsa, Det>
     ensures language { IfOk result (IsUnion one.now two.now) }
     ensures alphabet { IfOk result (λ either. either.alphabet ≡ one.now.alphabet) }
     ensures few { IsOk result → ¬ CountedOr one.now.table two.now.table limit }
-    ensures many { (most : ℕ) → result ≡ Err (TooManyStates most) → (most ≡ limit) × CountedOr one.now.table two.now.table limit }
+    ensures many { (most : ℕ) → result ≡ Err (TooManyStates most)
+        → (most ≡ limit) × CountedOr one.now.table two.now.table limit }
 {
     combine(alloc, Connective::Or, one, two, limit)
 }

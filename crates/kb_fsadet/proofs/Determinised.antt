@@ -9,10 +9,10 @@ use Rattle.kb_explore.specs.Machine.{lead, leads, MachineAccepts, HasMoreStates}
 use Rattle.kb_explore.specs.Exploration.{IsExploration}
 use Rattle.kb_explore.proofs.CountingLemmas.{MoreThan-kept}
 use Rattle.kb_explore.proofs.ExplorationLemmas.{accepts_same, leads_nowhere, same_states}
-use Rattle.kb_fsadet.specs.Nondeterministic.{Nondeterministic, IsNondeterministic, LeadsFrom, IsAmong, AcceptsSomehow, accepts_at}
-use Rattle.kb_fsadet.specs.SubsetConstruction.{IsAscending, set_of, some_set, targets, moves_of_each, subsets}
+use Rattle.kb_fsadet.specs.Nondeterministic.{Nondeterministic, IsNondeterministic, LeadsFrom, LeadsSomehow, AcceptsSomehow, accepts_at}
+use Rattle.kb_fsadet.specs.SubsetConstruction.{IsAscending, set_of, some_set, targets_by, moves_of_each, subsets}
 use Rattle.kb_fsadet.proofs.Sets.{Contains-none, Contains-here, Contains-there, Contains-cons_cases, IsAscending-set_of, Contains-set_of, same_from_members}
-use Rattle.kb_fsadet.proofs.Targets.{Contains-targets, Contains-moves_of_each, moves_of_each_contain}
+use Rattle.kb_fsadet.proofs.Targets.{Contains-targets_by, Contains-moves_of_each, moves_of_each_contain}
 
 -- ---- sets that have exactly the numbers of a kind
 
@@ -89,19 +89,19 @@ LeadsFromSome automaton states text state = (start : ℕ) × (Contains states st
 module _ (automaton : Nondeterministic) where
   -- the first symbol leads to what the rest of the text leads from
   one_more : (states : List ℕ) (symbol : ℕ) (text : List ℕ) (state : ℕ)
-      → LeadsFromSome automaton (targets (moves_of_each automaton (set_of states)) symbol) text state
+      → LeadsFromSome automaton (targets_by (moves_of_each automaton (set_of states)) symbol) text state
       ↔ LeadsFromSome automaton states (symbol ∷ text) state
   unfolding LeadsFromSome
   one_more states symbol text state = (
     λ leads_on.
-        let move = (Contains-targets (moves_of_each automaton (set_of states)) symbol leads_on.0).0 leads_on.1.0 in
+        let move = (Contains-targets_by (moves_of_each automaton (set_of states)) symbol leads_on.0).0 leads_on.1.0 in
         let from = Contains-moves_of_each automaton (set_of states) (symbol, leads_on.0) move in
         (from.0, ((Contains-set_of states from.0).0 from.1.0, (leads_on.0, from.1.1, leads_on.1.1))),
     λ leads_on.
         let next = leads_on.1.1.0 in
         let move = moves_of_each_contain automaton (set_of states) leads_on.0 (symbol, next)
         ((Contains-set_of states leads_on.0).1 leads_on.1.0) leads_on.1.1.1 in
-        (next, ((Contains-targets (moves_of_each automaton (set_of states)) symbol next).1 move, leads_on.1.1.2)),
+        (next, ((Contains-targets_by (moves_of_each automaton (set_of states)) symbol next).1 move, leads_on.1.1.2)),
   )
 
   exactly_from : (text states : List ℕ)
@@ -120,14 +120,14 @@ module _ (automaton : Nondeterministic) where
     );
   }
   exactly_from (symbol ∷ text) (state ∷ states) =
-      let next = targets (moves_of_each automaton (set_of (state ∷ states))) symbol in
+      let next = targets_by (moves_of_each automaton (set_of (state ∷ states))) symbol in
       HasExactly-like (LeadsFromSome automaton next text) (LeadsFromSome automaton (state ∷ states) (symbol ∷ text))
       (lead (subsets automaton) (some_set next) text) (one_more (state ∷ states) symbol text) (exactly_from text next)
 
-  exactly : (text : List ℕ) → HasExactly (IsAmong automaton text) (leads (subsets automaton) text)
+  exactly : (text : List ℕ) → HasExactly (LeadsSomehow automaton text) (leads (subsets automaton) text)
   unfolding LeadsFromSome
   exactly text =
-      HasExactly-like (LeadsFromSome automaton automaton.initial text) (IsAmong automaton text) (leads (subsets automaton) text)
+      HasExactly-like (LeadsFromSome automaton automaton.initial text) (LeadsSomehow automaton text) (leads (subsets automaton) text)
       (λ x. (
         λ leads_on. record { start = leads_on.0; is_initial = leads_on.1.0; leads = leads_on.1.1 },
         λ among. (among.start, (among.is_initial, among.leads)),
@@ -135,30 +135,30 @@ module _ (automaton : Nondeterministic) where
       (exactly_from text automaton.initial)
 
   -- the machine leads to some set where the text leads to some state
-  leads_somewhere : (text : List ℕ) → IsSome (leads (subsets automaton) text) ↔ ((state : ℕ) × IsAmong automaton text state)
+  leads_somewhere : (text : List ℕ) → IsSome (leads (subsets automaton) text) ↔ ((state : ℕ) × LeadsSomehow automaton text state)
   leads_somewhere text = (
-    some_from_exactly (IsAmong automaton text) (leads (subsets automaton) text) (exactly text),
-    IsSome-from_exactly (IsAmong automaton text) (leads (subsets automaton) text) (exactly text),
+    some_from_exactly (LeadsSomehow automaton text) (leads (subsets automaton) text) (exactly text),
+    IsSome-from_exactly (LeadsSomehow automaton text) (leads (subsets automaton) text) (exactly text),
   )
 
   -- and to one set exactly where texts lead to the same states
   leads_alike : (text other : List ℕ) → (leads (subsets automaton) text ≡ leads (subsets automaton) other)
-      ↔ ((state : ℕ) → IsAmong automaton text state ↔ IsAmong automaton other state)
+      ↔ ((state : ℕ) → LeadsSomehow automaton text state ↔ LeadsSomehow automaton other state)
   leads_alike text other = (
     λ same.
-        let P : Option (List ℕ) → Type 0 = λ o. HasExactly (IsAmong automaton other) o in
-        like_from_exactly (IsAmong automaton text) (IsAmong automaton other) (leads (subsets automaton) text) (exactly text)
+        let P : Option (List ℕ) → Type 0 = λ o. HasExactly (LeadsSomehow automaton other) o in
+        like_from_exactly (LeadsSomehow automaton text) (LeadsSomehow automaton other) (leads (subsets automaton) text) (exactly text)
         (subst P (sym same) (exactly other)),
-    λ like. same_from_exactly (IsAmong automaton text) (IsAmong automaton other)
+    λ like. same_from_exactly (LeadsSomehow automaton text) (LeadsSomehow automaton other)
         (leads (subsets automaton) text) (leads (subsets automaton) other) (exactly text) (exactly other) like,
   )
 
   -- the machine goes to as many sets as texts lead to
-  pub more_sets : (m : ℕ) → HasMoreStates (subsets automaton) m → MoreSetsThan (IsAmong automaton) m
+  pub more_sets : (m : ℕ) → HasMoreStates (subsets automaton) m → MoreSetsThan (LeadsSomehow automaton) m
   more_sets m more =
       MoreThan-kept more (λ text some. (leads_somewhere text).0 some) (λ text other one two same. (leads_alike text other).1 same)
 
-  pub more_states : (m : ℕ) → MoreSetsThan (IsAmong automaton) m → HasMoreStates (subsets automaton) m
+  pub more_states : (m : ℕ) → MoreSetsThan (LeadsSomehow automaton) m → HasMoreStates (subsets automaton) m
   more_states m more =
       MoreThan-kept more (λ text some. (leads_somewhere text).1 some) (λ text other one two same. (leads_alike text other).0 same)
 
@@ -167,15 +167,15 @@ module _ (automaton : Nondeterministic) where
   unfolding HasExactly
   same_language text = (
     λ accepts.
-        let P : Option (List ℕ) → Type 0 = λ o. HasExactly (IsAmong automaton text) o in
-        let is = let set : IsSetOf (IsAmong automaton text) accepts.state = subst P accepts.leads_there (exactly text) in set in
+        let P : Option (List ℕ) → Type 0 = λ o. HasExactly (LeadsSomehow automaton text) o in
+        let is = let set : IsSetOf (LeadsSomehow automaton text) accepts.state = subst P accepts.leads_there (exactly text) in set in
         let found = list_any-found (accepts_at automaton) accepts.state accepts.accepts in
         (found.0, (is.members found.0).0 found.1.0, found.1.1),
     λ accepts. back (leads (subsets automaton) text) refl (exactly text) accepts.0 accepts.1 accepts.2,
   )
     where
-      back : (o : Option (List ℕ)) → leads (subsets automaton) text ≡ o → HasExactly (IsAmong automaton text) o
-          → (state : ℕ) → IsAmong automaton text state → IsTrue (accepts_at automaton state) → MachineAccepts (subsets automaton) text
+      back : (o : Option (List ℕ)) → leads (subsets automaton) text ≡ o → HasExactly (LeadsSomehow automaton text) o
+          → (state : ℕ) → LeadsSomehow automaton text state → IsTrue (accepts_at automaton state) → MachineAccepts (subsets automaton) text
       back None e none state among accepts = absurd (none state among)
       back (Some set) e is state among accepts = record {
         state = set;
@@ -188,7 +188,7 @@ module _ (automaton : Nondeterministic) where
 module _ (automaton : Nondeterministic) (is : IsNondeterministic automaton) (table : Table) (states : List (List ℕ)) (origins : List (ℕ × ℕ))
     (explored : IsExploration (subsets automaton) table states origins) (symbols' : HasSymbols (symbols automaton.alphabet) table) where
   -- a text leads to a state exactly where it leads to some of the automaton's
-  pub some_state : (text : List ℕ) → (state_after table text ≢ 0) ↔ ((state : ℕ) × IsAmong automaton text state)
+  pub some_state : (text : List ℕ) → (state_after table text ≢ 0) ↔ ((state : ℕ) × LeadsSomehow automaton text state)
   some_state text = (
     λ some. by (leads (subsets automaton) text) refl some,
     λ among none.
@@ -198,13 +198,13 @@ module _ (automaton : Nondeterministic) (is : IsNondeterministic automaton) (tab
   )
     where
       by : (o : Option (List ℕ)) → leads (subsets automaton) text ≡ o → state_after table text ≢ 0
-          → (state : ℕ) × IsAmong automaton text state
+          → (state : ℕ) × LeadsSomehow automaton text state
       by None e some = absurd (some ((leads_nowhere explored text).1 e))
       by (Some set) e some = (leads_somewhere automaton text).0 (ap is_some e)
 
   -- texts lead to one state exactly where they lead to the same ones of the automaton's
   pub same_sets : (text other : List ℕ) → (state_after table text ≡ state_after table other)
-      ↔ ((state : ℕ) → IsAmong automaton text state ↔ IsAmong automaton other state)
+      ↔ ((state : ℕ) → LeadsSomehow automaton text state ↔ LeadsSomehow automaton other state)
   same_sets text other =
       let states_alike = same_states explored text other in
       let sets_alike = leads_alike automaton text other in

@@ -6,8 +6,9 @@ use Rattle.std.proofs.lemmas.List.{get_or_past, get_or-drop, length-drop}
 use Rattle.std.proofs.lemmas.List.Elements.{All-nil, All-cons, All-head, All-tail, All-contains}
 use Rattle.kb_word.specs.Relations.{IsOver}
 use Rattle.kb_fsa.specs.Table.{Moves, Table, IsTable, HasSymbols, AcceptsFrom, moves_of, step, after, is_accepting}
-use Rattle.kb_fsa.specs.Padding.{pair_symbol, padded}
-use Rattle.kb_fsa.proofs.PairSymbols.{first_number, with_second, letter_beside_padding}
+use Rattle.kb_fsa.specs.PairSymbols.{pair_symbol}
+use Rattle.kb_fsa.specs.Padding.{padded}
+use Rattle.kb_fsa.proofs.PairSymbolLaws.{first_letter-pair_symbol, with_second, letter_beside_padding}
 use Rattle.kb_fsa.proofs.Lookups.{All-moves_of, IsRow-moves_of, after_none, entry_from_lookup, lookup_from_entry, lookup_from_target, target_some}
 use Rattle.kb_reach.specs.Graphs.{IsMarked, IsReached, at_seed, along}
 use Rattle.kb_fsadet.specs.FirstWords.{tail_edges, EndsFrom, AreEnds}
@@ -16,7 +17,7 @@ use Rattle.kb_fsadet.proofs.FirstWordLemmas.{IsTail-from_edge, edge_from_tail}
 
 module _ (n : ℕ) (table : Table) (is : IsTable table) (within : HasSymbols ((n + 1) * (n + 1) - 1) table) where
   abbrev edges : List (ℕ × ℕ)
-  edges = tail_edges (n + 1) 1 table.rows
+  edges = tail_edges n 1 table.rows
 
   abbrev seeds : List Bool
   seeds = false ∷ table.accepting
@@ -48,7 +49,7 @@ module _ (n : ℕ) (table : Table) (is : IsTable table) (within : HasSymbols ((n
   pub edges_within : All (λ edge. (edge.0 < suc (length table.rows)) × (edge.1 < suc (length table.rows))) edges
   edges_within =
       All-from_contains (λ (edge : ℕ × ℕ). (edge.0 < suc (length table.rows)) × (edge.1 < suc (length table.rows))) edges (λ edge at.
-      let tail = IsTail-from_edge (n + 1) 1 table.rows edge.0 edge.1 at in
+      let tail = IsTail-from_edge n 1 table.rows edge.0 edge.1 at in
       let low = state_within tail.place (tail.symbol, edge.0) tail.move in
       let to = known (suc tail.place) tail.symbol edge.0 tail.move in
       let state = tail.is_state in
@@ -66,7 +67,7 @@ module _ (n : ℕ) (table : Table) (is : IsTable table) (within : HasSymbols ((n
   ends_from_reached state (at_seed mark) = ([], (All-nil (λ x. (0 < x) × (x ≤ n)), seed_accepts state mark))
   ends_from_reached state (along {x = next} reached edge) =
       let rest = ends_from_reached next reached in
-      let tail = IsTail-from_edge (n + 1) 1 table.rows next state edge in
+      let tail = IsTail-from_edge n 1 table.rows next state edge in
       let number = suc tail.place in
       let from = known number tail.symbol next tail.move in
       let second = with_second n tail.symbol from.0 in
@@ -102,7 +103,7 @@ module _ (n : ℕ) (table : Table) (is : IsTable table) (within : HasSymbols ((n
       ] in
       let entry = entry_from_lookup (moves_of table (suc place)) symbol next
       (lookup_from_target (moves_of table (suc place)) symbol next positive refl) in
-      let edge = edge_from_tail (n + 1) 1 table.rows place symbol next entry (first_number n (n + 1) j (omega arith) (letter.0, omega (arith, letter.1))) in
+      let edge = edge_from_tail n 1 table.rows place symbol next entry (first_letter-pair_symbol n (n + 1) j (omega arith) (letter.0, omega (arith, letter.1))) in
       let P : ℕ → Type 0 = λ s. Contains edges (next, s) in
       along rest (subst P (let back : 1 + place ≡ suc place = omega arith in back) edge)
 

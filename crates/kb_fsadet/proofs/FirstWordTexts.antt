@@ -7,9 +7,10 @@ use Rattle.std.proofs.lemmas.List.{get_or_past, get_or_append_left, get_or_at, l
 use Rattle.std.proofs.lemmas.List.Elements.{All-nil, All-cons, All-head, All-tail, All-get_or}
 use Rattle.kb_word.specs.Relations.{IsOver}
 use Rattle.kb_fsa.specs.Table.{Moves, Table, IsTable, HasSymbols, moves_of, step, after}
-use Rattle.kb_fsa.specs.Padding.{pair_symbol, padded, IsPadded}
+use Rattle.kb_fsa.specs.PairSymbols.{pair_symbol}
+use Rattle.kb_fsa.specs.Padding.{padded, IsPadded}
 use Rattle.kb_fsa.proofs.Lookups.{IsRow-moves_of, after_none, entry_from_lookup, lookup_from_entry, lookup_from_target, target_some}
-use Rattle.kb_fsa.proofs.PairSymbols.{first_number, pair_symbol-injective, with_second, first_within}
+use Rattle.kb_fsa.proofs.PairSymbolLaws.{first_letter-pair_symbol, pair_symbol-injective, with_second, first_within}
 use Rattle.kb_fsa.proofs.Paddings.{length-padded, get_or-padded, letter_or_padding, same_from_padding}
 use Rattle.kb_fsadet.specs.Nondeterministic.{LeadsFrom, moves_from}
 use Rattle.kb_fsadet.specs.FirstWords.{by_first, first_words}
@@ -153,9 +154,9 @@ pub record LeadsWithSecond (n : ℕ) (table : Table) (word : List ℕ) (from to 
 
 module _ (n : ℕ) (table : Table) (is : IsTable table) (within : HasSymbols ((n + 1) * (n + 1) - 1) table) (marks : List Bool) where
   -- moves by a letter are those of the table by a pair that it begins
-  branches_are : (state : ℕ) → moves_from (first_words n table marks) state ≡ filter_map (by_first (n + 1)) (moves_of table state)
+  branches_are : (state : ℕ) → moves_from (first_words n table marks) state ≡ filter_map (by_first n) (moves_of table state)
   branches_are zero = refl
-  branches_are (suc place) = get_or-map (filter_map (by_first (n + 1))) table.rows place []
+  branches_are (suc place) = get_or-map (filter_map (by_first n)) table.rows place []
 
   leads_beside : (word : List ℕ) (from to : ℕ) → from ≢ 0 → LeadsFrom (first_words n table marks) from word to → LeadsBeside n table word from to
   unfolding beside IsColumn
@@ -210,7 +211,7 @@ module _ (n : ℕ) (table : Table) (is : IsTable table) (within : HasSymbols ((n
       let entry = entry_from_lookup (moves_of table from) symbol next
       (lookup_from_target (moves_of table from) symbol next (step_some from symbol text to leads some) refl) in
       let P : Moves → Type 0 = λ moves. Contains moves (i, next) in
-      subst P (sym (branches_are from)) (by_first_from n (moves_of table from) symbol i next entry (first_number n i j letter.0 column)
+      subst P (sym (branches_are from)) (by_first_from n (moves_of table from) symbol i next entry (first_letter-pair_symbol n i j letter.0 column)
       (λ same. omega (arith, letter.1)))
 
   pub leads_by_first : (word second : List ℕ) (from to : ℕ) → IsOver n word → IsOver n second → length second ≤ length word

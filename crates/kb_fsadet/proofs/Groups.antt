@@ -10,8 +10,8 @@ use Rattle.std.proofs.lemmas.List.Sorted.{IsNonDecreasingBy-drop}
 use Rattle.std.proofs.lemmas.Option.{get_or_from_slice_get, slice_get_within, none-some}
 use Rattle.kb_fsa.specs.Table.{lookup, Moves}
 use Rattle.kb_fsa.proofs.Lookups.{Ascends-push, lookup_above, lookup-push_same, lookup-push_other}
-use Rattle.kb_fsadet.specs.SubsetConstruction.{set_of, some_set, targets, AreGroups, AreGroupedBefore}
-use Rattle.kb_fsadet.proofs.Targets.{targets-append, targets_all, targets_nowhere, some_set_of_some}
+use Rattle.kb_fsadet.specs.SubsetConstruction.{set_of, some_set, targets_by, AreGroups, AreGroupedBefore}
+use Rattle.kb_fsadet.proofs.Targets.{targets_by-append, targets_by_all, targets_by_nowhere, some_set_of_some}
 
 option_or-none : (o : Option (List ℕ)) → option_or o None ≡ o
 option_or-none None = refl
@@ -89,21 +89,21 @@ module _ (moves rest : Moves) (groups : List (ℕ × List ℕ)) (before : AreGro
       omega (arith, start.1)
 
   -- at the symbol, where all moves of the group lead
-  at_symbol : targets rest symbol ≡ map (λ move. move.1) group
+  at_symbol : targets_by rest symbol ≡ map (λ move. move.1) group
   unfolding group others
   at_symbol =
-      let split = ap (λ all. targets all symbol) (sym (take-append-drop count rest)) ∙ targets-append group others symbol in
-      let none = targets_nowhere others symbol (λ k d h same. omega (arith, parts.others k d h)) in
-      split ∙ ap (λ front. front ++ targets others symbol) (targets_all group symbol parts.group)
+      let split = ap (λ all. targets_by all symbol) (sym (take-append-drop count rest)) ∙ targets_by-append group others symbol in
+      let none = targets_by_nowhere others symbol (λ k d h same. omega (arith, parts.others k d h)) in
+      split ∙ ap (λ front. front ++ targets_by others symbol) (targets_by_all group symbol parts.group)
       ∙ ap (λ back. map (λ (move : ℕ × ℕ). move.1) group ++ back) none ∙ append-nil (map (λ (move : ℕ × ℕ). move.1) group)
 
   -- at others, where the other moves lead
-  at_others : (z : ℕ) → z ≢ symbol → targets rest z ≡ targets others z
+  at_others : (z : ℕ) → z ≢ symbol → targets_by rest z ≡ targets_by others z
   unfolding group others
   at_others z differ =
-      let split = ap (λ all. targets all z) (sym (take-append-drop count rest)) ∙ targets-append group others z in
-      let none = targets_nowhere group z (λ k d h same. differ (sym same ∙ parts.group k d h)) in
-      split ∙ ap (λ front. front ++ targets others z) none
+      let split = ap (λ all. targets_by all z) (sym (take-append-drop count rest)) ∙ targets_by-append group others z in
+      let none = targets_by_nowhere group z (λ k d h same. differ (sym same ∙ parts.group k d h)) in
+      split ∙ ap (λ front. front ++ targets_by others z) none
 
   group_some : 0 < length (map (λ (move : ℕ × ℕ). move.1) group)
   unfolding group
@@ -114,22 +114,22 @@ module _ (moves rest : Moves) (groups : List (ℕ × List ℕ)) (before : AreGro
   new_group : ℕ × List ℕ
   new_group = (symbol, set_of (map (λ (move : ℕ × ℕ). move.1) group))
 
-  each_more : (z : ℕ) → option_or (lookup (groups ++ new_group ∷ []) z) (some_set (targets others z)) ≡ some_set (targets moves z)
+  each_more : (z : ℕ) → option_or (lookup (groups ++ new_group ∷ []) z) (some_set (targets_by others z)) ≡ some_set (targets_by moves z)
   unfolding new_group
   each_more z =
       let set = set_of (map (λ (move : ℕ × ℕ). move.1) group) in
       let unknown = lookup_above groups symbol groups_below in
       elim (cases_eq z symbol) [
         | inl same ↦
-            let whole : some_set (targets rest symbol) ≡ some_set (targets moves symbol) =
-            sym (ap (λ o. option_or o (some_set (targets rest symbol))) unknown) ∙ before.each symbol in
+            let whole : some_set (targets_by rest symbol) ≡ some_set (targets_by moves symbol) =
+            sym (ap (λ o. option_or o (some_set (targets_by rest symbol))) unknown) ∙ before.each symbol in
             let found : lookup (groups ++ new_group ∷ []) z ≡ Some set =
             ap (lookup (groups ++ (symbol, set) ∷ [])) same ∙ lookup-push_same groups symbol set unknown in
-            ap (λ o. option_or o (some_set (targets others z))) found
+            ap (λ o. option_or o (some_set (targets_by others z))) found
             ∙ sym (some_set_of_some (map (λ (move : ℕ × ℕ). move.1) group) group_some)
-            ∙ ap some_set (sym at_symbol) ∙ whole ∙ ap (λ y. some_set (targets moves y)) (sym same)
+            ∙ ap some_set (sym at_symbol) ∙ whole ∙ ap (λ y. some_set (targets_by moves y)) (sym same)
         | inr differ ↦
-            ap (λ o. option_or o (some_set (targets others z))) (lookup-push_other groups symbol set z differ)
+            ap (λ o. option_or o (some_set (targets_by others z))) (lookup-push_other groups symbol set z differ)
             ∙ ap (λ back. option_or (lookup groups z) (some_set back)) (sym (at_others z differ)) ∙ before.each z
       ]
 

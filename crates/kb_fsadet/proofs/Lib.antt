@@ -1,4 +1,5 @@
 pub mod Sets
+pub mod Members
 pub mod Targets
 pub mod Groups
 pub mod Determinised

@@ -12,9 +12,9 @@ use Rattle.kb_fsa.specs.Padding.{padded, IsPadded}
 use Rattle.kb_fsa.specs.Language.{Automaton, IsAutomaton, IsTextOf, AcceptsPair, generators, symbols}
 use Rattle.kb_fsa.specs.Counted.{IsAfterFirst, MoreSetsThan}
 use Rattle.kb_fsa.proofs.Lookups.{after_none, accepting_positive, after-append}
-use Rattle.kb_fsa.proofs.PairSymbols.{first_within}
+use Rattle.kb_fsa.proofs.PairSymbolLaws.{first_within}
 use Rattle.kb_explore.proofs.CountingLemmas.{MoreThan-kept}
-use Rattle.kb_fsadet.specs.Nondeterministic.{Nondeterministic, IsNondeterministic, IsAmong, AcceptsSomehow, IsOneOf, accepts_at}
+use Rattle.kb_fsadet.specs.Nondeterministic.{Nondeterministic, IsNondeterministic, LeadsSomehow, AcceptsSomehow, IsOneOf, accepts_at}
 use Rattle.kb_fsadet.specs.Projection.{HasSecond}
 use Rattle.kb_fsadet.specs.FirstWords.{by_first, first_words, where_some, EndsFrom, AreEnds, IsFirstWords}
 use Rattle.kb_fsadet.proofs.Sets.{All-from_contains, Contains-none, Contains-here, Contains-cons_cases}
@@ -45,7 +45,7 @@ module _ (pairs : Automaton) (is : IsTable pairs.table)
   abbrev words : Nondeterministic
   words = first_words n pairs.table marks
 
-  after_first : (word : List ℕ) (state : ℕ) → IsAmong words word state → IsAfterFirst pairs word state
+  after_first : (word : List ℕ) (state : ℕ) → LeadsSomehow words word state → IsAfterFirst pairs word state
   after_first word state among =
       let start = from_where_some pairs.table.initial among.start among.is_initial in
       let initial_texts : (text : List ℕ) → after pairs.table among.start text ≢ 0 → IsPadded n text =
@@ -60,7 +60,7 @@ module _ (pairs : Automaton) (is : IsTable pairs.table)
         some = by.some;
       }
 
-  among_from : (word : List ℕ) (state : ℕ) → IsAfterFirst pairs word state → IsAmong words word state
+  among_from : (word : List ℕ) (state : ℕ) → IsAfterFirst pairs word state → LeadsSomehow words word state
   among_from word state first =
       let leads = first.leads in
       let positive : 0 < pairs.table.initial = elim (cases_lt 0 pairs.table.initial) [
@@ -94,7 +94,7 @@ module _ (pairs : Automaton) (is : IsTable pairs.table)
   P move = IsOneOf n move.0 × IsOneOf (length words.rows) move.1
 
   -- its moves are by letters, to states
-  row_known : (place : ℕ) (move : ℕ × ℕ) → Contains (filter_map (by_first (n + 1)) (get_or pairs.table.rows place [])) move → P move
+  row_known : (place : ℕ) (move : ℕ × ℕ) → Contains (filter_map (by_first n) (get_or pairs.table.rows place [])) move → P move
   row_known place move at =
       let from = from_by_first n (get_or pairs.table.rows place []) move.0 move.1 at in
       let facts = known n pairs.table is within (suc place) from.symbol move.1 from.move in
@@ -102,19 +102,19 @@ module _ (pairs : Automaton) (is : IsTable pairs.table)
       let first = from.first_is in
       let letter = from.letter in (
         (omega arith, omega arith),
-        (facts.1.1.0, omega (arith, facts.1.1.1, length-map pairs.table.rows (filter_map (by_first (n + 1))))),
+        (facts.1.1.0, omega (arith, facts.1.1.1, length-map pairs.table.rows (filter_map (by_first n)))),
       )
 
   pub words_automaton : n ≤ 65534 → IsNondeterministic words
   words_automaton few = record {
     generators = few;
-    one_answer_each = ends.one_each ∙ sym (length-map pairs.table.rows (filter_map (by_first (n + 1))));
-    size = omega (arith, length-map pairs.table.rows (filter_map (by_first (n + 1))), is.size);
+    one_answer_each = ends.one_each ∙ sym (length-map pairs.table.rows (filter_map (by_first n)));
+    size = omega (arith, length-map pairs.table.rows (filter_map (by_first n)), is.size);
     initial = All-from_contains (IsOneOf (length words.rows)) words.initial (λ start at.
         let one = from_where_some pairs.table.initial start at in
-        (omega (arith, one.0, one.1), omega (arith, one.0, length-map pairs.table.rows (filter_map (by_first (n + 1))), is.initial)));
-    moves = All-map (All P) (filter_map (by_first (n + 1))) pairs.table.rows (All-from_get_or (λ row. All P (filter_map (by_first (n + 1)) row))
-        pairs.table.rows [] (λ place low. All-from_contains P (filter_map (by_first (n + 1)) (get_or pairs.table.rows place [])) (row_known place)));
+        (omega (arith, one.0, one.1), omega (arith, one.0, length-map pairs.table.rows (filter_map (by_first n)), is.initial)));
+    moves = All-map (All P) (filter_map (by_first n)) pairs.table.rows (All-from_get_or (λ row. All P (filter_map (by_first n) row))
+        pairs.table.rows [] (λ place low. All-from_contains P (filter_map (by_first n) (get_or pairs.table.rows place [])) (row_known place)));
     texts = λ text state among. (after_first text state among).first_over;
   }
 

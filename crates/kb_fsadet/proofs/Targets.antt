@@ -10,62 +10,62 @@ use Rattle.kb_fsa.specs.Table.{Moves}
 use Rattle.kb_fsa.specs.Language.{symbols}
 use Rattle.kb_explore.specs.Machine.{AreMovesOf}
 use Rattle.kb_fsadet.specs.Nondeterministic.{Nondeterministic, IsNondeterministic, IsOneOf, moves_from}
-use Rattle.kb_fsadet.specs.SubsetConstruction.{set_of, some_set, targets, moves_of_each, subsets, AreGroups}
+use Rattle.kb_fsadet.specs.SubsetConstruction.{set_of, some_set, targets_by, moves_of_each, subsets, AreGroups}
 use Rattle.kb_fsadet.proofs.Sets.{Contains-none, Contains-here, Contains-there, Contains-cons_cases, same_set}
 
 -- ---- where moves by a symbol lead
 
-targets_here : (move : ℕ × ℕ) (moves : Moves) (symbol : ℕ) → move.0 ≡ symbol → targets (move ∷ moves) symbol ≡ move.1 ∷ targets moves symbol
-targets_here move moves symbol same = rw (eq-eqb move.0 symbol same) refl
+targets_by_here : (move : ℕ × ℕ) (moves : Moves) (symbol : ℕ) → move.0 ≡ symbol → targets_by (move ∷ moves) symbol ≡ move.1 ∷ targets_by moves symbol
+targets_by_here move moves symbol same = rw (eq-eqb move.0 symbol same) refl
 
-targets_there : (move : ℕ × ℕ) (moves : Moves) (symbol : ℕ) → move.0 ≢ symbol → targets (move ∷ moves) symbol ≡ targets moves symbol
-targets_there move moves symbol differ = rw (ne_eqb move.0 symbol differ) refl
+targets_by_there : (move : ℕ × ℕ) (moves : Moves) (symbol : ℕ) → move.0 ≢ symbol → targets_by (move ∷ moves) symbol ≡ targets_by moves symbol
+targets_by_there move moves symbol differ = rw (ne_eqb move.0 symbol differ) refl
 
-pub targets-append : (moves others : Moves) (symbol : ℕ) → targets (moves ++ others) symbol ≡ targets moves symbol ++ targets others symbol
-targets-append [] others symbol = refl
-targets-append (move ∷ moves) others symbol =
+pub targets_by-append : (moves others : Moves) (symbol : ℕ) → targets_by (moves ++ others) symbol ≡ targets_by moves symbol ++ targets_by others symbol
+targets_by-append [] others symbol = refl
+targets_by-append (move ∷ moves) others symbol =
     elim (cases_eq move.0 symbol) [
       | inl same ↦
-          targets_here move (moves ++ others) symbol same ∙ ap (λ rest. move.1 ∷ rest) (targets-append moves others symbol)
-          ∙ sym (ap (λ front. front ++ targets others symbol) (targets_here move moves symbol same))
+          targets_by_here move (moves ++ others) symbol same ∙ ap (λ rest. move.1 ∷ rest) (targets_by-append moves others symbol)
+          ∙ sym (ap (λ front. front ++ targets_by others symbol) (targets_by_here move moves symbol same))
       | inr differ ↦
-          targets_there move (moves ++ others) symbol differ ∙ targets-append moves others symbol
-          ∙ sym (ap (λ front. front ++ targets others symbol) (targets_there move moves symbol differ))
+          targets_by_there move (moves ++ others) symbol differ ∙ targets_by-append moves others symbol
+          ∙ sym (ap (λ front. front ++ targets_by others symbol) (targets_by_there move moves symbol differ))
     ]
 
 -- where all moves are by the symbol
-pub targets_all : (moves : Moves) (symbol : ℕ) → All (λ move. move.0 ≡ symbol) moves → targets moves symbol ≡ map (λ move. move.1) moves
-targets_all [] symbol each = refl
-targets_all (move ∷ moves) symbol each =
+pub targets_by_all : (moves : Moves) (symbol : ℕ) → All (λ move. move.0 ≡ symbol) moves → targets_by moves symbol ≡ map (λ move. move.1) moves
+targets_by_all [] symbol each = refl
+targets_by_all (move ∷ moves) symbol each =
     let P = λ (m : ℕ × ℕ). m.0 ≡ symbol in
-    targets_here move moves symbol (All-head P move moves each)
-    ∙ ap (λ rest. move.1 ∷ rest) (targets_all moves symbol (All-tail P move moves each))
+    targets_by_here move moves symbol (All-head P move moves each)
+    ∙ ap (λ rest. move.1 ∷ rest) (targets_by_all moves symbol (All-tail P move moves each))
 
-pub targets_nowhere : (moves : Moves) (symbol : ℕ) → All (λ move. move.0 ≢ symbol) moves → targets moves symbol ≡ []
-targets_nowhere [] symbol none = refl
-targets_nowhere (move ∷ moves) symbol none =
+pub targets_by_nowhere : (moves : Moves) (symbol : ℕ) → All (λ move. move.0 ≢ symbol) moves → targets_by moves symbol ≡ []
+targets_by_nowhere [] symbol none = refl
+targets_by_nowhere (move ∷ moves) symbol none =
     let P = λ (m : ℕ × ℕ). m.0 ≢ symbol in
-    targets_there move moves symbol (All-head P move moves none) ∙ targets_nowhere moves symbol (All-tail P move moves none)
+    targets_by_there move moves symbol (All-head P move moves none) ∙ targets_by_nowhere moves symbol (All-tail P move moves none)
 
 -- the targets by a symbol are those of the moves
-pub Contains-targets : (moves : Moves) (symbol state : ℕ) → Contains (targets moves symbol) state ↔ Contains moves (symbol, state)
-Contains-targets [] symbol state = (λ at. absurd (Contains-none state at), λ at. absurd (Contains-none (symbol, state) at))
-Contains-targets (move ∷ moves) symbol state =
-    let rest = Contains-targets moves symbol state in
+pub Contains-targets_by : (moves : Moves) (symbol state : ℕ) → Contains (targets_by moves symbol) state ↔ Contains moves (symbol, state)
+Contains-targets_by [] symbol state = (λ at. absurd (Contains-none state at), λ at. absurd (Contains-none (symbol, state) at))
+Contains-targets_by (move ∷ moves) symbol state =
+    let rest = Contains-targets_by moves symbol state in
     elim (cases_eq move.0 symbol) [
       | inl same ↦ (
-        λ at. elim (Contains-cons_cases move.1 (targets moves symbol) state (by (targets_here move moves symbol same) at)) [
+        λ at. elim (Contains-cons_cases move.1 (targets_by moves symbol) state (by (targets_by_here move moves symbol same) at)) [
           | inl is ↦ first move moves symbol state same is
           | inr later ↦ Contains-there move moves (symbol, state) (rest.0 later)
         ],
-        λ at. by (sym (targets_here move moves symbol same)) (elim (Contains-cons_cases move moves (symbol, state) at) [
-          | inl is ↦ by (ap (λ (m : ℕ × ℕ). m.1 ∷ targets moves symbol) (sym is)) (Contains-here state (targets moves symbol))
-          | inr later ↦ Contains-there move.1 (targets moves symbol) state (rest.1 later)
+        λ at. by (sym (targets_by_here move moves symbol same)) (elim (Contains-cons_cases move moves (symbol, state) at) [
+          | inl is ↦ by (ap (λ (m : ℕ × ℕ). m.1 ∷ targets_by moves symbol) (sym is)) (Contains-here state (targets_by moves symbol))
+          | inr later ↦ Contains-there move.1 (targets_by moves symbol) state (rest.1 later)
         ]),
       )
       | inr differ ↦ (
-        λ at. Contains-there move moves (symbol, state) (rest.0 (by (targets_there move moves symbol differ) at)),
-        λ at. by (sym (targets_there move moves symbol differ)) (elim (Contains-cons_cases move moves (symbol, state) at) [
+        λ at. Contains-there move moves (symbol, state) (rest.0 (by (targets_by_there move moves symbol differ) at)),
+        λ at. by (sym (targets_by_there move moves symbol differ)) (elim (Contains-cons_cases move moves (symbol, state) at) [
           | inl is ↦ absurd (differ (ap (λ (m : ℕ × ℕ). m.0) is))
           | inr later ↦ rest.1 later
         ]),
@@ -145,12 +145,12 @@ moves_from_groups automaton states sorted groups is permuted grouped = record {
       (Contains-permutation sorted (moves_of_each automaton states) ((get_or groups k d).0, move.0)
       (IsPermutation-sym (moves_of_each automaton states) sorted permuted) move.1) in
       (move_is_known automaton from.0 ((get_or groups k d).0, move.0) is from.1.1).0;
-  follow = λ symbol. grouped.each symbol ∙ same_some_set (targets sorted symbol) (targets (moves_of_each automaton states) symbol) (λ z. (
-    λ at. (Contains-targets (moves_of_each automaton states) symbol z).1
+  follow = λ symbol. grouped.each symbol ∙ same_some_set (targets_by sorted symbol) (targets_by (moves_of_each automaton states) symbol) (λ z. (
+    λ at. (Contains-targets_by (moves_of_each automaton states) symbol z).1
         (Contains-permutation sorted (moves_of_each automaton states) (symbol, z)
-        (IsPermutation-sym (moves_of_each automaton states) sorted permuted) ((Contains-targets sorted symbol z).0 at)),
-    λ at. (Contains-targets sorted symbol z).1
+        (IsPermutation-sym (moves_of_each automaton states) sorted permuted) ((Contains-targets_by sorted symbol z).0 at)),
+    λ at. (Contains-targets_by sorted symbol z).1
         (Contains-permutation (moves_of_each automaton states) sorted (symbol, z) permuted
-        ((Contains-targets (moves_of_each automaton states) symbol z).0 at)),
+        ((Contains-targets_by (moves_of_each automaton states) symbol z).0 at)),
   ));
 }

@@ -1,30 +1,27 @@
 -- The nondeterministic automaton of the first words of pairs.
-use Rattle.std.specs.Prelude.{◌≡◌, ◌↔◌, ℕ, zero, suc, ◌+◌, ◌-◌, ◌/◌, Bool, false, true, nat_eq, IsTrue, List, [], ◌∷◌, ◌++◌, length, map, get_or, Option, Some, None, if◌then◌else◌}
+use Rattle.std.specs.Prelude.{◌≡◌, ◌↔◌, ℕ, zero, suc, Bool, false, true, IsTrue, List, [], ◌∷◌, ◌++◌, length, map, get_or, Option, Some, None, if◌then◌else◌}
 use Rattle.std.specs.List.{filter_map}
 use Rattle.kb_word.specs.Relations.{IsOver}
 use Rattle.kb_fsa.specs.declared.alphabet.Alphabet.TheVariants.{Plain}
 use Rattle.kb_fsa.specs.Table.{Moves, Table, AcceptsFrom}
+use Rattle.kb_fsa.specs.PairSymbols.{first_letter, pads_first}
 use Rattle.kb_fsa.specs.Padding.{padded}
 use Rattle.kb_fsa.specs.Language.{Automaton, generators}
 use Rattle.kb_fsa.specs.Counted.{IsAfterFirst}
-use Rattle.kb_fsadet.specs.Nondeterministic.{Nondeterministic, IsAmong, accepts_at}
-
--- the first of the pair that is a symbol, given the padding's number
-abbrev pub first_of : ℕ → ℕ → ℕ
-first_of padding symbol = (symbol - 1) / padding + 1
+use Rattle.kb_fsadet.specs.Nondeterministic.{Nondeterministic, LeadsSomehow, accepts_at}
 
 -- the move by the first letter alone, and none after the first word
 abbrev pub by_first : ℕ → ℕ × ℕ → Option (ℕ × ℕ)
-by_first padding move = if nat_eq (first_of padding move.0) padding then None else Some (first_of padding move.0, move.1)
+by_first n move = if pads_first n move.0 then None else Some (first_letter n move.0, move.1)
 
 -- a state's move after the first word, taken backwards
 abbrev pub tail_edge : ℕ → ℕ → ℕ × ℕ → Option (ℕ × ℕ)
-tail_edge padding state move = if nat_eq (first_of padding move.0) padding then Some (move.1, state) else None
+tail_edge n state move = if pads_first n move.0 then Some (move.1, state) else None
 
 -- those of all states from a number on
 abbrev pub tail_edges : ℕ → ℕ → List Moves → List (ℕ × ℕ)
-tail_edges padding state [] = []
-tail_edges padding state (row ∷ rows) = filter_map (tail_edge padding state) row ++ tail_edges padding (suc state) rows
+tail_edges n state [] = []
+tail_edges n state (row ∷ rows) = filter_map (tail_edge n state) row ++ tail_edges n (suc state) rows
 
 -- from the state the rest of some second word, after the first word, leads to acceptance
 abbrev pub EndsFrom : ℕ → Table → ℕ → Type 0
@@ -45,7 +42,7 @@ abbrev pub first_words : ℕ → Table → List Bool → Nondeterministic
 first_words n table ends = record {
   alphabet = Plain n;
   initial = where_some table.initial;
-  rows = map (filter_map (by_first (n + 1))) table.rows;
+  rows = map (filter_map (by_first n)) table.rows;
   accepting = ends;
 }
 
@@ -53,5 +50,5 @@ first_words n table ends = record {
 -- and it accepts where a longer one may end the pair.
 pub record IsFirstWords (pairs : Automaton) (automaton : Nondeterministic) : Type 0 where
   pub alphabet : automaton.alphabet ≡ Plain (generators pairs.alphabet)
-  pub among : (word : List ℕ) (state : ℕ) → IsAmong automaton word state ↔ IsAfterFirst pairs word state
+  pub among : (word : List ℕ) (state : ℕ) → LeadsSomehow automaton word state ↔ IsAfterFirst pairs word state
   pub accepts : (state : ℕ) → IsTrue (accepts_at automaton state) ↔ EndsFrom (generators pairs.alphabet) pairs.table state

@@ -12,6 +12,9 @@ pub record Nondeterministic : Type 0 where
   pub rows : List Moves
   pub accepting : List Bool
 
+abbrev pub automaton_of : Alphabet → List ℕ → List Moves → List Bool → Nondeterministic
+automaton_of alphabet initial rows accepting = record { alphabet = alphabet; initial = initial; rows = rows; accepting = accepting }
+
 -- the moves of a state, by those of states 1, 2, and so on; what is no state has none
 abbrev pub moves_at : List Moves → ℕ → Moves
 moves_at rows zero = []
@@ -32,14 +35,14 @@ LeadsFrom automaton state (symbol ∷ text) other =
     (next : ℕ) × Contains (moves_from automaton state) (symbol, next) × LeadsFrom automaton next text other
 
 -- the state is among those to which the text leads
-pub record IsAmong (automaton : Nondeterministic) (text : List ℕ) (state : ℕ) : Type 0 where
+pub record LeadsSomehow (automaton : Nondeterministic) (text : List ℕ) (state : ℕ) : Type 0 where
   pub start : ℕ
   pub is_initial : Contains automaton.initial start
   pub leads : LeadsFrom automaton start text state
 
 -- the text leads to acceptance in some way
 abbrev pub AcceptsSomehow : Nondeterministic → List ℕ → Type 0
-AcceptsSomehow automaton text = (state : ℕ) × IsAmong automaton text state × IsTrue (accepts_at automaton state)
+AcceptsSomehow automaton text = (state : ℕ) × LeadsSomehow automaton text state × IsTrue (accepts_at automaton state)
 
 -- the number is that of a state of so many
 abbrev pub IsOneOf : ℕ → ℕ → Type 0
@@ -52,4 +55,4 @@ pub record IsNondeterministic (automaton : Nondeterministic) : Type 0 where
   pub size : length automaton.rows < 2 ^ 32
   pub initial : All (IsOneOf (length automaton.rows)) automaton.initial
   pub moves : All (All (λ move. IsOneOf (symbols automaton.alphabet) move.0 × IsOneOf (length automaton.rows) move.1)) automaton.rows
-  pub texts : (text : List ℕ) (state : ℕ) → IsAmong automaton text state → IsTextOf automaton.alphabet text
+  pub texts : (text : List ℕ) (state : ℕ) → LeadsSomehow automaton text state → IsTextOf automaton.alphabet text

@@ -1,6 +1,6 @@
 -- The subset construction: the machine whose states are sets of states. Hopcroft, Ullman, Introduction to Automata
 -- Theory, Languages, and Computation, 2.3.
-use Rattle.std.specs.Prelude.{◌≡◌, ℕ, ◌<◌, nat_lt, nat_eq, List, [], ◌∷◌, All, AllPairs, Contains, Option, Some, None, if◌then◌else◌}
+use Rattle.std.specs.Prelude.{◌≡◌, ℕ, ◌<◌, nat_lt, nat_eq, Bool, List, [], ◌∷◌, All, AllPairs, Contains, Option, Some, None, if◌then◌else◌}
 use Rattle.std.specs.List.{flat_map, list_any}
 use Rattle.std.specs.List.Sorted.{IsNonDecreasingBy}
 use Rattle.std.specs.Option.{option_or}
@@ -22,15 +22,19 @@ abbrev pub set_of : List ℕ → List ℕ
 set_of [] = []
 set_of (x ∷ xs) = insert x (set_of xs)
 
+-- whether the state is one of the members
+abbrev pub is_member : List ℕ → ℕ → Bool
+is_member members state = list_any (λ member. nat_eq member state) members
+
 -- the set of a list's numbers, and none of no numbers
 abbrev pub some_set : List ℕ → Option (List ℕ)
 some_set [] = None
 some_set (x ∷ xs) = Some (set_of (x ∷ xs))
 
 -- where the moves by the symbol lead
-abbrev pub targets : Moves → ℕ → List ℕ
-targets [] symbol = []
-targets (move ∷ moves) symbol = if nat_eq move.0 symbol then move.1 ∷ targets moves symbol else targets moves symbol
+abbrev pub targets_by : Moves → ℕ → List ℕ
+targets_by [] symbol = []
+targets_by (move ∷ moves) symbol = if nat_eq move.0 symbol then move.1 ∷ targets_by moves symbol else targets_by moves symbol
 
 -- the moves of the states, one state after another
 abbrev pub moves_of_each : Nondeterministic → List ℕ → Moves
@@ -41,7 +45,7 @@ moves_of_each automaton states = flat_map (moves_from automaton) states
 abbrev pub subsets : Nondeterministic → Machine (List ℕ)
 subsets automaton = record {
   start = some_set automaton.initial;
-  follow = λ states symbol. some_set (targets (moves_of_each automaton states) symbol);
+  follow = λ states symbol. some_set (targets_by (moves_of_each automaton states) symbol);
   accepts = list_any (accepts_at automaton);
 }
 
@@ -49,7 +53,7 @@ subsets automaton = record {
 pub record AreGroups (moves : Moves) (groups : List (ℕ × List ℕ)) : Type 0 where
   pub ascends : Ascends groups
   pub symbols : All (λ group. (target : ℕ) × Contains moves (group.0, target)) groups
-  pub each : (symbol : ℕ) → lookup groups symbol ≡ some_set (targets moves symbol)
+  pub each : (symbol : ℕ) → lookup groups symbol ≡ some_set (targets_by moves symbol)
 
 -- the moves that aren't among the rest are grouped, and the rest have greater symbols
 pub record AreGroupedBefore (moves rest : Moves) (groups : List (ℕ × List ℕ)) : Type 0 where
@@ -58,4 +62,4 @@ pub record AreGroupedBefore (moves rest : Moves) (groups : List (ℕ × List ℕ
   pub in_order : IsNonDecreasingBy (λ move. move.0) rest
   pub among : All (Contains moves) rest
   pub below : All (λ group. All (λ move. group.0 < move.0) rest) groups
-  pub each : (symbol : ℕ) → option_or (lookup groups symbol) (some_set (targets rest symbol)) ≡ some_set (targets moves symbol)
+  pub each : (symbol : ℕ) → option_or (lookup groups symbol) (some_set (targets_by rest symbol)) ≡ some_set (targets_by moves symbol)

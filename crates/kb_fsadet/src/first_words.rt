@@ -1,14 +1,14 @@
 //! The nondeterministic automaton of the first words of pairs.
 
-ghost use Rattle.std.specs.Prelude.{◌≡◌, ◌<◌, ◌^◌, ◌++◌, ℕ, length, map, IfOk, OnOk};
+ghost use Rattle.std.specs.Prelude.{◌≡◌, ◌<◌, ◌≤◌, ◌^◌, ◌++◌, ℕ, length, map, IfOk, OnOk};
 ghost use Rattle.std.specs.List.{filter_map};
 ghost use Rattle.kb_fsa.specs.Table.{HasSymbols};
 ghost use Rattle.kb_fsa.specs.Language.{IsAutomaton, symbols};
 ghost use Rattle.kb_fsa.specs.declared.alphabet.Alphabet.TheVariants.{Pair};
-ghost use Rattle.kb_fsadet.specs.FirstWords.{first_of, by_first, tail_edge, tail_edges, where_some, AreEnds, IsFirstWords};
+ghost use Rattle.kb_fsadet.specs.FirstWords.{by_first, tail_edge, tail_edges, where_some, AreEnds, IsFirstWords};
 
 use crate::nfa::{Branches, Nfa};
-use kb_fsa::{Alphabet, Fsa, Row, Table};
+use kb_fsa::{Alphabet, Fsa, PairSymbols, Row, Table};
 use kb_reach::reached;
 use kb_word::Memory;
 use std::alloc::Global;
@@ -23,7 +23,7 @@ pub(crate) fn first_words(alloc: Global, pairs: &Fsa) -> Result<Nfa, Memory>
     let generators = pairs.alphabet().generators();
     let table = pairs.table();
     let initial = initial_states(alloc, table)?;
-    let rows = rows_by_first(alloc, table.rows(), u32::from(generators) + 1)?;
+    let rows = rows_by_first(alloc, table.rows(), PairSymbols { n: generators })?;
     let accepting = ends(alloc, table, generators)?;
     Ok(Nfa::new(Alphabet::Plain(generators), initial, rows, accepting))
 }
@@ -41,27 +41,24 @@ fn initial_states(alloc: Global, table: &Table) -> Result<Vec<u32>, Memory>
 }
 
 /// The moves of each state by first letters.
-fn rows_by_first(alloc: Global, rows: &[Row], padding: u32) -> Result<Vec<Branches>, Memory>
-    requires { 0 < padding }
-    ensures { IfOk result (λ branches. branches.items ≡ map (filter_map (by_first padding)) rows.now) }
+fn rows_by_first(alloc: Global, rows: &[Row], symbols: PairSymbols) -> Result<Vec<Branches>, Memory>
+    ensures { IfOk result (λ branches. branches.items ≡ map (filter_map (by_first symbols.n)) rows.now) }
 {
     let mut branches = Vec::with_capacity(alloc, rows.len())?;
     for row in rows {
-        branches.push(row_by_first(alloc, row, padding)?)?;
+        branches.push(row_by_first(alloc, row, symbols)?)?;
     }
     Ok(branches)
 }
 
 /// The moves of a state by first letters.
-fn row_by_first(alloc: Global, row: &Row, padding: u32) -> Result<Branches, Memory>
-    requires { 0 < padding }
-    ensures { IfOk result (λ branches. branches ≡ filter_map (by_first padding) row.now) }
+fn row_by_first(alloc: Global, row: &Row, symbols: PairSymbols) -> Result<Branches, Memory>
+    ensures { IfOk result (λ branches. branches ≡ filter_map (by_first symbols.n) row.now) }
 {
     let mut branches = Branches::new(alloc);
     for (symbol, target) in row.as_slice() {
-        let first = first_of(padding, *symbol);
-        if first != padding {
-            branches.push(first, *target)?;
+        if !symbols.pads_first(*symbol) {
+            branches.push(symbols.first(*symbol), *target)?;
         }
     }
     Ok(branches)
@@ -69,28 +66,28 @@ fn row_by_first(alloc: Global, row: &Row, padding: u32) -> Result<Branches, Memo
 
 /// For states 1, 2, and so on whether letters of the second word alone lead to acceptance, or none do.
 fn ends(alloc: Global, table: &Table, generators: u16) -> Result<Vec<bool>, Memory>
-    requires { HasSymbols (symbols (Pair generators)) table.now }
+    requires generators { generators ≤ 65534 }
+    requires symbols { HasSymbols (symbols (Pair generators)) table.now }
     ensures { IfOk result (λ marks. AreEnds generators table.now marks.items) }
 {
     let mut seeds = vec![in alloc; false]?;
     seeds.extend_from_slice(table.accepting())?;
-    let edges = tail_edges(alloc, table.rows(), u32::from(generators) + 1)?;
+    let edges = tail_edges(alloc, table.rows(), PairSymbols { n: generators })?;
     let marks = reached(alloc, edges.as_slice(), seeds.as_slice())?;
     let of_states = Vec::from_slice(alloc, &marks[1..])?;
     Ok(of_states)
 }
 
 /// The moves after the first word, each from its target to its state.
-fn tail_edges(alloc: Global, rows: &[Row], padding: u32) -> Result<Vec<(u32, u32)>, Memory>
-    requires size { length rows.now < 2 ^ 32 }
-    requires padding { 0 < padding }
-    ensures { IfOk result (λ edges. edges.items ≡ tail_edges padding 1 rows.now) }
+fn tail_edges(alloc: Global, rows: &[Row], symbols: PairSymbols) -> Result<Vec<(u32, u32)>, Memory>
+    requires { length rows.now < 2 ^ 32 }
+    ensures { IfOk result (λ edges. edges.items ≡ tail_edges symbols.n 1 rows.now) }
 {
     let mut edges = Vec::new(alloc);
     let mut state = 0;
     for row in rows {
         state += 1;
-        push_tail_edges(&mut edges, row, state, padding)?;
+        push_tail_edges(&mut edges, row, state, symbols)?;
     }
     Ok(edges)
 }
@@ -100,24 +97,14 @@ fn push_tail_edges(
     edges: &mut Vec<(u32, u32)>,
     row: &Row,
     state: u32,
-    padding: u32,
+    symbols: PairSymbols,
 ) -> Result<(), Memory>
-    requires { 0 < padding }
-    ensures { OnOk result (edges.new.items ≡ edges.old.items ++ filter_map (tail_edge padding state) row.now) }
+    ensures { OnOk result (edges.new.items ≡ edges.old.items ++ filter_map (tail_edge symbols.n state) row.now) }
 {
     for (symbol, target) in row.as_slice() {
-        if first_of(padding, *symbol) == padding {
+        if symbols.pads_first(*symbol) {
             edges.push((*target, state))?;
         }
     }
     Ok(())
-}
-
-/// The number of the first of the pair that is a symbol.
-fn first_of(padding: u32, symbol: u32) -> u32
-    requires padding { 0 < padding }
-    requires symbol { 0 < symbol }
-    ensures { result ≡ first_of padding symbol }
-{
-    (symbol - 1) / padding + 1
 }

@@ -1,25 +1,33 @@
 //! From nondeterministic automata to deterministic ones, and the projection of pairs.
 //!
-//! The public contract: `determinise` gives a deterministic automaton of the same language by the subset
+//! The public contract: `determinise` returns a deterministic automaton of the same language by the subset
 //! construction, with one state for each set of states to which texts lead, and `exists` one of the words beside
 //! which an automaton of pairs accepts some word, of whatever length. Each answers `TooManyStates` exactly where
 //! there are more sets of states, to which texts lead, than the limit.
 //!
 //! The subset construction is a machine that `kb_explore` explores. A set of states is kept as the ascending list
-//! of their numbers, and its moves are those of its states, sorted.
+//! of their numbers, and its moves (transitions) are those of its states, sorted.
 //!
-//! `kb_fsa` and `kb_explore` stand below; the rational operations and the programs stand above.
+//! `kb_fsa`, `kb_reach` and `kb_explore` are below; the rational operations and the programs are above.
+//!
+//! # Where the proofs are
+//!
+//! - `Sets` and `Members`: sets of numbers as ascending lists, and what is a member.
+//! - `Targets` and `Groups`: where moves by a symbol lead, and moves in groups by symbols.
+//! - `Determinised`: the subset construction goes to exactly the sets of states to which texts lead.
+//! - `FirstWordLemmas`, `Endings`, `FirstWordTexts`, `Projections`: the automaton of first words, and its language.
+//! - `PlainTexts`: automata over plain alphabets read words.
 #![tactic(auto)]
 
 mod determined;
 mod first_words;
 mod nfa;
 mod projection;
+mod state_set;
 mod subset;
-#[cfg(test)]
-mod tests;
 
 pub use determined::determinise;
 pub use kb_explore::Det;
-pub use nfa::{Branches, Nfa};
+pub use nfa::{Branches, Nfa, moves_at};
 pub use projection::exists;
+pub use state_set::StateSet;

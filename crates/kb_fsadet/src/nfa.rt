@@ -1,7 +1,7 @@
 //! Nondeterministic automata.
 
 ghost use Rattle.std.specs.Prelude.{◌≡◌, [], ◌∷◌, ◌++◌, IfOk, OnOk, OnErr};
-ghost use Rattle.kb_fsadet.specs.Nondeterministic.{IsNondeterministic, moves_at, accepts_at};
+ghost use Rattle.kb_fsadet.specs.Nondeterministic.{IsNondeterministic, automaton_of, moves_at, accepts_at};
 ghost use Rattle.kb_fsadet.specs.SubsetConstruction.{moves_of_each};
 
 use kb_fsa::Alphabet;
@@ -61,13 +61,15 @@ pub struct Nfa {
 }
 
 impl Model for Nfa {
-    ghost use Rattle.kb_fsadet.specs.Nondeterministic.{Nondeterministic, IsNondeterministic};
+    ghost use Rattle.kb_fsadet.specs.Nondeterministic.{Nondeterministic, IsNondeterministic, automaton_of};
 
     ghost Value = { Nondeterministic };
 
-    ghost view = { λ nfa. record { alphabet = nfa.alphabet; initial = nfa.initial.items; rows = nfa.rows.items; accepting = nfa.accepting.items } };
+    ghost view = { λ nfa.
+        automaton_of nfa.alphabet nfa.initial.items nfa.rows.items nfa.accepting.items };
 
-    ghost invariant = { λ nfa. IsNondeterministic (record { alphabet = nfa.alphabet; initial = nfa.initial.items; rows = nfa.rows.items; accepting = nfa.accepting.items }) };
+    ghost invariant = { λ nfa. IsNondeterministic
+        (automaton_of nfa.alphabet nfa.initial.items nfa.rows.items nfa.accepting.items) };
 }
 
 impl Nfa {
@@ -78,8 +80,9 @@ impl Nfa {
         rows: Vec<Branches>,
         accepting: Vec<bool>,
     ) -> Nfa
-        requires { IsNondeterministic (record { alphabet = alphabet; initial = initial.items; rows = rows.items; accepting = accepting.items }) }
-        ensures { result ≡ record { alphabet = alphabet; initial = initial.items; rows = rows.items; accepting = accepting.items } }
+        requires { IsNondeterministic
+            (automaton_of alphabet initial.items rows.items accepting.items) }
+        ensures { result ≡ automaton_of alphabet initial.items rows.items accepting.items }
     {
         Nfa {
             alphabet,
@@ -143,8 +146,8 @@ impl Nfa {
     }
 }
 
-/// The moves of a state; none where there is no such state.
-fn moves_at(rows: &[Branches], state: u32) -> &[(u32, u32)]
+/// The moves of a state, by those of states 1, 2, and so on; none where there is no such state.
+pub fn moves_at(rows: &[Branches], state: u32) -> &[(u32, u32)]
     ensures { result.now ≡ moves_at rows.now state }
 {
     match state.checked_sub(1) {

@@ -17,9 +17,11 @@ use std::alloc::Global;
 pub fn exists(alloc: Global, pairs: &Fsa, limit: u32) -> Result<Fsa, Det>
     requires { (n : ℕ) × (pairs.now.alphabet ≡ Pair n) }
     ensures language { IfOk result (IsProjection pairs.now) }
-    ensures alphabet { IfOk result (λ words. words.alphabet ≡ Plain (generators pairs.now.alphabet)) }
+    ensures alphabet { IfOk result (λ words. words.alphabet
+        ≡ Plain (generators pairs.now.alphabet)) }
     ensures few { IsOk result → ¬ CountedExists pairs.now limit }
-    ensures many { (most : ℕ) → result ≡ Err (TooManyStates most) → (most ≡ limit) × CountedExists pairs.now limit }
+    ensures many { (most : ℕ) → result ≡ Err (TooManyStates most)
+        → (most ≡ limit) × CountedExists pairs.now limit }
 {
     let words = first_words(alloc, pairs)?;
     determinise(alloc, &words, limit)

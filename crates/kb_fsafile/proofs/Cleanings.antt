@@ -12,7 +12,7 @@ use Rattle.kb_reach.specs.Graphs.{source, end, IsMarked}
 use Rattle.kb_reach.specs.Moves.{AreBackward}
 use Rattle.kb_reach.proofs.MoveLemmas.{edge_from_step}
 use Rattle.kb_fsafile.specs.Misplaced.{IsMisplaced, IsDropped, IsWithoutMisplaced}
-use Rattle.kb_fsafile.specs.Cleaning.{AreReached, is_misplaced, IsAccepted, is_dropped, kept_rows}
+use Rattle.kb_fsafile.specs.Cleaning.{AreReachMarks, is_misplaced, IsAccepted, is_dropped, kept_rows}
 use Rattle.kb_fsafile.proofs.PaddedTexts.{IsSymbol, IsInPlace, in_place_from_padded, padded_from_in_place}
 use Rattle.kb_fsafile.proofs.PaddingReach.{misplaced_from_true, true_from_misplaced}
 
@@ -47,7 +47,7 @@ accepted_leads table text accepts none =
 
 module _ (n : ℕ) (table : Table) (edges : List (ℕ × ℕ)) (symbols : List ℕ) (is : IsTable table)
     (backward : AreBackward table (suc (length table.rows)) 0 edges symbols) (marks first second live : List Bool)
-    (reached : AreReached n table marks first second) (are_live : (state : ℕ) → IsMarked live state ↔ IsLive table state) where
+    (reached : AreReachMarks n table marks first second) (are_live : (state : ℕ) → IsMarked live state ↔ IsLive table state) where
   -- a misplaced move that leads to acceptance lies on an accepted text that isn't padded
   pub unpadded_text : (place : ℕ) → IsAccepted n edges symbols marks first second live place
       → (text : List ℕ) × AcceptsFrom table table.initial text × ¬ IsPadded n text
@@ -222,7 +222,7 @@ module _ (dropped : ℕ → ℕ → Bool) where
 
 -- ---- the table without the moves that are dropped
 
-module _ (n : ℕ) (table : Table) (marks first second : List Bool) (is : IsTable table) (reached : AreReached n table marks first second) where
+module _ (n : ℕ) (table : Table) (marks first second : List Bool) (is : IsTable table) (reached : AreReachMarks n table marks first second) where
   goes : ℕ → ℕ → Bool
   goes = is_dropped n marks first second
 

@@ -5,13 +5,13 @@ use Rattle.kb_record.specs.Tree.{Value, Fields}
 use Rattle.kb_record.specs.declared.tree.Value as code
 use Rattle.kb_fields.specs.Fields.{fields_view, value_of}
 use Rattle.kb_fsafile.specs.Holds.{HoldsRecord, IsPairSize}
-use Rattle.kb_fsafile.specs.Faults.{name_of, Need, StandsIn, IsOfKind, IsAlphabetOf, IsBaseOf, HasFieldFault}
+use Rattle.kb_fsafile.specs.Faults.{name_of, Need, StandsIn, HasFieldKind, IsAlphabetOf, IsBaseOf, HasFieldFault}
 use Rattle.kb_fsafile.specs.declared.error.Field.{Field}
 use Rattle.kb_fsafile.specs.declared.error.FsaError.TheVariants as errors
 use Rattle.std.specs.Prelude.{codes}
 
 pub wrong_kind : (given owner : Fields) (field : Field) (need : Need) (value : Value) → StandsIn given field owner need
-    → value_of owner (name_of field) ≡ Some value → ¬ IsOfKind owner field value → HasFieldFault given (errors.WrongKind field)
+    → value_of owner (name_of field) ≡ Some value → ¬ HasFieldKind owner field value → HasFieldFault given (errors.WrongKind field)
 wrong_kind given owner field need value stands found other = (owner, need, value, stands, found, other)
 
 -- a record's fields, taken as a slice

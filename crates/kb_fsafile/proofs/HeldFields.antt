@@ -9,7 +9,7 @@ use Rattle.kb_fsa.specs.declared.alphabet.Alphabet.{Alphabet}
 use Rattle.kb_fsa.specs.Table.{Moves, Table}
 use Rattle.kb_fsafile.specs.Kinds.{count_value, list_of_numbers}
 use Rattle.kb_fsafile.specs.Holds.{HoldsRecord, HoldsString, HoldsCount, IsDense, HasNoDefault, HoldsNames, HoldsPairs, HoldsAlphabet, HoldsStates, HoldsInitial, HoldsRow, HoldsRows, HoldsTable, format_name}
-use Rattle.kb_fsafile.specs.Faults.{name_of, IsAlphabetOf, IsBaseOf, HasNamesOf, Need, needed, optional, StandsIn, IsRowKind, IsOfKind, ListsNames, ListsRows, HasSize}
+use Rattle.kb_fsafile.specs.Faults.{name_of, IsAlphabetOf, IsBaseOf, HasNamesOf, Need, needed, optional, StandsIn, IsRowKind, HasFieldKind, ListsNames, ListsRows, HasSize}
 use Rattle.kb_fsafile.specs.declared.format.Format.{Format}
 use Rattle.kb_fsafile.specs.declared.format.Format.TheVariants.{Dense, Sparse}
 use Rattle.kb_fsafile.specs.declared.error.Field.{Field}
@@ -69,8 +69,8 @@ initial_numbers given count _ (HoldsInitial.one is positive within) = inr (is, (
 
 -- a field that must be there is, and of its kind; another is of its kind where it is there
 abbrev IsHeld : Fields → Field → Need → Type 0
-IsHeld owner field needed = (value : Value) × (value_of owner (name_of field) ≡ Some value) × IsOfKind owner field value
-IsHeld owner field optional = (value : Value) → value_of owner (name_of field) ≡ Some value → IsOfKind owner field value
+IsHeld owner field needed = (value : Value) × (value_of owner (name_of field) ≡ Some value) × HasFieldKind owner field value
+IsHeld owner field optional = (value : Value) → value_of owner (name_of field) ≡ Some value → HasFieldKind owner field value
 
 pub dense_format : (letters : Fields) (value : Value) → IsDense (value_of letters (codes "format")) → value_of letters (codes "format") ≡ Some value
     → value ≡ string_value (codes "dense")
@@ -224,9 +224,9 @@ module _ (given : Fields) (names : List (List ℕ)) (alphabet : Alphabet) (read 
   none_missing field owner stands missing = let held = is_held field owner needed stands in let never = sym missing ∙ held.1 in cc
 
   pub none_of_other_kind : (field : Field) (owner : Fields) (need : Need) (value : Value) → StandsIn given field owner need → value_of owner (name_of field) ≡ Some value
-      → IsOfKind owner field value
+      → HasFieldKind owner field value
   none_of_other_kind field owner need value stands is = go need (is_held field owner need stands)
     where
-      go : (n : Need) → IsHeld owner field n → IsOfKind owner field value
-      go needed held = let P : Value → Type 0 = λ v. IsOfKind owner field v in subst P (some_value (sym held.1 ∙ is)) held.2
+      go : (n : Need) → IsHeld owner field n → HasFieldKind owner field value
+      go needed held = let P : Value → Type 0 = λ v. HasFieldKind owner field v in subst P (some_value (sym held.1 ∙ is)) held.2
       go optional held = held value is

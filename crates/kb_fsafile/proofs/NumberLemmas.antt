@@ -8,7 +8,7 @@ use Rattle.kb_record.specs.Tree.{Value, number_value, string_value, record_value
 use Rattle.kb_record.specs.Tree as tree
 use Rattle.kb_fields.proofs.ListingLemmas.{list_same}
 use Rattle.kb_fsafile.specs.Kinds.{list_of_numbers, StandsFor, IsNumbers, IsNumberOf}
-use Rattle.kb_fsafile.specs.Reading.{AreStates, IsAmong, StandsForStates}
+use Rattle.kb_fsafile.specs.Reading.{AreStates, IsAcceptingState, StandsForStates}
 use Rattle.kb_fsafile.specs.declared.accepting.Accepting.{Accepting}
 use Rattle.kb_fsafile.specs.declared.accepting.Accepting.TheVariants.{Listed, Range}
 
@@ -213,7 +213,7 @@ no_numbers (record_value fs) range list kind = kind
 no_numbers (word_value word) range list kind = kind
 
 -- the states that the value stands for are in range
-pub among_within : (count : ℕ) (value : Value) (accepting : Accepting) → StandsForStates count value accepting → (state : ℕ) → IsAmong accepting state → (0 < state) × (state ≤ count)
+pub among_within : (count : ℕ) (value : Value) (accepting : Accepting) → StandsForStates count value accepting → (state : ℕ) → IsAcceptingState accepting state → (0 < state) × (state ≤ count)
 among_within count value accepting stands state among =
     let is = stands.within (pos state) ((stands.each state).0 among) in
     let same = pos-injective is.is_number in

@@ -1,12 +1,12 @@
 -- A text is padded exactly where none of its symbols is out of place behind what precedes it.
-use Rattle.std.proofs.Common.{◌≡◌, ℕ, suc, ◌+◌, ◌*◌, ◌%◌, ◌<◌, ◌≤◌, max, List, [], ◌∷◌, ◌++◌, length, get_or, take, drop, All, Any, refl, sym, ap, ◌∙◌, subst, inl, inr, arith, length-append}
-use Rattle.std.proofs.Math.Nat.{mul_comm}
+use Rattle.std.proofs.Common.{◌≡◌, ℕ, suc, ◌+◌, ◌*◌, ◌<◌, ◌≤◌, max, List, [], ◌∷◌, ◌++◌, length, get_or, take, drop, All, Any, refl, sym, ap, ◌∙◌, subst, inl, inr, arith, length-append}
 use Rattle.std.proofs.lemmas.Bool.{cases_eq, cases_lt}
 use Rattle.std.proofs.lemmas.List.{get_or_past, get_or_at, get_or_append_left, get_or_default, drop_more, take-append-drop}
 use Rattle.std.proofs.lemmas.List.Elements.{All-head, All-tail, All-get_or}
 use Rattle.kb_word.specs.Relations.{IsOver}
-use Rattle.kb_fsa.specs.Padding.{pair_symbol, padded, IsPadded, IsTextOfPair}
-use Rattle.kb_fsa.proofs.PairSymbols.{IsLetter, IsPairSymbol, square, last_row, before_last_row, last_column, before_last_column, SymbolCase, two_letters, first_padded, second_padded, symbol_case}
+use Rattle.kb_fsa.specs.PairSymbols.{pair_symbol, first_letter, second_letter}
+use Rattle.kb_fsa.specs.Padding.{padded, IsPadded, IsTextOfPair}
+use Rattle.kb_fsa.proofs.PairSymbolLaws.{IsLetter, IsPairSymbol, square, last_row, first_letter-pair_symbol, second_letter-pair_symbol, SymbolCase, two_letters, first_padded, second_padded, symbol_case}
 use Rattle.kb_fsa.proofs.Paddings.{length-padded, get_or-padded, letter_or_padding, IsPadded-from_pair, IsTextOfPair-nil, IsTextOfPair-first, IsTextOfPair-second, IsPadded-letters}
 use Rattle.kb_fsafile.specs.Misplaced.{PadsFirst, PadsSecond, IsOutOfPlace}
 
@@ -16,20 +16,25 @@ use Rattle.kb_fsafile.specs.Misplaced.{PadsFirst, PadsSecond, IsOutOfPlace}
 abbrev pub IsSymbol : ℕ → ℕ → Type 0
 IsSymbol n symbol = (0 < symbol) × (symbol ≤ (n + 1) * (n + 1))
 
+-- the number is that of a letter or the padding
+abbrev pub IsColumn : ℕ → ℕ → Type 0
+IsColumn n j = (0 < j) × (j ≤ n + 1)
+
 -- symbols with padding on the first track are those of the last row, and on the second those of the last column
-PadsFirst-last_row : (n symbol j : ℕ) → 0 < j → symbol ≡ pair_symbol n (n + 1) j → PadsFirst n symbol
-PadsFirst-last_row n symbol j some is = let row = last_row n j in let turned = mul_comm (n + 1) n in omega arith
+PadsFirst-last_row : (n symbol j : ℕ) → IsColumn n j → symbol ≡ pair_symbol n (n + 1) j → PadsFirst n symbol
+PadsFirst-last_row n symbol j column is = ap (first_letter n) is ∙ first_letter-pair_symbol n (n + 1) j (omega arith) column
 
-letter_on_first : (n symbol i j : ℕ) → IsLetter n i → j ≤ n + 1 → symbol ≡ pair_symbol n i j → ¬ PadsFirst n symbol
-letter_on_first n symbol i j letter low is pads =
-    let before = before_last_row n i j letter low in let turned = mul_comm (n + 1) n in let no : ⊥ = omega arith in no
+letter_on_first : (n symbol i j : ℕ) → IsLetter n i → IsColumn n j → symbol ≡ pair_symbol n i j → ¬ PadsFirst n symbol
+letter_on_first n symbol i j letter column is pads =
+    let same : i ≡ n + 1 = sym (ap (first_letter n) is ∙ first_letter-pair_symbol n i j letter.0 column) ∙ pads in omega (arith, letter.1)
 
-PadsSecond-last_column : (n symbol i : ℕ) → 0 < i → symbol ≡ pair_symbol n i (n + 1) → PadsSecond n symbol
-PadsSecond-last_column n symbol i some is = ap (λ s. s % (n + 1)) is ∙ last_column n i some
+PadsSecond-last_column : (n symbol i : ℕ) → symbol ≡ pair_symbol n i (n + 1) → PadsSecond n symbol
+PadsSecond-last_column n symbol i is = ap (second_letter n) is ∙ second_letter-pair_symbol n i (n + 1) (omega arith, omega arith)
 
 letter_on_second : (n symbol i j : ℕ) → IsLetter n j → symbol ≡ pair_symbol n i j → ¬ PadsSecond n symbol
 letter_on_second n symbol i j letter is pads =
-    let same : j ≡ 0 = sym (before_last_column n i j letter.1) ∙ sym (ap (λ s. s % (n + 1)) is) ∙ pads in omega (arith, letter.0)
+    let same : j ≡ n + 1 =
+    sym (ap (second_letter n) is ∙ second_letter-pair_symbol n i j (letter.0, omega (arith, letter.1))) ∙ pads in omega (arith, letter.1)
 
 -- a symbol in place isn't two paddings, which are out of place behind any text
 letters_in_place : (n : ℕ) (front : List ℕ) (symbol : ℕ) → IsSymbol n symbol → ¬ IsOutOfPlace n front symbol → IsPairSymbol n symbol
@@ -40,8 +45,8 @@ letters_in_place n front symbol is in_place =
           let row = last_row n (n + 1) in
           let paddings : symbol ≡ pair_symbol n (n + 1) (n + 1) = omega arith in
           absurd (in_place (inr (inr (
-            PadsFirst-last_row n symbol (n + 1) (omega arith) paddings,
-            PadsSecond-last_column n symbol (n + 1) (omega arith) paddings,
+            PadsFirst-last_row n symbol (n + 1) (omega arith, omega arith) paddings,
+            PadsSecond-last_column n symbol (n + 1) paddings,
           ))))
       | inr other ↦ let most = is.1 in (is.0, omega arith)
     ]
@@ -60,7 +65,7 @@ module _ (n : ℕ) (u v : List ℕ) (first : IsOver n u) (second : IsOver n v) (
         | inl inside ↦
             let letter = All-get_or (IsLetter n) u place (n + 1) inside first in
             let y = letter_or_padding n v place second in
-            absurd (letter_on_first n (get_or (padded n u v) place 0) (get_or u place (n + 1)) (get_or v place (n + 1)) letter y.1
+            absurd (letter_on_first n (get_or (padded n u v) place 0) (get_or u place (n + 1)) (get_or v place (n + 1)) letter y
             (get_or-padded n u v place 0 within) pads)
         | inr past ↦ past
       ]
@@ -77,12 +82,12 @@ module _ (n : ℕ) (u v : List ℕ) (first : IsOver n u) (second : IsOver n v) (
 
   pads_first : length u ≤ place → PadsFirst n (get_or (padded n u v) place 0)
   pads_first past =
-      PadsFirst-last_row n (get_or (padded n u v) place 0) (get_or v place (n + 1)) (letter_or_padding n v place second).0
+      PadsFirst-last_row n (get_or (padded n u v) place 0) (get_or v place (n + 1)) (letter_or_padding n v place second)
       (get_or-padded n u v place 0 within ∙ ap (λ i. pair_symbol n i (get_or v place (n + 1))) (get_or_past u place (n + 1) past))
 
   pads_second : length v ≤ place → PadsSecond n (get_or (padded n u v) place 0)
   pads_second past =
-      PadsSecond-last_column n (get_or (padded n u v) place 0) (get_or u place (n + 1)) (letter_or_padding n u place first).0
+      PadsSecond-last_column n (get_or (padded n u v) place 0) (get_or u place (n + 1))
       (get_or-padded n u v place 0 within ∙ ap (λ j. pair_symbol n (get_or u place (n + 1)) j) (get_or_past v place (n + 1) past))
 
 pub in_place_from_padded : (n : ℕ) (text : List ℕ) → IsPadded n text → IsInPlace n text
@@ -170,14 +175,14 @@ module _ (n symbol : ℕ) (text : List ℕ) (each : All (IsSymbol n) (symbol ∷
   unfolding OfSecond
   behind_first pads k d within = by (case_at k d within)
     where
-      letter_here : (x y : ℕ) → IsLetter n x → y ≤ n + 1 → get_or text k d ≡ pair_symbol n x y → ⊥
+      letter_here : (x y : ℕ) → IsLetter n x → IsColumn n y → get_or text k d ≡ pair_symbol n x y → ⊥
       letter_here x y letter low is =
           not_out k d within (inl ((0, symbol, omega arith, refl, pads), letter_on_first n (get_or text k d) x y letter low is))
 
       by : SymbolCase n (get_or text k d) → (y : ℕ) × IsLetter n y × (get_or text k d ≡ pair_symbol n (n + 1) y)
-      by (two_letters x y one two is) = absurd (letter_here x y one (omega (arith, two.1)) is)
+      by (two_letters x y one two is) = absurd (letter_here x y one (two.0, omega (arith, two.1)) is)
       by (first_padded y letter is) = (y, letter, is)
-      by (second_padded x letter is) = absurd (letter_here x (n + 1) letter (omega arith) is)
+      by (second_padded x letter is) = absurd (letter_here x (n + 1) letter (omega arith, omega arith) is)
 
   behind_second : PadsSecond n symbol → All (OfFirst n) text
   unfolding OfFirst
@@ -213,8 +218,8 @@ padded_from_in_place n (symbol ∷ text) each in_place =
     by : SymbolCase n symbol → IsPadded n text → IsPadded n (symbol ∷ text)
     by (two_letters x y one two is) rest = IsPadded-letters one two is rest
     by (first_padded y letter is) rest =
-        let pads = PadsFirst-last_row n symbol y letter.0 is in
+        let pads = PadsFirst-last_row n symbol y (letter.0, omega (arith, letter.1)) is in
         IsPadded-from_pair (IsTextOfPair-second letter is (second_word n text (behind_first n symbol text each in_place pads)).1)
     by (second_padded x letter is) rest =
-        let pads = PadsSecond-last_column n symbol x letter.0 is in
+        let pads = PadsSecond-last_column n symbol x is in
         IsPadded-from_pair (IsTextOfPair-first letter is (first_word n text (behind_second n symbol text each in_place pads)).1)

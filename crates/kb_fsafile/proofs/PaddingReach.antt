@@ -1,9 +1,10 @@
 -- Marks of the states to which texts lead, texts with padding on a track among them.
-use Rattle.std.proofs.Common.{◌≡◌, ◌≢◌, ◌⊎◌, ◌↔◌, ℕ, suc, ◌+◌, ◌*◌, ◌<◌, Bool, true, false, not, ◌&&◌, ◌||◌, List, [], ◌∷◌, ◌++◌, length, get_or, set, replicate, map, All, Any, Contains, sym, ap, ◌∙◌, subst, inl, inr, arith, append-nil, append_assoc, length-append, length-set}
-use Rattle.std.proofs.lemmas.Bool.{cases_eq, cases_lt, true≢false, and_parts, and_from, or_cases, or_left, or_right, ltb-true, eqb-true, lt-ltb, eq-eqb, not-true, not_from_false, false_from_ne_true}
+use Rattle.std.proofs.Common.{◌≡◌, ◌≢◌, ◌⊎◌, ◌↔◌, ℕ, suc, ◌+◌, ◌<◌, Bool, true, false, not, ◌&&◌, ◌||◌, List, [], ◌∷◌, ◌++◌, length, get_or, set, replicate, map, All, Any, Contains, sym, ap, ◌∙◌, subst, inl, inr, arith, append-nil, append_assoc, length-append, length-set}
+use Rattle.std.proofs.lemmas.Bool.{cases_eq, cases_lt, true≢false, and_parts, and_from, or_cases, or_left, or_right, eqb-true, eq-eqb, not-true, not_from_false, false_from_ne_true}
 use Rattle.std.proofs.lemmas.List.{length-map, length-replicate, get_or-replicate, get_or_past, get_or-map, get_or_at, get_or_append_left, get_or_default}
 use Rattle.std.proofs.lemmas.List.Elements.{All-same, All-map}
 use Rattle.std.proofs.lemmas.List.Quantifiers.{Any-push}
+use Rattle.kb_fsa.specs.PairSymbols.{first_letter, second_letter}
 use Rattle.kb_fsa.specs.Table.{Table, IsTable, step, after, state_after}
 use Rattle.kb_fsa.proofs.Lookups.{after-append, after_none}
 use Rattle.kb_reach.specs.Graphs.{source, end, IsMarked, IsReached, at_seed, along}
@@ -11,7 +12,7 @@ use Rattle.kb_reach.specs.Moves.{AreBackward}
 use Rattle.kb_reach.proofs.MoveLemmas.{edge_from_step}
 use Rattle.kb_reach.proofs.Reaching.{marked_set, marked_kept, marked_before}
 use Rattle.kb_fsafile.specs.Misplaced.{IsMisplaced}
-use Rattle.kb_fsafile.specs.Cleaning.{Pads, pads, AreMet, AreReached, IsPaddedMove, AreTargets, is_out_of_place, is_misplaced}
+use Rattle.kb_fsafile.specs.Cleaning.{Pads, pads, AreMet, AreReachMarks, IsPaddedMove, ArePaddedTargets, is_out_of_place, is_misplaced}
 use Rattle.kb_fsafile.specs.declared.misplaced.Track.{Track}
 use Rattle.kb_fsafile.specs.declared.misplaced.Track.TheVariants.{First, Second}
 
@@ -35,12 +36,12 @@ none_of_none : (P : ℕ → Type 0) → ¬ Any P []
 none_of_none P (k, x, low, at, holds) = omega arith
 
 pub Pads-from_true : (track : Track) (n symbol : ℕ) → pads track n symbol ≡ true → Pads track n symbol
-Pads-from_true First n symbol is = ltb-true (n * (n + 1)) symbol is
-Pads-from_true Second n symbol is = eqb-true _ 0 is
+Pads-from_true First n symbol is = eqb-true (first_letter n symbol) (n + 1) is
+Pads-from_true Second n symbol is = eqb-true (second_letter n symbol) (n + 1) is
 
 pub true_from_Pads : (track : Track) (n symbol : ℕ) → Pads track n symbol → pads track n symbol ≡ true
-true_from_Pads First n symbol is = lt-ltb (n * (n + 1)) symbol is
-true_from_Pads Second n symbol is = eq-eqb _ 0 is
+true_from_Pads First n symbol is = eq-eqb (first_letter n symbol) (n + 1) is
+true_from_Pads Second n symbol is = eq-eqb (second_letter n symbol) (n + 1) is
 
 -- the moves forwards
 abbrev turn : ℕ × ℕ → ℕ × ℕ
@@ -178,7 +179,7 @@ module _ (table : Table) (edges : List (ℕ × ℕ)) (symbols : List ℕ) (is : 
 
   -- those to which texts with padding on a track lead
   pub padded_met : (track : Track) (n : ℕ) (marks targets found : List Bool) → AreMet table (λ _. Unit {0}) marks
-      → AreTargets track n edges symbols marks (length edges) targets → length found ≡ length targets
+      → ArePaddedTargets track n edges symbols marks (length edges) targets → length found ≡ length targets
       → ((state : ℕ) → IsMarked found state ↔ IsReached (turned edges) targets state) → AreMet table (Any (Pads track n)) found
   padded_met track n marks targets found met are_targets one_each reached =
       met_where_reached (Any (Pads track n)) targets seeded (λ text symbol any. any_longer (Pads track n) text (symbol ∷ []) any)
@@ -224,7 +225,7 @@ module _ (table : Table) (edges : List (ℕ × ℕ)) (symbols : List ℕ) (is : 
 
 -- ---- misplaced moves
 
-module _ (n : ℕ) (table : Table) (marks first second : List Bool) (reached : AreReached n table marks first second) where
+module _ (n : ℕ) (table : Table) (marks first second : List Bool) (reached : AreReachMarks n table marks first second) where
   pub misplaced_from_true : (state symbol : ℕ) → step table state symbol ≢ 0 → is_misplaced n marks first second state symbol ≡ true
       → IsMisplaced n table state symbol
   misplaced_from_true state symbol some is =
@@ -299,9 +300,9 @@ module _ (n : ℕ) (table : Table) (marks first second : List Bool) (reached : A
 
 -- ---- one move after another
 
-pub AreTargets-none : (track : Track) (n : ℕ) (edges : List (ℕ × ℕ)) (symbols : List ℕ) (marks : List Bool)
-    → AreTargets track n edges symbols marks 0 (replicate (length marks) false)
-AreTargets-none track n edges symbols marks = record {
+pub ArePaddedTargets-none : (track : Track) (n : ℕ) (edges : List (ℕ × ℕ)) (symbols : List ℕ) (marks : List Bool)
+    → ArePaddedTargets track n edges symbols marks 0 (replicate (length marks) false)
+ArePaddedTargets-none track n edges symbols marks = record {
   one_each = length-replicate (length marks) false;
   sound = λ state marked. absurd (true≢false (sym marked ∙ none_marked (length marks) state));
   complete = λ place less. absurd (let no : ⊥ = omega arith in no);
@@ -315,11 +316,11 @@ AreTargets-none track n edges symbols marks = record {
         ]
 
 module _ {track : Track} {n : ℕ} {edges : List (ℕ × ℕ)} {symbols : List ℕ} {marks : List Bool} {done : ℕ} {targets : List Bool}
-    (before : AreTargets track n edges symbols marks done targets) where
+    (before : ArePaddedTargets track n edges symbols marks done targets) where
   -- the target of a padded move is marked
-  pub AreTargets-marked : (target : ℕ) → source edges done ≡ target → target < length targets → IsPaddedMove track n edges symbols marks done
-      → AreTargets track n edges symbols marks (done + 1) (set targets target true)
-  AreTargets-marked target is within padded = record {
+  pub ArePaddedTargets-marked : (target : ℕ) → source edges done ≡ target → target < length targets → IsPaddedMove track n edges symbols marks done
+      → ArePaddedTargets track n edges symbols marks (done + 1) (set targets target true)
+  ArePaddedTargets-marked target is within padded = record {
     one_each = length-set targets target true ∙ before.one_each;
     sound = λ state marked. elim (cases_eq state target) [
       | inl same ↦ (done, (omega arith, (is ∙ sym same, padded)))
@@ -337,8 +338,8 @@ module _ {track : Track} {n : ℕ} {edges : List (ℕ × ℕ)} {symbols : List �
   }
 
   -- another's is not
-  pub AreTargets-passed : ¬ IsPaddedMove track n edges symbols marks done → AreTargets track n edges symbols marks (done + 1) targets
-  AreTargets-passed other = record {
+  pub ArePaddedTargets-passed : ¬ IsPaddedMove track n edges symbols marks done → ArePaddedTargets track n edges symbols marks (done + 1) targets
+  ArePaddedTargets-passed other = record {
     one_each = before.one_each;
     sound = λ state marked.
         let move = before.sound state marked in

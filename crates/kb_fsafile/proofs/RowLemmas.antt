@@ -17,13 +17,13 @@ use Rattle.std.proofs.lemmas.Map.Keys.{below_from_sorted}
 use Rattle.kb_fsa.specs.Table.{Moves, IsRow, Ascends, lookup, target}
 use Rattle.kb_fsa.proofs.Lookups.{lookup_here, lookup_there, entry_from_lookup, lookup-push_same, lookup-push_other}
 use Rattle.kb_fsafile.specs.Kinds.{numbered_from}
-use Rattle.kb_fsafile.specs.RowsRead.{moves_among, AreTargets, HasEntries, IsSparseRow}
+use Rattle.kb_fsafile.specs.RowsRead.{moves_among, AreRowTargets, HasEntries, IsSparseRow}
 use Rattle.kb_fsafile.proofs.MoveLemmas.{target_among, row_among, numbered-append}
 
 -- one more target
 pub targets_more : (count : ℕ) (numbers : List ℤ) (k : ℕ) (z : ℤ) (moves new : List (ℕ × ℕ)) (symbol t : ℕ) → k < length numbers → z ≡ get_or numbers k z
-    → AreTargets count (take k numbers) moves → symbol ≡ k + 1 → z ≡ pos t → t ≤ count → new ≡ moves ++ moves_among ((symbol, t) ∷ [])
-    → AreTargets count (take (k + 1) numbers) new
+    → AreRowTargets count (take k numbers) moves → symbol ≡ k + 1 → z ≡ pos t → t ≤ count → new ≡ moves ++ moves_among ((symbol, t) ∷ [])
+    → AreRowTargets count (take (k + 1) numbers) new
 targets_more count numbers k z moves new symbol t within at are next is small more = record {
   targets = are.targets ++ t ∷ [];
   same = take_more numbers k z within ∙ (ap (λ (ns : List ℤ). ns ++ get_or numbers k z ∷ []) are.same

@@ -17,7 +17,7 @@ use Rattle.kb_fsafile.specs.Kinds.{list_of_numbers, list_of_entries, numbered_fr
 use Rattle.kb_fsafile.specs.Holds.{HoldsRecord, HoldsString, HoldsStates, HasNoDefault, HoldsRow, HoldsRows, HoldsEntries, format_name}
 use Rattle.std.specs.Prelude.{codes}
 use Rattle.kb_fsafile.specs.Faults.{needed, transitions_field, IsRowKind, ListsRows, HasSize, HasFieldFault}
-use Rattle.kb_fsafile.specs.RowsRead.{HasRows, IsWithin, IsRowAt, AreRowsAt, HasRowAt, AreTargets, IsSparseRow}
+use Rattle.kb_fsafile.specs.RowsRead.{HasRows, IsWithin, IsRowAt, AreRowsAt, HasRowAt, AreRowTargets, IsSparseRow}
 use Rattle.kb_fsafile.specs.declared.format.Format.{Format}
 use Rattle.kb_fsafile.specs.declared.format.Format.TheVariants.{Dense, Sparse}
 use Rattle.kb_fsafile.specs.declared.error.Field.TheVariants as kinds
@@ -37,7 +37,7 @@ other_row_kind given format size count row at other =
 
 -- the row of targets for each symbol
 pub dense_row_at : (size count : ℕ) (numbers : List ℤ) (here : Option Value) (row : Moves) → here ≡ Some (list_value (list_of_numbers numbers)) → length numbers ≡ size
-    → AreTargets count numbers row → IsRowAt size count Dense here row
+    → AreRowTargets count numbers row → IsRowAt size count Dense here row
 dense_row_at size count numbers here row stands full are = record {
   value = list_value (list_of_numbers numbers);
   stands = stands;

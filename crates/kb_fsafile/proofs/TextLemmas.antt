@@ -15,7 +15,7 @@ use Rattle.kb_fields.specs.Fields.{value_of, bare_name, HasFieldTwice}
 use Rattle.kb_fsa.proofs.Lookups.{lookup_from_target, entry_from_lookup, All-moves_of, IsRow-moves_of, after_none}
 use Rattle.kb_fsafile.specs.Holds.{HoldsCount, HoldsAlphabet, plain, pairs, HoldsStates, HoldsInitial, HoldsAccepting, HoldsTable}
 use Rattle.kb_fsafile.specs.Faults.{HasSize, HasFieldFault, HasFsaFault}
-use Rattle.kb_fsafile.specs.Reading.{HasLetters, IsAmong, HasAcceptingStates}
+use Rattle.kb_fsafile.specs.Reading.{HasLetters, IsAcceptingState, HasAcceptingStates}
 use Rattle.kb_fsafile.specs.RowsRead.{HasRows, HasTable, most_symbols, IsCleaningFault}
 use Rattle.kb_fsafile.specs.declared.accepting.Accepting.{Accepting}
 use Rattle.kb_fsafile.specs.declared.error.FsaError.{FsaError}
@@ -83,7 +83,7 @@ words_over n table state (symbol ∷ text) is symbols some =
 
 -- which states accept
 pub accepting_held : (given : Fields) (count : ℕ) (accepting : Accepting) (answers : List Bool) → HasAcceptingStates given count accepting → length answers ≡ count
-    → ((place : ℕ) → IsTrue (get_or answers place false) ↔ IsAmong accepting (suc place)) → HoldsAccepting given count answers
+    → ((place : ℕ) → IsTrue (get_or answers place false) ↔ IsAcceptingState accepting (suc place)) → HoldsAccepting given count answers
 accepting_held given count accepting answers has all each = record {
   value = has.value;
   holds = has.holds;
@@ -106,7 +106,7 @@ table_of_rows given size count state rows answers has within all = record {
 
 pub table_held : (given : Fields) (size count state : ℕ) (rows : List Moves) (accepting : Accepting) (answers : List Bool) → HoldsStates given count → HoldsInitial given count state
     → HasAcceptingStates given count accepting → HasRows given size count rows → length answers ≡ length rows
-    → ((place : ℕ) → IsTrue (get_or answers place false) ↔ IsAmong accepting (suc place))
+    → ((place : ℕ) → IsTrue (get_or answers place false) ↔ IsAcceptingState accepting (suc place))
     → HasTable given size (record { initial = state; rows = rows; accepting = answers })
 table_held given size count state rows accepting answers counted initial accepts has all each =
     let S : ℕ → Type 0 = λ n. HoldsStates given n in

@@ -1,8 +1,7 @@
 -- The text of an automaton, piece by piece.
-use Rattle.std.proofs.Common.{◌≡◌, ◌≢◌, ℕ, suc, ◌+◌, ◌<◌, ◌≤◌, Bool, true, false, nat_le, ◌&&◌, if◌then◌else◌, List, [], ◌∷◌, ◌++◌, length, get_or, drop, map, pos, All, refl, sym, ap, ◌∙◌, subst, arith, append_assoc, append-nil}
+use Rattle.std.proofs.Common.{◌≡◌, ◌≢◌, ℕ, suc, ◌+◌, ◌<◌, ◌≤◌, Bool, true, false, nat_le, ◌&&◌, if◌then◌else◌, List, [], ◌∷◌, ◌++◌, length, get_or, drop, map, pos, refl, sym, ap, ◌∙◌, subst, arith, append_assoc, append-nil}
 use Rattle.std.specs.Prelude.{codes}
 use Rattle.std.specs.List.{list_all}
-use Rattle.std.specs.Option.{unwrap_or}
 use Rattle.std.proofs.lemmas.Bool.{and_from, le-leb}
 use Rattle.std.proofs.lemmas.List.{drop_more}
 use Rattle.kb_record.specs.Tree.{Value, range_value, string_value, record_value, list_value, Fields, no_fields, field}
@@ -10,12 +9,11 @@ use Rattle.kb_record.specs.Layout.{indent, line_of, line_of_more_places, are_lis
 use Rattle.kb_record.specs.Printing.{pieces, IsPrintedUpTo}
 use Rattle.kb_record.proofs.PrintedPieces.{pieces_go, pieces_end}
 use Rattle.kb_fields.specs.Fields.{bare_name, list_of_names}
-use Rattle.kb_fsa.specs.Table.{Moves, target, IsRow}
-use Rattle.kb_fsa.proofs.Lookups.{Ascends-tail, Ascends-head, lookup_here, lookup_there, lookup_below, target_some, target_none}
-use Rattle.std.proofs.lemmas.List.Elements.{All-cons, All-tail}
+use Rattle.kb_fsa.specs.Table.{Moves, IsRow, IsSplit, target}
+use Rattle.kb_fsa.proofs.RowSplits.{rest_of_split}
 use Rattle.kb_fsafile.specs.Kinds.{count_value, list_of_numbers}
 use Rattle.kb_fsafile.specs.Printed.{numbers_value, names_fields, states_fields, flags_value, targets_from, dense_rows, accepting_from, accepting_value}
-use Rattle.kb_fsafile.specs.Writing.{number_text, IsSplit, IsRowPrinted}
+use Rattle.kb_fsafile.specs.Writing.{number_text, IsRowPrinted}
 
 -- ---- lists on one line
 
@@ -91,40 +89,6 @@ accepting_passed accepting place {whole} {old} {before} {now} rejects within pri
 
 -- ---- rows
 
-pub split_here : (row left : Moves) (least : ℕ × ℕ) (symbol : ℕ) → IsRow row → row ≡ least ∷ left → least.0 ≡ symbol → IsSplit row symbol least.1 left
-split_here row left least symbol is whole same =
-    let up : IsRow (least ∷ left) = subst IsRow whole is in
-    let above = Ascends-head least left up.ascends in
-    let leads : target row symbol ≡ least.1 = ap (λ ms. target ms symbol) whole ∙ target_some (least ∷ left) symbol least.1 (lookup_here least left symbol same) in
-    record {
-      leads = sym leads;
-      is_row = record {
-        ascends = Ascends-tail least left up.ascends;
-        numbers = All-tail (λ (move : ℕ × ℕ). (0 < move.0) × (0 < move.1)) least left up.numbers;
-      };
-      above = λ k d h. (let more = above k d h in omega arith);
-      same = λ later more.
-          sym (ap (λ ms. target ms later) whole ∙ ap (λ o. unwrap_or o 0) (lookup_there least left later (λ e. omega arith)));
-    }
-
-pub split_none : (row : Moves) (symbol : ℕ) → IsRow row → All (λ move. symbol < move.0) row → IsSplit row symbol 0 row
-split_none row symbol is above = record {
-  leads = sym (target_none row symbol (lookup_below row symbol above));
-  is_row = is;
-  above = above;
-  same = λ later more. refl;
-}
-
-pub split_later : (row left : Moves) (least : ℕ × ℕ) (symbol : ℕ) → IsRow row → All (λ move. symbol ≤ move.0) row → row ≡ least ∷ left → least.0 ≢ symbol
-    → All (λ move. symbol < move.0) row
-split_later row left least symbol is low whole other =
-    let up : IsRow (least ∷ left) = subst IsRow whole is in
-    let lower : All (λ (move : ℕ × ℕ). symbol ≤ move.0) (least ∷ left) = subst (All (λ (move : ℕ × ℕ). symbol ≤ move.0)) whole low in
-    let first : symbol ≤ least.0 = lower 0 (0, 0) (omega arith) in
-    let more = Ascends-head least left up.ascends in
-    subst (All (λ (move : ℕ × ℕ). symbol < move.0)) (sym whole)
-    (All-cons (λ (move : ℕ × ℕ). symbol < move.0) least left (omega arith) (λ k d h. (let next = more k d h in omega arith)))
-
 pub row_begun : (row : Moves) (symbols : ℕ) (whole old before now : List ℕ) → IsRow row
     → IsPrintedUpTo number_text (codes ",") (codes "]") (targets_from row 1 symbols) whole old 0 before now → IsRowPrinted row 1 symbols row whole old before now
 row_begun row symbols whole old before now is printed = record {
@@ -139,15 +103,16 @@ pub row_next : {row left after_it : Moves} {symbol to columns : ℕ} {whole old 
     → mid ≡ now ++ before → next ≡ mid ++ number_text to
     → IsRowPrinted row (symbol + 1) columns after_it whole old (codes ",") next
 row_next {row} {left} {after_it} {symbol} {to} {columns} {whole} {old} {before} {now} mid next printed split e f =
-    let is : target row symbol ≡ to = sym (printed.same symbol (omega arith)) ∙ sym split.leads in
+    let rest = rest_of_split printed.is_row split in
+    let is : target row symbol ≡ to = sym (printed.same symbol (omega arith)) ∙ rest.here in
     let up : suc symbol ≡ symbol + 1 = omega arith in
     record {
       printed =
           let P : ℕ → Type 0 = λ s. IsPrintedUpTo number_text (codes ",") (codes "]") (targets_from row s columns) whole old 0 (codes ",") next in
           subst P up (pieces_next mid next printed.printed e (f ∙ ap (λ n. mid ++ number_text n) (sym is)));
-      is_row = split.is_row;
-      low = λ k d h. (let more = split.above k d h in omega arith);
-      same = λ later more. split.same later (omega arith) ∙ printed.same later (omega arith);
+      is_row = rest.is_row;
+      low = λ k d h. (let more = rest.above k d h in omega arith);
+      same = λ later more. sym (rest.others later (λ e. omega arith)) ∙ printed.same later (omega arith);
     }
 
 -- a dense row on a line of its own

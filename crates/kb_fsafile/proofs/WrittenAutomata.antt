@@ -13,7 +13,7 @@ use Rattle.kb_fsa.specs.Table.{Moves, IsRow, Table, IsTable, HasSymbols, target,
 use Rattle.kb_fsa.specs.Language.{Automaton, IsAutomaton, generators, symbols}
 use Rattle.kb_fsa.specs.Padding.{IsPadded}
 use Rattle.kb_fsa.proofs.Lookups.{lookup_here, lookup_there, lookup_nowhere, target_none, target_some, target_within, All-moves_of, IsRow-moves_of, accepting_positive, after-append}
-use Rattle.kb_fsa.proofs.PairSymbols.{square}
+use Rattle.kb_fsa.proofs.PairSymbolLaws.{square}
 use Rattle.kb_fsafile.specs.Kinds.{IsNumbers, StandsFor, IsNumberOf, numbered_from}
 use Rattle.kb_fsafile.specs.Misplaced.{IsDropped, IsMisplaced, IsWithoutMisplaced, IsCleaned}
 use Rattle.kb_fsafile.specs.Holds.{HoldsNames, HoldsAlphabet, HoldsInitial, HoldsAccepting, HoldsEntries, HoldsRow, HoldsRows, HoldsMoves, HoldsTable, HoldsAutomaton, IsPairSize}

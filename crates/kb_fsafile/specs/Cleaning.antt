@@ -1,6 +1,7 @@
 -- Dropping the misplaced moves of a table of pairs: which states texts lead to, and by which symbols.
-use Rattle.std.specs.Prelude.{◌≡◌, ◌≢◌, ℕ, suc, ◌+◌, ◌*◌, ◌%◌, ◌<◌, nat_lt, nat_eq, Bool, true, false, not, ◌&&◌, ◌||◌, List, [], ◌∷◌, length, get_or, Any}
+use Rattle.std.specs.Prelude.{◌≡◌, ◌≢◌, ℕ, suc, ◌+◌, ◌*◌, ◌<◌, nat_eq, Bool, true, false, not, ◌&&◌, ◌||◌, List, [], ◌∷◌, length, get_or, Any}
 use Rattle.std.specs.List.{filter}
+use Rattle.kb_fsa.specs.PairSymbols.{pads_first, pads_second}
 use Rattle.kb_fsa.specs.Table.{Moves, Table, state_after}
 use Rattle.kb_reach.specs.Graphs.{IsMarked, source, end}
 use Rattle.kb_fsafile.specs.Misplaced.{PadsFirst, PadsSecond}
@@ -13,8 +14,8 @@ Pads First n symbol = PadsFirst n symbol
 Pads Second n symbol = PadsSecond n symbol
 
 abbrev pub pads : Track → ℕ → ℕ → Bool
-pads First n symbol = nat_lt (n * (n + 1)) symbol
-pads Second n symbol = nat_eq (symbol % (n + 1)) 0
+pads First n symbol = pads_first n symbol
+pads Second n symbol = pads_second n symbol
 
 -- of no state and the states from 1 on, those are marked to which a text leads that meets the condition
 pub record AreMet (table : Table) (Meets : List ℕ → Type 0) (marks : List Bool) : Type 0 where
@@ -23,7 +24,7 @@ pub record AreMet (table : Table) (Meets : List ℕ → Type 0) (marks : List Bo
   pub complete : (text : List ℕ) → state_after table text ≢ 0 → Meets text → IsMarked marks (state_after table text)
 
 -- those to which texts lead, texts with padding on the first track, and texts with padding on the second
-pub record AreReached (n : ℕ) (table : Table) (marks first second : List Bool) : Type 0 where
+pub record AreReachMarks (n : ℕ) (table : Table) (marks first second : List Bool) : Type 0 where
   pub by_texts : AreMet table (λ _. Unit {0}) marks
   pub by_first : AreMet table (Any (PadsFirst n)) first
   pub by_second : AreMet table (Any (PadsSecond n)) second
@@ -34,7 +35,7 @@ pub record IsPaddedMove (track : Track) (n : ℕ) (edges : List (ℕ × ℕ)) (s
   pub is_padded : pads track n (get_or symbols place 0) ≡ true
 
 -- the targets of such moves are marked, as far as the first moves go
-pub record AreTargets (track : Track) (n : ℕ) (edges : List (ℕ × ℕ)) (symbols : List ℕ) (marks : List Bool) (done : ℕ) (targets : List Bool) : Type 0 where
+pub record ArePaddedTargets (track : Track) (n : ℕ) (edges : List (ℕ × ℕ)) (symbols : List ℕ) (marks : List Bool) (done : ℕ) (targets : List Bool) : Type 0 where
   pub one_each : length targets ≡ length marks
   pub sound : (state : ℕ) → IsMarked targets state
       → (place : ℕ) × ((place < done) × ((source edges place ≡ state) × IsPaddedMove track n edges symbols marks place))

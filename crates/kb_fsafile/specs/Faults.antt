@@ -89,21 +89,21 @@ IsTransitions table value = (places : Places) × (value ≡ list_value places)
     → (row : Value) × (value_at places k ≡ Some row) × IsRowKind format row)
 
 -- the value is of the kind that the field of the record holds
-abbrev pub IsOfKind : Fields → Field → Value → Type 0
-IsOfKind owner kinds.IsFsa value = value ≡ bare_name (codes "true")
-IsOfKind owner kinds.Alphabet value = (fields : Fields) × (value ≡ record_value fields)
-IsOfKind owner kinds.Type value = (text : List ℕ) × (value ≡ string_value text)
-IsOfKind owner kinds.Arity value = (z : ℤ) × (value ≡ number_value z)
-IsOfKind owner kinds.Base value = (fields : Fields) × (value ≡ record_value fields)
-IsOfKind owner kinds.Names value = (names : List (List ℕ)) × (value ≡ list_value (list_of_names names))
-IsOfKind owner kinds.Size value = (n : ℕ) × (value ≡ count_value n)
-IsOfKind owner kinds.Format value = (text : List ℕ) × (value ≡ string_value text)
-IsOfKind owner kinds.States value = (fields : Fields) × (value ≡ record_value fields)
-IsOfKind owner kinds.Initial value = (numbers : List ℤ) × (value ≡ list_value (list_of_numbers numbers))
-IsOfKind owner kinds.Accepting value = IsNumbers value
-IsOfKind owner kinds.Table value = (fields : Fields) × (value ≡ record_value fields)
-IsOfKind owner kinds.DefaultTarget value = (z : ℤ) × (value ≡ number_value z)
-IsOfKind owner kinds.Transitions value = IsTransitions owner value
+abbrev pub HasFieldKind : Fields → Field → Value → Type 0
+HasFieldKind owner kinds.IsFsa value = value ≡ bare_name (codes "true")
+HasFieldKind owner kinds.Alphabet value = (fields : Fields) × (value ≡ record_value fields)
+HasFieldKind owner kinds.Type value = (text : List ℕ) × (value ≡ string_value text)
+HasFieldKind owner kinds.Arity value = (z : ℤ) × (value ≡ number_value z)
+HasFieldKind owner kinds.Base value = (fields : Fields) × (value ≡ record_value fields)
+HasFieldKind owner kinds.Names value = (names : List (List ℕ)) × (value ≡ list_value (list_of_names names))
+HasFieldKind owner kinds.Size value = (n : ℕ) × (value ≡ count_value n)
+HasFieldKind owner kinds.Format value = (text : List ℕ) × (value ≡ string_value text)
+HasFieldKind owner kinds.States value = (fields : Fields) × (value ≡ record_value fields)
+HasFieldKind owner kinds.Initial value = (numbers : List ℤ) × (value ≡ list_value (list_of_numbers numbers))
+HasFieldKind owner kinds.Accepting value = IsNumbers value
+HasFieldKind owner kinds.Table value = (fields : Fields) × (value ≡ record_value fields)
+HasFieldKind owner kinds.DefaultTarget value = (z : ℤ) × (value ≡ number_value z)
+HasFieldKind owner kinds.Transitions value = IsTransitions owner value
 
 -- the names of letters that the text lists
 pub record ListsNames (given : Fields) (names : List (List ℕ)) : Type 0 where
@@ -181,7 +181,7 @@ pub record HasPaddingInside (given : Fields) : Type 0 where
 abbrev pub HasFieldFault : Fields → FsaError → Type 0
 HasFieldFault given (errors.MissingField field) = (owner : Fields) × StandsIn given field owner needed × (value_of owner (name_of field) ≡ None)
 HasFieldFault given (errors.WrongKind field) = (owner : Fields) × (need : Need) × (value : Value) × StandsIn given field owner need
-    × (value_of owner (name_of field) ≡ Some value) × ¬ IsOfKind owner field value
+    × (value_of owner (name_of field) ≡ Some value) × ¬ HasFieldKind owner field value
 HasFieldFault given (errors.FieldTwice name) = HasFieldTwice (record_value given) name
 HasFieldFault given (errors.NameTaken name) = (names : List (List ℕ)) × ListsNames given names × IsTaken names name
 HasFieldFault given errors.TooManyGenerators = (names : List (List ℕ)) × ListsNames given names × (most_generators < length names)

@@ -7,3 +7,4 @@ pub mod Reading
 pub mod RowsRead
 pub mod Printed
 pub mod Writing
+pub mod Refusals

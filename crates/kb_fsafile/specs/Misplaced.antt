@@ -1,18 +1,19 @@
 -- Moves of an automaton of pairs that no padded text takes.
-use Rattle.std.specs.Prelude.{◌≡◌, ◌≢◌, ℕ, ◌+◌, ◌*◌, ◌%◌, ◌<◌, ◌⊎◌, List, Any, length}
+use Rattle.std.specs.Prelude.{◌≡◌, ◌≢◌, ℕ, ◌+◌, ◌*◌, ◌⊎◌, List, Any, length}
 use Rattle.kb_fsa.specs.declared.alphabet.Alphabet.{Alphabet}
 use Rattle.kb_fsa.specs.declared.alphabet.Alphabet.TheVariants.{Plain, Pair}
 use Rattle.kb_fsa.specs.Table.{Table, IsTable, step, state_after, AcceptsFrom}
+use Rattle.kb_fsa.specs.PairSymbols.{first_letter, second_letter}
 use Rattle.kb_fsa.specs.Padding.{IsPadded}
 use Rattle.kb_fsafile.specs.declared.error.FsaError.{FsaError}
 use Rattle.kb_fsafile.specs.declared.error.FsaError.TheVariants as errors
 
 -- the symbol has padding on the first track; on the second
 abbrev pub PadsFirst : ℕ → ℕ → Type 0
-PadsFirst n symbol = n * (n + 1) < symbol
+PadsFirst n symbol = first_letter n symbol ≡ n + 1
 
 abbrev pub PadsSecond : ℕ → ℕ → Type 0
-PadsSecond n symbol = symbol % (n + 1) ≡ 0
+PadsSecond n symbol = second_letter n symbol ≡ n + 1
 
 -- behind the text the symbol has a letter after padding on one track, or it is two paddings
 abbrev pub IsOutOfPlace : ℕ → List ℕ → ℕ → Type 0

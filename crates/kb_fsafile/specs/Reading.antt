@@ -5,7 +5,7 @@ use Rattle.kb_fields.specs.Fields.{value_of, list_of_names}
 use Rattle.kb_fsa.specs.declared.alphabet.Alphabet.{Alphabet}
 use Rattle.kb_fsafile.specs.Kinds.{count_value, IsNumbers, StandsFor, IsNumberOf}
 use Rattle.kb_fsafile.specs.Holds.{HoldsRecord, HoldsAlphabet, HoldsStates}
-use Rattle.kb_fsafile.specs.Faults.{IsAlphabetOf, HasNamesOf, ListsNames, Need, StandsIn, IsOfKind, HasFieldFault}
+use Rattle.kb_fsafile.specs.Faults.{IsAlphabetOf, HasNamesOf, ListsNames, Need, StandsIn, HasFieldKind, HasFieldFault}
 use Rattle.kb_fsafile.specs.declared.accepting.Accepting.{Accepting}
 use Rattle.kb_fsafile.specs.declared.accepting.Accepting.TheVariants.{Listed, Range}
 use Rattle.kb_fsafile.specs.declared.error.Field.{Field}
@@ -13,19 +13,19 @@ use Rattle.kb_fsafile.specs.declared.error.FsaError.{FsaError}
 
 -- the field holds records; lists; strings; numbers; numbers from 0 on
 abbrev pub HasRecords : Field → Type 0
-HasRecords field = (owner : Fields) (value : Value) → IsOfKind owner field value → (inner : Fields) × (value ≡ record_value inner)
+HasRecords field = (owner : Fields) (value : Value) → HasFieldKind owner field value → (inner : Fields) × (value ≡ record_value inner)
 
 abbrev pub HasLists : Field → Type 0
-HasLists field = (owner : Fields) (value : Value) → IsOfKind owner field value → (places : Places) × (value ≡ list_value places)
+HasLists field = (owner : Fields) (value : Value) → HasFieldKind owner field value → (places : Places) × (value ≡ list_value places)
 
 abbrev pub HasStrings : Field → Type 0
-HasStrings field = (owner : Fields) (value : Value) → IsOfKind owner field value → (text : List ℕ) × (value ≡ string_value text)
+HasStrings field = (owner : Fields) (value : Value) → HasFieldKind owner field value → (text : List ℕ) × (value ≡ string_value text)
 
 abbrev pub HasNumbers : Field → Type 0
-HasNumbers field = (owner : Fields) (value : Value) → IsOfKind owner field value → (z : ℤ) × (value ≡ number_value z)
+HasNumbers field = (owner : Fields) (value : Value) → HasFieldKind owner field value → (z : ℤ) × (value ≡ number_value z)
 
 abbrev pub HasCounts : Field → Type 0
-HasCounts field = (owner : Fields) (value : Value) → IsOfKind owner field value → (n : ℕ) × (value ≡ count_value n)
+HasCounts field = (owner : Fields) (value : Value) → HasFieldKind owner field value → (n : ℕ) × (value ≡ count_value n)
 
 -- the refusal is for a fault of each text in which the field stands so in the record
 abbrev pub IsFaultOf : Field → Need → Fields → FsaError → Type 0
@@ -54,15 +54,15 @@ abbrev pub ListsLetters : Fields → List (List ℕ) → Type 0
 ListsLetters letters names = value_of letters (codes "names") ≡ Some (list_value (list_of_names names))
 
 -- the state is one of those that accept
-abbrev pub IsAmong : Accepting → ℕ → Type 0
-IsAmong (Listed states) state = Contains states.items state
-IsAmong (Range from to) state = (from ≤ state) × (state ≤ to)
+abbrev pub IsAcceptingState : Accepting → ℕ → Type 0
+IsAcceptingState (Listed states) state = Contains states.items state
+IsAcceptingState (Range from to) state = (from ≤ state) × (state ≤ to)
 
 -- the value stands for these of so many states
 pub record StandsForStates (count : ℕ) (value : Value) (accepting : Accepting) : Type 0 where
   pub kind : IsNumbers value
   pub within : (z : ℤ) → StandsFor value z → IsNumberOf count z
-  pub each : (state : ℕ) → IsAmong accepting state ↔ StandsFor value (pos state)
+  pub each : (state : ℕ) → IsAcceptingState accepting state ↔ StandsFor value (pos state)
 
 -- the refusal is for a fault of each text of so many states that has the value as its accepting states
 abbrev pub IsFaultOfAccepting : ℕ → Value → FsaError → Type 0

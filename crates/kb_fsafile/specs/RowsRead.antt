@@ -63,7 +63,7 @@ IsFaultOfRows format size count places error =
     (given : Fields) → HoldsStates given count → HasSize given size → ListsRows given format places → HasFieldFault given error
 
 -- the numbers are targets, of so many states, and these are the moves among them
-pub record AreTargets (count : ℕ) (numbers : List ℤ) (moves : List (ℕ × ℕ)) : Type 0 where
+pub record AreRowTargets (count : ℕ) (numbers : List ℤ) (moves : List (ℕ × ℕ)) : Type 0 where
   pub targets : List ℕ
   pub same : numbers ≡ map pos targets
   pub within : All (λ target. target ≤ count) targets

@@ -1,5 +1,5 @@
 -- Writing an automaton's text: rows and lists on their way.
-use Rattle.std.specs.Prelude.{◌≡◌, ℕ, ◌<◌, ◌≤◌, pos, List, All, codes}
+use Rattle.std.specs.Prelude.{◌≡◌, ℕ, ◌≤◌, pos, List, All, codes}
 use Rattle.std.specs.Fmt.{signed_decimal}
 use Rattle.kb_record.specs.Printing.{IsPrintedUpTo}
 use Rattle.kb_fsa.specs.Table.{Moves, target, IsRow}
@@ -8,13 +8,6 @@ use Rattle.kb_fsafile.specs.Printed.{targets_from}
 -- a number from 0 on as it is printed
 abbrev pub number_text : ℕ → List ℕ
 number_text n = signed_decimal (pos n)
-
--- the row leads by the symbol to the state, or to 0, and its moves by greater symbols are left
-pub record IsSplit (row : Moves) (symbol state : ℕ) (left : Moves) : Type 0 where
-  pub leads : state ≡ target row symbol
-  pub is_row : IsRow left
-  pub above : All (λ move. symbol < move.0) left
-  pub same : (later : ℕ) → symbol < later → target left later ≡ target row later
 
 -- the row's targets are printed up to the symbol, from which on so many are to come: the moves that are left give them
 pub record IsRowPrinted (row : Moves) (symbol columns : ℕ) (left : Moves) (whole old before now : List ℕ) : Type 0 where

@@ -6,7 +6,7 @@ ghost use Rattle.kb_fields.specs.Fields.{fields_view};
 ghost use Rattle.kb_fsafile.specs.Kinds.{list_of_numbers};
 ghost use Rattle.kb_fsafile.specs.Holds.{HoldsStates};
 ghost use Rattle.kb_fsafile.specs.Faults.{HasFieldFault};
-ghost use Rattle.kb_fsafile.specs.Reading.{IsAmong, StandsForStates, HasAcceptingStates, AreStates, IsFaultOfAccepting};
+ghost use Rattle.kb_fsafile.specs.Reading.{IsAcceptingState, StandsForStates, HasAcceptingStates, AreStates, IsFaultOfAccepting};
 
 use crate::error::{Field, FsaError};
 use crate::fields::needed_value;
@@ -27,19 +27,19 @@ pub enum Accepting {
 impl Accepting {
     /// Whether states 1, 2, and so on accept.
     pub fn answers(&self, alloc: Global, count: usize) -> Result<Vec<bool>, Memory>
-        requires { (state : ℕ) → IsAmong self.now state → (0 < state) × (state ≤ count) }
+        requires { (state : ℕ) → IsAcceptingState self.now state → (0 < state) × (state ≤ count) }
         ensures one_each { IfOk result (λ answers. length answers.items ≡ count) }
-        ensures each { IfOk result (λ answers. (place : ℕ) → IsTrue (get_or answers.items place false) ↔ IsAmong self.now (suc place)) }
+        ensures each { IfOk result (λ answers. (place : ℕ) → IsTrue (get_or answers.items place false) ↔ IsAcceptingState self.now (suc place)) }
     {
         match self {
-            Accepting::Listed(states) => marked(alloc, states.as_slice(), count),
-            Accepting::Range(from, to) => range_marked(alloc, *from, *to, count),
+            Accepting::Listed(states) => accepting_marks(alloc, states.as_slice(), count),
+            Accepting::Range(from, to) => range_marks(alloc, *from, *to, count),
         }
     }
 }
 
 /// Marks of the states, among so many.
-fn marked(alloc: Global, states: &[u64], count: usize) -> Result<Vec<bool>, Memory>
+fn accepting_marks(alloc: Global, states: &[u64], count: usize) -> Result<Vec<bool>, Memory>
     requires { All (λ state. (0 < state) × (state ≤ count)) states.now }
     ensures one_each { IfOk result (λ marks. length marks.items ≡ count) }
     ensures each { IfOk result (λ marks. (place : ℕ) → IsTrue (get_or marks.items place false) ↔ Contains states.now (suc place)) }
@@ -52,7 +52,7 @@ fn marked(alloc: Global, states: &[u64], count: usize) -> Result<Vec<bool>, Memo
 }
 
 /// Marks of the states from one to another, among so many.
-fn range_marked(alloc: Global, from: u64, to: u64, count: usize) -> Result<Vec<bool>, Memory>
+fn range_marks(alloc: Global, from: u64, to: u64, count: usize) -> Result<Vec<bool>, Memory>
     requires first { 0 < from }
     requires last { from ≤ to → to ≤ count }
     ensures one_each { IfOk result (λ marks. length marks.items ≡ count) }

@@ -4,6 +4,7 @@ ghost use Rattle.kb_fsafile.specs.Faults.{name_of};
 ghost use Rattle.kb_fsafile.specs.declared.error.FsaError.TheVariants as errors;
 ghost use Rattle.std.specs.Prelude.{◌≡◌};
 
+use kb_record::RecordError;
 use kb_word::{Memory, OwnedText};
 use std::alloc::{AllocError, AllocFailed};
 use std::fmt;
@@ -100,6 +101,20 @@ pub enum FsaError {
     /// Memory ran out.
     #[error("no memory")]
     Memory,
+}
+
+impl From<RecordError> for FsaError {
+    ghost use Rattle.kb_fsafile.specs.Refusals.{SameRefusal};
+
+    ghost from_gives = { λ refusal error. SameRefusal refusal error };
+
+    fn from(refusal: RecordError) -> FsaError {
+        match refusal {
+            RecordError::Syntax { at } => FsaError::Syntax { at },
+            RecordError::TooDeep { at } => FsaError::TooDeep { at },
+            RecordError::Memory => FsaError::Memory,
+        }
+    }
 }
 
 impl From<Memory> for FsaError {

@@ -7,10 +7,10 @@ ghost use Rattle.kb_fsa.specs.Table.{HasSymbols, state_after};
 ghost use Rattle.kb_fsa.specs.Padding.{IsPadded};
 ghost use Rattle.kb_reach.specs.Moves.{AreBackward};
 ghost use Rattle.kb_fsafile.specs.Misplaced.{IsCleaned, IsPaddingFault};
-ghost use Rattle.kb_fsafile.specs.Cleaning.{pads, AreReached, AreTargets, is_misplaced, is_dropped, IsAccepted, kept_rows};
+ghost use Rattle.kb_fsafile.specs.Cleaning.{pads, AreReachMarks, ArePaddedTargets, is_misplaced, is_dropped, IsAccepted, kept_rows};
 
 use crate::error::FsaError;
-use kb_fsa::{Row, Table};
+use kb_fsa::{PairSymbols, Row, Table};
 use kb_reach::{Backward, live, reached, reversed};
 use kb_word::Memory;
 use std::alloc::Global;
@@ -50,10 +50,10 @@ impl Track {
         requires { n ≤ 65534 }
         ensures { result ≡ pads self n symbol }
     {
-        let n = u32::from(n);
+        let symbols = PairSymbols { n };
         match self {
-            Track::First => symbol > n * (n + 1),
-            Track::Second => symbol % (n + 1) == 0,
+            Track::First => symbols.pads_first(symbol),
+            Track::Second => symbols.pads_second(symbol),
         }
     }
 }
@@ -88,8 +88,8 @@ impl Reach {
         requires { n ≤ 65534 }
         ensures { result ≡ is_dropped n self.now.marks.items self.now.first.items self.now.second.items state symbol }
     {
-        let columns = u32::from(n) + 1;
-        self.is_misplaced(n, state, symbol) || symbol == columns * columns
+        let paddings = PairSymbols { n }.count() + 1;
+        self.is_misplaced(n, state, symbol) || symbol == paddings
     }
 }
 
@@ -104,7 +104,7 @@ fn is_marked(marks: &[bool], state: u32) -> bool
 fn reach_of(alloc: Global, n: u16, table: &Table, moves: &Backward) -> Result<Reach, Memory>
     requires generators { n ≤ 65534 }
     requires moves { AreBackward table.now (suc (length table.now.rows)) 0 moves.now.edges.items moves.now.symbols.items }
-    ensures { IfOk result (λ reach. AreReached n table.now reach.marks.items reach.first.items reach.second.items) }
+    ensures { IfOk result (λ reach. AreReachMarks n table.now reach.marks.items reach.first.items reach.second.items) }
 {
     let edges = forward(alloc, moves)?;
     let mut start = vec![in alloc; false; table.rows().len() + 1]?;
@@ -144,7 +144,7 @@ fn padded_targets(
     requires generators { n ≤ 65534 }
     requires one_each { length moves.now.symbols.items ≡ length moves.now.edges.items }
     requires targets { All (λ edge. edge.0 < length marks.now) moves.now.edges.items }
-    ensures { IfOk result (λ targets. AreTargets track n moves.now.edges.items moves.now.symbols.items marks.now
+    ensures { IfOk result (λ targets. ArePaddedTargets track n moves.now.edges.items moves.now.symbols.items marks.now
         (length moves.now.edges.items) targets.items) }
 {
     let mut targets = vec![in alloc; false; marks.len()]?;

@@ -22,7 +22,7 @@ use crate::misplaced::without_misplaced;
 use crate::states::count_states;
 use crate::table::read_rows;
 use kb_fsa::{Alphabet, Fsa, Table};
-use kb_record::{Rec, RecordError, Value, parse};
+use kb_record::{Rec, Value, parse};
 use kb_word::Names;
 use std::alloc::Global;
 
@@ -45,12 +45,7 @@ fn text_of<'a>(alloc: Global, bytes: &'a [u8]) -> Result<Rec<'a>, FsaError>
     ensures shallow { IfOk result (λ text. text_nesting (text_view text) ≤ deepest) }
     ensures fault { IfErr result (HasFsaFault bytes.now) }
 {
-    match parse(alloc, bytes) {
-        Ok(text) => Ok(text),
-        Err(RecordError::Syntax { at }) => Err(FsaError::Syntax { at }),
-        Err(RecordError::TooDeep { at }) => Err(FsaError::TooDeep { at }),
-        Err(RecordError::Memory) => Err(FsaError::Memory),
-    }
+    Ok(parse(alloc, bytes)?)
 }
 
 /// The automaton that fields say. Field by field, in the order in which a file is refused.
@@ -65,7 +60,7 @@ fn automaton_of<'a>(
     check_is_fsa(fields)?;
     let letters = read_alphabet(alloc, fields)?;
     let table = read_table(alloc, fields, letters.size)?;
-    let table = cleaned(alloc, letters.alphabet, table)?;
+    let table = automaton_table(alloc, letters.alphabet, table)?;
     Ok((letters.names, Fsa::new(letters.alphabet, table)))
 }
 
@@ -88,7 +83,7 @@ fn read_table<'a>(
 }
 
 /// The table of the automaton that a file's table gives.
-fn cleaned(alloc: Global, alphabet: Alphabet, read: Table) -> Result<Table, FsaError>
+fn automaton_table(alloc: Global, alphabet: Alphabet, read: Table) -> Result<Table, FsaError>
     requires generators { generators alphabet ≤ 65534 }
     requires table { IsTable read }
     requires symbols { HasSymbols (most_symbols alphabet) read }

@@ -8,7 +8,7 @@ ghost use Rattle.kb_record.specs.Tree.{list_value};
 ghost use Rattle.kb_record.specs.View.{value_view};
 ghost use Rattle.kb_fsa.specs.Table.{Ascends};
 ghost use Rattle.kb_fsafile.specs.Kinds.{list_of_numbers, list_of_entries};
-ghost use Rattle.kb_fsafile.specs.RowsRead.{moves_among, IsRowAt, IsFaultOfRow, AreTargets, HasEntries, IsSparseRow};
+ghost use Rattle.kb_fsafile.specs.RowsRead.{moves_among, IsRowAt, IsFaultOfRow, AreRowTargets, HasEntries, IsSparseRow};
 ghost use Rattle.kb_fsafile.specs.declared.format.Format.TheVariants.{Dense, Sparse};
 
 use crate::error::{Field, FsaError};
@@ -72,7 +72,7 @@ fn numbers_at<'a>(alloc: Global, place: &Option<Value<'a>>) -> Result<Option<Vec
 /// The row with these targets for the symbols in order; 0 is none.
 fn dense_row(alloc: Global, numbers: &[i64], size: u32, count: u32) -> Result<Row, FsaError>
     requires { length numbers.now ≡ size }
-    ensures read { IfOk result (AreTargets count numbers.now) }
+    ensures read { IfOk result (AreRowTargets count numbers.now) }
     ensures fault { IfErr result (IsFaultOfRow Dense size count (Some (list_value (list_of_numbers numbers.now)))) }
 {
     let mut moves = Vec::new(alloc);

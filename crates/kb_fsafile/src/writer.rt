@@ -1,24 +1,20 @@
 //! From automata to bytes.
 
-ghost use Rattle.std.specs.Prelude.{◌≡◌, ◌≢◌, ◌≤◌, ◌<◌, ◌^◌, ◌-◌, ◌++◌, [], All, IfOk, OnOk, length, pos};
+ghost use Rattle.std.specs.Prelude.{◌≡◌, ◌≢◌, ◌≤◌, ◌<◌, ◌^◌, ◌-◌, ◌++◌, [], IfOk, OnOk, length, pos};
 ghost use Rattle.kb_record.specs.Tree.{record_value, list_value};
 ghost use Rattle.kb_record.specs.Layout.{indent, line_of, text_of_value};
 ghost use Rattle.kb_fields.specs.Fields.{list_of_names};
-ghost use Rattle.kb_fsa.specs.Table.{IsRow};
 ghost use Rattle.kb_fsa.specs.Language.{generators};
 ghost use Rattle.kb_fsa.specs.Canonical.{IsCanonical};
 ghost use Rattle.kb_fsa.specs.declared.alphabet.Alphabet.TheVariants.{Pair};
 ghost use Rattle.kb_fsafile.specs.Printed as printed;
 ghost use Rattle.kb_fsafile.specs.Printed.{text_of_automaton, alphabet_fields, names_fields, table_fields, numbers_value, accepting_from, accepting_value, targets_from, dense_rows};
-ghost use Rattle.kb_fsafile.specs.Writing.{number_text, IsSplit};
+ghost use Rattle.kb_fsafile.specs.Writing.{number_text};
 
-use kb_fsa::{Alphabet, Fsa, Row, Table};
+use kb_fsa::{Alphabet, Fsa, Row, Table, split_at_symbol};
 use kb_record::{print_indent, print_number};
 use kb_word::{Memory, Names};
 use std::alloc::Global;
-
-#[cfg(test)]
-mod tests;
 
 /// The text of a canonical automaton over letters with these names.
 pub fn write(alloc: Global, names: &Names, fsa: &Fsa) -> Result<Vec<u8>, Memory>
@@ -223,23 +219,11 @@ fn write_row(row: &Row, symbols: u32, out: &mut Vec<u8>) -> Result<(), Memory>
     let mut left = row.as_slice();
     for symbol in 1..symbols + 1 {
         out.extend_from_slice(before)?;
-        let (target, later) = split(left, symbol);
+        let (target, later) = split_at_symbol(left, symbol);
         write_number(target, out)?;
         before = b",";
         left = later;
     }
     out.push(b']')?;
     Ok(())
-}
-
-/// Where the row leads by the symbol, or 0, and its moves by greater symbols. It has none by lesser ones.
-fn split(row: &[(u32, u32)], symbol: u32) -> (u32, &[(u32, u32)])
-    requires row { IsRow row.now }
-    requires low { All (λ move. symbol ≤ move.0) row.now }
-    ensures { IsSplit row.now symbol result.0 result.1.now }
-{
-    match row.split_first() {
-        Some((least, later)) if least.0 == symbol => (least.1, later),
-        _ => (0, row),
-    }
 }

@@ -5,7 +5,7 @@ use Rattle.std.proofs.lemmas.Bool.{cases_eq, cases_lt}
 use Rattle.std.proofs.lemmas.Bool.Decides.{Decides-eqb}
 use Rattle.std.proofs.lemmas.List.{length_push, get_or_push, get_or_append_left, map-id}
 use Rattle.kb_fsamin.specs.Rounds.{Inserted}
-use Rattle.kb_fsamin.specs.Parts.{part_of}
+use Rattle.kb_fsamin.specs.Partitions.{part_of}
 use Rattle.kb_fsamin.specs.Splitting.{AreNumbered}
 use Rattle.kb_fsamin.proofs.RoundSteps.{Inserted-map}
 

@@ -3,33 +3,33 @@ use Rattle.std.proofs.Common.{◌≡◌, ◌≢◌, ℕ, ◌+◌, ◌<◌, ◌�
 use Rattle.std.proofs.lemmas.Bool.{cases_eq, cases_lt}
 use Rattle.std.proofs.lemmas.List.{length_push, get_or_push, get_or_past, get_or_append_left, length-map, get_or-map, map-set, map_push, set-get_or}
 use Rattle.std.proofs.lemmas.List.Elements.{All-push, All-weaker}
-use Rattle.kb_fsamin.specs.declared.parts.Part.{Part}
-use Rattle.kb_fsamin.specs.Parts.{targets, AreTargets, AreOpened}
+use Rattle.kb_fsamin.specs.declared.partition.Part.{Part}
+use Rattle.kb_fsamin.specs.Partitions.{destinations, AreDestinations, AreOpened}
 
-pub length-targets : (parts : List Part) → length (targets parts) ≡ length parts
-length-targets parts = length-map parts (λ (part : Part). part.target)
+pub length-destinations : (parts : List Part) → length (destinations parts) ≡ length parts
+length-destinations parts = length-map parts (λ (part : Part). part.destination)
 
--- parts with the same targets are as many
-pub same_length : (parts others : List Part) → targets parts ≡ targets others → length parts ≡ length others
-same_length parts others same = sym (length-targets parts) ∙ ap length same ∙ length-targets others
+-- parts with the same destinations are as many
+pub same_length : (parts others : List Part) → destinations parts ≡ destinations others → length parts ≡ length others
+same_length parts others same = sym (length-destinations parts) ∙ ap length same ∙ length-destinations others
 
--- the target of a part that is read
-pub read_target : (parts : List Part) (k : ℕ) (part : Part) → k < length parts → part ≡ get_or parts k part → part.target ≡ get_or (targets parts) k 0
-read_target parts k part within is =
-    ap (λ (p : Part). p.target) is ∙ sym (get_or-map (λ (p : Part). p.target) parts k part 0 within)
+-- the destination of a part that is read
+pub read_destination : (parts : List Part) (k : ℕ) (part : Part) → k < length parts → part ≡ get_or parts k part → part.destination ≡ get_or (destinations parts) k 0
+read_destination parts k part within is =
+    ap (λ (p : Part). p.destination) is ∙ sym (get_or-map (λ (p : Part). p.destination) parts k part 0 within)
 
-pub targets-set : (parts : List Part) (k : ℕ) (part : Part) → targets (set parts k part) ≡ set (targets parts) k part.target
-targets-set parts k part = map-set (λ (p : Part). p.target) parts k part
+pub destinations-set : (parts : List Part) (k : ℕ) (part : Part) → destinations (set parts k part) ≡ set (destinations parts) k part.destination
+destinations-set parts k part = map-set (λ (p : Part). p.destination) parts k part
 
--- a part that is written with its target changes no target
-pub targets-kept : (parts : List Part) (k : ℕ) (part : Part) → part.target ≡ get_or (targets parts) k 0 → targets (set parts k part) ≡ targets parts
-targets-kept parts k part is =
-    targets-set parts k part ∙ ap (set (targets parts) k) is ∙ set-get_or (targets parts) k 0
+-- a part that is written with its destination changes no destination
+pub destinations-kept : (parts : List Part) (k : ℕ) (part : Part) → part.destination ≡ get_or (destinations parts) k 0 → destinations (set parts k part) ≡ destinations parts
+destinations-kept parts k part is =
+    destinations-set parts k part ∙ ap (set (destinations parts) k) is ∙ set-get_or (destinations parts) k 0
 
 -- a new part, to which what is hit of another goes
-targets_more : (bound : ℕ) (ts : List ℕ) (part : ℕ) → AreTargets bound ts → bound ≤ length ts → part < bound
-    → AreTargets bound (set (ts ++ 0 ∷ []) part (length ts))
-targets_more bound ts part are more low = record {
+destinations_more : (bound : ℕ) (ts : List ℕ) (part : ℕ) → AreDestinations bound ts → bound ≤ length ts → part < bound
+    → AreDestinations bound (set (ts ++ 0 ∷ []) part (length ts))
+destinations_more bound ts part are more low = record {
   some_part = λ k h. elim (cases_eq k part) [
     | inl here ↦ omega (arith, at k here, long)
     | inr apart ↦ omega (arith, elsewhere k apart (omega (arith, long)), long)
@@ -81,7 +81,7 @@ targets_more bound ts part are more low = record {
       | inr beyond ↦ get_or_past (ts ++ 0 ∷ []) k 0 (omega (arith, length_push ts 0))
     ]
 
-    -- no other target is the new part
+    -- no other destination is the new part
     elsewhere : (k : ℕ) → k ≢ part → k < length ts + 1 → get_or (set (ts ++ 0 ∷ []) part (length ts)) k 0 < length ts
     elsewhere k apart h = elim (cases_lt k (length ts)) [
       | inl old ↦ omega (arith, other k apart, before k old, are.some_part k old)
@@ -89,19 +89,19 @@ targets_more bound ts part are more low = record {
     ]
 
 pub opened_more : (bound : ℕ) (before : List ℕ) (parts : List Part) (last queue : List ℕ) (part waits : ℕ) (rest new : Part) → part < bound
-    → rest.target ≡ length parts → new.target ≡ 0 → waits ≤ length parts
+    → rest.destination ≡ length parts → new.destination ≡ 0 → waits ≤ length parts
     → AreOpened bound before parts last queue
     → AreOpened bound before (set (parts ++ new ∷ []) part rest) (last ++ 0 ∷ []) (queue ++ waits ∷ [])
 opened_more bound before parts last queue part waits rest new low to none fits opened =
-    let f : Part → ℕ = λ p. p.target in
-    let size = length-targets parts in
+    let f : Part → ℕ = λ p. p.destination in
+    let size = length-destinations parts in
     let long : length (set (parts ++ new ∷ []) part rest) ≡ length parts + 1 = length-set (parts ++ new ∷ []) part rest ∙ length_push parts new in
-    let are : targets (set (parts ++ new ∷ []) part rest) ≡ set (targets parts ++ 0 ∷ []) part (length (targets parts)) =
-    targets-set (parts ++ new ∷ []) part rest
-    ∙ ap (λ ts. set ts part rest.target) (map_push f parts new ∙ ap (λ t. targets parts ++ t ∷ []) none)
-    ∙ ap (set (targets parts ++ 0 ∷ []) part) (to ∙ sym size) in
+    let are : destinations (set (parts ++ new ∷ []) part rest) ≡ set (destinations parts ++ 0 ∷ []) part (length (destinations parts)) =
+    destinations-set (parts ++ new ∷ []) part rest
+    ∙ ap (λ ts. set ts part rest.destination) (map_push f parts new ∙ ap (λ t. destinations parts ++ t ∷ []) none)
+    ∙ ap (set (destinations parts ++ 0 ∷ []) part) (to ∙ sym size) in
     record {
-      targets = subst (AreTargets bound) (sym are) (targets_more bound (targets parts) part opened.targets (omega (arith, opened.more)) low);
+      destinations = subst (AreDestinations bound) (sym are) (destinations_more bound (destinations parts) part opened.destinations (omega (arith, opened.more)) low);
       more = omega (arith, opened.more);
       one_each = length_push last 0 ∙ ap (λ n. n + 1) opened.one_each ∙ sym long;
       kept = λ k. elim (cases_lt k (length last)) [
@@ -118,15 +118,15 @@ opened_more bound before parts last queue part waits rest new low to none fits o
           (omega arith);
     }
 
--- a part is written with its target
+-- a part is written with its destination
 pub opened_kept : (bound : ℕ) (before : List ℕ) (parts : List Part) (last queue : List ℕ) (part : ℕ) (new : Part)
-    → new.target ≡ get_or (targets parts) part 0
+    → new.destination ≡ get_or (destinations parts) part 0
     → AreOpened bound before parts last queue → AreOpened bound before (set parts part new) last queue
 opened_kept bound before parts last queue part new is opened =
-    let same = targets-kept parts part new is in
+    let same = destinations-kept parts part new is in
     let long = length-set parts part new in
     record {
-      targets = subst (AreTargets bound) (sym same) opened.targets;
+      destinations = subst (AreDestinations bound) (sym same) opened.destinations;
       more = omega (arith, opened.more);
       one_each = opened.one_each ∙ sym long;
       kept = opened.kept;
@@ -143,24 +143,24 @@ opened_same bound before parts parts' last last' queue queue' a b e opened =
 
 -- ---- the first parts
 
-pub targets-push : (parts : List Part) (new : Part) (part : ℕ) → new.target ≡ 0 → ((other : ℕ) → get_or (targets parts) other 0 ≡ 0)
-    → get_or (targets (parts ++ new ∷ [])) part 0 ≡ 0
-targets-push parts new part none all =
-    ap (λ ts. get_or ts part 0) (map_push (λ (p : Part). p.target) parts new ∙ ap (λ t. targets parts ++ t ∷ []) none)
-    ∙ elim (cases_lt part (length (targets parts))) [
-      | inl old ↦ get_or_append_left (targets parts) (0 ∷ []) 0 part old ∙ all part
-      | inr past ↦ elim (cases_eq part (length (targets parts))) [
-        | inl end ↦ get_or_push (targets parts) 0 0 part (sym end)
-        | inr beyond ↦ get_or_past (targets parts ++ 0 ∷ []) part 0 (omega (arith, length_push (targets parts) 0))
+pub destinations-push : (parts : List Part) (new : Part) (part : ℕ) → new.destination ≡ 0 → ((other : ℕ) → get_or (destinations parts) other 0 ≡ 0)
+    → get_or (destinations (parts ++ new ∷ [])) part 0 ≡ 0
+destinations-push parts new part none all =
+    ap (λ ts. get_or ts part 0) (map_push (λ (p : Part). p.destination) parts new ∙ ap (λ t. destinations parts ++ t ∷ []) none)
+    ∙ elim (cases_lt part (length (destinations parts))) [
+      | inl old ↦ get_or_append_left (destinations parts) (0 ∷ []) 0 part old ∙ all part
+      | inr past ↦ elim (cases_eq part (length (destinations parts))) [
+        | inl end ↦ get_or_push (destinations parts) 0 0 part (sym end)
+        | inr beyond ↦ get_or_past (destinations parts ++ 0 ∷ []) part 0 (omega (arith, length_push (destinations parts) 0))
       ]
     ]
 
-pub opened_first : (parts : List Part) (last queue : List ℕ) → length last ≡ length parts → ((part : ℕ) → get_or (targets parts) part 0 ≡ 0)
+pub opened_first : (parts : List Part) (last queue : List ℕ) → length last ≡ length parts → ((part : ℕ) → get_or (destinations parts) part 0 ≡ 0)
     → All (λ part. part < length parts) queue → AreOpened (length parts) last parts last queue
 opened_first parts last queue size none queued =
-    let long = length-targets parts in
+    let long = length-destinations parts in
     record {
-      targets = record {
+      destinations = record {
         some_part = λ part h. omega (arith, none part);
         fresh = λ part high low. absurd (omega arith);
         distinct = λ part other h k high same. absurd (omega (arith, none part));

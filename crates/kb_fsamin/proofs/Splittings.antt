@@ -9,8 +9,8 @@ use Rattle.kb_fsa.proofs.Lookups.{step_within}
 use Rattle.kb_reach.specs.Graphs.{source}
 use Rattle.kb_reach.specs.Moves.{AreBackward}
 use Rattle.kb_fsamin.specs.Rounds.{class_of, IsClassing}
-use Rattle.kb_fsamin.specs.Parts.{part_of, IsSplit}
-use Rattle.kb_fsamin.specs.Splitting.{AreEntering, IsLeaving, AreLeaving, IsSplitting, AreJoined}
+use Rattle.kb_fsamin.specs.Partitions.{part_of, IsSplitBy}
+use Rattle.kb_fsamin.specs.Splitting.{AreEntering, IsLeaving, AreLeaving, IsSplitting, AreClassesOfBlocks}
 use Rattle.kb_reach.proofs.MoveLemmas.{edge_from_step}
 use Rattle.kb_fsamin.proofs.Classings.{rejects_none}
 
@@ -21,7 +21,7 @@ module _ (table : Table) (edges : List (ℕ × ℕ)) (symbols start blocks cords
   known move h = omega (arith, (backward.sound move h).from_state.within, classing.one_each)
 
   -- a block splits cords
-  pub cords_split : (block : ℕ) (listed cords' : List ℕ) → length cords ≡ length edges → AreEntering edges blocks block listed → IsSplit listed cords cords'
+  pub cords_split : (block : ℕ) (listed cords' : List ℕ) → length cords ≡ length edges → AreEntering edges blocks block listed → IsSplitBy listed cords cords'
       → IsSplitting table edges symbols start blocks cords'
   cords_split block listed cords' size entering split =
       let enters : (move other : ℕ) → move < length edges → other < length edges → AreEquivalent table (source edges move) (source edges other)
@@ -69,7 +69,7 @@ module _ (table : Table) (edges : List (ℕ × ℕ)) (symbols start blocks cords
 
   -- a cord splits blocks
   pub blocks_split : (cord : ℕ) (listed blocks' : List ℕ) → length blocks ≡ length start → AreLeaving edges start cords cord listed
-      → IsSplit listed blocks blocks' → IsSplitting table edges symbols start blocks' cords
+      → IsSplitBy listed blocks blocks' → IsSplitting table edges symbols start blocks' cords
   blocks_split cord listed blocks' size leaving split = record {
     one_block = λ p q h i same.
         split.keeps p q (omega arith) (omega arith) (splitting.one_block p q h i same) (
@@ -82,8 +82,8 @@ module _ (table : Table) (edges : List (ℕ × ℕ)) (symbols start blocks cords
   }
 
   -- blocks serve as classes
-  pub classing_joined : (classes : List ℕ) → AreJoined start blocks (length start) classes → IsClassing table classes
-  classing_joined classes joined = record {
+  pub classing_from_blocks : (classes : List ℕ) → AreClassesOfBlocks start blocks (length start) classes → IsClassing table classes
+  classing_from_blocks classes joined = record {
     is_table = classing.is_table;
     one_each = joined.one_each ∙ classing.one_each;
     none = joined.dead 0 (omega (arith, classing.one_each)) classing.none;
@@ -124,8 +124,8 @@ splitting_start table edges symbols start cords classing one_class same = record
 }
 
 pub joined_more : (start blocks : List ℕ) (done class : ℕ) (classes : List ℕ) → (class_of start done ≡ 0 → class ≡ 0)
-    → (class_of start done ≢ 0 → class ≡ part_of blocks done) → AreJoined start blocks done classes
-    → AreJoined start blocks (done + 1) (classes ++ class ∷ [])
+    → (class_of start done ≢ 0 → class ≡ part_of blocks done) → AreClassesOfBlocks start blocks done classes
+    → AreClassesOfBlocks start blocks (done + 1) (classes ++ class ∷ [])
 joined_more start blocks done class classes dead live joined =
     let newest : class_of (classes ++ class ∷ []) done ≡ class = get_or_push classes class 0 done joined.one_each in
     record {

@@ -2,10 +2,10 @@
 use Rattle.std.proofs.Common.{◌≡◌, ℕ, suc, ◌<◌, ◌≤◌, List, length, get_or, All, refl, sym, ap, ◌∙◌, subst, inl, inr, arith}
 use Rattle.std.proofs.lemmas.Bool.{cases_eq, cases_lt}
 use Rattle.std.proofs.lemmas.List.{get_or_default}
-use Rattle.kb_fsamin.specs.declared.parts.Part.{Part}
+use Rattle.kb_fsamin.specs.declared.partition.Part.{Part}
 use Rattle.kb_reach.specs.Graphs.{AreLinked, IsWalk}
-use Rattle.kb_fsamin.specs.Parts.{part_of, targets, AreEntered, AreEntries, AreTargets, AreOpened}
-use Rattle.kb_fsamin.proofs.Openings.{length-targets}
+use Rattle.kb_fsamin.specs.Partitions.{part_of, destinations, AreEntered, AreEntries, AreDestinations, AreOpened}
+use Rattle.kb_fsamin.proofs.Openings.{length-destinations}
 
 module _ (edges : List (ℕ × ℕ)) (count : ℕ) (last earlier : List ℕ) (linked : AreLinked edges (length edges) count last earlier) where
   pub walk_start : (Done : ℕ → Type 0) (from number : ℕ) → from < count → number ≡ get_or last from 0 → IsWalk edges from number Done
@@ -83,12 +83,12 @@ entered_wider of count count' entries last last' earlier more size kept all = re
 pub opened_settled : (bound : ℕ) (before : List ℕ) (parts : List Part) (last last' queue : List ℕ) → length last' ≡ length parts
     → AreOpened bound before parts last queue → AreOpened (length parts) last' parts last' queue
 opened_settled bound before parts last last' queue size opened =
-    let long = length-targets parts in
+    let long = length-destinations parts in
     record {
-      targets = record {
-        some_part = opened.targets.some_part;
+      destinations = record {
+        some_part = opened.destinations.some_part;
         fresh = λ part high low. absurd (omega arith);
-        distinct = λ part other h k high same. absurd (omega (arith, opened.targets.some_part part h));
+        distinct = λ part other h k high same. absurd (omega (arith, opened.destinations.some_part part h));
       };
       more = omega arith;
       one_each = size;
@@ -96,11 +96,11 @@ opened_settled bound before parts last last' queue size opened =
       queued = opened.queued;
     }
 
--- parts with the targets that they had
-pub opened_counted : (bound : ℕ) (before : List ℕ) (parts parts' : List Part) (last queue : List ℕ) → targets parts' ≡ targets parts
+-- parts with the destinations that they had
+pub opened_counted : (bound : ℕ) (before : List ℕ) (parts parts' : List Part) (last queue : List ℕ) → destinations parts' ≡ destinations parts
     → length parts' ≡ length parts → AreOpened bound before parts last queue → AreOpened bound before parts' last queue
 opened_counted bound before parts parts' last queue same size opened = record {
-  targets = subst (AreTargets bound) (sym same) opened.targets;
+  destinations = subst (AreDestinations bound) (sym same) opened.destinations;
   more = omega (arith, opened.more);
   one_each = opened.one_each ∙ sym size;
   kept = opened.kept;

@@ -3,5 +3,5 @@ pub mod Quotient
 pub mod Empty
 pub mod Rounds
 pub mod Firsts
-pub mod Parts
+pub mod Partitions
 pub mod Splitting

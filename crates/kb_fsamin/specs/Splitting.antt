@@ -4,8 +4,8 @@ use Rattle.kb_fsa.specs.Table.{Table, AreEquivalent}
 use Rattle.kb_reach.specs.Graphs.{source, end}
 use Rattle.kb_reach.specs.Moves.{AreBackward}
 use Rattle.kb_fsamin.specs.Rounds.{class_of, IsClassing}
-use Rattle.kb_fsamin.specs.Parts.{part_of, IsPartition}
-use Rattle.kb_fsamin.specs.declared.parts.Parts.{Parts}
+use Rattle.kb_fsamin.specs.Partitions.{part_of, IsPartition}
+use Rattle.kb_fsamin.specs.declared.partition.Partition.{Partition}
 
 -- The list numbers the first symbols, as many as are done; equal symbols have one number, their place among the seen.
 pub record AreNumbered (symbols : List ℕ) (done : ℕ) (seen numbers : List ℕ) : Type 0 where
@@ -33,7 +33,7 @@ pub record AreLeaving (edges : List (ℕ × ℕ)) (start cords : List ℕ) (cord
   pub complete : (state : ℕ) → IsLeaving edges start cords cord state → Contains listed state
 
 -- there are blocks of the states, and cords of the moves
-pub record ArePaired (edges : List (ℕ × ℕ)) (start : List ℕ) (blocks cords : Parts) : Type 0 where
+pub record ArePaired (edges : List (ℕ × ℕ)) (start : List ℕ) (blocks cords : Partition) : Type 0 where
   pub blocks_are : IsPartition blocks
   pub cords_are : IsPartition cords
   pub block_each : length blocks.of.items ≡ length start
@@ -49,14 +49,14 @@ pub record IsSplitting (table : Table) (edges : List (ℕ × ℕ)) (symbols star
   pub first : (state : ℕ) → state < length start → part_of blocks state ≡ 0 → class_of start state ≡ 0
 
 -- for whatever table has these moves and classes, the splitting goes on
-abbrev pub KeepsSplitting : List (ℕ × ℕ) → List ℕ → List ℕ → Parts → Parts → Parts → Parts → Type 0
+abbrev pub KeepsSplitting : List (ℕ × ℕ) → List ℕ → List ℕ → Partition → Partition → Partition → Partition → Type 0
 KeepsSplitting edges symbols start blocks cords blocks' cords' = (table : Table)
     → AreBackward table (suc (length table.rows)) 0 edges symbols → IsClassing table start
     → IsSplitting table edges symbols start blocks.of.items cords.of.items
     → IsSplitting table edges symbols start blocks'.of.items cords'.of.items
 
 -- the first states, as many as are done, have their blocks for classes, but for those of class 0
-pub record AreJoined (start blocks : List ℕ) (done : ℕ) (classes : List ℕ) : Type 0 where
+pub record AreClassesOfBlocks (start blocks : List ℕ) (done : ℕ) (classes : List ℕ) : Type 0 where
   pub one_each : length classes ≡ done
   pub dead : (state : ℕ) → state < done → class_of start state ≡ 0 → class_of classes state ≡ 0
   pub live : (state : ℕ) → state < done → class_of start state ≢ 0 → class_of classes state ≡ part_of blocks state

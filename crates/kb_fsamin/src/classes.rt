@@ -7,8 +7,8 @@
 //! minimization", Information Processing Letters 112, 2012. Of this it is proved that it never separates states of one right
 //! language. Then Moore's rounds ("Gedanken-experiments on sequential machines", 1956) refine the classes: each tells apart
 //! the states of a class that have moves by different symbols, or to different classes. Once a round changes nothing, the
-//! states of a class have one right language. Splitting leaves nothing for the rounds to refine, so that there are as
-//! many as it takes to see that; but nothing rests on it, and without it the answer is the same.
+//! states of a class have one right language. That the splitters leave the rounds nothing to refine is not proved, and
+//! no clause rests on it: without them the answer is the same, after more rounds.
 
 ghost use Rattle.std.specs.Prelude.{◌≡◌, ◌↔◌, ◌+◌, ◌<◌, ◌≤◌, ℕ, length, All, IfOk};
 ghost use Rattle.kb_fsa.specs.Table.{IsLive};
@@ -17,8 +17,8 @@ ghost use Rattle.kb_fsamin.specs.Firsts.{acceptance};
 ghost use Rattle.kb_reach.specs.Graphs.{IsMarked};
 ghost use Rattle.kb_fsamin.specs.Rounds.{IsClassing, IsStable, class_of};
 
-use crate::rounds::settled;
-use crate::splitting::refined;
+use crate::rounds::refine_until_stable;
+use crate::splitting::split_by_splitters;
 use kb_fsa::Table;
 use kb_reach::{live, reversed};
 use kb_word::Memory;
@@ -31,8 +31,8 @@ pub(crate) fn representatives(alloc: Global, table: &Table) -> Result<Vec<u32>, 
     let moves = reversed(alloc, table)?;
     let marks = live(alloc, table, &moves)?;
     let start = by_acceptance(alloc, table, marks.as_slice())?;
-    let split = refined(alloc, &moves, start.as_slice())?;
-    let classes = settled(alloc, table, split.as_slice())?;
+    let split = split_by_splitters(alloc, &moves, start.as_slice())?;
+    let classes = refine_until_stable(alloc, table, split.as_slice())?;
     first_of_each(alloc, table, classes.as_slice())
 }
 

@@ -1,19 +1,30 @@
 //! The canonical automaton of a language.
 //!
-//! The public contract: `canonical` gives the canonical automaton of the same language over the same alphabet,
+//! The public contract: `canonical` returns the canonical automaton of the same language over the same alphabet,
 //! and by `one_language_has_one_canonical_automaton` there is one only, so that two canonical automata of one
-//! language are equal.
+//! language are equal. A canonical automaton has exactly the states and moves (transitions) that accepted texts need.
 //!
-//! `kb_fsa` with the definitions and `kb_explore` with the numbering stand below; the programs stand above.
+//! `kb_fsa` with the definitions, `kb_reach` with the moves backwards and `kb_explore` with the numbering are below;
+//! the programs are above.
+//!
+//! # Where the proofs are
+//!
+//! - `Uniqueness`: one language has one canonical automaton.
+//! - `AcceptanceClasses`, `Classings`, `RoundSteps`, `ClassRows`, `Signatures`, `RisingSums`: the classes by acceptance,
+//!   and the rounds that refine them until they are stable.
+//! - `PartitionLemmas`, `Openings`, `Walks`, `Numberings`, `Splittings`: partitions, and the splitters.
+//! - `Represented`, `RepresentedMoves`, `Reduced`, `EmptyCanonical`: the quotient by the classes is canonical.
 #![tactic(auto)]
 
 mod canonical_form;
 mod classes;
 mod laws;
-mod parts;
+mod partition;
 mod quotient;
 mod rounds;
 mod splitting;
+#[cfg(test)]
+mod tests;
 
 pub use canonical_form::canonical;
 pub use laws::one_language_has_one_canonical_automaton;

@@ -16,11 +16,16 @@ struct Signature {
 }
 
 /// Refines the classes until states of one class have one right language.
-pub(crate) fn settled(alloc: Global, table: &Table, start: &[u32]) -> Result<Vec<u32>, Memory>
+pub(crate) fn refine_until_stable(
+    alloc: Global,
+    table: &Table,
+    start: &[u32],
+) -> Result<Vec<u32>, Memory>
     requires { IsClassing table.now start.now }
     ensures classing { IfOk result (λ classes. IsClassing table.now classes.items) }
     ensures stable { IfOk result (λ classes. IsStable table.now classes.items) }
-    ensures small { IfOk result (λ classes. (state : ℕ) → class_of classes.items state ≤ length table.now.rows) }
+    ensures small { IfOk result (λ classes. (state : ℕ)
+        → class_of classes.items state ≤ length table.now.rows) }
 {
     let mut classes = round(alloc, table, start)?;
     loop {

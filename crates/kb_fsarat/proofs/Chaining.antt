@@ -12,7 +12,7 @@ use Rattle.kb_fsa.specs.Language.{Automaton, IsAutomaton, AcceptsText, generator
 use Rattle.kb_fsa.specs.Canonical.{IsState}
 use Rattle.kb_fsa.specs.Counted.{OfTwo, of_first, of_second, IsAfterConcat, in_first, in_second, CountedConcat, MoreSetsThan}
 use Rattle.kb_fsa.proofs.Lookups.{after_within, step_within}
-use Rattle.kb_fsadet.specs.Nondeterministic.{Nondeterministic, IsNondeterministic, IsAmong, AcceptsSomehow, LeadsFrom, moves_from, accepts_at}
+use Rattle.kb_fsadet.specs.Nondeterministic.{Nondeterministic, IsNondeterministic, LeadsSomehow, AcceptsSomehow, LeadsFrom, moves_from, accepts_at}
 use Rattle.kb_fsarat.specs.Products.{IsSplit}
 use Rattle.kb_fsarat.specs.Restarts.{restarting, shifted}
 use Rattle.kb_fsarat.specs.Chains.{of_two, start_of, start_after, initial_with}
@@ -236,7 +236,7 @@ module _ (one two : Automaton) (nfa : Nondeterministic) (is_one : IsAutomaton on
       (sym (ap (of_two (length one.table.rows)) reached.0 ∙ of_two_second (length one.table.rows) (state_after two.table back) reached.1))
       (in_second front back whole accepts refl (λ none. let some = reached.1 in absurd (omega arith)))
 
-  among_forth : (text : List ℕ) (state : ℕ) → IsAmong nfa text state → IsAfterConcat one two text (of_two (length one.table.rows) state)
+  among_forth : (text : List ℕ) (state : ℕ) → LeadsSomehow nfa text state → IsAfterConcat one two text (of_two (length one.table.rows) state)
   among_forth text state among =
       let starts = start_after (length one.table.rows) two.table.initial in
       elim ((Contains-initial_with one.table starts among.start).0 (Contains-same _ _ among.start chain.initial among.is_initial)) [
@@ -255,7 +255,7 @@ module _ (one two : Automaton) (nfa : Nondeterministic) (is_one : IsAutomaton on
         | inr other ↦ in_second_after text [] text among.start state refl other.0 other.1 among.leads
       ]
 
-  among_first : (text : List ℕ) (state : ℕ) → state_after one.table text ≡ state → state ≢ 0 → IsAmong nfa text state
+  among_first : (text : List ℕ) (state : ℕ) → state_after one.table text ≡ state → state ≢ 0 → LeadsSomehow nfa text state
   among_first text state leads some =
       let starts = start_after (length one.table.rows) two.table.initial in
       let within = after_within one.table one.table.initial text is_one.table is_one.table.initial in
@@ -271,7 +271,7 @@ module _ (one two : Automaton) (nfa : Nondeterministic) (is_one : IsAutomaton on
 
   -- where the front is accepted the second starts
   among_start : (front : List ℕ) (start : ℕ) → AcceptsText one front → Contains (start_after (length one.table.rows) two.table.initial) start
-      → IsAmong nfa front start
+      → LeadsSomehow nfa front start
   among_start [] start accepts is_start = record {
     start = start;
     is_initial = Contains-same _ _ start (sym chain.initial)
@@ -289,7 +289,7 @@ module _ (one two : Automaton) (nfa : Nondeterministic) (is_one : IsAutomaton on
       }
 
   among_second : (text front back : List ℕ) (state : ℕ) → text ≡ front ++ back → AcceptsText one front → state_after two.table back ≡ state
-      → state ≢ 0 → IsAmong nfa text (length one.table.rows + state)
+      → state ≢ 0 → LeadsSomehow nfa text (length one.table.rows + state)
   among_second text front back state whole accepts leads some =
       let n = length one.table.rows in
       let within = after_within two.table two.table.initial back is_two.table is_two.table.initial in
@@ -306,7 +306,7 @@ module _ (one two : Automaton) (nfa : Nondeterministic) (is_one : IsAutomaton on
         leads = subst Q (sym whole) (leads-append nfa begun.start front (n + two.table.initial) back (n + state) begun.leads (subst P leads goes_on));
       }
 
-  among_back : (text : List ℕ) (state : ℕ) → IsAfterConcat one two text (of_two (length one.table.rows) state) → IsAmong nfa text state
+  among_back : (text : List ℕ) (state : ℕ) → IsAfterConcat one two text (of_two (length one.table.rows) state) → LeadsSomehow nfa text state
   among_back text state after =
       let n = length one.table.rows in
       let P : OfTwo → Type 0 = λ s. IsAfterConcat one two text s in
@@ -314,7 +314,7 @@ module _ (one two : Automaton) (nfa : Nondeterministic) (is_one : IsAutomaton on
         | inl past ↦
             let same : n + (state - n) ≡ state = omega arith in
             let inverse = second_inverse (subst P (sym (ap (of_two n) same) ∙ of_two_second n (state - n) (omega arith)) after) in
-            let Q : ℕ → Type 0 = λ s. IsAmong nfa text s in
+            let Q : ℕ → Type 0 = λ s. LeadsSomehow nfa text s in
             subst Q same (among_second text inverse.front inverse.back (state - n) inverse.whole inverse.accepts inverse.leads inverse.some)
         | inr within ↦
             let inverse = first_inverse (subst P (of_two_first n state within) after) in
@@ -322,7 +322,7 @@ module _ (one two : Automaton) (nfa : Nondeterministic) (is_one : IsAutomaton on
       ]
 
   -- a word leads to the states that `concat` counts
-  pub among_after : (text : List ℕ) (state : ℕ) → IsAmong nfa text state ↔ IsAfterConcat one two text (of_two (length one.table.rows) state)
+  pub among_after : (text : List ℕ) (state : ℕ) → LeadsSomehow nfa text state ↔ IsAfterConcat one two text (of_two (length one.table.rows) state)
   among_after text state = (among_forth text state, among_back text state)
 
   -- ---- the language
@@ -440,11 +440,11 @@ module _ (one two : Automaton) (nfa : Nondeterministic) (is_one : IsAutomaton on
 
 -- the sets of states to which words lead are counted as those of the states of two
 pub counted_chained : (one two : Automaton) (nfa : Nondeterministic) → IsTable one.table
-    → ((text : List ℕ) (state : ℕ) → IsAmong nfa text state ↔ IsAfterConcat one two text (of_two (length one.table.rows) state))
-    → (m : ℕ) → MoreSetsThan (IsAmong nfa) m ↔ CountedConcat one two m
+    → ((text : List ℕ) (state : ℕ) → LeadsSomehow nfa text state ↔ IsAfterConcat one two text (of_two (length one.table.rows) state))
+    → (m : ℕ) → MoreSetsThan (LeadsSomehow nfa) m ↔ CountedConcat one two m
 counted_chained one two nfa is same m = (
-  MoreSetsThan-forth (IsAmong nfa) (IsAfterConcat one two) (of_two (length one.table.rows)) m same,
-  MoreSetsThan-back (IsAmong nfa) (IsAfterConcat one two) (of_two (length one.table.rows)) m same covered,
+  MoreSetsThan-forth (LeadsSomehow nfa) (IsAfterConcat one two) (of_two (length one.table.rows)) m same,
+  MoreSetsThan-back (LeadsSomehow nfa) (IsAfterConcat one two) (of_two (length one.table.rows)) m same covered,
 )
   where
     covered : (text : List ℕ) (state : OfTwo) → IsAfterConcat one two text state → (x : ℕ) × (of_two (length one.table.rows) x ≡ state)

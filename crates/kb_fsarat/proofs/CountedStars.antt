@@ -11,8 +11,8 @@ use Rattle.kb_fsa.specs.Canonical.{IsState, AreReached}
 use Rattle.kb_fsa.specs.Counted.{MoreThan, MoreSetsThan, IsProduct, empty, IsAfterProduct, CountedStar}
 use Rattle.kb_fsa.proofs.Lookups.{after-append, after_within, step_within}
 use Rattle.kb_explore.proofs.CountingLemmas.{MoreThan-kept, MoreThan-numbered}
-use Rattle.kb_fsadet.specs.Nondeterministic.{Nondeterministic, IsAmong}
-use Rattle.kb_fsarat.specs.Repetitions.{IsRepeated, LacksMove}
+use Rattle.kb_fsadet.specs.Nondeterministic.{Nondeterministic, LeadsSomehow}
+use Rattle.kb_fsarat.specs.Repetitions.{IsStarNfa, LacksMove}
 
 -- ---- as many texts as numbers
 
@@ -69,9 +69,9 @@ abbrev pub AreAlike : Automaton → List ℕ → List ℕ → Type 0
 AreAlike automaton word other =
     ((state : ℕ) → IsAfterProduct automaton word state ↔ IsAfterProduct automaton other state) × (IsProduct automaton word ↔ IsProduct automaton other)
 
-module _ (automaton : Automaton) (nfa : Nondeterministic) (repeated : IsRepeated automaton nfa) where
+module _ (automaton : Automaton) (nfa : Nondeterministic) (repeated : IsStarNfa automaton nfa) where
   carried : (word other : List ℕ) → ((state : ℕ) → IsAfterProduct automaton word state → IsAfterProduct automaton other state)
-      → (IsProduct automaton word → IsProduct automaton other) → (state : ℕ) → IsAmong nfa word state → IsAmong nfa other state
+      → (IsProduct automaton word → IsProduct automaton other) → (state : ℕ) → LeadsSomehow nfa word state → LeadsSomehow nfa other state
   carried word other states product state among =
       let count = length automaton.table.rows in
       elim (cases_lt count state) [
@@ -79,13 +79,13 @@ module _ (automaton : Automaton) (nfa : Nondeterministic) (repeated : IsRepeated
         | inl past ↦
             let most = (repeated.no_others word state among).0 in
             let at_mark : state ≡ count + 1 = omega arith in
-            let P : ℕ → Type 0 = λ s. IsAmong nfa other s in
-            let Q : ℕ → Type 0 = λ s. IsAmong nfa word s in
+            let P : ℕ → Type 0 = λ s. LeadsSomehow nfa other s in
+            let Q : ℕ → Type 0 = λ s. LeadsSomehow nfa word s in
             subst P (sym at_mark) ((repeated.mark other).1 (product ((repeated.mark word).0 (subst Q at_mark among))))
       ]
 
   -- words lead to the same states exactly where they are alike
-  alike : (word other : List ℕ) → ((state : ℕ) → IsAmong nfa word state ↔ IsAmong nfa other state) ↔ AreAlike automaton word other
+  alike : (word other : List ℕ) → ((state : ℕ) → LeadsSomehow nfa word state ↔ LeadsSomehow nfa other state) ↔ AreAlike automaton word other
   alike word other = (
     λ same. (
       λ state. (
@@ -108,7 +108,7 @@ module _ (automaton : Automaton) (nfa : Nondeterministic) (repeated : IsRepeated
   )
 
   -- sets of states that aren't empty are counted by `star`
-  pub counted_sets : (m : ℕ) → MoreSetsThan (IsAmong nfa) m → CountedStar automaton m
+  pub counted_sets : (m : ℕ) → MoreSetsThan (LeadsSomehow nfa) m → CountedStar automaton m
   counted_sets m more =
       MoreThan-kept more (λ word some. (repeated.no_others word some.0 some.1).1)
       (λ word other one two are. (alike word other).1 are)
@@ -117,9 +117,9 @@ module _ (automaton : Automaton) (nfa : Nondeterministic) (repeated : IsRepeated
 
   module _ (answer : Automaton) (is : IsAutomaton answer) (alphabet : answer.alphabet ≡ automaton.alphabet) (n : ℕ)
       (plain : automaton.alphabet ≡ Plain n)
-      (leads : (text : List ℕ) → (state_after answer.table text ≢ 0) ↔ ((state : ℕ) × IsAmong nfa text state))
+      (leads : (text : List ℕ) → (state_after answer.table text ≢ 0) ↔ ((state : ℕ) × LeadsSomehow nfa text state))
       (sets : (text other : List ℕ) → (state_after answer.table text ≡ state_after answer.table other)
-      ↔ ((state : ℕ) → IsAmong nfa text state ↔ IsAmong nfa other state))
+      ↔ ((state : ℕ) → LeadsSomehow nfa text state ↔ LeadsSomehow nfa other state))
       (reached : AreReached answer.table) where
     letters : symbols answer.alphabet ≡ generators automaton.alphabet
     letters = ap symbols (alphabet ∙ plain) ∙ sym (ap generators plain)
@@ -197,7 +197,7 @@ module _ (automaton : Automaton) (nfa : Nondeterministic) (repeated : IsRepeated
         (λ word other number one two. (alike_after word other).0 (one ∙ sym two))
 
     -- and no more than sets where each word leads to a state
-    pub few_without_none : (m : ℕ) → ¬ LacksMove answer → ¬ MoreSetsThan (IsAmong nfa) m → ¬ CountedStar automaton m
+    pub few_without_none : (m : ℕ) → ¬ LacksMove answer → ¬ MoreSetsThan (LeadsSomehow nfa) m → ¬ CountedStar automaton m
     few_without_none m none few more =
         few (MoreThan-kept more (λ word over.
         let positive = (stays none answer.table.initial word initial_state over).positive in

@@ -1,15 +1,11 @@
 -- The states from which texts of one length lead to acceptance.
-use Rattle.std.proofs.Common.{◌≡◌, ◌↔◌, ℕ, zero, suc, ◌+◌, ◌-◌, ◌<◌, ◌≤◌, ◌^◌, Bool, true, false, ◌&&◌, nat_eq, nat_lt, nat_cmp, cond, IsTrue, List, [], ◌∷◌, ◌++◌, length, get_or, map, take, slice_get, Option, Some, None, Result, Ok, Err, refl, sym, ap, ◌∙◌, subst, inl, inr, arith}
+use Rattle.std.proofs.Common.{◌≡◌, ◌↔◌, ℕ, zero, suc, ◌+◌, ◌-◌, ◌<◌, ◌≤◌, ◌^◌, Bool, true, false, ◌&&◌, nat_lt, cond, IsTrue, List, [], ◌∷◌, ◌++◌, length, get_or, map, take, slice_get, Option, Some, None, Result, refl, sym, ap, ◌∙◌, subst, inl, inr, arith}
 use Rattle.std.specs.List.{Contains, find}
-use Rattle.std.specs.List.Sorted.{IsBinarySearchResult}
-use Rattle.std.specs.Result.{IfOk, MatchResult, is_ok}
+use Rattle.std.specs.Result.{IfOk}
 use Rattle.std.specs.Option.{MatchOption, IfSome, IfNone}
-use Rattle.std.proofs.lemmas.Bool.{cases_lt, false_from_ne_true}
-use Rattle.std.proofs.lemmas.Bool.Decides.{nat_tests, Decides-eqb}
-use Rattle.std.proofs.lemmas.List.{append-nil, take_more, get_or_default}
+use Rattle.std.proofs.lemmas.Bool.Decides.{nat_tests}
+use Rattle.std.proofs.lemmas.List.{append-nil, take_more}
 use Rattle.std.proofs.lemmas.List.Elements.{Contains-append_cases, Contains-append_left, Contains-append_right}
-use Rattle.std.proofs.lemmas.List.Folds.{Any-from_list_any, list_any-from_Any}
-use Rattle.std.proofs.lemmas.List.Sorted.{searched}
 use Rattle.std.proofs.lemmas.Grind.{flat_map-append}
 use Rattle.std.proofs.lemmas.Option.{slice_get_within, get_or_from_slice_get}
 use Rattle.std.proofs.lemmas.Result.{IfOk-weaker}
@@ -18,58 +14,12 @@ use Rattle.kb_fsa.specs.Table.{Moves, Ascends, Table, IsTable, HasSymbols, moves
 use Rattle.kb_fsa.specs.Canonical.{IsState}
 use Rattle.kb_fsa.proofs.Lookups.{Ascends-head, Ascends-tail, IsRow-moves_of}
 use Rattle.kb_fsadet.specs.Nondeterministic.{moves_at}
-use Rattle.kb_fsadet.specs.SubsetConstruction.{IsAscending, set_of}
+use Rattle.kb_fsadet.specs.SubsetConstruction.{is_member, set_of}
 use Rattle.kb_fsadet.proofs.Sets.{Contains-set_of}
-use Rattle.kb_fsarat.specs.Layers.{HasText, is_member, IsLayer, AreLayers, IsLastOf, IsSettled, AreTurned, targets, lengths, IsFirstMove, NoMove}
+use Rattle.kb_fsadet.proofs.Members.{contains_from_member, member_from_contains}
+use Rattle.kb_fsarat.specs.Layers.{HasText, IsLayer, AreLayers, IsLastOf, IsSettled, AreTurned, targets_of_each, lengths, IsFirstMove, NoMove}
 use Rattle.kb_fsarat.proofs.MoveLists.{Contains-nil, Contains-head, Contains-cons, Contains-cons_cases, Contains-map}
 use Rattle.kb_fsarat.proofs.TableMoves.{step_from_move, move_from_step, accepts_from_state, symbol_within}
-
--- ---- members
-
-pub contains_from_member : (members : List ℕ) (state : ℕ) → IsTrue (is_member members state) → Contains members state
-contains_from_member members state has =
-    let found = Any-from_list_any (λ member. nat_eq member state) members has in
-    let P : ℕ → Type 0 = λ member. Contains members member in
-    subst P ((Decides-eqb found.1 state).0 found.4) (found.0, found.2, found.3)
-
-pub member_from_contains : (members : List ℕ) (state : ℕ) → Contains members state → IsTrue (is_member members state)
-member_from_contains members state has =
-    list_any-from_Any (λ member. nat_eq member state) members (has.0, state, has.1, has.2, (Decides-eqb state state).1 refl)
-
--- whether a search through them finds it
-pub search_answers : (members : List ℕ) (state : ℕ) (r : Result ℕ ℕ) → IsAscending members
-    → IsBinarySearchResult (λ member. nat_cmp member state) members r → is_ok r ≡ is_member members state
-search_answers members state r ascends searches = by r (searched members state r searches rises)
-  where
-    rises : (i j : ℕ) → i ≤ j → j < length members → get_or members i 0 ≤ get_or members j 0
-    rises i j low within =
-        elim (cases_lt i j) [
-          | inl less ↦ let up = ascends i j 0 less within in omega arith
-          | inr same ↦
-              let at : i ≡ j = omega arith in
-              let alike = ap (λ k. get_or members k 0) at in omega arith
-        ]
-
-    by : (r : Result ℕ ℕ) → MatchResult r (λ i. (i < length members) × (get_or members i 0 ≡ state))
-        (λ i. (i ≤ length members) × ((k : ℕ) → k < i → get_or members k 0 < state) × ((k : ℕ) → i ≤ k → k < length members → state < get_or members k 0))
-        → is_ok r ≡ is_member members state
-    by (Ok i) found = sym (member_from_contains members state (i, found.0, get_or_default members i state 0 found.0 ∙ found.1))
-    by (Err i) none =
-        sym (false_from_ne_true (is_member members state) (λ member.
-        let has = contains_from_member members state member in
-        let here : get_or members has.0 0 ≡ state = get_or_default members has.0 0 state has.1 ∙ has.2 in
-        elim (cases_lt has.0 i) [
-          | inl low ↦ let below = none.1 has.0 low in let no : ⊥ = omega arith in no
-          | inr high ↦ let above = none.2 has.0 high has.1 in let no : ⊥ = omega arith in no
-        ]))
-
--- there is none just where there are no members
-pub empty_members : (members : List ℕ) → IsTrue (nat_eq (length members) 0) ↔ ((state : ℕ) → ¬ IsTrue (is_member members state))
-empty_members [] = (λ none state member. let no : ⊥ = cc in no, λ none. refl)
-empty_members (first ∷ members) = (
-  λ none. let count = (Decides-eqb (length (first ∷ members)) 0).0 none in absurd (omega arith),
-  λ none. absurd (none first (member_from_contains (first ∷ members) first (Contains-head first members))),
-)
 
 -- the set of listed states
 pub layer_from_listed : (table : Table) (k : ℕ) (states : List ℕ) → ((state : ℕ) → Contains states state ↔ HasText table k state)
@@ -113,11 +63,11 @@ pub HasText-state : (table : Table) (k state : ℕ) → IsTable table → HasTex
 HasText-state table k state is has = accepts_from_state table state has.text is has.accepts
 
 -- where the moves of states lead
-pub targets_cases : (rows : List Moves) (states : List ℕ) (target : ℕ) → Contains (targets rows states) target
+pub targets_cases : (rows : List Moves) (states : List ℕ) (target : ℕ) → Contains (targets_of_each rows states) target
     → (state : ℕ) × (Contains states state × ((symbol : ℕ) × Contains (moves_at rows state) (symbol, target)))
 targets_cases rows [] target has = absurd (Contains-nil target has)
 targets_cases rows (first ∷ states) target has =
-    elim (Contains-append_cases (map (λ (move : ℕ × ℕ). move.1) (moves_at rows first)) (targets rows states) target has) [
+    elim (Contains-append_cases (map (λ (move : ℕ × ℕ). move.1) (moves_at rows first)) (targets_of_each rows states) target has) [
       | inl here ↦
           let move = (Contains-map (λ (move : ℕ × ℕ). move.1) (moves_at rows first) target).0 here in
           let P : ℕ → Type 0 = λ t. Contains (moves_at rows first) (move.0.0, t) in
@@ -128,7 +78,7 @@ targets_cases rows (first ∷ states) target has =
     ]
 
 pub target_from_move : (rows : List Moves) (states : List ℕ) (state symbol target : ℕ) → Contains states state
-    → Contains (moves_at rows state) (symbol, target) → Contains (targets rows states) target
+    → Contains (moves_at rows state) (symbol, target) → Contains (targets_of_each rows states) target
 target_from_move rows [] state symbol target from has = absurd (Contains-nil state from)
 target_from_move rows (first ∷ states) state symbol target from has =
     elim (Contains-cons_cases first states state from) [
@@ -141,11 +91,11 @@ target_from_move rows (first ∷ states) state symbol target from has =
 
 -- one state more
 pub targets_more : (rows : List Moves) (states : List ℕ) (i d : ℕ) → i < length states
-    → targets rows (take (i + 1) states) ≡ targets rows (take i states) ++ map (λ (move : ℕ × ℕ). move.1) (moves_at rows (get_or states i d))
+    → targets_of_each rows (take (i + 1) states) ≡ targets_of_each rows (take i states) ++ map (λ (move : ℕ × ℕ). move.1) (moves_at rows (get_or states i d))
 targets_more rows states i d within =
     let lead : ℕ → List ℕ = λ state. map (λ (move : ℕ × ℕ). move.1) (moves_at rows state) in
-    ap (targets rows) (take_more states i d within) ∙ flat_map-append lead (take i states) (get_or states i d ∷ [])
-    ∙ ap (λ rest. targets rows (take i states) ++ rest) (append-nil (lead (get_or states i d)))
+    ap (targets_of_each rows) (take_more states i d within) ∙ flat_map-append lead (take i states) (get_or states i d ∷ [])
+    ∙ ap (λ rest. targets_of_each rows (take i states) ++ rest) (append-nil (lead (get_or states i d)))
 
 -- a move turned round
 forwards : (table : Table) (rows : List Moves) (state symbol source : ℕ) → AreTurned table rows → Contains (moves_at rows state) (symbol, source)
@@ -159,9 +109,9 @@ backwards table rows zero symbol source turns positive has = absurd (omega arith
 backwards table rows (suc place) symbol source turns positive has = (turns place symbol source).1 has
 
 pub layer_before : (table : Table) (rows : List Moves) (members : List ℕ) (k : ℕ) → IsTable table → AreTurned table rows → IsLayer table k members
-    → IsLayer table (k + 1) (set_of (targets rows members))
+    → IsLayer table (k + 1) (set_of (targets_of_each rows members))
 layer_before table rows members k is turns layer =
-    layer_from_listed table (k + 1) (targets rows members) (λ source. (
+    layer_from_listed table (k + 1) (targets_of_each rows members) (λ source. (
       λ has.
           let from = targets_cases rows members source has in
           let stepped = step_from_move table source from.1.1.0 from.0 is (forwards table rows from.0 from.1.1.0 source turns from.1.1.1) in
@@ -323,15 +273,15 @@ IfNone-from_match P Q (Some x) at = tt
 -- the set after the last one
 pub layer_after : (table : Table) (rows : List Moves) (sets : List (List ℕ)) (last : List ℕ) (r : Result (List ℕ) Memory) → IsTable table
     → AreTurned table rows → AreLayers table sets → Some last ≡ slice_get sets (length sets - 1)
-    → IfOk r (λ members. members ≡ set_of (targets rows last)) → IfOk r (IsLayer table (length sets))
+    → IfOk r (λ members. members ≡ set_of (targets_of_each rows last)) → IfOk r (IsLayer table (length sets))
 layer_after table rows sets last r is turns layers at made =
     let within = slice_get_within sets (length sets - 1) last (sym at) in
     let P : List ℕ → Type 0 = λ set. IsLayer table (length sets - 1) set in
     let layer = subst P (get_or_from_slice_get sets (length sets - 1) last last (sym at)) (layers (length sets - 1) last within) in
     let next = layer_before table rows last (length sets - 1) is turns layer in
     let count : (length sets - 1) + 1 ≡ length sets = omega arith in
-    IfOk-weaker r (λ (members : List ℕ). members ≡ set_of (targets rows last)) (IsLayer table (length sets))
+    IfOk-weaker r (λ (members : List ℕ). members ≡ set_of (targets_of_each rows last)) (IsLayer table (length sets))
     (λ members is_set.
     let Q : List ℕ → Type 0 = λ set. IsLayer table (length sets) set in
-    let N : ℕ → Type 0 = λ n. IsLayer table n (set_of (targets rows last)) in
+    let N : ℕ → Type 0 = λ n. IsLayer table n (set_of (targets_of_each rows last)) in
     subst Q (sym is_set) (subst N count next)) made

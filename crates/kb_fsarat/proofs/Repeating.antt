@@ -10,11 +10,11 @@ use Rattle.kb_fsa.specs.Language.{Automaton, IsAutomaton, AcceptsText, generator
 use Rattle.kb_fsa.specs.Canonical.{IsState}
 use Rattle.kb_fsa.specs.Counted.{IsProduct, empty, longer, IsAfterProduct}
 use Rattle.kb_fsa.proofs.Lookups.{after-append, after_within}
-use Rattle.kb_fsadet.specs.Nondeterministic.{Nondeterministic, IsNondeterministic, IsAmong, LeadsFrom, moves_from}
+use Rattle.kb_fsadet.specs.Nondeterministic.{Nondeterministic, IsNondeterministic, LeadsSomehow, LeadsFrom, moves_from}
 use Rattle.kb_fsarat.specs.Reversal.{only}
 use Rattle.kb_fsarat.specs.Restarts.{restarting}
 use Rattle.kb_fsarat.specs.Chains.{start_of}
-use Rattle.kb_fsarat.specs.Repetitions.{IsRepeated}
+use Rattle.kb_fsarat.specs.Repetitions.{IsStarNfa}
 use Rattle.kb_fsarat.proofs.MoveLists.{Contains-nil, Contains-same, Contains-cons_cases, Contains-cons}
 use Rattle.kb_fsarat.proofs.TableMoves.{IsMove-from_contains, symbol_within, leads_from_state, accepts_from_state}
 use Rattle.kb_fsarat.proofs.Nondeterminism.{IsNondeterministic-plain, HasMovesWithin, row_within, texts_over}
@@ -197,7 +197,7 @@ module _ (automaton : Automaton) (nfa : Nondeterministic) (mark : ℕ) (is : IsA
             (λ front begun goes. reaches fuel front restarted.back automaton.table.initial other less begun goes)
       ]
 
-  among_cases : (text : List ℕ) (state : ℕ) → IsAmong nfa text state → Reaches automaton mark text state
+  among_cases : (text : List ℕ) (state : ℕ) → LeadsSomehow nfa text state → Reaches automaton mark text state
   among_cases text state among =
       let P : ℕ → Type 0 = λ s. LeadsFrom nfa s text state in
       elim ((starts_cases among.start).0 (Contains-same _ _ among.start parts.initial among.is_initial)) [
@@ -214,10 +214,10 @@ module _ (automaton : Automaton) (nfa : Nondeterministic) (mark : ℕ) (is : IsA
 
   -- an accepted word more leads to each start
   word_more : (word front back : List ℕ) (start : ℕ) → word ≡ front ++ back → AcceptsText automaton back
-      → ((other : ℕ) → Contains (mark ∷ start_of automaton.table.initial) other → IsAmong nfa front other)
-      → Contains (mark ∷ start_of automaton.table.initial) start → IsAmong nfa word start
+      → ((other : ℕ) → Contains (mark ∷ start_of automaton.table.initial) other → LeadsSomehow nfa front other)
+      → Contains (mark ∷ start_of automaton.table.initial) start → LeadsSomehow nfa word start
   word_more word front [] start whole accepts begun has =
-      let P : List ℕ → Type 0 = λ w. IsAmong nfa w start in
+      let P : List ℕ → Type 0 = λ w. LeadsSomehow nfa w start in
       subst P (sym (whole ∙ append-nil front)) (begun start has)
   word_more word front (symbol ∷ back) start whole accepts begun has =
       let starts = mark ∷ start_of automaton.table.initial in
@@ -233,12 +233,12 @@ module _ (automaton : Automaton) (nfa : Nondeterministic) (mark : ℕ) (is : IsA
 
   -- so a product leads to each start
   product_back : (word : List ℕ) (start : ℕ) → IsProduct automaton word → Contains (mark ∷ start_of automaton.table.initial) start
-      → IsAmong nfa word start
+      → LeadsSomehow nfa word start
   product_back [] start empty has = record { start = start; is_initial = initial_start start has; leads = refl }
   product_back word start (longer front back whole product accepts) has =
       word_more word front back start whole accepts (λ other other_has. product_back front other product other_has) has
 
-  states_back : (word : List ℕ) (state : ℕ) → IsAfterProduct automaton word state → IsAmong nfa word state
+  states_back : (word : List ℕ) (state : ℕ) → IsAfterProduct automaton word state → LeadsSomehow nfa word state
   states_back word state after =
       let starts = mark ∷ start_of automaton.table.initial in
       let some = after.some in
@@ -260,7 +260,7 @@ module _ (automaton : Automaton) (nfa : Nondeterministic) (mark : ℕ) (is : IsA
 
   -- ---- what the words lead to
 
-  over_symbols : (word : List ℕ) (state : ℕ) → HasMovesWithin (symbols automaton.alphabet) nfa → IsAmong nfa word state → IsOver (symbols automaton.alphabet) word
+  over_symbols : (word : List ℕ) (state : ℕ) → HasMovesWithin (symbols automaton.alphabet) nfa → LeadsSomehow nfa word state → IsOver (symbols automaton.alphabet) word
   over_symbols word state within among = texts_over (symbols automaton.alphabet) nfa within among.start word state among.leads
 
   moves_within : HasMovesWithin (symbols automaton.alphabet) nfa
@@ -294,14 +294,14 @@ module _ (automaton : Automaton) (nfa : Nondeterministic) (mark : ℕ) (is : IsA
             absurd (Contains-nil (symbol, next) (Contains-same _ _ (symbol, next) (ap (λ p. get_or nfa.rows p []) at_mark ∙ row_mark) has))
       ]
 
-  pub repeated : (n : ℕ) → automaton.alphabet ≡ Plain n → IsRepeated automaton nfa
+  pub repeated : (n : ℕ) → automaton.alphabet ≡ Plain n → IsStarNfa automaton nfa
   repeated n plain =
       let count = length automaton.table.rows in
       let e = parts.is_mark in
       let letters : symbols automaton.alphabet ≡ generators automaton.alphabet = ap symbols plain ∙ sym (ap generators plain) in
       let after_word : (word : List ℕ) (state : ℕ) → IsAfterProduct automaton word state → state ≤ count = λ word state after.
       (after_state word state after).within in
-      let to_mark : (word : List ℕ) → IsAmong nfa word mark ↔ IsProduct automaton word = λ word. (
+      let to_mark : (word : List ℕ) → LeadsSomehow nfa word mark ↔ IsProduct automaton word = λ word. (
         λ among. elim (among_cases word mark among) [
           | inl after ↦ let within = after_word word mark after in absurd (let no : ⊥ = omega arith in no)
           | inr at_mark ↦ at_mark.1
@@ -317,7 +317,7 @@ module _ (automaton : Automaton) (nfa : Nondeterministic) (mark : ℕ) (is : IsA
           ],
           states_back word state,
         );
-        mark = λ word. let P : ℕ → Type 0 = λ s. IsAmong nfa word s ↔ IsProduct automaton word in subst P e (to_mark word);
+        mark = λ word. let P : ℕ → Type 0 = λ s. LeadsSomehow nfa word s ↔ IsProduct automaton word in subst P e (to_mark word);
         no_others = λ word state among. (
           elim (among_cases word state among) [
             | inl after ↦ let within = after_word word state after in omega arith
@@ -328,7 +328,7 @@ module _ (automaton : Automaton) (nfa : Nondeterministic) (mark : ℕ) (is : IsA
         are_states = after_word;
         language = λ word. (
           λ somehow.
-              let P : ℕ → Type 0 = λ s. IsAmong nfa word s in
+              let P : ℕ → Type 0 = λ s. LeadsSomehow nfa word s in
               (to_mark word).0 (subst P ((answer somehow.0).0 somehow.2).0 somehow.1),
           λ product. (mark, (to_mark word).1 product, (answer mark).1 (refl, λ none. absurd (let no : ⊥ = omega arith in no))),
         );

@@ -9,7 +9,7 @@ use Rattle.kb_fsa.specs.Table.{Moves, Table, IsTable, moves_of, is_accepting, st
 use Rattle.kb_fsa.specs.Language.{Automaton, IsAutomaton, Accepts, generators, symbols}
 use Rattle.kb_fsa.specs.Counted.{MoreSetsThan, IsBefore, CountedReverse}
 use Rattle.kb_fsa.proofs.Lookups.{after-append}
-use Rattle.kb_fsadet.specs.Nondeterministic.{Nondeterministic, IsNondeterministic, IsAmong, AcceptsSomehow, LeadsFrom, moves_from, accepts_at}
+use Rattle.kb_fsadet.specs.Nondeterministic.{Nondeterministic, IsNondeterministic, LeadsSomehow, AcceptsSomehow, LeadsFrom, moves_from, accepts_at}
 use Rattle.kb_fsarat.specs.Reversal.{HaveAdded, TurnsFirst, IsTurned, IsListed, only}
 use Rattle.kb_fsarat.proofs.MoveLists.{Contains-nil, Contains-same}
 use Rattle.kb_fsarat.proofs.TableMoves.{IsMove-from_contains, symbol_within, step_from_move, move_from_step, accepting_state, accepts_from_state}
@@ -51,7 +51,7 @@ module _ (automaton : Automaton) (turned : Nondeterministic) (is : IsAutomaton a
       (next, (moves_turned state symbol next positive).1 move, leads_back next text other refl source.positive)
 
   -- the states to which a word leads are those from which the word backwards leads to acceptance
-  pub among_before : (text : List ℕ) (state : ℕ) → IsAmong turned text state ↔ IsBefore automaton text state
+  pub among_before : (text : List ℕ) (state : ℕ) → LeadsSomehow turned text state ↔ IsBefore automaton text state
   among_before text state = (
     λ among.
         let P : ℕ → Type 0 = λ s. IsTrue (is_accepting automaton.table s) in
@@ -102,11 +102,11 @@ module _ (automaton : Automaton) (turned : Nondeterministic) (is : IsAutomaton a
 
 -- the sets of states to which words lead are counted as those from which words backwards lead to acceptance
 pub counted_backwards : (automaton : Automaton) (nfa : Nondeterministic)
-    → ((text : List ℕ) (state : ℕ) → IsAmong nfa text state ↔ IsBefore automaton text state)
-    → (m : ℕ) → MoreSetsThan (IsAmong nfa) m ↔ CountedReverse automaton m
+    → ((text : List ℕ) (state : ℕ) → LeadsSomehow nfa text state ↔ IsBefore automaton text state)
+    → (m : ℕ) → MoreSetsThan (LeadsSomehow nfa) m ↔ CountedReverse automaton m
 counted_backwards automaton nfa same m = (
-  MoreSetsThan-forth (IsAmong nfa) (IsBefore automaton) (λ state. state) m same,
-  MoreSetsThan-back (IsAmong nfa) (IsBefore automaton) (λ state. state) m same (λ text state has. (state, refl)),
+  MoreSetsThan-forth (LeadsSomehow nfa) (IsBefore automaton) (λ state. state) m same,
+  MoreSetsThan-back (LeadsSomehow nfa) (IsBefore automaton) (λ state. state) m same (λ text state has. (state, refl)),
 )
 
 -- ---- the parts

@@ -1,18 +1,15 @@
 -- The states from which texts of one length lead to acceptance.
-use Rattle.std.specs.Prelude.{◌≡◌, ◌↔◌, ℕ, suc, ◌-◌, ◌<◌, ◌≤◌, ◌^◌, Bool, true, false, nat_eq, IsTrue, List, [], length, get_or, map, Contains}
-use Rattle.std.specs.List.{list_any, flat_map}
+use Rattle.std.specs.Prelude.{◌≡◌, ◌↔◌, ℕ, suc, ◌-◌, ◌<◌, ◌≤◌, ◌^◌, Bool, true, false, IsTrue, List, [], length, get_or, map, Contains}
+use Rattle.std.specs.List.{flat_map}
 use Rattle.kb_fsa.specs.Table.{Moves, Table, IsTable, HasSymbols, AcceptsFrom, moves_of, step}
 use Rattle.kb_fsadet.specs.Nondeterministic.{moves_at}
+use Rattle.kb_fsadet.specs.SubsetConstruction.{is_member}
 
 -- from the state some text of the length leads to acceptance
 pub record HasText (table : Table) (k state : ℕ) : Type 0 where
   pub text : List ℕ
   pub long : length text ≡ k
   pub accepts : AcceptsFrom table state text
-
--- whether the state is one of the members
-abbrev pub is_member : List ℕ → ℕ → Bool
-is_member members state = list_any (λ member. nat_eq member state) members
 
 -- the set has exactly the states from which some text of length k leads to acceptance
 abbrev pub IsLayer : Table → ℕ → List ℕ → Type 0
@@ -37,8 +34,8 @@ abbrev pub AreTurned : Table → List Moves → Type 0
 AreTurned table rows = (place symbol source : ℕ) → Contains (get_or rows place []) (symbol, source) ↔ Contains (moves_of table source) (symbol, suc place)
 
 -- where the moves of these states lead
-abbrev pub targets : List Moves → List ℕ → List ℕ
-targets rows states = flat_map (λ state. map (λ move. move.1) (moves_at rows state)) states
+abbrev pub targets_of_each : List Moves → List ℕ → List ℕ
+targets_of_each rows states = flat_map (λ state. map (λ move. move.1) (moves_at rows state)) states
 
 -- for how many lengths there is a set: for all that there can be, once the last is that of all further ones
 abbrev pub lengths : Bool → List (List ℕ) → ℕ

@@ -5,7 +5,7 @@ ghost use Rattle.kb_fsa.specs.Table.{IsTable};
 ghost use Rattle.kb_fsa.specs.Counted.{CountedConcat, IsAfterConcat};
 ghost use Rattle.kb_fsa.specs.declared.alphabet.Alphabet.TheVariants.{Plain};
 ghost use Rattle.kb_explore.specs.declared.det.Det.TheVariants.{TooManyStates};
-ghost use Rattle.kb_fsadet.specs.Nondeterministic.{IsAmong, AcceptsSomehow};
+ghost use Rattle.kb_fsadet.specs.Nondeterministic.{LeadsSomehow, AcceptsSomehow};
 ghost use Rattle.kb_fsarat.specs.Products.{IsConcatenation, IsSplit};
 ghost use Rattle.kb_fsarat.specs.Restarts.{restarting, shifted};
 ghost use Rattle.kb_fsarat.specs.Chains.{of_two, start_after, initial_with};
@@ -25,21 +25,23 @@ pub fn concat(alloc: Global, one: &Fsa, two: &Fsa, limit: u32) -> Result<Fsa, De
     ensures language { IfOk result (IsConcatenation one.now two.now) }
     ensures alphabet { IfOk result (λ answer. answer.alphabet ≡ one.now.alphabet) }
     ensures few { IsOk result → ¬ CountedConcat one.now two.now limit }
-    ensures many { (most : ℕ) → result ≡ Err (TooManyStates most) → (most ≡ limit) × CountedConcat one.now two.now limit }
+    ensures many { (most : ℕ) → result ≡ Err (TooManyStates most)
+        → (most ≡ limit) × CountedConcat one.now two.now limit }
 {
-    let both = chained(alloc, one, two)?;
+    let both = concat_nfa(alloc, one, two)?;
     determinise(alloc, &both, limit)
 }
 
 /// One automaton of the states of both, those of the second numbered after those of the first. Where the first
 /// accepts, the second starts.
-fn chained(alloc: Global, one: &Fsa, two: &Fsa) -> Result<Nfa, Memory>
+fn concat_nfa(alloc: Global, one: &Fsa, two: &Fsa) -> Result<Nfa, Memory>
     requires plain { (n : ℕ) × (one.now.alphabet ≡ Plain n) }
     requires alphabets { one.now.alphabet ≡ two.now.alphabet }
     ensures alphabet { IfOk result (λ nfa. nfa.alphabet ≡ one.now.alphabet) }
-    ensures sets { IfOk result (λ nfa. (text : List ℕ) (state : ℕ) → IsAmong nfa text state
+    ensures sets { IfOk result (λ nfa. (text : List ℕ) (state : ℕ) → LeadsSomehow nfa text state
         ↔ IsAfterConcat one.now two.now text (of_two (length one.now.table.rows) state)) }
-    ensures language { IfOk result (λ nfa. (text : List ℕ) → AcceptsSomehow nfa text ↔ IsSplit one.now two.now text) }
+    ensures language { IfOk result (λ nfa. (text : List ℕ)
+        → AcceptsSomehow nfa text ↔ IsSplit one.now two.now text) }
     ensures table { IfOk result (λ _. IsTable one.now.table) }
 {
     let (first, second) = (one.table(), two.table());
@@ -50,7 +52,7 @@ fn chained(alloc: Global, one: &Fsa, two: &Fsa) -> Result<Nfa, Memory>
     let start = start_after(alloc, first.len(), second.initial())?;
     let starts = start.as_slice();
     let initial = initial_with(alloc, first, starts)?;
-    let rows = chained_rows(alloc, first, starts, second)?;
+    let rows = concat_rows(alloc, first, starts, second)?;
     let accepting = after_falses(alloc, first.rows().len(), second.accepting())?;
     Ok(Nfa::new(one.alphabet(), initial, rows, accepting))
 }
@@ -80,7 +82,7 @@ fn initial_with(alloc: Global, table: &Table, starts: &[u32]) -> Result<Vec<u32>
 
 /// The rows of both automata; in those of the first, where a move leads to acceptance there is also one by its
 /// symbol to each start.
-fn chained_rows(
+fn concat_rows(
     alloc: Global,
     first: &Table,
     starts: &[u32],

@@ -31,7 +31,8 @@ impl<'a> Model for Enumerate<'a> {
 
     ghost Value = { Enumeration };
 
-    ghost view = { λ e. record { automaton = e.fsa.now; min = e.min; max = e.max; given = e.given } };
+    ghost view = { λ e.
+        record { automaton = e.fsa.now; min = e.min; max = e.max; given = e.given } };
 
     ghost invariant = { λ e. IsEnumerating e.fsa.now e.min e.max e.layers e.given };
 }
@@ -90,7 +91,12 @@ fn next_after(
     requires table { layers.old.table ≡ fsa.now.table }
     requires given { IfSome (option_copied given) (IsGiven fsa.now min max) }
     ensures table { layers.new.table ≡ layers.old.table }
-    ensures next { IfOk result (IsNextOf (record { automaton = fsa.now; min = min; max = max; given = option_copied given.entry })) }
+    ensures next { IfOk result (IsNextOf (record {
+      automaton = fsa.now;
+      min = min;
+      max = max;
+      given = option_copied given.entry;
+    })) }
 {
     match given {
         None => first_of_length(alloc, layers, usize::from(min), usize::from(max)),

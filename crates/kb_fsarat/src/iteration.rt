@@ -7,7 +7,7 @@ ghost use Rattle.kb_explore.specs.declared.det.Det.TheVariants.{TooManyStates};
 ghost use Rattle.kb_fsarat.specs.Products.{IsStar};
 ghost use Rattle.kb_fsarat.specs.Restarts.{restarting};
 ghost use Rattle.kb_fsarat.specs.Chains.{start_of};
-ghost use Rattle.kb_fsarat.specs.Repetitions.{IsRepeated, LacksMove};
+ghost use Rattle.kb_fsarat.specs.Repetitions.{IsStarNfa, LacksMove};
 
 use crate::answers::only_state;
 use crate::restarts::restarting_rows;
@@ -23,9 +23,10 @@ pub fn star(alloc: Global, one: &Fsa, limit: u32) -> Result<Fsa, Det>
     ensures language { IfOk result (IsStar one.now) }
     ensures alphabet { IfOk result (λ answer. answer.alphabet ≡ one.now.alphabet) }
     ensures few { IsOk result → ¬ CountedStar one.now limit }
-    ensures many { (most : ℕ) → result ≡ Err (TooManyStates most) → (most ≡ limit) × CountedStar one.now limit }
+    ensures many { (most : ℕ) → result ≡ Err (TooManyStates most)
+        → (most ≡ limit) × CountedStar one.now limit }
 {
-    let products = repeated(alloc, one)?;
+    let products = star_nfa(alloc, one)?;
     let answer = determinise(alloc, &products, limit)?;
     // The empty set of states is counted too, where a word leads to it. It is none of the answer's states, each of which
     // some word leads to: so a word leads to it exactly where one of them lacks a move.
@@ -45,10 +46,10 @@ fn lacks_move(fsa: &Fsa) -> bool
 
 /// The automaton with one state more, the mark, which accepts and to which the products lead. After each product it
 /// starts again.
-fn repeated(alloc: Global, one: &Fsa) -> Result<Nfa, Memory>
+fn star_nfa(alloc: Global, one: &Fsa) -> Result<Nfa, Memory>
     requires { (n : ℕ) × (one.now.alphabet ≡ Plain n) }
     ensures alphabet { IfOk result (λ nfa. nfa.alphabet ≡ one.now.alphabet) }
-    ensures sets { IfOk result (IsRepeated one.now) }
+    ensures sets { IfOk result (IsStarNfa one.now) }
 {
     let table = one.table();
     // No state has a number of more than 32 bits.
@@ -56,15 +57,16 @@ fn repeated(alloc: Global, one: &Fsa) -> Result<Nfa, Memory>
         return Err(Memory);
     };
     let initial = starts_at(alloc, mark, table.initial())?;
-    let rows = repeated_rows(alloc, table, initial.as_slice())?;
+    let rows = star_rows(alloc, table, initial.as_slice())?;
     let accepting = only_state(alloc, mark, rows.len())?;
     Ok(Nfa::new(one.alphabet(), initial, rows, accepting))
 }
 
 /// The rows of the table, where each move to an accepting state is also one by its symbol to each start, and then that
 /// of the mark.
-fn repeated_rows(alloc: Global, table: &Table, starts: &[u32]) -> Result<Vec<Branches>, Memory>
-    ensures { IfOk result (λ rows. rows.items ≡ map (restarting table.now starts.now) table.now.rows ++ [] ∷ []) }
+fn star_rows(alloc: Global, table: &Table, starts: &[u32]) -> Result<Vec<Branches>, Memory>
+    ensures { IfOk result (λ rows.
+        rows.items ≡ map (restarting table.now starts.now) table.now.rows ++ [] ∷ []) }
 {
     let mut rows = restarting_rows(alloc, table, starts)?;
     rows.push(Branches::new(alloc))?;

@@ -1,112 +1,52 @@
 //! For each length the states from which some text of that length leads to acceptance.
 
-ghost use Rattle.std.specs.Prelude.{◌≡◌, ◌↔◌, ◌+◌, ◌<◌, ◌≤◌, ◌^◌, ◌&&◌, ◌++◌, ℕ, nat_eq, nat_lt, IsTrue, IfOk, IfSome, IfNone, OnOk, OnErr, length, map};
+ghost use Rattle.std.specs.Prelude.{◌≡◌, ◌↔◌, ◌+◌, ◌<◌, ◌≤◌, ◌^◌, ◌&&◌, ◌++◌, ℕ, nat_lt, IsTrue, IfOk, IfSome, IfNone, OnOk, OnErr, length, map};
 ghost use Rattle.std.specs.List.{find};
-ghost use Rattle.std.specs.Cmp.Lexicographic.{pointwise};
 ghost use Rattle.std.specs.Slice.Iter.{iter_rest};
 ghost use Rattle.kb_fsa.specs.Table.{IsTable, HasSymbols};
-ghost use Rattle.kb_fsadet.specs.Nondeterministic.{moves_at};
-ghost use Rattle.kb_fsadet.specs.SubsetConstruction.{set_of};
-ghost use Rattle.kb_fsarat.specs.Layers.{HasText, is_member, targets, AreTurned, IsLayer, IsLastOf, IsFirstMove, NoMove};
+ghost use Rattle.kb_fsadet.specs.SubsetConstruction.{is_member, set_of};
+ghost use Rattle.kb_fsarat.specs.Layers.{HasText, targets_of_each, AreTurned, IsLayer, IsLastOf, IsFirstMove, NoMove};
 
-use crate::reversal::{accepting_states, turned_rows};
+use crate::reversal::{accepting_states, reversed_rows};
 use kb_fsa::Table;
-use kb_fsadet::Branches;
+use kb_fsadet::{Branches, StateSet, moves_at};
 use kb_word::Memory;
 use std::alloc::Global;
 use std::marker::Model;
 use std::slice::Iter;
 
-/// A set of states: its members, ascending.
-#[derive(Drop)]
-struct StateSet {
-    members: Vec<u32>,
-}
-
-impl Model for StateSet {
-    ghost use Rattle.std.specs.Prelude.{ℕ, List};
-    ghost use Rattle.kb_fsadet.specs.SubsetConstruction.{IsAscending};
-
-    ghost Value = { List ℕ };
-
-    ghost view = { λ set. set.members.items };
-
-    ghost invariant = { λ set. IsAscending set.members.items };
-}
-
-impl StateSet {
-    /// The set of these states, which may be in any order.
-    fn of(mut members: Vec<u32>) -> StateSet
-        ensures { result ≡ set_of members.items }
-    {
-        members.sort_unstable();
-        members.dedup();
-        members.shrink_to_fit();
-        StateSet { members }
-    }
-
-    /// The states that accept.
-    fn accepting(alloc: Global, table: &Table) -> Result<StateSet, Memory>
-        requires { IsTable table.now }
-        ensures { IfOk result (IsLayer table.now 0) }
-    {
-        let states = accepting_states(alloc, table.accepting())?;
-        Ok(StateSet::of(states))
-    }
-
-    /// The states of which some move leads to a member, by all moves turned round.
-    fn before(&self, alloc: Global, turned: &[Branches]) -> Result<StateSet, Memory>
-        ensures { IfOk result (λ set. set ≡ set_of (targets turned.now self.now)) }
-    {
-        let mut sources = Vec::new(alloc);
-        for member in self.members.as_slice() {
-            push_targets(&mut sources, moves_of(turned, *member))?;
-        }
-        Ok(StateSet::of(sources))
-    }
-
-    /// The first of the moves that leads to a member by a symbol above the floor.
-    fn first_move(&self, mut moves: Iter<'_, (u32, u32)>, floor: u32) -> Option<(u32, u32)>
-        ensures { result ≡ find (λ move. nat_lt floor move.0 && is_member self.now move.1) (iter_rest moves.entry) }
-    {
-        moves
-            .find(|(symbol, target)| *symbol > floor && self.contains(*target))
-            .copied()
-    }
-
-    /// Whether the state is a member. The search halves the members at each look.
-    fn contains(&self, state: u32) -> bool
-        ensures { result ≡ is_member self.now state }
-    {
-        self.members.as_slice().binary_search(&state).is_ok()
-    }
-
-    /// Whether there are no members.
-    fn is_empty(&self) -> bool
-        ensures { IsTrue result ↔ ((state : ℕ) → ¬ IsTrue (is_member self.now state)) }
-    {
-        self.members.is_empty()
-    }
-
-    /// Whether the other has the same members.
-    fn equals(&self, other: &StateSet) -> bool
-        ensures { result ≡ pointwise nat_eq self.now other.now }
-    {
-        self.members.as_slice() == other.members.as_slice()
-    }
-}
-
-/// The moves of a state; none where there is no such state.
-fn moves_of(rows: &[Branches], state: u32) -> &[(u32, u32)]
-    ensures { result.now ≡ moves_at rows.now state }
+/// The states that accept.
+fn accepting_set(alloc: Global, table: &Table) -> Result<StateSet, Memory>
+    requires { IsTable table.now }
+    ensures { IfOk result (IsLayer table.now 0) }
 {
-    match state.checked_sub(1) {
-        Some(place) => match rows.get(place as usize) {
-            Some(branches) => branches.as_slice(),
-            None => &[],
-        },
-        None => &[],
+    let states = accepting_states(alloc, table.accepting())?;
+    Ok(StateSet::of(states))
+}
+
+/// The states of which some move leads to a member, by all moves turned round.
+fn set_before(alloc: Global, set: &StateSet, turned: &[Branches]) -> Result<StateSet, Memory>
+    ensures { IfOk result (λ before. before ≡ set_of (targets_of_each turned.now set.now)) }
+{
+    let mut sources = Vec::new(alloc);
+    for member in set.as_slice() {
+        push_targets(&mut sources, moves_at(turned, *member))?;
     }
+    Ok(StateSet::of(sources))
+}
+
+/// The first of the moves that leads to a member by a symbol above the floor.
+fn first_move_into(
+    set: &StateSet,
+    mut moves: Iter<'_, (u32, u32)>,
+    floor: u32,
+) -> Option<(u32, u32)>
+    ensures { result ≡ find (λ move. nat_lt floor move.0 && is_member set.now move.1)
+        (iter_rest moves.entry) }
+{
+    moves
+        .find(|(symbol, target)| *symbol > floor && set.contains(*target))
+        .copied()
 }
 
 /// Adds where the moves lead.
@@ -136,9 +76,11 @@ impl<'a> Model for Layers<'a> {
 
     ghost Value = { Layering };
 
-    ghost view = { λ layers. record { table = layers.table.now; count = lengths layers.settled layers.sets.items } };
+    ghost view = { λ layers.
+        record { table = layers.table.now; count = lengths layers.settled layers.sets.items } };
 
-    ghost invariant = { λ layers. IsLayering layers.table.now layers.sets.items layers.settled × IfSome layers.turned (λ rows. AreTurned layers.table.now rows.items) };
+    ghost invariant = { λ layers. IsLayering layers.table.now layers.sets.items layers.settled
+        × IfSome layers.turned (λ rows. AreTurned layers.table.now rows.items) };
 }
 
 impl<'a> Layers<'a> {
@@ -205,10 +147,10 @@ impl<'a> Layers<'a> {
         ensures set { IfOk result (IsLayer self.old.table self.old.count) }
     {
         let Some(last) = self.sets.last() else {
-            return StateSet::accepting(alloc, self.table);
+            return accepting_set(alloc, self.table);
         };
-        let turned = turned_once(alloc, self.table, self.turned.take())?;
-        let set = last.before(alloc, turned.as_slice());
+        let turned = reversed_once(alloc, self.table, self.turned.take())?;
+        let set = set_before(alloc, last, turned.as_slice());
         self.turned = Some(turned);
         set
     }
@@ -246,12 +188,12 @@ impl<'a> Layers<'a> {
         ensures none { IfNone result (NoMove self.now.table length state floor) }
         ensures table { IsTable self.now.table }
     {
-        self.set(length).first_move(self.table.moves(state), floor)
+        first_move_into(self.set(length), self.table.moves(state), floor)
     }
 }
 
 /// The table's moves turned round, which may be made already.
-fn turned_once(
+fn reversed_once(
     alloc: Global,
     table: &Table,
     made: Option<Vec<Branches>>,
@@ -262,7 +204,7 @@ fn turned_once(
 {
     match made {
         Some(rows) => Ok(rows),
-        None => turned_rows(alloc, table.rows()),
+        None => reversed_rows(alloc, table.rows()),
     }
 }
 
@@ -271,7 +213,7 @@ fn is_last(sets: &[StateSet], set: &StateSet) -> bool
     ensures { IsTrue result → IsLastOf sets.now set.now }
 {
     match sets.last() {
-        Some(last) => last.equals(set),
+        Some(last) => last == set,
         None => false,
     }
 }

@@ -14,7 +14,8 @@ pub(crate) fn restarting_rows(
     table: &Table,
     starts: &[u32],
 ) -> Result<Vec<Branches>, Memory>
-    ensures { IfOk result (λ rows. rows.items ≡ map (restarting table.now starts.now) table.now.rows) }
+    ensures { IfOk result (λ rows.
+        rows.items ≡ map (restarting table.now starts.now) table.now.rows) }
 {
     let mut rows = Vec::with_capacity(alloc, table.rows().len())?;
     for row in table.rows() {

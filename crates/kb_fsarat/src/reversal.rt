@@ -5,7 +5,7 @@ ghost use Rattle.kb_fsa.specs.Language.{Accepts};
 ghost use Rattle.kb_fsa.specs.Counted.{CountedReverse, IsBefore};
 ghost use Rattle.kb_fsa.specs.declared.alphabet.Alphabet.TheVariants.{Plain};
 ghost use Rattle.kb_explore.specs.declared.det.Det.TheVariants.{TooManyStates};
-ghost use Rattle.kb_fsadet.specs.Nondeterministic.{IsAmong, AcceptsSomehow};
+ghost use Rattle.kb_fsadet.specs.Nondeterministic.{LeadsSomehow, AcceptsSomehow};
 ghost use Rattle.kb_fsarat.specs.Products.{IsReversal};
 ghost use Rattle.kb_fsarat.specs.Reversal.{HaveAdded, TurnsOne, TurnsFirst, IsListed};
 
@@ -22,35 +22,39 @@ pub fn reverse(alloc: Global, one: &Fsa, limit: u32) -> Result<Fsa, Det>
     ensures language { IfOk result (IsReversal one.now) }
     ensures alphabet { IfOk result (λ answer. answer.alphabet ≡ one.now.alphabet) }
     ensures few { IsOk result → ¬ CountedReverse one.now limit }
-    ensures many { (most : ℕ) → result ≡ Err (TooManyStates most) → (most ≡ limit) × CountedReverse one.now limit }
+    ensures many { (most : ℕ) → result ≡ Err (TooManyStates most)
+        → (most ≡ limit) × CountedReverse one.now limit }
 {
-    let backwards = turned(alloc, one)?;
+    let backwards = reversed_nfa(alloc, one)?;
     determinise(alloc, &backwards, limit)
 }
 
 /// The automaton with each move turned round, which starts at the accepting states and accepts at the initial one.
-fn turned(alloc: Global, one: &Fsa) -> Result<Nfa, Memory>
+fn reversed_nfa(alloc: Global, one: &Fsa) -> Result<Nfa, Memory>
     requires { (n : ℕ) × (one.now.alphabet ≡ Plain n) }
     ensures alphabet { IfOk result (λ nfa. nfa.alphabet ≡ one.now.alphabet) }
-    ensures sets { IfOk result (λ nfa. (text : List ℕ) (state : ℕ) → IsAmong nfa text state ↔ IsBefore one.now text state) }
-    ensures language { IfOk result (λ nfa. (text : List ℕ) → AcceptsSomehow nfa text ↔ Accepts one.now (reverse text)) }
+    ensures sets { IfOk result (λ nfa. (text : List ℕ) (state : ℕ)
+        → LeadsSomehow nfa text state ↔ IsBefore one.now text state) }
+    ensures language { IfOk result (λ nfa. (text : List ℕ)
+        → AcceptsSomehow nfa text ↔ Accepts one.now (reverse text)) }
 {
     let table = one.table();
-    let rows = turned_rows(alloc, table.rows())?;
+    let rows = reversed_rows(alloc, table.rows())?;
     let initial = accepting_states(alloc, table.accepting())?;
     let accepting = only_state(alloc, table.initial(), table.rows().len())?;
     Ok(Nfa::new(one.alphabet(), initial, rows, accepting))
 }
 
 /// The rows' moves turned round.
-pub(crate) fn turned_rows(alloc: Global, rows: &[Row]) -> Result<Vec<Branches>, Memory>
+pub(crate) fn reversed_rows(alloc: Global, rows: &[Row]) -> Result<Vec<Branches>, Memory>
     requires size { length rows.now < 2 ^ 32 }
     requires targets { All (All (λ move. (0 < move.1) × (move.1 ≤ length rows.now))) rows.now }
-    ensures { IfOk result (λ turned. HaveAdded (replicate (length rows.now) []) turned.items (TurnsFirst rows.now (length rows.now))) }
+    ensures { IfOk result (λ turned. HaveAdded (replicate (length rows.now) []) turned.items
+        (TurnsFirst rows.now (length rows.now))) }
 {
     let mut turned = empty_rows(alloc, rows.len())?;
     for (place, row) in rows.iter().enumerate() {
-        turn_row(turned.as_mut_slice(), place as u32 + 1, row.as_slice())?;
+        add_reversed(turned.as_mut_slice(), place as u32 + 1, row.as_slice())?;
     }
     Ok(turned)
 }
@@ -67,7 +71,7 @@ fn empty_rows(alloc: Global, count: usize) -> Result<Vec<Branches>, Memory>
 }
 
 /// Adds the moves of a state, turned round.
-fn turn_row(turned: &mut [Branches], state: u32, moves: &[(u32, u32)]) -> Result<(), Memory>
+fn add_reversed(turned: &mut [Branches], state: u32, moves: &[(u32, u32)]) -> Result<(), Memory>
     requires { All (λ move. (0 < move.1) × (move.1 ≤ length turned.old)) moves.now }
     ensures { OnOk result (HaveAdded turned.old turned.new (TurnsOne state moves.now)) }
 {
@@ -81,7 +85,8 @@ fn turn_row(turned: &mut [Branches], state: u32, moves: &[(u32, u32)]) -> Result
 /// The numbers of the states that accept.
 pub(crate) fn accepting_states(alloc: Global, accepting: &[bool]) -> Result<Vec<u32>, Memory>
     requires { length accepting.now < 2 ^ 32 }
-    ensures { IfOk result (λ states. (state : ℕ) → Contains states.items state ↔ IsListed accepting.now (length accepting.now) state) }
+    ensures { IfOk result (λ states. (state : ℕ)
+        → Contains states.items state ↔ IsListed accepting.now (length accepting.now) state) }
 {
     let mut states = Vec::new(alloc);
     for (place, accepts) in accepting.iter().enumerate() {

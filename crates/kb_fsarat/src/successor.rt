@@ -19,7 +19,8 @@ pub(crate) fn first_of_length(
     requires { high < 2 ^ 63 }
     ensures table { layers.new.table ≡ layers.old.table }
     ensures some { IfOk result (λ found. IfSome found (IsFirstOfLength layers.old.table low high)) }
-    ensures none { IfOk result (λ found. IfNone found (NoneOfLength layers.old.table low (high + 1))) }
+    ensures none { IfOk result (λ found.
+        IfNone found (NoneOfLength layers.old.table low (high + 1))) }
 {
     for length in low..high + 1 {
         layers.reach(alloc, length)?;
@@ -43,8 +44,10 @@ pub(crate) fn next_of_length(
     word: &Word,
 ) -> Result<Option<Word>, Memory>
     ensures table { layers.new.table ≡ layers.old.table }
-    ensures some { IfOk result (λ found. IfSome found (IsNextFrom layers.old.table layers.old.table.initial word.now)) }
-    ensures none { IfOk result (λ found. IfNone found (NoneLater layers.old.table layers.old.table.initial word.now)) }
+    ensures some { IfOk result (λ found.
+        IfSome found (IsNextFrom layers.old.table layers.old.table.initial word.now)) }
+    ensures none { IfOk result (λ found.
+        IfNone found (NoneLater layers.old.table layers.old.table.initial word.now)) }
 {
     layers.reach(alloc, word.len())?;
     let states = states_along(alloc, layers.table(), word)?;
@@ -76,8 +79,10 @@ fn next_along(
     requires layers { length word.now < layers.now.count }
     requires along { AreStatesAlong layers.now.table word.now states.now }
     requires count { length states.now ≡ length word.now }
-    ensures some { IfOk result (λ found. IfSome found (IsNextFrom layers.now.table layers.now.table.initial word.now)) }
-    ensures none { IfOk result (λ found. IfNone found (NoneLater layers.now.table layers.now.table.initial word.now)) }
+    ensures some { IfOk result (λ found.
+        IfSome found (IsNextFrom layers.now.table layers.now.table.initial word.now)) }
+    ensures none { IfOk result (λ found.
+        IfNone found (NoneLater layers.now.table layers.now.table.initial word.now)) }
 {
     let letters = word.letters();
     for place in (0..letters.len()).rev() {

@@ -1,3 +1,5 @@
 pub mod WordLines
 pub mod Streams
+pub mod Progress
+pub mod Reading
 pub mod Answered

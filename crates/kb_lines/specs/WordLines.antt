@@ -28,10 +28,15 @@ pub record Cuts (bytes : List ℕ) (lines : List (List ℕ)) (rest : List ℕ) :
   pub each : AllByRecursion IsOneLine lines
   pub open_line : IsOneLine rest
 
--- A line of blanks and comment alone gives nothing. A line that is a word gives the word that answers it, and a newline.
+-- each word has one answer at most
+abbrev pub IsFunction : (List ℕ → List ℕ → Type 0) → Type 0
+IsFunction Answers = (w m n : List ℕ) → Answers w m → Answers w n → m ≡ n
+
+-- A line of blanks and comment alone gives nothing. Another line that is a word gives the word that answers it, and a
+-- newline.
 pub data LineGives (parts : PresentationParts) (Answers : List ℕ → List ℕ → Type 0) (line : List ℕ) : List ℕ → Type 0 where
   blank : after_gap line ≡ [] → LineGives parts Answers line []
-  word : {w m : List ℕ} → Meaning line parts.names parts.inverses (Ok w) → Answers w m
+  word : {w m : List ℕ} → after_gap line ≢ [] → Meaning line parts.names parts.inverses (Ok w) → Answers w m
       → LineGives parts Answers line (text_of_word parts.names m ++ newline ∷ [])
 
 -- the line isn't blank, and has the fault
@@ -67,3 +72,9 @@ pub record IsFirstRefused (parts : PresentationParts) (Answers : List ℕ → Li
   pub given : List ℕ
   pub answered : LinesGive parts Answers lines given
   pub faulty : LineHasFault parts line fault
+
+-- what the line gives was added to what was pending
+pub record AddsGiven (parts : PresentationParts) (Answers : List ℕ → List ℕ → Type 0) (line pending pending' : List ℕ) : Type 0 where
+  pub given : List ℕ
+  pub gives : LineGives parts Answers line given
+  pub added : pending' ≡ pending ++ given

@@ -1,2 +1,28 @@
 //! Word lines: a stream of bytes is cut at its newlines, and each line that is a word is answered.
+//!
+//! The public contract is that of [`answer_lines`]: each line is answered by what an [`Answerer`] answers, in order;
+//! or why that stopped, what was taken of the input, and which of the answers were sent. The laws say that no line is
+//! both answered and refused, and that the answers are one where each word has one answer.
+//!
+//! A line is answered, and its answer sent, before a byte past those that have come is needed. What is held is the
+//! line that has begun, one buffer of input, and the answers that aren't sent yet.
+//!
+//! - `answerer` is what answers a word, and `stop` why the lines aren't answered to the end.
+//! - `line` is one line, `progress` what is held between two reads, and `lines` the reading.
+//!
+//! Below are kb_word, kb_record and kb_io; above are the commands that answer word lines.
 #![tactic(auto)]
+
+mod answerer;
+mod laws;
+mod line;
+mod lines;
+mod progress;
+mod stop;
+
+pub use answerer::Answerer;
+pub use laws::{
+    an_input_has_one_text_of_answers, lines_give_one_text, no_line_is_answered_and_refused,
+};
+pub use lines::answer_lines;
+pub use stop::Stop;

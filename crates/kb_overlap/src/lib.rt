@@ -5,7 +5,7 @@
 //! `overlaps_are_superpositions` says what that pair is: the superposition with one left side replaced.
 //! Containment and equal words are overlaps; a caller leaves out a rule with itself at place 0.
 //!
-//! `kb_word` stands below, with the definitions of overlap and critical pair; `kb_confluence` stands above.
+//! Below is `kb_word`, with the definitions of overlap and critical pair; above is `kb_confluence`.
 #![tactic(auto)]
 
 mod meeting;

@@ -5,3 +5,4 @@ pub mod NoFault
 pub mod OverLemmas
 pub mod PlaceLemmas
 pub mod UniqueParts
+pub mod RefusalLemmas

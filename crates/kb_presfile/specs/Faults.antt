@@ -2,8 +2,10 @@
 use Rattle.std.specs.Prelude.{◌≡◌, ◌≢◌, ℕ, suc, ◌<◌, ◌≤◌, ◌⊎◌, List, length, codes, Option, Some, None, slice_get, Result, Err}
 use Rattle.kb_word.specs.Relations.{inverse_letter}
 use Rattle.kb_record.specs.Tree.{Factors, Value, string_value, list_value, Fields, Places, TextTree, record_value}
-use Rattle.kb_record.specs.Grammar.{TextOf, IsText}
-use Rattle.kb_record.specs.Nesting.{deepest, text_nesting, IsTooDeep}
+use Rattle.kb_record.specs.Grammar.{TextOf}
+use Rattle.kb_record.specs.Nesting.{deepest, text_nesting}
+use Rattle.kb_record.specs.Faults.{HasTextFault}
+use Rattle.kb_record.specs.declared.error.RecordError.TheVariants as record_errors
 use Rattle.kb_record.specs.Meaning.{WordFault, unknown_generator, no_inverse, too_long, letter_from, word_meaning}
 use Rattle.kb_fields.specs.Fields.{value_of, bare_name, list_of_names, value_at, HasFieldTwice, place_count}
 use Rattle.kb_fields.specs.Generators.{most_generators, IsTaken}
@@ -138,9 +140,8 @@ HasFieldFault given (errors.InverseNotMutual name) = InversesHaveFault given (er
 HasFieldFault given errors.WordTooLong = EquationHasFault given errors.WordTooLong
 HasFieldFault given errors.TooManyEquations =
     (places : Places) × (value_of given (codes "equations") ≡ Some (list_value places)) × (most_equations < place_count places)
-HasFieldFault given (errors.Syntax at) = ⊥
-HasFieldFault given (errors.TooDeep at) = ⊥
 HasFieldFault given errors.Memory = Unit {0}
+HasFieldFault given _ = ⊥
 
 -- a text of the bytes has the fault
 abbrev pub SomeTextHasFault : List ℕ → PresError → Type 0
@@ -148,7 +149,7 @@ SomeTextHasFault bytes error = (text : TextTree) × TextOf bytes text × (text_n
 
 -- The bytes have the fault that the refusal names.
 abbrev pub HasPresFault : List ℕ → PresError → Type 0
-HasPresFault bytes (errors.Syntax at) = (text : TextTree) → ¬ TextOf bytes text
-HasPresFault bytes (errors.TooDeep at) = IsTooDeep (λ tokens. (text : TextTree) × IsText tokens text) bytes
-HasPresFault bytes errors.Memory = Unit {0}
+HasPresFault bytes (errors.Syntax at) = HasTextFault bytes (record_errors.Syntax at)
+HasPresFault bytes (errors.TooDeep at) = HasTextFault bytes (record_errors.TooDeep at)
+HasPresFault bytes errors.Memory = HasTextFault bytes record_errors.Memory
 HasPresFault bytes error = SomeTextHasFault bytes error

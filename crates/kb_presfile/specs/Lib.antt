@@ -1,3 +1,4 @@
 pub mod Kinds
 pub mod Holds
 pub mod Faults
+pub mod Refusals

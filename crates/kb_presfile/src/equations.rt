@@ -1,18 +1,16 @@
 //! The field `equations`: pairs of words that are equal.
 
-ghost use Rattle.std.specs.Prelude.{◌≡◌, ℕ, List, Result, Ok, Err, IfOk, IfErr};
+ghost use Rattle.std.specs.Prelude.{IfOk, IfErr};
 ghost use Rattle.std.specs.Option.{option_map};
-ghost use Rattle.kb_record.specs.Meaning.{WordFault, word_meaning};
-ghost use Rattle.kb_record.specs.Faults.{Evaluates};
-ghost use Rattle.kb_record.specs.View.{value_view, word_view};
+ghost use Rattle.kb_record.specs.View.{value_view};
 ghost use Rattle.kb_fields.specs.Fields.{fields_view, places_view};
 ghost use Rattle.kb_presfile.specs.Holds.{HasNames, HasInverses, HasEquations, AreEquations, IsEquation};
-ghost use Rattle.kb_presfile.specs.Faults.{IsFaultOf, PlaceHasFault, PlacesOfEquationsHaveFault, HasFieldFault};
+ghost use Rattle.kb_presfile.specs.Faults.{PlaceHasFault, PlacesOfEquationsHaveFault, HasFieldFault};
 
 use crate::error::{Field, PresError};
 use crate::fields::needed;
 use crate::values::sides_at;
-use kb_record::{Expr, Value, WordError, word_of};
+use kb_record::{Value, word_of};
 use kb_word::{Equations, Presentation, Word};
 use std::alloc::Global;
 
@@ -26,8 +24,10 @@ pub fn read_equations<'a>(
     presentation: &Presentation,
 ) -> Result<Equations, PresError>
     requires named { HasNames (fields_view fields.now) presentation.now.names }
-    requires inverted { HasInverses (fields_view fields.now) presentation.now.names presentation.now.inv }
-    ensures read { IfOk result (HasEquations (fields_view fields.now) presentation.now.names presentation.now.inv) }
+    requires inverted { HasInverses (fields_view fields.now) presentation.now.names
+        presentation.now.inv }
+    ensures read { IfOk result
+        (HasEquations (fields_view fields.now) presentation.now.names presentation.now.inv) }
     ensures fault { IfErr result (HasFieldFault (fields_view fields.now)) }
 {
     let Value::List(places) = needed(fields, Field::Equations)? else {
@@ -47,8 +47,11 @@ fn equations_at<'a>(
     places: &[Option<Value<'a>>],
     presentation: &Presentation,
 ) -> Result<Equations, PresError>
-    ensures read { IfOk result (AreEquations presentation.now.names presentation.now.inv (places_view places.now)) }
-    ensures fault { IfErr result (PlacesOfEquationsHaveFault presentation.now.names presentation.now.inv (places_view places.now)) }
+    ensures read { IfOk result
+        (AreEquations presentation.now.names presentation.now.inv (places_view places.now)) }
+    ensures fault { IfErr result
+        (PlacesOfEquationsHaveFault presentation.now.names presentation.now.inv
+        (places_view places.now)) }
 {
     let mut equations = Vec::with_capacity(alloc, places.len())?;
     for place in places {
@@ -63,44 +66,18 @@ fn read_equation<'a>(
     place: &Option<Value<'a>>,
     presentation: &Presentation,
 ) -> Result<(Word, Word), PresError>
-    ensures read { IfOk result (IsEquation presentation.now.names presentation.now.inv (option_map value_view place.now)) }
-    ensures fault { IfErr result (PlaceHasFault presentation.now.names presentation.now.inv (option_map value_view place.now)) }
+    ensures read { IfOk result
+        (IsEquation presentation.now.names presentation.now.inv (option_map value_view place.now)) }
+    ensures fault { IfErr result
+        (PlaceHasFault presentation.now.names presentation.now.inv
+        (option_map value_view place.now)) }
 {
     let Some((left, right)) = sides_at(place) else {
         return Err(PresError::WrongKind {
             field: Field::Equations,
         });
     };
-    let left = read_side(alloc, left, presentation)?;
-    let right = read_side(alloc, right, presentation)?;
+    let left = word_of(alloc, left, presentation)?;
+    let right = word_of(alloc, right, presentation)?;
     Ok((left, right))
-}
-
-/// The word that a side of an equation means.
-fn read_side<'a>(
-    alloc: Global,
-    side: &Expr<'a>,
-    presentation: &Presentation,
-) -> Result<Word, PresError>
-    ensures read { IfOk result (λ word. word_meaning presentation.now.names presentation.now.inv (word_view side.now) ≡ Ok word) }
-    ensures fault { IfErr result (IsFaultOf (word_meaning presentation.now.names presentation.now.inv (word_view side.now))) }
-{
-    match word_of(alloc, side, presentation) {
-        Ok(word) => Ok(word),
-        Err(error) => Err(refusal_of(error)),
-    }
-}
-
-/// The refusal for a word's fault. The bytes of a word that stands in a tree were read already.
-fn refusal_of(error: WordError) -> PresError
-    ensures { (meaning : Result (List ℕ) WordFault) → Evaluates meaning (Err error) → IsFaultOf meaning result }
-{
-    match error {
-        WordError::UnknownGenerator { name } => PresError::UnknownGenerator { name },
-        WordError::NoInverse { name } => PresError::NoInverse { name },
-        WordError::WordTooLong => PresError::WordTooLong,
-        WordError::Syntax { at } => PresError::Syntax { at },
-        WordError::TooDeep { at } => PresError::TooDeep { at },
-        WordError::Memory => PresError::Memory,
-    }
 }

@@ -4,6 +4,8 @@ ghost use Rattle.kb_presfile.specs.Faults.{name_of};
 ghost use Rattle.kb_presfile.specs.declared.error.PresError.TheVariants as errors;
 ghost use Rattle.std.specs.Prelude.{◌≡◌};
 
+use kb_fields::NamesFault;
+use kb_record::{RecordError, WordError};
 use kb_word::{Memory, OwnedText};
 use std::alloc::{AllocError, AllocFailed};
 use std::fmt;
@@ -40,7 +42,7 @@ impl fmt::Display for Field {
     }
 }
 
-/// Why a text holds no presentation.
+/// Why a text holds no presentation. No clause speaks of the place `at`.
 #[derive(Debug, Drop, Error)]
 pub enum PresError {
     /// The longest front of the bytes with which some text begins has `at` bytes.
@@ -92,6 +94,56 @@ impl From<Memory> for PresError {
 
     fn from(_: Memory) -> PresError {
         PresError::Memory
+    }
+}
+
+impl From<RecordError> for PresError {
+    ghost use Rattle.kb_presfile.specs.Refusals.{RefusesText};
+
+    ghost from_gives = { λ refusal error. RefusesText refusal error };
+
+    fn from(refusal: RecordError) -> PresError {
+        match refusal {
+            RecordError::Syntax { at } => PresError::Syntax { at },
+            RecordError::TooDeep { at } => PresError::TooDeep { at },
+            RecordError::Memory => PresError::Memory,
+        }
+    }
+}
+
+/// The refusal for the fault of a word that stands in a text, of which the bytes were read already.
+impl From<WordError> for PresError {
+    ghost use Rattle.kb_presfile.specs.Refusals.{RefusesWord};
+
+    ghost from_gives = { λ fault error. RefusesWord fault error };
+
+    fn from(fault: WordError) -> PresError {
+        match fault {
+            WordError::UnknownGenerator { name } => PresError::UnknownGenerator { name },
+            WordError::NoInverse { name } => PresError::NoInverse { name },
+            WordError::WordTooLong => PresError::WordTooLong,
+            WordError::Syntax { at } => PresError::Syntax { at },
+            WordError::TooDeep { at } => PresError::TooDeep { at },
+            WordError::Memory => PresError::Memory,
+        }
+    }
+}
+
+/// The refusal for a fault of the generators' names.
+impl From<NamesFault> for PresError {
+    ghost use Rattle.kb_presfile.specs.Refusals.{RefusesNames};
+
+    ghost from_gives = { λ fault error. RefusesNames fault error };
+
+    fn from(fault: NamesFault) -> PresError {
+        match fault {
+            NamesFault::WrongKind => PresError::WrongKind {
+                field: Field::GeneratorOrder,
+            },
+            NamesFault::TooMany => PresError::TooManyGenerators,
+            NamesFault::Taken { name } => PresError::NameTaken { name },
+            NamesFault::Memory => PresError::Memory,
+        }
     }
 }
 

@@ -17,7 +17,8 @@ pub fn needed<'r, 'a>(
     field: Field,
 ) -> Result<&'r Value<'a>, PresError>
     requires { IsNeeded field }
-    ensures found { IfOk result (λ value. value_of (fields_view fields.now) (name_of field) ≡ Some (value_view value.now)) }
+    ensures found { IfOk result
+        (λ value. value_of (fields_view fields.now) (name_of field) ≡ Some (value_view value.now)) }
     ensures fault { IfErr result (HasFieldFault (fields_view fields.now)) }
 {
     match field_named(fields, field.name()) {
@@ -28,7 +29,8 @@ pub fn needed<'r, 'a>(
 
 /// Refuses a record with a field name twice, nested ones too.
 pub fn check_once<'a>(alloc: Global, fields: &[(&'a str, Value<'a>)]) -> Result<(), PresError>
-    ensures once { OnOk result ((name : List ℕ) → ¬ HasFieldTwice (record_value (fields_view fields.now)) name) }
+    ensures once { OnOk result
+        ((name : List ℕ) → ¬ HasFieldTwice (record_value (fields_view fields.now)) name) }
     ensures fault { IfErr result (HasFieldFault (fields_view fields.now)) }
 {
     match repeated_name(alloc, fields)? {

@@ -12,7 +12,8 @@ use kb_record::Value;
 
 /// Refuses a file that doesn't say `isRWS := true`.
 pub fn check_is_rws<'a>(fields: &[(&'a str, Value<'a>)]) -> Result<(), PresError>
-    ensures ok { OnOk result (value_of (fields_view fields.now) (codes "isRWS") ≡ Some (bare_name (codes "true"))) }
+    ensures ok { OnOk result
+        (value_of (fields_view fields.now) (codes "isRWS") ≡ Some (bare_name (codes "true"))) }
     ensures fault { IfErr result (HasFieldFault (fields_view fields.now)) }
 {
     let value = needed(fields, Field::IsRws)?;
@@ -26,7 +27,10 @@ pub fn check_is_rws<'a>(fields: &[(&'a str, Value<'a>)]) -> Result<(), PresError
 
 /// Refuses another ordering than shortlex, which stands where none is given.
 pub fn check_ordering<'a>(fields: &[(&'a str, Value<'a>)]) -> Result<(), PresError>
-    ensures ok { OnOk result ((value_of (fields_view fields.now) (codes "ordering") ≡ None) ⊎ (value_of (fields_view fields.now) (codes "ordering") ≡ Some (string_value (codes "shortlex")))) }
+    ensures ok { OnOk result
+        ((value_of (fields_view fields.now) (codes "ordering") ≡ None)
+        ⊎ (value_of (fields_view fields.now) (codes "ordering")
+        ≡ Some (string_value (codes "shortlex")))) }
     ensures fault { IfErr result (HasFieldFault (fields_view fields.now)) }
 {
     match field_named(fields, "ordering") {

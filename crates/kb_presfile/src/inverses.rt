@@ -36,8 +36,12 @@ fn read_places<'a>(
     names: &Names,
 ) -> Result<Vec<Option<&'a str>>, PresError>
     requires { HasNames (fields_view fields.now) names.now }
-    ensures placed { IfOk result (λ places. HoldsPlaces (value_of (fields_view fields.now) (codes "inverses")) (map option_copied places.items)) }
-    ensures none_past { IfOk result (λ places. (k : ℕ) → length names.now ≤ k → place_at (map option_copied places.items) k ≡ None) }
+    ensures placed { IfOk result
+        (λ places. HoldsPlaces (value_of (fields_view fields.now) (codes "inverses"))
+        (map option_copied places.items)) }
+    ensures none_past { IfOk result
+        (λ places. (k : ℕ) → length names.now ≤ k
+        → place_at (map option_copied places.items) k ≡ None) }
     ensures fault { IfErr result (HasFieldFault (fields_view fields.now)) }
 {
     let Some(value) = field_named(fields, "inverses") else {
@@ -58,7 +62,8 @@ fn read_places<'a>(
 
 /// Whether the places from `count` on are empty.
 fn none_past(places: &[Option<&str>], count: usize) -> bool
-    ensures { IsTrue result ↔ ((k : ℕ) → count ≤ k → place_at (map option_copied places.now) k ≡ None) }
+    ensures { IsTrue result
+        ↔ ((k : ℕ) → count ≤ k → place_at (map option_copied places.now) k ≡ None) }
 {
     for place in count..places.len() {
         if name_at(places, place).is_some() {
@@ -89,7 +94,8 @@ fn letters_at(
     places: &[Option<&str>],
     names: &Names,
 ) -> Result<Vec<Option<Letter>>, PresError>
-    ensures read { IfOk result (λ letters. StandFor names.now (map option_copied places.now) letters.items) }
+    ensures read { IfOk result
+        (λ letters. StandFor names.now (map option_copied places.now) letters.items) }
     ensures fault { IfErr result (PlacesHaveFault names.now (map option_copied places.now)) }
 {
     let mut letters = Vec::with_capacity(alloc, names.len())?;
@@ -107,7 +113,8 @@ fn letter_at(
     names: &Names,
 ) -> Result<Option<Letter>, PresError>
     ensures empty { place_at (map option_copied places.now) place ≡ None → IfOk result IsNone }
-    ensures some { (name : List ℕ) → place_at (map option_copied places.now) place ≡ Some name → IfOk result (λ letter. IsSome letter × (letter_from 1 names.now name ≡ letter)) }
+    ensures some { (name : List ℕ) → place_at (map option_copied places.now) place ≡ Some name
+        → IfOk result (λ letter. IsSome letter × (letter_from 1 names.now name ≡ letter)) }
     ensures fault { IfErr result (PlacesHaveFault names.now (map option_copied places.now)) }
 {
     let Some(name) = name_at(places, place) else {
@@ -144,8 +151,12 @@ fn first_one_sided<'r>(inverses: &Inverses, names: &'r Names) -> Option<&'r str>
 
 /// Whether the letter's inverse hasn't it as its inverse.
 fn is_one_sided(inverses: &Inverses, letter: Letter) -> bool
-    ensures yes { IsTrue result → (y : ℕ) × (inverse_letter inverses.now letter ≡ Some y) × (inverse_letter inverses.now y ≢ Some letter) }
-    ensures no { IsTrue result ⊎ ((y : ℕ) → inverse_letter inverses.now letter ≡ Some y → inverse_letter inverses.now y ≡ Some letter) }
+    ensures yes { IsTrue result
+        → (y : ℕ) × (inverse_letter inverses.now letter ≡ Some y)
+        × (inverse_letter inverses.now y ≢ Some letter) }
+    ensures no { IsTrue result
+        ⊎ ((y : ℕ) → inverse_letter inverses.now letter ≡ Some y
+        → inverse_letter inverses.now y ≡ Some letter) }
 {
     match inverses.get(letter) {
         Some(inverse) => inverses.get(inverse) != Some(letter),

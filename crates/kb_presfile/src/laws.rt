@@ -12,13 +12,15 @@ use kb_record::{a_shallow_text_is_not_too_deep, a_text_has_one_tree};
 
 /// Fields that say a presentation have no fault; want of memory is none of theirs.
 pub fn a_presentation_has_no_fault()
-    ensures { (given : Fields) (parts : PresentationParts) (error : PresError) → HoldsPresentation given parts
+    ensures { (given : Fields) (parts : PresentationParts) (error : PresError)
+        → HoldsPresentation given parts
         → HasFieldFault given error → error ≡ errors.Memory }
 {}
 
 /// Bytes that say a presentation have no fault; want of memory is none of theirs.
 pub fn a_presentation_file_has_no_fault()
-    ensures { (bytes : List ℕ) (parts : PresentationParts) (error : PresError) → PresentationOf bytes parts
+    ensures { (bytes : List ℕ) (parts : PresentationParts) (error : PresError)
+        → PresentationOf bytes parts
         → HasPresFault bytes error → error ≡ errors.Memory }
 {
     a_text_has_one_tree();

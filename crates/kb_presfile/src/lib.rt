@@ -20,11 +20,8 @@
 //! [`a_text_says_one_presentation`] a text is read in one way at most. So, want of memory apart, a text is
 //! refused exactly where it has a fault.
 //!
-//! A text may have several faults. Which of them is named is shown by tests and not proved: `E1` or `E2`;
-//! `E6`, by the place of the repeated name; `isRWS` `E4`, `E5`; `ordering` `E5`, `E7`; `generatorOrder` `E4`,
-//! `E5`, `E9`, `E8`; `inverses` `E5` of the whole list, then `E10` place by place, then `E12` generator by
-//! generator; `equations` `E4`, `E5` of the list, `E14`; then equation by equation `E5`, and word by word `E10`,
-//! `E11`, `E13`. Each step is a function of its own, called in that order.
+//! A text may have several faults. Which of them is named, and at which place, no clause says: whole runs show
+//! the order that `docs/formats.md` has. Each step of it is a function of its own, called in that order.
 //!
 //! # How it is made
 //!
@@ -38,6 +35,15 @@
 //! generators (`specs/` of `kb_fields`): `specs/Kinds.antt` of the kinds of values, `specs/Holds.antt` of what a
 //! text says, `specs/Faults.antt` of what each refusal means. Where a field's name stands twice, "the value of the
 //! field" is that of the first.
+//!
+//! # Where the proofs are
+//!
+//! - `proofs/PlaceLemmas.antt`, `proofs/InverseLemmas.antt`, `proofs/LetterSteps.antt`: names at places, their
+//!   letters, and whether those are mutual.
+//! - `proofs/EquationLemmas.antt`: faults of sides, of equations and of lists of equations.
+//! - `proofs/OverLemmas.antt`: the letters of a word's meaning are generators.
+//! - `proofs/RefusalLemmas.antt`: what the crates below refuse is a fault of the file.
+//! - `proofs/UniqueParts.antt`, `proofs/NoFault.antt`: a text's fields say one presentation, which has no fault.
 //!
 //! Below stand `kb_fields`, which looks up fields and reads names of generators, `kb_record`, which reads trees and
 //! evaluates words, and `kb_word`, whose presentations are the answers. Above stand the commands that load a
@@ -59,6 +65,3 @@ pub use laws::{
     a_presentation_file_has_no_fault, a_presentation_has_no_fault, a_text_says_one_presentation,
 };
 pub use reader::read;
-
-#[cfg(test)]
-mod tests;

@@ -1,9 +1,6 @@
 //! From bytes to presentations.
 
-ghost use Rattle.std.specs.Prelude.{◌≡◌, ◌≤◌, IfOk, IfErr};
-ghost use Rattle.kb_record.specs.Grammar.{TextOf};
-ghost use Rattle.kb_record.specs.Nesting.{deepest, text_nesting};
-ghost use Rattle.kb_record.specs.View.{text_view};
+ghost use Rattle.std.specs.Prelude.{IfOk, IfErr};
 ghost use Rattle.kb_fields.specs.Fields.{fields_view};
 ghost use Rattle.kb_word.specs.Presentations.{parts_of};
 ghost use Rattle.kb_presfile.specs.Holds.{HoldsPresentation, PresentationOf};
@@ -15,7 +12,7 @@ use crate::fields::check_once;
 use crate::generators::read_names;
 use crate::header::{check_is_rws, check_ordering};
 use crate::inverses::read_inverses;
-use kb_record::{Rec, RecordError, Value, parse};
+use kb_record::{Value, parse};
 use kb_word::{Equations, Presentation};
 use std::alloc::Global;
 
@@ -24,28 +21,13 @@ use std::alloc::Global;
 /// The bytes are a text of a record with the fields that the head of the crate lists. A refusal names a fault
 /// that they have, and bytes that say a presentation have none
 /// ([`a_presentation_file_has_no_fault`](crate::a_presentation_file_has_no_fault)): so bytes are refused exactly
-/// where they have a fault, or memory runs out. Of several faults the one comes that stands first in the
-/// order at the head of the crate.
+/// where they have a fault, or memory runs out. No clause says which of several faults is named.
 pub fn read(alloc: Global, bytes: &[u8]) -> Result<Presentation, PresError>
     ensures read { IfOk result (λ presentation. PresentationOf bytes.now (parts_of presentation)) }
     ensures fault { IfErr result (HasPresFault bytes.now) }
 {
-    let text = text_of(alloc, bytes)?;
+    let text = parse(alloc, bytes)?;
     presentation_of(alloc, text.fields.as_slice())
-}
-
-/// The tree of the bytes, which are a text of a record.
-fn text_of<'a>(alloc: Global, bytes: &'a [u8]) -> Result<Rec<'a>, PresError>
-    ensures read { IfOk result (λ text. TextOf bytes.now (text_view text)) }
-    ensures shallow { IfOk result (λ text. text_nesting (text_view text) ≤ deepest) }
-    ensures fault { IfErr result (HasPresFault bytes.now) }
-{
-    match parse(alloc, bytes) {
-        Ok(text) => Ok(text),
-        Err(RecordError::Syntax { at }) => Err(PresError::Syntax { at }),
-        Err(RecordError::TooDeep { at }) => Err(PresError::TooDeep { at }),
-        Err(RecordError::Memory) => Err(PresError::Memory),
-    }
 }
 
 /// The presentation that fields say. Field by field, in the order in which a file is refused.
@@ -53,7 +35,8 @@ fn presentation_of<'a>(
     alloc: Global,
     fields: &[(&'a str, Value<'a>)],
 ) -> Result<Presentation, PresError>
-    ensures read { IfOk result (λ presentation. HoldsPresentation (fields_view fields.now) (parts_of presentation)) }
+    ensures read { IfOk result
+        (λ presentation. HoldsPresentation (fields_view fields.now) (parts_of presentation)) }
     ensures fault { IfErr result (HasFieldFault (fields_view fields.now)) }
 {
     check_once(alloc, fields)?;

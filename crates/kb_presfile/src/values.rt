@@ -18,8 +18,14 @@ pub fn places_listed<'a>(
     alloc: Global,
     value: &Value<'a>,
 ) -> Result<Option<Vec<Option<&'a str>>>, Memory>
-    ensures listed { IfOk result (λ places. IfSome places (λ places. value_view value.now ≡ list_value (list_of_places (map option_copied places.items)))) }
-    ensures other { IfOk result (λ places. IfNone places ((places : List (Option (List ℕ))) → value_view value.now ≢ list_value (list_of_places places))) }
+    ensures listed { IfOk result
+        (λ places. IfSome places
+        (λ places. value_view value.now
+        ≡ list_value (list_of_places (map option_copied places.items)))) }
+    ensures other { IfOk result
+        (λ places. IfNone places
+        ((places : List (Option (List ℕ)))
+        → value_view value.now ≢ list_value (list_of_places places))) }
 {
     let Value::List(places) = value else {
         return Ok(None);
@@ -36,8 +42,12 @@ pub fn places_listed<'a>(
 
 /// The Name at a place of a list, or that it is empty. `None` where something else stands there.
 fn name_or_empty<'a>(place: &Option<Value<'a>>) -> Option<Option<&'a str>>
-    ensures found { IfSome result (λ name. option_map value_view place.now ≡ option_map fields.bare_name (option_copied name)) }
-    ensures none { IfNone result ((name : Option (List ℕ)) → option_map value_view place.now ≢ option_map fields.bare_name name) }
+    ensures found { IfSome result
+        (λ name. option_map value_view place.now
+        ≡ option_map fields.bare_name (option_copied name)) }
+    ensures none { IfNone result
+        ((name : Option (List ℕ))
+        → option_map value_view place.now ≢ option_map fields.bare_name name) }
 {
     match place {
         Some(value) => bare_name(value).map(Some),
@@ -47,8 +57,12 @@ fn name_or_empty<'a>(place: &Option<Value<'a>>) -> Option<Option<&'a str>>
 
 /// The two words of a place of a list that holds a list of two words.
 pub fn sides_at<'r, 'a>(place: &'r Option<Value<'a>>) -> Option<(&'r Expr<'a>, &'r Expr<'a>)>
-    ensures found { IfSome result (λ sides. option_map value_view place.now ≡ Some (equation_value (word_view sides.0.now, word_view sides.1.now))) }
-    ensures none { IfNone result ((sides : Factors × Factors) → option_map value_view place.now ≢ Some (equation_value sides)) }
+    ensures found { IfSome result
+        (λ sides. option_map value_view place.now
+        ≡ Some (equation_value (word_view sides.0.now, word_view sides.1.now))) }
+    ensures none { IfNone result
+        ((sides : Factors × Factors)
+        → option_map value_view place.now ≢ Some (equation_value sides)) }
 {
     match place {
         Some(Value::List(places)) => two_words(places.as_slice()),
@@ -58,8 +72,11 @@ pub fn sides_at<'r, 'a>(place: &'r Option<Value<'a>>) -> Option<(&'r Expr<'a>, &
 
 /// The words at two places.
 fn two_words<'r, 'a>(places: &'r [Option<Value<'a>>]) -> Option<(&'r Expr<'a>, &'r Expr<'a>)>
-    ensures found { IfSome result (λ sides. places_view places.now ≡ two_places (word_view sides.0.now, word_view sides.1.now)) }
-    ensures none { IfNone result ((sides : Factors × Factors) → places_view places.now ≢ two_places sides) }
+    ensures found { IfSome result
+        (λ sides. places_view places.now
+        ≡ two_places (word_view sides.0.now, word_view sides.1.now)) }
+    ensures none { IfNone result
+        ((sides : Factors × Factors) → places_view places.now ≢ two_places sides) }
 {
     if places.len() != 2 {
         return None;
@@ -69,8 +86,10 @@ fn two_words<'r, 'a>(places: &'r [Option<Value<'a>>]) -> Option<(&'r Expr<'a>, &
 
 /// The word at a place of a list.
 fn word_at<'r, 'a>(place: &'r Option<Value<'a>>) -> Option<&'r Expr<'a>>
-    ensures found { IfSome result (λ word. option_map value_view place.now ≡ Some (word_value (word_view word.now))) }
-    ensures none { IfNone result ((word : Factors) → option_map value_view place.now ≢ Some (word_value word)) }
+    ensures found { IfSome result
+        (λ word. option_map value_view place.now ≡ Some (word_value (word_view word.now))) }
+    ensures none { IfNone result
+        ((word : Factors) → option_map value_view place.now ≢ Some (word_value word)) }
 {
     match place {
         Some(Value::Word(word)) => Some(word),

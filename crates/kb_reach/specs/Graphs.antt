@@ -1,5 +1,6 @@
 -- Graphs, given by their edges, and what the edges lead to.
 use Rattle.std.specs.Prelude.{◌≡◌, ◌≢◌, ◌⊎◌, ℕ, suc, ◌+◌, ◌*◌, ◌<◌, ◌≤◌, Bool, true, false, not, List, length, get_or, All, Contains, count_by}
+use Rattle.kb_reach.specs.declared.links.Links.{Links}
 
 -- the thing is marked
 abbrev pub IsMarked : List Bool → ℕ → Type 0
@@ -29,6 +30,10 @@ pub record AreLinked (edges : List (ℕ × ℕ)) (done count : ℕ) (last earlie
       → (other < place) × (source edges other ≡ source edges place)
   pub none_between : (place other : ℕ) → place < done → get_or earlier place 0 ≤ other → other < place
       → source edges other ≢ source edges place
+
+-- all edges are linked, for things below the count
+abbrev pub AreLinksOf : List (ℕ × ℕ) → ℕ → Links → Type 0
+AreLinksOf edges count links = AreLinked edges (length edges) count links.last.items links.earlier.items
 
 -- The marked things are reached. The edges from them end in marked things, but for those from what is pending and the
 -- first edges from one thing, up to the one of the number.

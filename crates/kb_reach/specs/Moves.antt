@@ -1,8 +1,9 @@
 -- The moves of a table, each backwards.
-use Rattle.std.specs.Prelude.{◌≡◌, ℕ, ◌<◌, List, length, get_or}
+use Rattle.std.specs.Prelude.{◌≡◌, ℕ, suc, ◌<◌, List, length, get_or}
 use Rattle.kb_fsa.specs.Table.{Table, step, moves_of}
 use Rattle.kb_fsa.specs.Canonical.{IsState}
 use Rattle.kb_reach.specs.Graphs.{source, end}
+use Rattle.kb_reach.specs.declared.moves.Backward.{Backward}
 
 -- an edge leads backwards along a move by the symbol
 pub record IsBackward (table : Table) (edges : List (ℕ × ℕ)) (symbols : List ℕ) (place : ℕ) : Type 0 where
@@ -24,3 +25,7 @@ pub record AreBackward (table : Table) (state done : ℕ) (edges : List (ℕ × 
   pub sound : (place : ℕ) → place < length edges → IsBackward table edges symbols place
   pub complete : (earlier place : ℕ) → earlier < state → place < length (moves_of table earlier) → HasEdge table edges symbols earlier place
   pub begun : (place : ℕ) → place < done → HasEdge table edges symbols state place
+
+-- all moves of the table, each backwards
+abbrev pub IsBackwardOf : Table → Backward → Type 0
+IsBackwardOf table moves = AreBackward table (suc (length table.rows)) 0 moves.edges.items moves.symbols.items

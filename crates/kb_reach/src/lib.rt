@@ -1,10 +1,12 @@
 //! What the edges of a graph lead to, and which states of a table lead to acceptance.
 //!
-//! The public contract: `reached` marks exactly the things to which a path of edges leads from a seed, in time that
-//! grows with the edges; `reversed` gives a table's moves backwards; and `live` marks exactly the states from which
-//! some text is accepted. `link` finds the edges from each thing, for programs that go over them.
+//! The public contract: `reached` marks exactly the things to which a path of edges leads from a seed; `reversed`
+//! has all moves (transitions) of a table, each backwards; and `live` marks exactly the states from which some text
+//! is accepted. `link` finds the edges from each thing, for programs that go over them.
 //!
-//! `kb_fsa` stands below; the canonical form, the projection of pairs and the reader of automaton files stand above.
+//! Each takes every edge once, so that the time grows with the edges; no clause says so.
+//!
+//! `kb_fsa` is below. The canonical form, the projection of pairs and the reader of automaton files are above.
 #![tactic(auto)]
 
 mod links;

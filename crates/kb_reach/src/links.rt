@@ -1,7 +1,7 @@
 //! The edges of a graph, found by the things that they lead from.
 
-ghost use Rattle.std.specs.Prelude.{◌≡◌, ◌<◌, length, All, IfOk};
-ghost use Rattle.kb_reach.specs.Graphs.{AreLinked};
+ghost use Rattle.std.specs.Prelude.{◌<◌, All, IfOk};
+ghost use Rattle.kb_reach.specs.Graphs.{AreLinksOf};
 
 use kb_word::Memory;
 use std::alloc::Global;
@@ -18,7 +18,7 @@ pub struct Links {
 /// The links of the edges, each a pair of things below the count.
 pub fn link(alloc: Global, edges: &[(u32, u32)], count: usize) -> Result<Links, Memory>
     requires { All (λ edge. edge.0 < count) edges.now }
-    ensures { IfOk result (λ links. AreLinked edges.now (length edges.now) count links.last.items links.earlier.items) }
+    ensures { IfOk result (AreLinksOf edges.now count) }
 {
     let mut last = vec![in alloc; 0; count]?;
     let mut earlier = Vec::new(alloc);

@@ -1,9 +1,9 @@
 //! The moves of a table, taken backwards.
 
-ghost use Rattle.std.specs.Prelude.{◌≡◌, ◌↔◌, ◌+◌, ℕ, suc, length, get_or, IfOk};
+ghost use Rattle.std.specs.Prelude.{◌≡◌, ◌↔◌, ◌+◌, ℕ, length, IfOk};
 ghost use Rattle.kb_fsa.specs.Table.{IsLive};
 ghost use Rattle.kb_reach.specs.Graphs.{IsMarked};
-ghost use Rattle.kb_reach.specs.Moves.{AreBackward};
+ghost use Rattle.kb_reach.specs.Moves.{IsBackwardOf};
 
 use crate::reach::reached;
 use kb_fsa::Table;
@@ -21,7 +21,7 @@ pub struct Backward {
 
 /// The moves of the table, taken backwards.
 pub fn reversed(alloc: Global, table: &Table) -> Result<Backward, Memory>
-    ensures { IfOk result (λ moves. AreBackward table.now (suc (length table.now.rows)) 0 moves.edges.items moves.symbols.items) }
+    ensures { IfOk result (IsBackwardOf table.now) }
 {
     let mut edges = Vec::new(alloc);
     let mut symbols = Vec::new(alloc);
@@ -38,9 +38,10 @@ pub fn reversed(alloc: Global, table: &Table) -> Result<Backward, Memory>
 
 /// For state 0, that is no state, and the states from 1 on, whether they lead to acceptance.
 pub fn live(alloc: Global, table: &Table, moves: &Backward) -> Result<Vec<bool>, Memory>
-    requires { AreBackward table.now (suc (length table.now.rows)) 0 moves.now.edges.items moves.now.symbols.items }
+    requires { IsBackwardOf table.now moves.now }
     ensures one_each { IfOk result (λ marks. length marks.items ≡ length table.now.rows + 1) }
-    ensures live { IfOk result (λ marks. (state : ℕ) → IsMarked marks.items state ↔ IsLive table.now state) }
+    ensures live { IfOk result (λ marks. (state : ℕ)
+        → IsMarked marks.items state ↔ IsLive table.now state) }
 {
     let mut seeds = vec![in alloc; false]?;
     seeds.extend_from_slice(table.accepting())?;

@@ -11,9 +11,11 @@ use std::alloc::Global;
 /// from 0, and a mark of each says whether it is a seed.
 pub fn reached(alloc: Global, edges: &[(u32, u32)], seeds: &[bool]) -> Result<Vec<bool>, Memory>
     requires count { length seeds.now ≤ 2 ^ 32 }
-    requires edges { All (λ edge. (edge.0 < length seeds.now) × (edge.1 < length seeds.now)) edges.now }
+    requires edges { All (λ edge. (edge.0 < length seeds.now) × (edge.1 < length seeds.now))
+        edges.now }
     ensures one_each { IfOk result (λ marks. length marks.items ≡ length seeds.now) }
-    ensures reached { IfOk result (λ marks. (x : ℕ) → IsMarked marks.items x ↔ IsReached edges.now seeds.now x) }
+    ensures reached { IfOk result (λ marks. (x : ℕ)
+        → IsMarked marks.items x ↔ IsReached edges.now seeds.now x) }
 {
     let links = link(alloc, edges, seeds.len())?;
     let mut marks = Vec::from_slice(alloc, seeds)?;

@@ -1,6 +1,6 @@
 -- The tokens of a tree close each bracket that they open.
 use Rattle.std.proofs.Common.{◌≡◌, ℕ, suc, ◌-◌, ℤ, List, [], ◌∷◌, ◌++◌, Option, Some, None, refl, ap, ◌∙◌, arith, append_assoc}
-use Rattle.kb_record.specs.Token.{Token, close_round, close_square}
+use Rattle.kb_lexing.specs.Token.{Token, close_round, close_square}
 use Rattle.kb_record.specs.Tree.{Factor, named, grouped, Factors, no_factors, factor, Value, number_value, string_value, record_value, list_value, range_value, word_value, Fields, no_fields, field, Places, no_places, place, empty_place}
 use Rattle.kb_record.specs.Grammar.{power_tokens, word_tokens, factor_tokens, more_factors, value_tokens, field_tokens, more_fields, place_tokens, more_places}
 use Rattle.kb_record.specs.Nesting.{open_behind}

@@ -1,6 +1,6 @@
 -- The functions that read with a depth, one level opened.
 use Rattle.std.proofs.Common.{◌≡◌, ℕ, zero, suc, List, true, false, if◌then◌else◌, Some, None, Result, refl, sym, ap, ◌∙◌, subst}
-use Rattle.kb_record.specs.Token.{Token}
+use Rattle.kb_lexing.specs.Token.{Token}
 use Rattle.kb_record.specs.Tree.{word_value}
 use Rattle.kb_record.specs.Reading.{Reading, Reads, behind, reading_map, begins_word, read_scalar, value_behind, word_with, read_word, read_group, value_with, read_value, read_list, read_fields, read_record}
 use Rattle.kb_record.specs.declared.cursor.Mark.TheVariants.{Rec, OpenSquare}

@@ -1,6 +1,6 @@
 -- What it is to find a tree, and how it goes from part to part.
 use Rattle.std.proofs.Common.{◌≡◌, ℕ, zero, suc, ◌<◌, ◌≤◌, List, [], ◌∷◌, Bool, true, false, if◌then◌else◌, refl, sym, ap, subst, arith}
-use Rattle.kb_record.specs.Token.{Token}
+use Rattle.kb_lexing.specs.Token.{Token}
 use Rattle.kb_record.specs.Reading.{Reading, read, unexpected, too_deep, Parse, and_then, reading_map, joined}
 
 -- the reading gives this tree and the rest; or the tree nests deeper than the depth

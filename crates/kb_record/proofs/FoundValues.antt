@@ -1,7 +1,7 @@
 -- The tokens of a value are read as that value, unless it nests too deep.
 use Rattle.std.proofs.Common.{◌≡◌, ℕ, zero, suc, ◌<◌, ◌≤◌, max, ℤ, List, [], ◌∷◌, ◌++◌, length, true, false, if◌then◌else◌, Option, Some, None, refl, ap, ◌∙◌, arith, append_assoc}
 use Rattle.std.proofs.lemmas.List.{length-append}
-use Rattle.kb_record.specs.Token.{Token, name, number, assign, close_round, close_square, comma, dots}
+use Rattle.kb_lexing.specs.Token.{Token, name, number, assign, close_round, close_square, comma, dots}
 use Rattle.kb_record.specs.Tree.{named, grouped, Factors, no_factors, factor, Value, number_value, string_value, record_value, list_value, range_value, word_value, Fields, no_fields, field, Places, no_places, place, empty_place}
 use Rattle.kb_record.specs.Grammar.{word_tokens, value_tokens, field_tokens, more_fields, place_tokens, more_places, IsWord, IsValue, AreFields, ArePlaces, IsPlaceList}
 use Rattle.kb_record.specs.Nesting.{word_nesting, value_nesting, fields_nesting, places_nesting}

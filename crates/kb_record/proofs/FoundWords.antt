@@ -1,7 +1,7 @@
 -- The tokens of a word are read as that word, unless it nests too deep.
 use Rattle.std.proofs.Common.{◌≡◌, ℕ, zero, suc, ◌<◌, max, ℤ, List, [], ◌∷◌, ◌++◌, length, Option, Some, None, refl, ap, subst, arith, append_assoc, append-nil}
 use Rattle.std.proofs.lemmas.List.{length-append}
-use Rattle.kb_record.specs.Token.{Token, close_round, star}
+use Rattle.kb_lexing.specs.Token.{Token, close_round, star}
 use Rattle.kb_record.specs.Tree.{Factor, named, grouped, Factors, no_factors, factor}
 use Rattle.kb_record.specs.Grammar.{power_tokens, word_tokens, factor_tokens, IsWord, IsFactorTree, AreFactorTrees}
 use Rattle.kb_record.specs.Nesting.{word_nesting, factor_nesting}

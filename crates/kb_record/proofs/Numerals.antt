@@ -5,7 +5,7 @@ use Rattle.std.specs.Fmt.{signed_decimal}
 use Rattle.std.specs.List.{AllByRecursion}
 use Rattle.std.proofs.lemmas.Fmt.{decimal_nonempty, length-decimal-le, digits_decimal, digits_value-decimal}
 use Rattle.std.proofs.lemmas.Str.Parse.{IsNumeralModel, numerals_by_fold, digits_value_short}
-use Rattle.kb_record.specs.Spelling.{IsDigit, AreDigits, IsNumber, value_after, opposite}
+use Rattle.kb_lexing.specs.Spelling.{IsDigit, AreDigits, IsNumber, value_after, opposite}
 use Rattle.kb_record.specs.Layout.{IsShortNumber}
 
 numerals : IsNumeralModel (AllByRecursion IsDigit) (value_after 0)

@@ -2,10 +2,10 @@
 use Rattle.std.proofs.Common.{◌≡◌, ℕ, suc, List, [], ◌∷◌, ◌++◌, Bool, true, false, ℤ, Option, Some, None, refl, sym, subst, append_assoc, append-nil}
 use Rattle.std.specs.Prelude.{codes}
 use Rattle.std.specs.Fmt.{signed_decimal}
-use Rattle.kb_record.specs.Token.{Token, name, number, assign, open_round, close_round, open_square, close_square, comma, semicolon, star, caret, dots, rec_word}
+use Rattle.kb_lexing.specs.Token.{Token, name, number, assign, open_round, close_round, open_square, close_square, comma, semicolon, star, caret, dots, rec_word}
 use Rattle.kb_record.specs.Tree.{Factor, named, grouped, Factors, no_factors, factor, Value, number_value, string_value, record_value, list_value, range_value, word_value, Fields, no_fields, field, Places, no_places, place, empty_place, TextTree}
 use Rattle.kb_record.specs.Grammar.{power_tokens, word_tokens, factor_tokens, more_factors, value_tokens, field_tokens, more_fields, place_tokens, more_places}
-use Rattle.kb_record.specs.Spelling.{IsName, TokensOf}
+use Rattle.kb_lexing.specs.Spelling.{IsName, TokensOf}
 use Rattle.kb_record.specs.Layout.{power_text, word_text, factor_text, more_factors_text, line_of, line_of_fields, line_of_more_fields, line_of_places, line_of_more_places, are_lists, is_table, indent, lines_of_places, text_of_value, text_of_fields, end_of_field, printed, IsShortPower, IsSpelledWord, IsSpelledFactor, IsSpelledValue, AreSpelledFields, AreSpelledPlaces}
 use Rattle.kb_record.proofs.TokenTexts.{EndsToken, Lexes, Closes, nothing, weaker, closed_closed, closed_then, then_closed, then_more, name_text, number_text, string_text, open_round_text, close_round_text, open_square_text, close_square_text, comma_text, semicolon_text, star_text, caret_text, newline_text, assign_text, rec_text, range_text, indent_text}
 use Rattle.kb_record.proofs.PrintedPieces.{lists_behind}

@@ -1,9 +1,9 @@
 -- Rows of items: what is read is a row, and a bracket that is too deep stands in a front of some row.
 use Rattle.std.proofs.Common.{◌≡◌, ℕ, zero, suc, ◌+◌, max, List, [], ◌∷◌, ◌++◌, length, Bool, true, false, if◌then◌else◌, refl, sym, ap, ◌∙◌, arith, append_assoc, append-nil}
-use Rattle.kb_record.specs.Token.{Token}
+use Rattle.kb_lexing.specs.Token.{Token}
 use Rattle.kb_record.specs.Nesting.{open_behind}
 use Rattle.kb_record.specs.Reading.{Reading, read, unexpected, too_deep, Parse, and_then, reading_map, joined, row}
-use Rattle.kb_record.proofs.Forms.{Form, Stands, Meets, deepen}
+use Rattle.kb_record.proofs.ReadingForms.{Form, Stands, Meets, deepen}
 
 -- what is passed between the items and behind the last one
 abbrev pub Turns : Token → List Token → List Token → Reading Bool → Type 0

@@ -1,14 +1,14 @@
 -- A text that nests no deeper than it may isn't too deep.
 use Rattle.std.proofs.Common.{◌≡◌, ℕ, zero, suc, ◌-◌, ◌<◌, ◌≤◌, List, [], ◌∷◌, ◌++◌, ◌⊎◌, inl, inr, ⊎_elim, refl, ap, ◌∙◌, subst, arith, append_assoc}
-use Rattle.kb_record.specs.Token.{Token, open_round, close_round, open_square, close_square}
-use Rattle.kb_record.specs.Spelling.{TokensOf}
+use Rattle.kb_lexing.specs.Token.{Token, open_round, close_round, open_square, close_square}
+use Rattle.kb_lexing.specs.Spelling.{TokensOf}
 use Rattle.kb_record.specs.Tree.{Factors, TextTree}
 use Rattle.kb_record.specs.Grammar.{IsText, IsWordText, TextOf, WordOf}
 use Rattle.kb_record.specs.Nesting.{deepest, open_behind, word_nesting, text_nesting, IsTooDeep}
-use Rattle.kb_record.specs.Lexemes.{EndsInBracket}
-use Rattle.kb_record.proofs.Lexings.{UpTo, token_before}
-use Rattle.kb_record.proofs.TokenFronts.{front_tokens}
-use Rattle.kb_record.proofs.Fronts.{word_fronts, text_fronts}
+use Rattle.kb_lexing.specs.Lexemes.{EndsInBracket}
+use Rattle.kb_lexing.proofs.Lexings.{UpTo, token_before}
+use Rattle.kb_lexing.proofs.TokenFronts.{front_tokens}
+use Rattle.kb_record.proofs.TextFronts.{word_fronts, text_fronts}
 
 -- a front of the tokens that ends in a bracket, behind which more than n are open
 record Opened (n o : ℕ) (tokens : List Token) : Type 0 where

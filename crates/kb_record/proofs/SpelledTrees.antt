@@ -1,10 +1,10 @@
 -- The trees of texts have names, numbers and strings that can be spelled.
 use Rattle.std.proofs.Common.{◌≡◌, ℕ, ◌⊎◌, inl, inr, ℤ, List, [], ◌∷◌, ◌++◌, Option, Some, None, subst}
 use Rattle.std.specs.List.{AllByRecursion}
-use Rattle.kb_record.specs.Token.{Token, name, number, string, assign, open_round, close_round, open_square, close_square, comma, semicolon, star, caret, dots, rec_word}
+use Rattle.kb_lexing.specs.Token.{Token, name, number, string, assign, open_round, close_round, open_square, close_square, comma, semicolon, star, caret, dots, rec_word}
 use Rattle.kb_record.specs.Tree.{Factor, named, grouped, Factors, no_factors, factor, Value, number_value, string_value, record_value, list_value, range_value, word_value, Fields, no_fields, field, Places, no_places, place, empty_place, TextTree}
 use Rattle.kb_record.specs.Grammar.{power_tokens, word_tokens, factor_tokens, more_factors, value_tokens, field_tokens, more_fields, place_tokens, more_places, IsText}
-use Rattle.kb_record.specs.Spelling.{IsName, IsStringByte, Spells, TokensOf}
+use Rattle.kb_lexing.specs.Spelling.{IsName, IsStringByte, Spells, TokensOf}
 use Rattle.kb_record.specs.Layout.{IsShortNumber, IsShortPower, IsSpelledWord, IsSpelledFactor, IsSpelledValue, AreSpelledFields, AreSpelledPlaces}
 use Rattle.kb_record.proofs.Numerals.{number_short}
 

@@ -4,10 +4,10 @@ use Rattle.std.specs.Prelude.{codes, ◌==◌}
 use Rattle.std.specs.Fmt.{signed_decimal}
 use Rattle.std.specs.List.{AllByRecursion}
 use Rattle.std.proofs.lemmas.Bool.Decides.{nat_tests}
-use Rattle.kb_record.specs.Token.{Token, name, number, string, assign, open_round, close_round, open_square, close_square, comma, semicolon, star, caret, dots, rec_word}
-use Rattle.kb_record.specs.Spelling.{is_blank, after_gap, IsDigit, IsNameByte, BeginsWithNameByte, GoesOnAsName, IsName, AreDigits, IsNumber, IsStringByte, Spells, TokensOf, FirstToken}
+use Rattle.kb_lexing.specs.Token.{Token, name, number, string, assign, open_round, close_round, open_square, close_square, comma, semicolon, star, caret, dots, rec_word}
+use Rattle.kb_lexing.specs.Spelling.{is_blank, after_gap, IsDigit, IsNameByte, BeginsWithNameByte, GoesOnAsName, IsName, AreDigits, IsNumber, IsStringByte, Spells, TokensOf, FirstToken}
 use Rattle.kb_record.specs.Layout.{IsShortNumber, indent}
-use Rattle.kb_record.proofs.FirstTokens.{IsSingle, Kind, word, digits, negative, quoted, assigns, ranges, single, same_head, same_tail, first_from, word_only, digits_only, negative_only, quoted_only}
+use Rattle.kb_lexing.proofs.FirstTokens.{IsSingle, Kind, word, digits, negative, quoted, assigns, ranges, single, same_head, same_tail, first_from, word_only, digits_only, negative_only, quoted_only}
 use Rattle.kb_record.proofs.Numerals.{number_spelled}
 
 -- ---- what ends a token

@@ -1,6 +1,6 @@
 -- Tokens have one tree.
 use Rattle.std.proofs.Common.{◌≡◌, ℕ, ◌≤◌, max, List, [], ◌∷◌, ◌++◌, ◌⊎◌, inl, inr, ⊎_elim, refl, sym, ap, ◌∙◌, arith, append-nil, append_assoc}
-use Rattle.kb_record.specs.Token.{Token, name, assign, semicolon, rec_word, open_round, close_round}
+use Rattle.kb_lexing.specs.Token.{Token, name, assign, semicolon, rec_word, open_round, close_round}
 use Rattle.kb_record.specs.Tree.{Factors, Value, Fields, TextTree, record_value}
 use Rattle.kb_record.specs.Grammar.{IsText, IsWordText, AreFields, word_tokens, value_tokens, field_tokens}
 use Rattle.kb_record.specs.Nesting.{word_nesting, text_nesting}

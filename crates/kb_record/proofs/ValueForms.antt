@@ -1,6 +1,6 @@
 -- What reading a value tells of the tokens.
 use Rattle.std.proofs.Common.{◌≡◌, ℕ, zero, suc, ◌+◌, ◌-◌, max, ℤ, List, [], ◌∷◌, ◌++◌, Bool, true, false, if◌then◌else◌, Option, Some, None, refl, sym, ap, ◌∙◌, subst, arith, append_assoc, append-nil}
-use Rattle.kb_record.specs.Token.{Token, name, number, string, assign, open_round, close_round, open_square, close_square, comma, dots, rec_word}
+use Rattle.kb_lexing.specs.Token.{Token, name, number, string, assign, open_round, close_round, open_square, close_square, comma, dots, rec_word}
 use Rattle.kb_record.specs.Tree.{Value, number_value, string_value, record_value, list_value, range_value, word_value, no_places}
 use Rattle.kb_record.specs.Grammar.{word_tokens, value_tokens, field_tokens, more_fields, place_tokens, more_places, IsValue, AreFields, ArePlaces, IsPlaceList}
 use Rattle.kb_record.specs.Nesting.{open_behind, value_nesting, fields_nesting, places_nesting}
@@ -8,10 +8,10 @@ use Rattle.kb_record.specs.View.{places_of}
 use Rattle.kb_record.specs.Reading.{Reading, read, unexpected, too_deep, Parse, reading_map, behind, past, comma_unless, passes_comma, read_scalar, begin_range, begins_word, ends_place, place_with, field_with, fields_from, range_from, list_behind, fields_behind, value_behind, read_value, read_list, read_fields, read_word}
 use Rattle.kb_record.specs.declared.cursor.Mark.{Mark}
 use Rattle.kb_record.specs.declared.cursor.Mark.TheVariants.{Assign, OpenRound, CloseRound, OpenSquare, CloseSquare, Comma, Rec}
-use Rattle.kb_record.proofs.Marks.{behind-is}
+use Rattle.kb_record.proofs.PassedMarks.{behind-is}
 use Rattle.kb_record.proofs.Depths.{read_value_is}
 use Rattle.kb_record.proofs.Balanced.{value_balanced}
-use Rattle.kb_record.proofs.Forms.{Form, Meets, meets_as, meets_in, map_same}
+use Rattle.kb_record.proofs.ReadingForms.{Form, Meets, meets_as, meets_in, map_same}
 use Rattle.kb_record.proofs.RowForms.{Turns, row_form, row_tokens, more_tokens, GoodRow, AllGood, widest, row_meets}
 use Rattle.kb_record.proofs.WordForms.{word_form, word_meets}
 

@@ -1,16 +1,16 @@
 -- What reading a word tells of the tokens.
 use Rattle.std.proofs.Common.{◌≡◌, ℕ, zero, suc, ◌+◌, ◌≤◌, max, ℤ, List, [], ◌∷◌, ◌++◌, Option, Some, None, refl, sym, ap, ◌∙◌, arith, append_assoc, append-nil}
-use Rattle.kb_record.specs.Token.{Token, name, number, star, caret, open_round, close_round}
+use Rattle.kb_lexing.specs.Token.{Token, name, number, star, caret, open_round, close_round}
 use Rattle.kb_record.specs.Tree.{Factor, named, grouped, Factors, no_factors, factor}
 use Rattle.kb_record.specs.Grammar.{power_tokens, word_tokens, factor_tokens, more_factors, IsWord, IsFactorTree, AreFactorTrees}
 use Rattle.kb_record.specs.Nesting.{open_behind, word_nesting, factor_nesting}
 use Rattle.kb_record.specs.View.{factors_of}
 use Rattle.kb_record.specs.Reading.{Reading, read, unexpected, too_deep, Parse, and_then, reading_map, behind, past, passes, passes_to, power_behind, read_number, read_power, factor_behind, read_factor, read_group, read_word}
 use Rattle.kb_record.specs.declared.cursor.Mark.TheVariants.{Star, Caret, OpenRound, CloseRound}
-use Rattle.kb_record.proofs.Marks.{behind-is}
+use Rattle.kb_record.proofs.PassedMarks.{behind-is}
 use Rattle.kb_record.proofs.Depths.{read_word_is}
 use Rattle.kb_record.proofs.Balanced.{factor_balanced}
-use Rattle.kb_record.proofs.Forms.{Form, Stands, Meets, deepen, meets_as, meets_in}
+use Rattle.kb_record.proofs.ReadingForms.{Form, Stands, Meets, deepen, meets_as, meets_in}
 use Rattle.kb_record.proofs.RowForms.{Turns, row_form, row_tokens, more_tokens, GoodRow, AllGood, widest, row_meets}
 
 abbrev pub word_form : Form Factors

@@ -28,21 +28,20 @@ pub record Meaning (bytes : List ℕ) (names : List (List ℕ)) (inverses : List
   pub shallow : word_nesting factors ≤ deepest
   pub means : word_meaning names inverses factors ≡ meaning
 
--- no tree is the bytes' tree, or they are too deep, or their word has the fault that is named
+-- the bytes have the fault of a tree, or their word has the fault that is named
 abbrev pub HasWordFault : List ℕ → List (List ℕ) → List (Option ℕ) → WordError → Type 0
-HasWordFault bytes names inverses (word_errors.Syntax at) = (factors : Factors) → ¬ WordOf bytes factors
-HasWordFault bytes names inverses (word_errors.TooDeep at) = IsTooDeep (λ tokens. (factors : Factors) × IsWordText tokens factors) bytes
+HasWordFault bytes names inverses (word_errors.Syntax at) = HasTreeFault bytes (record_errors.Syntax at)
+HasWordFault bytes names inverses (word_errors.TooDeep at) = HasTreeFault bytes (record_errors.TooDeep at)
 HasWordFault bytes names inverses (word_errors.UnknownGenerator name) = Meaning bytes names inverses (Err (unknown_generator name))
 HasWordFault bytes names inverses (word_errors.NoInverse name) = Meaning bytes names inverses (Err (no_inverse name))
 HasWordFault bytes names inverses word_errors.WordTooLong = Meaning bytes names inverses (Err too_long)
-HasWordFault bytes names inverses word_errors.Memory = Unit {0}
+HasWordFault bytes names inverses word_errors.Memory = HasTreeFault bytes record_errors.Memory
 
--- what evaluating a word's tree gives: its meaning, its first fault, or want of memory
+-- evaluating a word's tree returns its meaning, its first fault, or want of memory
 abbrev pub Evaluates : Result (List ℕ) WordFault → Result (List ℕ) WordError → Type 0
 Evaluates meaning (Ok w) = meaning ≡ Ok w
 Evaluates meaning (Err word_errors.Memory) = Unit {0}
 Evaluates meaning (Err (word_errors.UnknownGenerator name)) = meaning ≡ Err (unknown_generator name)
 Evaluates meaning (Err (word_errors.NoInverse name)) = meaning ≡ Err (no_inverse name)
 Evaluates meaning (Err word_errors.WordTooLong) = meaning ≡ Err too_long
-Evaluates meaning (Err (word_errors.Syntax at)) = ⊥
-Evaluates meaning (Err (word_errors.TooDeep at)) = ⊥
+Evaluates meaning (Err _) = ⊥

@@ -1,7 +1,7 @@
 -- The grammar: the tokens of a tree, and which trees there are. No depth is limited here.
 use Rattle.std.specs.Prelude.{◌≡◌, ℕ, ◌⊎◌, ℤ, List, [], ◌∷◌, ◌++◌, Option, Some, None}
-use Rattle.kb_record.specs.Token.{Token, name, number, string, assign, open_round, close_round, open_square, close_square, comma, semicolon, star, caret, dots, rec_word}
-use Rattle.kb_record.specs.Spelling.{TokensOf}
+use Rattle.kb_lexing.specs.Token.{Token, name, number, string, assign, open_round, close_round, open_square, close_square, comma, semicolon, star, caret, dots, rec_word}
+use Rattle.kb_lexing.specs.Spelling.{TokensOf}
 use Rattle.kb_record.specs.Tree.{Factor, named, grouped, Factors, no_factors, factor, Value, number_value, string_value, record_value, list_value, range_value, word_value, Fields, no_fields, field, Places, no_places, place, empty_place, TextTree}
 
 abbrev pub power_tokens : Option ℤ → List Token

@@ -2,7 +2,7 @@
 use Rattle.std.specs.Prelude.{ℕ, suc, ◌<◌, ◌*◌, ◌^◌, Bool, true, false, if◌then◌else◌, ℤ, nat_abs, List, [], ◌++◌, replicate, codes, Option, Some, None}
 use Rattle.std.specs.List.{AllByRecursion}
 use Rattle.std.specs.Fmt.{signed_decimal}
-use Rattle.kb_record.specs.Spelling.{IsName, IsStringByte}
+use Rattle.kb_lexing.specs.Spelling.{IsName, IsStringByte}
 use Rattle.kb_record.specs.Tree.{Factor, named, grouped, Factors, no_factors, factor, Value, number_value, string_value, record_value, list_value, range_value, word_value, Fields, no_fields, field, Places, no_places, place, empty_place, TextTree}
 
 abbrev pub power_text : Option ℤ → List ℕ

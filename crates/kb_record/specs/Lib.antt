@@ -1,11 +1,11 @@
-pub mod Token
-pub mod Spelling
+pub use Rattle.kb_lexing.specs.Token
+pub use Rattle.kb_lexing.specs.Spelling
 pub mod Tree
 pub mod Grammar
 pub mod Meaning
 pub mod Nesting
 pub mod View
-pub mod Lexemes
+pub use Rattle.kb_lexing.specs.Lexemes
 pub mod Faults
 pub mod Reading
 pub mod Refusals

@@ -1,6 +1,7 @@
 -- The meaning of a word's tree over a presentation, or the first fault that is met, reading from the left.
-use Rattle.std.specs.Prelude.{ℕ, zero, suc, ◌+◌, ◌-◌, ◌*◌, nat_lt, nat_eq, if◌then◌else◌, ℤ, pos, negsuc, List, [], ◌∷◌, ◌++◌, length, codes, Option, Some, None, slice_get, unwrap_or, Result, Ok, Err}
+use Rattle.std.specs.Prelude.{ℕ, zero, suc, ◌+◌, ◌*◌, nat_lt, nat_eq, if◌then◌else◌, ℤ, pos, negsuc, List, [], ◌∷◌, ◌++◌, length, codes, Option, Some, None, Result, Ok, Err}
 use lib.Pointwise.{pointwise}
+use Rattle.kb_word.specs.Printed.{letter_name}
 use Rattle.kb_word.specs.Relations.{inverse_letter, inverse_word}
 use Rattle.kb_record.specs.Tree.{Factor, named, grouped, Factors, no_factors, factor}
 
@@ -36,7 +37,7 @@ if_none here (Some y) later = later
 abbrev pub first_without_inverse : List (List ℕ) → List (Option ℕ) → List ℕ → List ℕ
 first_without_inverse names inverses [] = []
 first_without_inverse names inverses (x ∷ w) =
-    if_none (unwrap_or (slice_get names (x - 1)) []) (inverse_letter inverses x) (first_without_inverse names inverses w)
+    if_none (letter_name names x) (inverse_letter inverses x) (first_without_inverse names inverses w)
 
 -- w, n times
 abbrev pub repeated : ℕ → List ℕ → List ℕ

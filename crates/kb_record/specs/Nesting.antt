@@ -1,7 +1,7 @@
 -- How deep brackets nest.
 use Rattle.std.specs.Prelude.{◌≡◌, ℕ, suc, ◌-◌, max, List, [], ◌∷◌, ◌++◌}
-use Rattle.kb_record.specs.Token.{Token, open_round, close_round, open_square, close_square}
-use Rattle.kb_record.specs.Spelling.{TokensOf}
+use Rattle.kb_lexing.specs.Token.{Token, open_round, close_round, open_square, close_square}
+use Rattle.kb_lexing.specs.Spelling.{TokensOf}
 use Rattle.kb_record.specs.Tree.{Factor, named, grouped, Factors, no_factors, factor, Value, number_value, string_value, record_value, list_value, range_value, word_value, Fields, no_fields, field, Places, no_places, place, empty_place, TextTree}
 
 -- brackets in brackets may stand this deep

@@ -6,6 +6,10 @@ use Rattle.kb_record.specs.Tree.{Value as ValueTree, list_value}
 use Rattle.kb_record.specs.View.{value_view}
 use Rattle.kb_record.specs.declared.tree.Value.{Value}
 
+-- something, or nothing, stands behind what was there
+abbrev pub Appended : List ℕ → List ℕ → Type 0
+Appended old new = (more : List ℕ) × (new ≡ old ++ more)
+
 -- pieces with a text before the first and another before each that follows
 abbrev pub pieces : {A : Type 0} → (A → List ℕ) → List ℕ → List ℕ → List A → List ℕ
 pieces text before between [] = []

@@ -1,15 +1,15 @@
 -- Reading tokens from the left: the tree that stands first, and the tokens behind it.
 use Rattle.std.specs.Prelude.{◌≡◌, ◌≢◌, ◌⊎◌, IsTrue, unwrap_or, ℕ, zero, suc, ◌+◌, ℤ, List, [], ◌∷◌, length, drop, ◌<◌, map, Bool, true, false, if◌then◌else◌, Option, Some, None, Result, Ok, Err}
 use Rattle.std.specs.Borrow.{Bor}
-use Rattle.kb_record.specs.Token.{Token, name, number, string, assign, open_round, close_round, open_square, close_square, comma, semicolon, star, caret, dots, rec_word}
+use Rattle.kb_lexing.specs.Token.{Token, name, number, string, assign, open_round, close_round, open_square, close_square, comma, semicolon, star, caret, dots, rec_word}
 use Rattle.kb_record.specs.Tree.{Factor, named, grouped, Factors, Value, number_value, string_value, record_value, list_value, range_value, word_value, Fields, no_fields, field, no_places}
 use Rattle.kb_record.specs.View.{factors_of, places_of, value_view}
-use Rattle.kb_record.specs.Lexemes.{token_view, tokens_view}
+use Rattle.kb_lexing.specs.Lexemes.{token_view, tokens_view}
 use Rattle.kb_record.specs.declared.tree.Value.{Value as ValueType}
 use Rattle.kb_record.specs.declared.tree.Rec.{Rec as RecType}
 use Rattle.kb_record.specs.declared.error.RecordError.{RecordError}
 use Rattle.kb_record.specs.declared.error.RecordError.TheVariants as errors
-use Rattle.kb_record.specs.declared.token.Token.{Token as TokenType}
+use Rattle.kb_lexing.specs.declared.token.Token.{Token as TokenType}
 use Rattle.kb_record.specs.declared.cursor.Cursor.{Cursor}
 use Rattle.kb_record.specs.declared.cursor.Mark.{Mark}
 use Rattle.kb_record.specs.declared.cursor.Mark.TheVariants.{Assign, OpenRound, CloseRound, OpenSquare, CloseSquare, Comma, Semicolon, Star, Caret, Dots, Rec}

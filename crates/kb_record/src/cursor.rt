@@ -4,11 +4,11 @@ ghost use Rattle.std.specs.Prelude.{◌≡◌, ◌≢◌, ◌<◌, ◌≤◌, �
 ghost use Rattle.kb_record.specs.declared.cursor.Stop.TheVariants as stops;
 ghost use Rattle.std.specs.Bool.{MatchBool};
 ghost use Rattle.kb_record.specs.View.{value_view};
-ghost use Rattle.kb_record.specs.Lexemes.{token_view, tokens_view};
+ghost use Rattle.kb_lexing.specs.Lexemes.{token_view, tokens_view};
 ghost use Rattle.kb_record.specs.Reading.{Reads, remaining, Begins, is_mark, behind, read_name, read_number, read_scalar, begins_word, begin_range, ends_place, passes_comma};
 
-use crate::token::{Lexeme, Token};
 use crate::tree::Value;
+use kb_lexing::{Expected, Lexeme, Token};
 use kb_word::Memory;
 use std::alloc::AllocFailed;
 
@@ -47,27 +47,6 @@ impl Mark {
             Mark::Rec => matches!(token, Token::Rec),
         }
     }
-}
-
-/// What may come next where the reading stops, of the tokens that have more than one byte.
-#[derive(Clone, Copy, Debug)]
-pub(crate) enum Expected {
-    /// A name, or an open bracket.
-    Name,
-    /// A number.
-    Number,
-    /// A number, a string, a name, `rec`, or an open bracket.
-    Value,
-    /// `:=`
-    Assign,
-    /// `..`, or marks of one byte.
-    Dots,
-    /// `rec`
-    Rec,
-    /// The open bracket behind the `rec` of a value, which might also go on as a name.
-    Fields,
-    /// Marks of one byte alone.
-    Mark,
 }
 
 /// Why the reading stops.
@@ -123,7 +102,8 @@ impl<'t, 'a> Cursor<'t, 'a> {
     /// Passes the mark, if it comes next.
     pub fn take(&mut self, mark: Mark) -> bool
         ensures { MatchBool result (behind mark (remaining self.old) ≡ Some (remaining self.new))
-            ((behind mark (remaining self.old) ≡ None) × (remaining self.new ≡ remaining self.old)) }
+            ((behind mark (remaining self.old) ≡ None)
+            × (remaining self.new ≡ remaining self.old)) }
     {
         let Some(token) = self.peek() else {
             return false;
@@ -137,8 +117,10 @@ impl<'t, 'a> Cursor<'t, 'a> {
 
     /// Passes the mark, which has to come next.
     pub fn expect(&mut self, mark: Mark, expected: Expected) -> Result<(), Stop>
-        ensures { MatchResult result (λ _. behind mark (remaining self.old) ≡ Some (remaining self.new))
-            (λ stop. (behind mark (remaining self.old) ≡ None) × (stop ≡ stops.Unexpected expected)) }
+        ensures { MatchResult result
+            (λ _. behind mark (remaining self.old) ≡ Some (remaining self.new))
+            (λ stop. (behind mark (remaining self.old) ≡ None)
+            × (stop ≡ stops.Unexpected expected)) }
     {
         if self.take(mark) {
             Ok(())
@@ -150,7 +132,8 @@ impl<'t, 'a> Cursor<'t, 'a> {
     /// Passes the comma that goes on with a list or a record, or the mark that closes it. Answers
     /// whether it goes on.
     pub fn passes_comma(&mut self, close: Mark) -> Result<bool, Stop>
-        ensures { Reads (passes_comma close (remaining self.old)) (λ more. more) result (remaining self.new) }
+        ensures { Reads (passes_comma close (remaining self.old)) (λ more. more) result
+            (remaining self.new) }
     {
         if self.take(close) {
             return Ok(false);
@@ -161,7 +144,8 @@ impl<'t, 'a> Cursor<'t, 'a> {
 
     /// Passes the name that has to come next.
     pub fn name(&mut self) -> Result<&'a str, Stop>
-        ensures { Reads (read_name (remaining self.old)) (λ name. name.now) result (remaining self.new) }
+        ensures { Reads (read_name (remaining self.old)) (λ name. name.now) result
+            (remaining self.new) }
     {
         match self.peek() {
             Some(Token::Name(name)) => {
@@ -174,7 +158,8 @@ impl<'t, 'a> Cursor<'t, 'a> {
 
     /// Passes the number that has to come next.
     pub fn number(&mut self) -> Result<i64, Stop>
-        ensures { Reads (read_number (remaining self.old)) (λ number. number) result (remaining self.new) }
+        ensures { Reads (read_number (remaining self.old)) (λ number. number) result
+            (remaining self.new) }
     {
         match self.peek() {
             Some(Token::Number(number)) => {
@@ -237,7 +222,8 @@ impl<'t, 'a> Cursor<'t, 'a> {
     /// Nothing may be left, and the tokens have to be all that there are.
     pub fn end(&self, whole: bool) -> Result<(), Stop>
         ensures { MatchResult result (λ _. (remaining self.now ≡ []) × IsTrue whole)
-            (λ stop. ((remaining self.now ≢ []) ⊎ (whole ≡ false)) × (stop ≡ stops.Unexpected Expected.Mark)) }
+            (λ stop. ((remaining self.now ≢ []) ⊎ (whole ≡ false))
+            × (stop ≡ stops.Unexpected Expected.Mark)) }
     {
         if whole && self.left() == 0 {
             Ok(())

@@ -8,7 +8,7 @@ use kb_word::{Memory, OwnedText};
 use std::alloc::AllocError;
 use thiserror::Error;
 
-/// Why bytes are no text of a record.
+/// Why bytes are no text of a record. No clause speaks of the place `at`.
 #[derive(Debug, Drop, Error)]
 pub enum RecordError {
     /// The longest front of the bytes with which some text begins has `at` bytes.
@@ -22,7 +22,7 @@ pub enum RecordError {
     Memory,
 }
 
-/// Why bytes are no word of a presentation.
+/// Why bytes are no word of a presentation. No clause speaks of the place `at`.
 #[derive(Debug, Drop, Error)]
 pub enum WordError {
     /// The longest front of the bytes with which some word begins has `at` bytes.
@@ -49,6 +49,14 @@ impl From<Memory> for RecordError {
     ghost from_gives = { λ _ error. error ≡ record_errors.Memory };
 
     fn from(_: Memory) -> RecordError {
+        RecordError::Memory
+    }
+}
+
+impl From<AllocError> for RecordError {
+    ghost from_gives = { λ _ error. error ≡ record_errors.Memory };
+
+    fn from(_: AllocError) -> RecordError {
         RecordError::Memory
     }
 }

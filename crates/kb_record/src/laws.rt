@@ -1,12 +1,16 @@
 //! Laws of the grammar: trees are unique, and no text is both read and refused.
 
-ghost use Rattle.std.specs.Prelude.{◌≡◌, ◌≤◌, ℕ, List};
-ghost use Rattle.kb_record.specs.Token.{Token};
+ghost use Rattle.std.specs.Prelude.{◌≡◌, ◌≢◌, ◌≤◌, ℕ, List, Option, Result, Ok};
+ghost use Rattle.kb_lexing.specs.Token.{Token};
 ghost use Rattle.kb_record.specs.Tree.{Factors, TextTree};
 ghost use Rattle.kb_record.specs.Grammar.{AreFields, IsText, IsWordText, TextOf, WordOf};
 ghost use Rattle.kb_record.specs.Layout.{AreSpelledFields, printed};
-ghost use Rattle.kb_record.specs.Spelling.{IsName};
+ghost use Rattle.kb_lexing.specs.Spelling.{IsName};
 ghost use Rattle.kb_record.specs.Nesting.{deepest, text_nesting, word_nesting, IsTooDeep};
+ghost use Rattle.kb_record.specs.Meaning.{WordFault};
+ghost use Rattle.kb_record.specs.Faults.{Meaning, HasWordFault};
+ghost use Rattle.kb_record.specs.declared.error.WordError.{WordError};
+ghost use Rattle.kb_record.specs.declared.error.WordError.TheVariants as word_errors;
 
 /// Bytes are a text in one way at most.
 pub fn a_text_has_one_tree()
@@ -28,13 +32,36 @@ pub fn a_shallow_text_is_not_too_deep()
 
 /// A word that nests as deep as it may has no front with too many brackets open.
 pub fn a_shallow_word_is_not_too_deep()
-    ensures { (bytes : List ℕ) (factors : Factors) → WordOf bytes factors → word_nesting factors ≤ deepest
+    ensures { (bytes : List ℕ) (factors : Factors) → WordOf bytes factors
+        → word_nesting factors ≤ deepest
         → ¬ IsTooDeep (λ tokens. (other : Factors) × IsWordText tokens other) bytes }
+{}
+
+/// Over names and inverses, bytes have one meaning at most: one word, or one fault of a word.
+pub fn a_word_has_one_meaning()
+    ensures { (bytes : List ℕ) (names : List (List ℕ)) (inverses : List (Option ℕ))
+        (one other : Result (List ℕ) WordFault) → Meaning bytes names inverses one
+        → Meaning bytes names inverses other → one ≡ other }
+{}
+
+/// Bytes that mean a word have no fault; want of memory is none of theirs.
+pub fn a_word_that_is_read_has_no_fault()
+    ensures { (bytes : List ℕ) (names : List (List ℕ)) (inverses : List (Option ℕ))
+        (w : List ℕ) (error : WordError) → Meaning bytes names inverses (Ok w)
+        → HasWordFault bytes names inverses error → error ≡ word_errors.Memory }
+{}
+
+/// Bytes that mean a word aren't refused for a fault.
+pub fn a_word_that_is_read_is_not_refused()
+    ensures { (bytes : List ℕ) (names : List (List ℕ)) (inverses : List (Option ℕ))
+        (w : List ℕ) (error : WordError) → Meaning bytes names inverses (Ok w)
+        → HasWordFault bytes names inverses error → ¬ (error ≢ word_errors.Memory) }
 {}
 
 /// The printed text of a tree whose names, numbers and strings can be spelled is a text of that tree.
 pub fn a_printed_text_is_read_again()
-    ensures { (text : TextTree) → IsName text.title → AreFields text.fields → AreSpelledFields text.fields
+    ensures { (text : TextTree) → IsName text.title → AreFields text.fields
+        → AreSpelledFields text.fields
         → TextOf (printed text) text }
 {}
 

@@ -9,60 +9,76 @@
 //!
 //! # The public contract
 //!
-//! [`parse`] answers the one tree that the bytes have. It refuses bytes that have no tree, and bytes of which
+//! [`parse`] returns the one tree that the bytes have. It refuses bytes that have no tree, and bytes of which
 //! a front, with which some text begins, has a 65th bracket open. [`parse_expr`] does the same for a word
 //! alone. The laws [`a_text_has_one_tree`] and [`a_shallow_text_is_not_too_deep`], and those of words, say
 //! that the tree is unique and that no bytes are both read and refused. [`word_of`] evaluates a word's tree
-//! over a presentation, or answers the first fault from the left, and [`parse_word`] is both in one call.
+//! over a presentation, or returns the first fault from the left, and [`parse_word`] is both in one call. By
+//! [`a_word_that_is_read_has_no_fault`] bytes that mean a word are not refused but for want of memory, and by
+//! [`a_word_has_one_meaning`] they mean one word.
 //!
 //! [`print`] appends the one printed text that a record has, `printed` of `specs/Layout.antt`: a line for each field
-//! and for each place of a list of lists, two blanks for each level, and no more blanks than that and around `:=`. The law
-//! [`a_printed_text_is_read_again`] says that it is a text of the same tree where names, numbers and strings can
-//! be spelled, and [`what_is_read_can_be_printed`] that they can in each tree that is read. [`print_indent`] and
-//! [`print_number`] append pieces of such a text, for a writer that holds no tree.
+//! and for each place of a list of lists, two blanks for each level, and no more blanks than that and around `:=`. A
+//! tree that was read is printed as a text that is read again as that tree: by the law
+//! [`what_is_read_can_be_printed`] its names, numbers and strings can be spelled, and by
+//! [`a_printed_text_is_read_again`] the printed text of such a tree is a text of the same tree. [`print_indent`] and
+//! [`print_number`] append pieces of such a text, for a writer that holds no tree. Where memory runs out, each of
+//! the three leaves the buffer as it was.
 //!
-//! Want of memory may be answered by each call that takes memory, and by no other.
+//! Want of memory may be returned by each call that takes memory, and by no other.
 //!
-//! A refusal names a place, which no clause speaks of: for `E1` the length of the longest front with
-//! which some text begins, for `E2` the place of the bracket.
+//! No clause says which of two faults a refusal names, nor which place. Whole runs show them: for `E1` the length
+//! of the longest front with which some text begins, for `E2` the place of the bracket.
 //!
 //! # How it is made
 //!
-//! - `lexer` makes tokens of the bytes, each as long as possible, up to the first byte that belongs to none.
+//! - `kb_lexing` makes tokens of the bytes, each as long as possible, up to the first byte that belongs to none.
 //! - `cursor` goes over the tokens; `words` and `records` read trees by recursive descent. They recurse
 //!   into brackets alone, of which 64 may be open; what is joined by `*` or `,` is read in loops. Each
 //!   function is proved to compute a function on token lists of `specs/Reading.antt`, and what those say of the
-//!   grammar, `specs/Grammar.antt`, is proved in `proofs/`: that the tree which is read has the tokens, that a
-//!   tree's tokens are read as that tree, and that a front which is too deep begins some tree's tokens.
-//! - `place` finds the place of a syntax error from the good tokens and what may follow them.
+//!   grammar, `specs/Grammar.antt`, is proved in `proofs/`.
 //! - `meaning` evaluates the tree of a word.
 //! - `printing` goes down the tree of a record, and appends the pieces in order: `print_on_line` what stands on one
-//!   line, `print_value` what stands at a level. That the tokens of the text are those of the tree is proved in
-//!   `proofs/PrintedTokens.antt`.
+//!   line, `print_value` what stands at a level.
 //!
-//! Below stands `kb_word`, whose words and presentations are the answers. Above stand the crates that
-//! read files of presentations and of automata, and the lines of words of the command `wordreduce`.
+//! # Where the proofs are
+//!
+//! - `proofs/ReadingForms.antt`, with `RowForms`, `WordForms` and `ValueForms`: the tree that is read has the tokens,
+//!   and a bracket that is too deep stands in a front of some tree's tokens.
+//! - `proofs/Finds.antt`, with `FoundWords` and `FoundValues`: the tokens of a tree are read as that tree, unless it
+//!   nests too deep. `Unique`: so tokens have one tree.
+//! - `proofs/OpenBrackets.antt`, with `Balanced`: no front of a tree's tokens has more brackets open than the tree
+//!   nests. `Shallow`: so a text that nests no deeper than it may isn't too deep.
+//! - `proofs/TokensToBytes.antt`, with `TextFronts`: from what the tokens say to what the bytes say.
+//! - `proofs/WordMeanings.antt`, `proofs/WordFaults.antt`: names, repetitions and powers; bytes that mean a word have
+//!   no fault.
+//! - `proofs/PrintedPieces.antt`: texts that are printed piece by piece.
+//! - `proofs/PrintedTokens.antt`, with `TokenTexts` and `Numerals`: the tokens of a printed text are those of its tree.
+//!   `SpelledTrees`: the trees of texts can be spelled.
+//! - `proofs/ReadRows.antt`, `PassedMarks`, `Depths`, `Views`: one step of the functions and of the trees.
+//!
+//! Below stand `kb_lexing`, and `kb_word`, whose words and presentations are the answers. Above stand the crates
+//! that read files of presentations and of automata, and the lines of words of the command `wordreduce`.
 #![tactic(auto)]
 
 mod cursor;
 mod error;
 mod laws;
-mod lexer;
 mod meaning;
 mod parser;
-mod place;
 mod printing;
 mod records;
-mod token;
 mod tree;
 mod words;
 
 pub use error::{RecordError, WordError};
+pub use kb_lexing::is_blank;
 pub use laws::{
     a_printed_text_is_read_again, a_shallow_text_is_not_too_deep, a_shallow_word_is_not_too_deep,
-    a_text_has_one_tree, a_word_has_one_tree, what_is_read_can_be_printed,
+    a_text_has_one_tree, a_word_has_one_meaning, a_word_has_one_tree,
+    a_word_that_is_read_has_no_fault, a_word_that_is_read_is_not_refused,
+    what_is_read_can_be_printed,
 };
-pub use lexer::is_blank;
 pub use meaning::word_of;
 pub use parser::{parse, parse_expr, parse_word};
 pub use printing::{print, print_indent, print_number};

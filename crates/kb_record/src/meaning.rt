@@ -7,11 +7,8 @@ ghost use Rattle.kb_record.specs.Faults.{Evaluates};
 
 use crate::error::WordError;
 use crate::tree::{Expr, Factor};
-use kb_word::{Memory, Presentation, OwnedText, Word};
+use kb_word::{Memory, OwnedText, Presentation, Word};
 use std::alloc::Global;
-
-#[cfg(test)]
-mod tests;
 
 /// The most letters that a word may have, and each factor, group and product in it.
 const MOST_LETTERS: usize = 65_535;
@@ -19,7 +16,7 @@ const MOST_LETTERS: usize = 65_535;
 /// The word that a tree stands for: a name is its generator or, as `IdWord`, the empty word, and a power
 /// below 0 repeats the inverse.
 ///
-/// The first fault that is met from the left is answered: a name that is no generator's, a letter without
+/// The first fault that is met from the left is returned: a name that is no generator's, a letter without
 /// inverse under a power below 0, or more than 65,535 letters.
 pub fn word_of(alloc: Global, tree: &Expr, presentation: &Presentation) -> Result<Word, WordError>
     ensures { Evaluates
@@ -36,7 +33,8 @@ fn product_of(
     presentation: &Presentation,
 ) -> Result<Word, WordError>
     ensures { Evaluates
-        (product_meaning presentation.now.names presentation.now.inv [] (factors_view factors.now)) result }
+        (product_meaning presentation.now.names presentation.now.inv [] (factors_view factors.now))
+        result }
 {
     let mut so_far = Word::new(alloc);
     for factor in factors {
@@ -50,7 +48,8 @@ fn product_of(
 #[cycle(factors)]
 fn factor_of(alloc: Global, factor: &Factor, presentation: &Presentation) -> Result<Word, WordError>
     ensures { Evaluates
-        (factor_meaning presentation.now.names presentation.now.inv (factor_view factor.now)) result }
+        (factor_meaning presentation.now.names presentation.now.inv (factor_view factor.now))
+        result }
 {
     match factor {
         Factor::Name(name, power) => {
@@ -122,7 +121,8 @@ fn negative_power(
 ) -> Result<Word, WordError>
     requires { 0 < count }
     ensures { Evaluates
-        (power_meaning presentation.now.names presentation.now.inv (Some (negsuc (count - 1))) word.now)
+        (power_meaning presentation.now.names presentation.now.inv (Some (negsuc (count - 1)))
+        word.now)
         result }
 {
     let Some(inverse) = presentation.inverse_of(alloc, word)? else {
@@ -139,12 +139,12 @@ fn name_without_inverse(
     presentation: &Presentation,
 ) -> Result<OwnedText, Memory>
     ensures { IfOk result
-        (λ name. name ≡ first_without_inverse presentation.now.names presentation.now.inv word.now) }
+        (λ name. name
+        ≡ first_without_inverse presentation.now.names presentation.now.inv word.now) }
 {
     for letter in word.letters() {
         if presentation.letter_inverse(*letter).is_none() {
-            let place = letter.number().saturating_sub(1) as usize;
-            return OwnedText::from_str(alloc, presentation.names.get(place).unwrap_or(""));
+            return OwnedText::from_str(alloc, presentation.names.name_of(*letter).unwrap_or(""));
         }
     }
     OwnedText::from_str(alloc, "")

@@ -7,15 +7,13 @@ ghost use Rattle.kb_record.specs.Faults.{HasTextFault, HasTreeFault, HasWordFaul
 ghost use Rattle.kb_record.specs.Reading.{Reads, ReadsAll, Says, remaining, read_text, read_ended, read_word, rec_view};
 ghost use Rattle.kb_record.specs.View.{text_view, word_view};
 
-use crate::cursor::{Cursor, Expected, Mark, Stop};
+use crate::cursor::{Cursor, Mark, Stop};
 use crate::error::{RecordError, WordError};
-use crate::lexer::{Lexed, lex};
 use crate::meaning::word_of;
-use crate::place::syntax_place;
 use crate::records::fields;
-use crate::token::Lexeme;
 use crate::tree::{Expr, Rec};
 use crate::words::word;
+use kb_lexing::{Expected, Lexeme, lex, syntax_place};
 use kb_word::{Presentation, Word};
 use std::alloc::Global;
 
@@ -27,7 +25,8 @@ const DEEPEST: usize = 64;
 /// The tree borrows its names and strings from the bytes. The bytes are refused exactly where they have
 /// a fault, but for want of memory: by `a_text_has_one_tree` the tree that is answered is the only one, and by
 /// `a_shallow_text_is_not_too_deep` bytes with a tree that nests no more than 64 deep have neither fault.
-/// `Syntax` and `TooDeep` name the place up to which the bytes begin some text, and that of the 65th bracket.
+/// No clause says which of two faults is named, nor that `at` is the place up to which the bytes begin some
+/// text, or that of the 65th bracket: whole runs compare both.
 pub fn parse<'a>(alloc: Global, bytes: &'a [u8]) -> Result<Rec<'a>, RecordError>
     ensures read { IfOk result (λ text. TextOf bytes.now (text_view text)) }
     ensures shallow { IfOk result (λ text. text_nesting (text_view text) ≤ deepest) }
@@ -43,7 +42,8 @@ pub fn parse<'a>(alloc: Global, bytes: &'a [u8]) -> Result<Rec<'a>, RecordError>
 
 /// Reads a word, alone or as a line of its own.
 ///
-/// As with [`parse`], the bytes are refused exactly where they have a fault, but for want of memory.
+/// As with [`parse`], the bytes are refused exactly where they have a fault, but for want of memory, and no clause
+/// says which of two faults is named, nor what `at` is.
 pub fn parse_expr<'a>(alloc: Global, bytes: &'a [u8]) -> Result<Expr<'a>, RecordError>
     ensures read { IfOk result (λ word. WordOf bytes.now (word_view word)) }
     ensures shallow { IfOk result (λ word. word_nesting (word_view word) ≤ deepest) }
@@ -57,8 +57,11 @@ pub fn parse_expr<'a>(alloc: Global, bytes: &'a [u8]) -> Result<Expr<'a>, Record
     }
 }
 
-/// Reads a word of a presentation: the word that the bytes stand for, or the refusal of the bytes or of the
-/// first fault that is met from the left.
+/// Reads a word of a presentation: the word that the bytes stand for, or the refusal of the bytes, or of the
+/// first fault of the word that is met from the left.
+///
+/// By `a_word_that_is_read_has_no_fault` the bytes are refused exactly where they have a fault, but for want of
+/// memory. As with [`parse`], no clause says what `at` is.
 pub fn parse_word(
     alloc: Global,
     bytes: &[u8],
@@ -66,7 +69,8 @@ pub fn parse_word(
 ) -> Result<Word, WordError>
     ensures read { IfOk result
         (λ word. Meaning bytes.now presentation.now.names presentation.now.inv (Ok word)) }
-    ensures fault { IfErr result (HasWordFault bytes.now presentation.now.names presentation.now.inv) }
+    ensures fault { IfErr result
+        (HasWordFault bytes.now presentation.now.names presentation.now.inv) }
 {
     let tree = parse_expr(alloc, bytes)?;
     word_of(alloc, &tree, presentation)
@@ -90,7 +94,8 @@ fn error_at(bytes: &[u8], lexemes: &[Lexeme<'_>], left: usize, stop: Stop) -> Re
 
 /// Reads a text that goes to the end of the tokens, which are all that the bytes have.
 fn whole_text<'a>(alloc: Global, tokens: &mut Cursor<'_, 'a>, whole: bool) -> Result<Rec<'a>, Stop>
-    ensures { ReadsAll (read_ended deepest (remaining tokens.old)) rec_view whole result (remaining tokens.new) }
+    ensures { ReadsAll (read_ended deepest (remaining tokens.old)) rec_view whole result
+        (remaining tokens.new) }
 {
     let text = text(alloc, tokens)?;
     let _semicolon = tokens.take(Mark::Semicolon);
@@ -100,7 +105,8 @@ fn whole_text<'a>(alloc: Global, tokens: &mut Cursor<'_, 'a>, whole: bool) -> Re
 
 /// Reads a name, `:=` and a record.
 fn text<'a>(alloc: Global, tokens: &mut Cursor<'_, 'a>) -> Result<Rec<'a>, Stop>
-    ensures { Reads (read_text deepest (remaining tokens.old)) rec_view result (remaining tokens.new) }
+    ensures { Reads (read_text deepest (remaining tokens.old)) rec_view result
+        (remaining tokens.new) }
 {
     let name = tokens.name()?;
     tokens.expect(Mark::Assign, Expected::Assign)?;
@@ -112,12 +118,10 @@ fn text<'a>(alloc: Global, tokens: &mut Cursor<'_, 'a>) -> Result<Rec<'a>, Stop>
 
 /// Reads a word that goes to the end of the tokens, which are all that the bytes have.
 fn whole_word<'a>(alloc: Global, tokens: &mut Cursor<'_, 'a>, whole: bool) -> Result<Expr<'a>, Stop>
-    ensures { ReadsAll (read_word deepest (remaining tokens.old)) word_view whole result (remaining tokens.new) }
+    ensures { ReadsAll (read_word deepest (remaining tokens.old)) word_view whole result
+        (remaining tokens.new) }
 {
     let factors = word(alloc, tokens, DEEPEST)?;
     tokens.end(whole)?;
     Ok(Expr { factors })
 }
-
-#[cfg(test)]
-mod tests;

@@ -1,13 +1,13 @@
 //! The one printed text of a record.
 
-ghost use Rattle.std.specs.Prelude.{◌≡◌, ◌++◌, ℕ, List, OnOk, OnErr, IfOk, suc, codes, [], ◌∷◌};
+ghost use Rattle.std.specs.Prelude.{◌≡◌, ◌++◌, OnOk, OnErr, IfOk, suc, codes, [], ◌∷◌};
 ghost use Rattle.std.specs.Fmt.{signed_decimal};
 ghost use Rattle.kb_record.specs.Tree.{string_value, record_value, list_value, range_value};
 ghost use Rattle.kb_record.specs.View.{text_view, value_view, fields_view, places_view, factor_view, factors_view};
 ghost use Rattle.kb_record.specs.Layout.{printed, power_text, word_text, factor_text, line_of, indent, text_of_value};
 ghost use Rattle.kb_record.specs.Layout as layout;
 ghost use Rattle.std.specs.Option.{option_map};
-ghost use Rattle.kb_record.specs.Printing.{row_of_place, holds_list};
+ghost use Rattle.kb_record.specs.Printing.{Appended, row_of_place, holds_list};
 
 use crate::tree::{Factor, Rec, Value};
 use itoa::Buffer;
@@ -17,11 +17,23 @@ use kb_word::Memory;
 mod tests;
 
 /// Appends the printed text of a record: a line for each field, and for each place of a list of lists.
-///
-/// Where memory runs out, a part of the text may have been appended.
 pub fn print(text: &Rec<'_>, out: &mut Vec<u8>) -> Result<(), Memory>
     ensures printed { OnOk result (out.new.items ≡ out.old.items ++ printed (text_view text.now)) }
-    ensures kept { OnErr result ((more : List ℕ) × (out.new.items ≡ out.old.items ++ more)) }
+    ensures kept { OnErr result (out.new.items ≡ out.old.items) }
+{
+    let length = out.len();
+    let appended = print_text(text, out);
+    if appended.is_err() {
+        out.truncate(length);
+    }
+    appended
+}
+
+/// Appends the printed text of a record. Like the private functions below, it may have appended a part of
+/// the text where memory runs out.
+fn print_text(text: &Rec<'_>, out: &mut Vec<u8>) -> Result<(), Memory>
+    ensures printed { OnOk result (out.new.items ≡ out.old.items ++ printed (text_view text.now)) }
+    ensures kept { OnErr result (Appended out.old.items out.new.items) }
 {
     print_name(text.name, out)?;
     print_record(0, text.fields.as_slice(), out)?;
@@ -32,8 +44,9 @@ pub fn print(text: &Rec<'_>, out: &mut Vec<u8>) -> Result<(), Memory>
 /// Appends a value at a level: a record has a line for each field, a list of lists one for each place.
 #[cycle(levels)]
 fn print_value(level: usize, value: &Value<'_>, out: &mut Vec<u8>) -> Result<(), Memory>
-    ensures printed { OnOk result (out.new.items ≡ out.old.items ++ text_of_value level (value_view value.now)) }
-    ensures kept { OnErr result ((more : List ℕ) × (out.new.items ≡ out.old.items ++ more)) }
+    ensures printed { OnOk result
+        (out.new.items ≡ out.old.items ++ text_of_value level (value_view value.now)) }
+    ensures kept { OnErr result (Appended out.old.items out.new.items) }
 {
     match value {
         Value::Record(fields) => print_record(level, fields.as_slice(), out),
@@ -47,7 +60,7 @@ fn print_value(level: usize, value: &Value<'_>, out: &mut Vec<u8>) -> Result<(),
 fn print_record(level: usize, fields: &[(&str, Value<'_>)], out: &mut Vec<u8>) -> Result<(), Memory>
     ensures printed { OnOk result (out.new.items
         ≡ out.old.items ++ text_of_value level (record_value (fields_view fields.now))) }
-    ensures kept { OnErr result ((more : List ℕ) × (out.new.items ≡ out.old.items ++ more)) }
+    ensures kept { OnErr result (Appended out.old.items out.new.items) }
 {
     let inside = one_level_in(level)?;
     out.extend_from_slice(b"rec(")?;
@@ -64,10 +77,12 @@ fn print_record(level: usize, fields: &[(&str, Value<'_>)], out: &mut Vec<u8>) -
 #[cycle(levels)]
 fn print_field(level: usize, name: &str, value: &Value<'_>, out: &mut Vec<u8>) -> Result<(), Memory>
     ensures printed { OnOk result (out.new.items
-        ≡ out.old.items ++ (indent level ++ name.now ++ codes " := " ++ text_of_value level (value_view value.now))) }
-    ensures kept { OnErr result ((more : List ℕ) × (out.new.items ≡ out.old.items ++ more)) }
+        ≡ out.old.items
+        ++ (indent level ++ name.now ++ codes " := "
+        ++ text_of_value level (value_view value.now))) }
+    ensures kept { OnErr result (Appended out.old.items out.new.items) }
 {
-    print_indent(level, out)?;
+    print_blanks(level, out)?;
     print_name(name, out)?;
     print_value(level, value, out)
 }
@@ -76,7 +91,7 @@ fn print_field(level: usize, name: &str, value: &Value<'_>, out: &mut Vec<u8>) -
 fn print_list(level: usize, places: &[Option<Value<'_>>], out: &mut Vec<u8>) -> Result<(), Memory>
     ensures printed { OnOk result (out.new.items
         ≡ out.old.items ++ text_of_value level (list_value (places_view places.now))) }
-    ensures kept { OnErr result ((more : List ℕ) × (out.new.items ≡ out.old.items ++ more)) }
+    ensures kept { OnErr result (Appended out.old.items out.new.items) }
 {
     if !is_table(places) {
         return print_list_on_line(places, out);
@@ -95,9 +110,9 @@ fn print_list(level: usize, places: &[Option<Value<'_>>], out: &mut Vec<u8>) -> 
 /// Appends the value of a place at a level, on one line.
 fn print_row(level: usize, place: &Option<Value<'_>>, out: &mut Vec<u8>) -> Result<(), Memory>
     ensures printed { OnOk result (out.new.items ≡ out.old.items ++ row_of_place level place.now) }
-    ensures kept { OnErr result ((more : List ℕ) × (out.new.items ≡ out.old.items ++ more)) }
+    ensures kept { OnErr result (Appended out.old.items out.new.items) }
 {
-    print_indent(level, out)?;
+    print_blanks(level, out)?;
     match place {
         Some(value) => print_on_line(value, out),
         None => Ok(()),
@@ -137,7 +152,20 @@ fn one_level_in(level: usize) -> Result<usize, Memory>
 /// Appends two blanks for each level.
 pub fn print_indent(level: usize, out: &mut Vec<u8>) -> Result<(), Memory>
     ensures printed { OnOk result (out.new.items ≡ out.old.items ++ indent level) }
-    ensures kept { OnErr result ((more : List ℕ) × (out.new.items ≡ out.old.items ++ more)) }
+    ensures kept { OnErr result (out.new.items ≡ out.old.items) }
+{
+    let length = out.len();
+    let appended = print_blanks(level, out);
+    if appended.is_err() {
+        out.truncate(length);
+    }
+    appended
+}
+
+/// Appends two blanks for each level.
+fn print_blanks(level: usize, out: &mut Vec<u8>) -> Result<(), Memory>
+    ensures printed { OnOk result (out.new.items ≡ out.old.items ++ indent level) }
+    ensures kept { OnErr result (Appended out.old.items out.new.items) }
 {
     for _i in 0..level {
         out.extend_from_slice(b"  ")?;
@@ -148,7 +176,7 @@ pub fn print_indent(level: usize, out: &mut Vec<u8>) -> Result<(), Memory>
 /// Appends a name and the `:=` behind it.
 fn print_name(name: &str, out: &mut Vec<u8>) -> Result<(), Memory>
     ensures printed { OnOk result (out.new.items ≡ out.old.items ++ (name.now ++ codes " := ")) }
-    ensures kept { OnErr result ((more : List ℕ) × (out.new.items ≡ out.old.items ++ more)) }
+    ensures kept { OnErr result (Appended out.old.items out.new.items) }
 {
     out.extend_from_slice(name.as_bytes())?;
     out.extend_from_slice(b" := ")?;
@@ -157,11 +185,12 @@ fn print_name(name: &str, out: &mut Vec<u8>) -> Result<(), Memory>
 
 /// Ends the last line, and appends a closing bracket on a line of its own.
 fn print_close(level: usize, bracket: u8, out: &mut Vec<u8>) -> Result<(), Memory>
-    ensures printed { OnOk result (out.new.items ≡ out.old.items ++ (codes "\n" ++ indent level ++ bracket ∷ [])) }
-    ensures kept { OnErr result ((more : List ℕ) × (out.new.items ≡ out.old.items ++ more)) }
+    ensures printed { OnOk result
+        (out.new.items ≡ out.old.items ++ (codes "\n" ++ indent level ++ bracket ∷ [])) }
+    ensures kept { OnErr result (Appended out.old.items out.new.items) }
 {
     out.push(b'\n')?;
-    print_indent(level, out)?;
+    print_blanks(level, out)?;
     out.push(bracket)?;
     Ok(())
 }
@@ -169,8 +198,9 @@ fn print_close(level: usize, bracket: u8, out: &mut Vec<u8>) -> Result<(), Memor
 /// Appends a value on one line.
 #[cycle(lines)]
 fn print_on_line(value: &Value<'_>, out: &mut Vec<u8>) -> Result<(), Memory>
-    ensures printed { OnOk result (out.new.items ≡ out.old.items ++ line_of (value_view value.now)) }
-    ensures kept { OnErr result ((more : List ℕ) × (out.new.items ≡ out.old.items ++ more)) }
+    ensures printed { OnOk result
+        (out.new.items ≡ out.old.items ++ line_of (value_view value.now)) }
+    ensures kept { OnErr result (Appended out.old.items out.new.items) }
 {
     match value {
         Value::Number(number) => print_number(*number, out),
@@ -187,7 +217,7 @@ fn print_on_line(value: &Value<'_>, out: &mut Vec<u8>) -> Result<(), Memory>
 fn print_record_on_line(fields: &[(&str, Value<'_>)], out: &mut Vec<u8>) -> Result<(), Memory>
     ensures printed { OnOk result (out.new.items
         ≡ out.old.items ++ line_of (record_value (fields_view fields.now))) }
-    ensures kept { OnErr result ((more : List ℕ) × (out.new.items ≡ out.old.items ++ more)) }
+    ensures kept { OnErr result (Appended out.old.items out.new.items) }
 {
     out.extend_from_slice(b"rec(")?;
     let mut before: &[u8] = b"";
@@ -206,7 +236,7 @@ fn print_record_on_line(fields: &[(&str, Value<'_>)], out: &mut Vec<u8>) -> Resu
 fn print_list_on_line(places: &[Option<Value<'_>>], out: &mut Vec<u8>) -> Result<(), Memory>
     ensures printed { OnOk result (out.new.items
         ≡ out.old.items ++ line_of (list_value (places_view places.now))) }
-    ensures kept { OnErr result ((more : List ℕ) × (out.new.items ≡ out.old.items ++ more)) }
+    ensures kept { OnErr result (Appended out.old.items out.new.items) }
 {
     out.push(b'[')?;
     let mut before: &[u8] = b"";
@@ -224,7 +254,7 @@ fn print_list_on_line(places: &[Option<Value<'_>>], out: &mut Vec<u8>) -> Result
 /// Appends a range.
 fn print_range(from: i64, to: i64, out: &mut Vec<u8>) -> Result<(), Memory>
     ensures printed { OnOk result (out.new.items ≡ out.old.items ++ line_of (range_value from to)) }
-    ensures kept { OnErr result ((more : List ℕ) × (out.new.items ≡ out.old.items ++ more)) }
+    ensures kept { OnErr result (Appended out.old.items out.new.items) }
 {
     out.push(b'[')?;
     print_number(from, out)?;
@@ -236,8 +266,9 @@ fn print_range(from: i64, to: i64, out: &mut Vec<u8>) -> Result<(), Memory>
 
 /// Appends a string between its quotes.
 fn print_string(text: &str, out: &mut Vec<u8>) -> Result<(), Memory>
-    ensures printed { OnOk result (out.new.items ≡ out.old.items ++ line_of (string_value text.now)) }
-    ensures kept { OnErr result ((more : List ℕ) × (out.new.items ≡ out.old.items ++ more)) }
+    ensures printed { OnOk result
+        (out.new.items ≡ out.old.items ++ line_of (string_value text.now)) }
+    ensures kept { OnErr result (Appended out.old.items out.new.items) }
 {
     out.push(b'"')?;
     out.extend_from_slice(text.as_bytes())?;
@@ -248,8 +279,9 @@ fn print_string(text: &str, out: &mut Vec<u8>) -> Result<(), Memory>
 /// Appends factors with `*` between them.
 #[cycle(factors)]
 fn print_word(factors: &[Factor<'_>], out: &mut Vec<u8>) -> Result<(), Memory>
-    ensures printed { OnOk result (out.new.items ≡ out.old.items ++ word_text (factors_view factors.now)) }
-    ensures kept { OnErr result ((more : List ℕ) × (out.new.items ≡ out.old.items ++ more)) }
+    ensures printed { OnOk result
+        (out.new.items ≡ out.old.items ++ word_text (factors_view factors.now)) }
+    ensures kept { OnErr result (Appended out.old.items out.new.items) }
 {
     let mut before: &[u8] = b"";
     for factor in factors {
@@ -263,8 +295,9 @@ fn print_word(factors: &[Factor<'_>], out: &mut Vec<u8>) -> Result<(), Memory>
 /// Appends a name or a group in brackets, and its power.
 #[cycle(factors)]
 fn print_factor(factor: &Factor<'_>, out: &mut Vec<u8>) -> Result<(), Memory>
-    ensures printed { OnOk result (out.new.items ≡ out.old.items ++ factor_text (factor_view factor.now)) }
-    ensures kept { OnErr result ((more : List ℕ) × (out.new.items ≡ out.old.items ++ more)) }
+    ensures printed { OnOk result
+        (out.new.items ≡ out.old.items ++ factor_text (factor_view factor.now)) }
+    ensures kept { OnErr result (Appended out.old.items out.new.items) }
 {
     match factor {
         Factor::Name(name, power) => {
@@ -283,7 +316,7 @@ fn print_factor(factor: &Factor<'_>, out: &mut Vec<u8>) -> Result<(), Memory>
 /// Appends the digits of a number, behind `-` where it is below 0.
 pub fn print_number(number: i64, out: &mut Vec<u8>) -> Result<(), Memory>
     ensures printed { OnOk result (out.new.items ≡ out.old.items ++ signed_decimal number) }
-    ensures kept { OnErr result ((more : List ℕ) × (out.new.items ≡ out.old.items ++ more)) }
+    ensures kept { OnErr result (out.new.items ≡ out.old.items) }
 {
     let mut buffer = Buffer::new();
     out.extend_from_slice(buffer.format(number).as_bytes())?;
@@ -293,7 +326,7 @@ pub fn print_number(number: i64, out: &mut Vec<u8>) -> Result<(), Memory>
 /// Appends `^` and a power, if there is one.
 fn print_power(power: Option<i64>, out: &mut Vec<u8>) -> Result<(), Memory>
     ensures printed { OnOk result (out.new.items ≡ out.old.items ++ power_text power) }
-    ensures kept { OnErr result ((more : List ℕ) × (out.new.items ≡ out.old.items ++ more)) }
+    ensures kept { OnErr result (Appended out.old.items out.new.items) }
 {
     let Some(power) = power else {
         return Ok(());

@@ -1,4 +1,6 @@
 //! Values: from tokens to the trees of what fields and lists hold.
+//!
+//! The clauses `shorter` are for the end of the recursion alone: what is read takes tokens.
 
 ghost use Rattle.std.specs.Prelude.{◌≡◌, ◌≤◌, length, map, OnOk, option_map};
 ghost use Rattle.kb_record.specs.declared.cursor.Mark.TheVariants as marks;
@@ -6,15 +8,17 @@ ghost use Rattle.kb_record.specs.Tree.{word_value};
 ghost use Rattle.kb_record.specs.Reading.{Reads, remaining, row, passes_comma, place_with, field_with, range_from, read_list, read_fields, read_record, read_word, reading_map, read_value, field_view};
 ghost use Rattle.kb_record.specs.View.{value_view};
 
-use crate::cursor::{Cursor, Expected, Mark, Stop};
+use crate::cursor::{Cursor, Mark, Stop};
 use crate::tree::{Expr, Value};
 use crate::words::word;
+use kb_lexing::Expected;
 use std::alloc::Global;
 
 /// Reads a value, with brackets in brackets at most `depth` deep.
 #[cycle(values)]
 fn value<'a>(alloc: Global, tokens: &mut Cursor<'_, 'a>, depth: usize) -> Result<Value<'a>, Stop>
-    ensures reads { Reads (read_value depth (remaining tokens.old)) value_view result (remaining tokens.new) }
+    ensures reads { Reads (read_value depth (remaining tokens.old)) value_view result
+        (remaining tokens.new) }
     ensures shorter { OnOk result (length (remaining tokens.new) ≤ length (remaining tokens.old)) }
 {
     if tokens.begins_word() {
@@ -35,7 +39,8 @@ fn word_value<'a>(
     tokens: &mut Cursor<'_, 'a>,
     depth: usize,
 ) -> Result<Value<'a>, Stop>
-    ensures reads { Reads (reading_map word_value (read_word depth (remaining tokens.old))) value_view
+    ensures reads { Reads (reading_map word_value (read_word depth (remaining tokens.old)))
+        value_view
         result (remaining tokens.new) }
     ensures shorter { OnOk result (length (remaining tokens.new) ≤ length (remaining tokens.old)) }
 {
@@ -46,7 +51,8 @@ fn word_value<'a>(
 /// Reads a record behind its `rec`.
 #[cycle(values)]
 fn record<'a>(alloc: Global, tokens: &mut Cursor<'_, 'a>, depth: usize) -> Result<Value<'a>, Stop>
-    ensures reads { Reads (read_record depth (remaining tokens.old)) value_view result (remaining tokens.new) }
+    ensures reads { Reads (read_record depth (remaining tokens.old)) value_view result
+        (remaining tokens.new) }
     ensures shorter { OnOk result (length (remaining tokens.new) ≤ length (remaining tokens.old)) }
 {
     tokens.expect(Mark::OpenRound, Expected::Fields)?;
@@ -61,7 +67,8 @@ pub(crate) fn fields<'a>(
     tokens: &mut Cursor<'_, 'a>,
     depth: usize,
 ) -> Result<Vec<(&'a str, Value<'a>)>, Stop>
-    ensures reads { Reads (read_fields depth (remaining tokens.old)) (λ fields. map field_view fields.items)
+    ensures reads { Reads (read_fields depth (remaining tokens.old))
+        (λ fields. map field_view fields.items)
         result (remaining tokens.new) }
     ensures shorter { OnOk result (length (remaining tokens.new) ≤ length (remaining tokens.old)) }
 {
@@ -81,7 +88,8 @@ fn some_fields<'a>(
     tokens: &mut Cursor<'_, 'a>,
     depth: usize,
 ) -> Result<Vec<(&'a str, Value<'a>)>, Stop>
-    ensures reads { Reads (row (field_with (read_value depth)) (passes_comma marks.CloseRound) (remaining tokens.old))
+    ensures reads { Reads
+        (row (field_with (read_value depth)) (passes_comma marks.CloseRound) (remaining tokens.old))
         (λ fields. map field_view fields.items) result (remaining tokens.new) }
     ensures shorter { OnOk result (length (remaining tokens.new) ≤ length (remaining tokens.old)) }
 {
@@ -101,7 +109,8 @@ fn field<'a>(
     tokens: &mut Cursor<'_, 'a>,
     depth: usize,
 ) -> Result<(&'a str, Value<'a>), Stop>
-    ensures reads { Reads (field_with (read_value depth) (remaining tokens.old)) field_view result (remaining tokens.new) }
+    ensures reads { Reads (field_with (read_value depth) (remaining tokens.old)) field_view result
+        (remaining tokens.new) }
     ensures shorter { OnOk result (length (remaining tokens.new) ≤ length (remaining tokens.old)) }
 {
     let name = tokens.name()?;
@@ -113,7 +122,8 @@ fn field<'a>(
 /// Reads a list or a range behind its open bracket, and the closing bracket.
 #[cycle(values)]
 fn list<'a>(alloc: Global, tokens: &mut Cursor<'_, 'a>, depth: usize) -> Result<Value<'a>, Stop>
-    ensures reads { Reads (read_list depth (remaining tokens.old)) value_view result (remaining tokens.new) }
+    ensures reads { Reads (read_list depth (remaining tokens.old)) value_view result
+        (remaining tokens.new) }
     ensures shorter { OnOk result (length (remaining tokens.new) ≤ length (remaining tokens.old)) }
 {
     if depth == 0 {
@@ -136,7 +146,9 @@ fn places<'a>(
     tokens: &mut Cursor<'_, 'a>,
     depth: usize,
 ) -> Result<Vec<Option<Value<'a>>>, Stop>
-    ensures reads { Reads (row (place_with (read_value depth)) (passes_comma marks.CloseSquare) (remaining tokens.old))
+    ensures reads { Reads
+        (row (place_with (read_value depth)) (passes_comma marks.CloseSquare)
+        (remaining tokens.old))
         (λ places. map (option_map value_view) places.items) result (remaining tokens.new) }
     ensures shorter { OnOk result (length (remaining tokens.new) ≤ length (remaining tokens.old)) }
 {
@@ -156,7 +168,8 @@ fn place<'a>(
     tokens: &mut Cursor<'_, 'a>,
     depth: usize,
 ) -> Result<Option<Value<'a>>, Stop>
-    ensures reads { Reads (place_with (read_value depth) (remaining tokens.old)) (option_map value_view)
+    ensures reads { Reads (place_with (read_value depth) (remaining tokens.old))
+        (option_map value_view)
         result (remaining tokens.new) }
     ensures shorter { OnOk result (length (remaining tokens.new) ≤ length (remaining tokens.old)) }
 {
@@ -169,7 +182,8 @@ fn place<'a>(
 
 /// Reads the rest of a range behind its dots, and the closing bracket.
 fn range<'a>(tokens: &mut Cursor<'_, 'a>, from: i64) -> Result<Value<'a>, Stop>
-    ensures reads { Reads (range_from from (remaining tokens.old)) value_view result (remaining tokens.new) }
+    ensures reads { Reads (range_from from (remaining tokens.old)) value_view result
+        (remaining tokens.new) }
     ensures shorter { OnOk result (length (remaining tokens.new) ≤ length (remaining tokens.old)) }
 {
     let to = tokens.number()?;

@@ -1,11 +1,14 @@
 //! Words: from tokens to the trees of words.
+//!
+//! The clauses `shorter` are for the end of the recursion alone: what is read takes tokens.
 
 ghost use Rattle.std.specs.Prelude.{◌≡◌, ◌≤◌, length, map, OnOk};
 ghost use Rattle.kb_record.specs.Reading.{Reads, remaining, row, passes, read_power, read_factor, read_group, read_word};
 ghost use Rattle.kb_record.specs.View.{factor_view, factors_view};
 
-use crate::cursor::{Cursor, Expected, Mark, Stop};
+use crate::cursor::{Cursor, Mark, Stop};
 use crate::tree::Factor;
+use kb_lexing::Expected;
 use std::alloc::Global;
 
 /// Reads factors joined by `*`, with brackets in brackets at most `depth` deep.
@@ -15,7 +18,8 @@ pub(crate) fn word<'a>(
     tokens: &mut Cursor<'_, 'a>,
     depth: usize,
 ) -> Result<Vec<Factor<'a>>, Stop>
-    ensures reads { Reads (read_word depth (remaining tokens.old)) (λ factors. factors_view factors.items)
+    ensures reads { Reads (read_word depth (remaining tokens.old))
+        (λ factors. factors_view factors.items)
         result (remaining tokens.new) }
     ensures shorter { OnOk result (length (remaining tokens.new) ≤ length (remaining tokens.old)) }
 {
@@ -31,7 +35,8 @@ pub(crate) fn word<'a>(
 /// Reads a name or a group, and its power.
 #[cycle(words)]
 fn factor<'a>(alloc: Global, tokens: &mut Cursor<'_, 'a>, depth: usize) -> Result<Factor<'a>, Stop>
-    ensures reads { Reads (read_factor depth (remaining tokens.old)) factor_view result (remaining tokens.new) }
+    ensures reads { Reads (read_factor depth (remaining tokens.old)) factor_view result
+        (remaining tokens.new) }
     ensures shorter { OnOk result (length (remaining tokens.new) ≤ length (remaining tokens.old)) }
 {
     if tokens.take(Mark::OpenRound) {
@@ -49,7 +54,8 @@ fn group<'a>(
     tokens: &mut Cursor<'_, 'a>,
     depth: usize,
 ) -> Result<Vec<Factor<'a>>, Stop>
-    ensures reads { Reads (read_group depth (remaining tokens.old)) (λ factors. factors_view factors.items)
+    ensures reads { Reads (read_group depth (remaining tokens.old))
+        (λ factors. factors_view factors.items)
         result (remaining tokens.new) }
     ensures shorter { OnOk result (length (remaining tokens.new) ≤ length (remaining tokens.old)) }
 {
@@ -63,7 +69,8 @@ fn group<'a>(
 
 /// Reads `^` and a number, if there is a power.
 fn power(tokens: &mut Cursor<'_, '_>) -> Result<Option<i64>, Stop>
-    ensures reads { Reads (read_power (remaining tokens.old)) (λ power. power) result (remaining tokens.new) }
+    ensures reads { Reads (read_power (remaining tokens.old)) (λ power. power) result
+        (remaining tokens.new) }
     ensures shorter { OnOk result (length (remaining tokens.new) ≤ length (remaining tokens.old)) }
 {
     if !tokens.take(Mark::Caret) {

@@ -5,8 +5,8 @@
 //! first rewrites lead. That it exists and is the only one are laws, [`normal_forms_exist`] and
 //! [`normal_forms_are_unique`], so that two reducers of the same rules always agree.
 //!
-//! Below stands `kb_word`, with words, the order and the definitions of rewriting; above stand the crates
-//! that test confluence and complete sets of rules.
+//! Below is `kb_word`, with words, the order and the definitions of rewriting; above are the crates that test
+//! confluence and reduce words.
 #![tactic(auto)]
 
 mod laws;

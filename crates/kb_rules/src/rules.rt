@@ -60,6 +60,7 @@ impl Rules {
         ensures err { OnErr result (self.new ≡ self.old) }
         ensures decreasing { AreDecreasing self.new }
     {
+        // A use of the rule brings its invariant, that its right side is less.
         let _right = rule.right();
         self.rules.push(rule)?;
         Ok(())

@@ -55,13 +55,18 @@ fn normal_form(alloc: Global, rules: &[Rule], w: &Word) -> Result<Word, Memory>
     let mut front = Word::new(alloc);
     let mut unread = Unread::of(alloc, w)?;
     while let Some(letter) = unread.next() {
-        read(rules, &mut front, letter, &mut unread)?;
+        read_letter(rules, &mut front, letter, &mut unread)?;
     }
     Ok(front)
 }
 
 /// Reads a letter: it joins the front, at whose end a left side is then replaced, if one stands there.
-fn read(rules: &[Rule], front: &mut Word, letter: Letter, unread: &mut Unread) -> Result<(), Memory>
+fn read_letter(
+    rules: &[Rule],
+    front: &mut Word,
+    letter: Letter,
+    unread: &mut Unread,
+) -> Result<(), Memory>
     requires irreducible { IsIrreducible (OneOf rules.now) front.old }
     requires range { All (λ x. x < 2 ^ 16) (front.old ++ letter ∷ unread.old) }
     ensures irreducible { OnOk result (IsIrreducible (OneOf rules.now) front.new) }

@@ -1,4 +1,4 @@
-//! What no clause says: that the calls succeed where there is memory, and that long words are reduced fast.
+//! What no clause states and no run of the program shows: that a reducer is copied where there is memory.
 
 use super::*;
 use kb_word::{Letter, Memory, Word};
@@ -39,30 +39,9 @@ fn reduced(rt: &impl Abort, alloc: Global, w: &Word) -> Result<Word, Memory> {
 }
 
 #[test]
-fn words_are_reduced(rt: HostRuntime) -> Result<(), Fail> {
+fn a_copy_reduces_words(rt: HostRuntime) -> Result<(), Fail> {
     let w = word(rt.alloc(), &[1, 2, 1, 1, 2, 2, 1, 2, 1, 2])?;
     let m = word(rt.alloc(), &[2, 1, 2])?;
     assert!(rt; reduced(&rt, rt.alloc(), &w)? == m);
-    Ok(())
-}
-
-#[test]
-fn rules_are_listed(rt: HostRuntime) -> Result<(), Fail> {
-    let rules = some_rules(&rt, rt.alloc())?;
-    let own = rules.get(2).ok_or("no third rule")?;
-    let same = own.copy(rt.alloc())?;
-    assert!(rt; rules.contains(&same));
-    Ok(())
-}
-
-#[test]
-fn long_words_are_reduced_fast(rt: HostRuntime) -> Result<(), Fail> {
-    let mut w = Word::new(rt.alloc());
-    let part = word(rt.alloc(), &[1, 2, 1, 2, 2])?;
-    for _ in 0..13107 {
-        w.append(&part)?;
-    }
-    let m = reduced(&rt, rt.alloc(), &w)?;
-    assert!(rt; m.len() < w.len());
     Ok(())
 }

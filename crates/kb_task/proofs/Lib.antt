@@ -1,5 +1,6 @@
 pub mod ArgumentLemmas
 pub mod EffectLemmas
+pub mod EquationLemmas
 pub mod LoadEnds
 pub mod LoadLemmas
 pub mod RunLemmas

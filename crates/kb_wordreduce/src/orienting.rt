@@ -64,5 +64,5 @@ pub fn oriented_rules_decrease()
     ensures { (relations rules : List Pair) → AreOriented relations rules → AreDecreasing rules }
 {}
 
-#[cfg(test)]
-mod tests;
+
+

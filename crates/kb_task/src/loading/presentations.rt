@@ -1,9 +1,10 @@
 //! Presentations from files.
 
-ghost use Rattle.std.specs.Prelude.{ℕ, List, IsTrue, IfOk, IfErr};
+ghost use Rattle.std.specs.Prelude.{ℕ, ◌≤◌, List, length, IsTrue, IfOk, IfErr};
 ghost use Rattle.kb_io.specs.Outside.{outside};
 ghost use Rattle.kb_io.specs.States.{ShelfState, SourceState, SinkState};
 ghost use Rattle.kb_word.specs.Presentations.{parts_of};
+ghost use Rattle.kb_presfile.specs.Holds.{most_equations};
 ghost use Rattle.kb_task.specs.Loads.{Files, IsHeld, IsCause, EndsAtLoad, OnlyLoads, LoadIsCounted};
 ghost use Rattle.kb_task.specs.Presentations.{HoldsPresentation, IsPresentationFault};
 ghost use Rattle.kb_task.specs.Runs.{FaultIsCounted};
@@ -23,6 +24,7 @@ pub fn load_presentation<F: Shelf>(
 ) -> Result<Presentation, Status>
     ensures holds { IsTrue (F.state shelf.old).told
         → IfOk result (λ presentation. HoldsPresentation (F.state shelf.old).holds file (parts_of presentation)) }
+    ensures few { IfOk result (λ presentation. length presentation.eqs ≤ most_equations) }
     ensures ends { IsTrue (F.state shelf.old).told
         → IfErr result (EndsAtLoad (IsPresentationFault (F.state shelf.old).holds file) file) }
     ensures fault { IfErr result (λ status. (input : SourceState) (output : SinkState)
@@ -43,6 +45,7 @@ fn presentation_in<F: Shelf>(
 ) -> Result<Presentation, LoadStop>
     ensures holds { IsTrue (F.state shelf.old).told
         → IfOk result (λ presentation. HoldsPresentation (F.state shelf.old).holds name.now (parts_of presentation)) }
+    ensures few { IfOk result (λ presentation. length presentation.eqs ≤ most_equations) }
     ensures stops { IsTrue (F.state shelf.old).told
         → IfErr result (IsCause (IsPresentationFault (F.state shelf.old).holds name.now)) }
     ensures counted { IfErr result (LoadIsCounted (F.state shelf.old) (F.state shelf.new)) }
@@ -58,6 +61,7 @@ fn presentation_in<F: Shelf>(
 fn presentation_of(alloc: Global, bytes: &[u8]) -> Result<Presentation, LoadStop>
     ensures holds { (files : Files) (name : List ℕ) → IsHeld files name bytes.now
         → IfOk result (λ presentation. HoldsPresentation files name (parts_of presentation)) }
+    ensures few { IfOk result (λ presentation. length presentation.eqs ≤ most_equations) }
     ensures stops { (files : Files) (name : List ℕ) → IsHeld files name bytes.now
         → IfErr result (IsCause (IsPresentationFault files name)) }
     ensures unfailed { (a b : ShelfState) → IfErr result (LoadIsCounted a b) }

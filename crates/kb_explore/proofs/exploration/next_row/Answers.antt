@@ -6,7 +6,7 @@ use Rattle.kb_fsa.specs.Table.{Moves}
 use Rattle.kb_explore.specs.Progress.{Partway, Progress}
 use Rattle.kb_explore.specs.declared.det.Det.TheVariants.{TooManyStates}
 use Rattle.kb_explore.proofs.Rows.{next_move, all_moves, row_is}
-use Rattle.kb_explore.proofs.Steps.{Partway-begun, Partway-push, Partway-too_many, Progress-push}
+use Rattle.kb_explore.proofs.ExplorationSteps.{Partway-begun, Partway-push, Partway-too_many, Progress-push}
 use Rattle.kb_explore.proofs.exploration.next_row.Goals as goal
 
 pub loop-symbol-init : goal.loop-symbol-init

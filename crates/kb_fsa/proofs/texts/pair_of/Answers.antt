@@ -1,13 +1,7 @@
-use Rattle.std.proofs.Common.{◌≤◌, ◌<◌, ◌+◌, ◌-◌, ◌/◌, length, get_or, rules, arith}
-use Rattle.kb_fsa.proofs.PairSymbols.{first_within}
+use Rattle.std.proofs.Common.{◌≤◌, ◌<◌, ◌+◌, ◌-◌, ◌/◌, length, get_or, rules}
+use Rattle.kb_fsa.proofs.PairSymbolLaws.{first_within}
 use Rattle.kb_fsa.proofs.Unpadding.{symbol_at, pair_gathered}
 use Rattle.kb_fsa.proofs.texts.pair_of.Goals as goal
-
-pub overflow_sub-symbol : goal.overflow_sub-symbol
-overflow_sub-symbol c =
-    let is = symbol_at c.args.n c.args.text.now c.loop-symbol.symbol-index c.requires.padded (search rules) in
-    let some : 0 < get_or c.args.text.now c.loop-symbol.symbol-index 0 = is.0 in
-    omega arith
 
 pub push_letter-requires : goal.push_letter-requires
 push_letter-requires c =
@@ -16,12 +10,6 @@ push_letter-requires c =
     let most : n ≤ 65534 = c.requires.generators in
     let below : (get_or c.args.text.now c.loop-symbol.symbol-index 0 - 1) / (n + 1) < n + 1 = first_within n _ is in
     search (rules, below, most)
-
-pub overflow_sub-symbol-in-loop-symbol : goal.overflow_sub-symbol-in-loop-symbol
-overflow_sub-symbol-in-loop-symbol c =
-    let is = symbol_at c.args.n c.args.text.now c.loop-symbol.symbol-index c.requires.padded (search rules) in
-    let some : 0 < get_or c.args.text.now c.loop-symbol.symbol-index 0 = is.0 in
-    omega arith
 
 pub returns : goal.returns
 returns c =

@@ -4,5 +4,5 @@ use Rattle.kb_fsa.proofs.texts.pair_of.Given as goal
 
 abbrev pub invariant-loop-symbol : goal.invariant-loop-symbol
 invariant-loop-symbol l =
-    (l.first ++ first_letters l.padding (drop l.symbol-index l.text) ≡ first_letters l.padding l.text)
-    × (l.second ++ second_letters l.padding (drop l.symbol-index l.text) ≡ second_letters l.padding l.text)
+    (l.first ++ first_letters l.n (drop l.symbol-index l.text) ≡ first_letters l.n l.text)
+    × (l.second ++ second_letters l.n (drop l.symbol-index l.text) ≡ second_letters l.n l.text)

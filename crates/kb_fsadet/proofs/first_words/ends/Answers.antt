@@ -9,25 +9,25 @@ use Rattle.kb_fsadet.proofs.first_words.ends.Goals as goal
 pub reached-requires-clause-edges : goal.reached-requires-clause-edges
 reached-requires-clause-edges c =
     let table = c.args.table.now in
-    let edges_are : c.as_slice.result.now ≡ tail_edges (c.args.generators + 1) 1 table.rows = search rules in
+    let edges_are : c.as_slice.result.now ≡ tail_edges c.args.generators 1 table.rows = search rules in
     let seeds_are : c.as_slice-2.result.now ≡ false ∷ table.accepting = search rules in
     let long : length c.as_slice-2.result.now ≡ suc (length table.rows) = omega (arith, ap length seeds_are, c.rows.ensures.table.one_answer_each) in
     let P : ℕ → List (ℕ × ℕ) → Type 0 = λ k edges. All (λ edge. (edge.0 < k) × (edge.1 < k)) edges in
     let Q : List (ℕ × ℕ) → Type 0 = λ edges. P (length c.as_slice-2.result.now) edges in
-    let R : ℕ → Type 0 = λ k. P k (tail_edges (c.args.generators + 1) 1 table.rows) in
-    subst Q (sym edges_are) (subst R (sym long) (edges_within c.args.generators table c.rows.ensures.table c.requires))
+    let R : ℕ → Type 0 = λ k. P k (tail_edges c.args.generators 1 table.rows) in
+    subst Q (sym edges_are) (subst R (sym long) (edges_within c.args.generators table c.rows.ensures.table c.requires.symbols))
 
 pub returns : goal.returns
 returns c =
     let table = c.args.table.now in
     let marks = c.in_ok-marks.marks.items in
-    let edges_are : c.as_slice.result.now ≡ tail_edges (c.args.generators + 1) 1 table.rows = search rules in
+    let edges_are : c.as_slice.result.now ≡ tail_edges c.args.generators 1 table.rows = search rules in
     let seeds_are : c.as_slice-2.result.now ≡ false ∷ table.accepting = search rules in
     let long : length marks ≡ suc (length table.rows) =
     omega (arith, c.in_ok-marks.ensures.one_each, ap length seeds_are, c.rows.ensures.table.one_answer_each) in
     let P : List (ℕ × ℕ) → Type 0 = λ edges. (x : ℕ) → IsMarked marks x ↔ IsReached edges c.as_slice-2.result.now x in
-    let Q : List Bool → Type 0 = λ seeds. (x : ℕ) → IsMarked marks x ↔ IsReached (tail_edges (c.args.generators + 1) 1 table.rows) seeds x in
-    let ends = are_ends c.args.generators table c.rows.ensures.table c.requires marks long (subst Q seeds_are (subst P edges_are c.in_ok-marks.ensures.reached)) in
+    let Q : List Bool → Type 0 = λ seeds. (x : ℕ) → IsMarked marks x ↔ IsReached (tail_edges c.args.generators 1 table.rows) seeds x in
+    let ends = are_ends c.args.generators table c.rows.ensures.table c.requires.symbols marks long (subst Q seeds_are (subst P edges_are c.in_ok-marks.ensures.reached)) in
     let items : c.in_ok-of_states.of_states.items ≡ drop 1 marks =
     c.in_ok-of_states.ensures.items ∙ take_all _ (drop 1 c.deref.result.now) (omega (arith, length-drop 1 c.deref.result.now))
     ∙ ap (drop 1) c.deref.ensures.value in

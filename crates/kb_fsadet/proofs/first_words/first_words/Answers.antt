@@ -1,4 +1,4 @@
-use Rattle.std.proofs.Common.{◌≡◌, ℕ, ◌+◌, Bool, List, map, sym, ap, ◌∙◌, subst}
+use Rattle.std.proofs.Common.{◌≡◌, ℕ, Bool, List, map, sym, ap, ◌∙◌, subst}
 use Rattle.std.specs.List.{filter_map}
 use Rattle.kb_fsa.specs.declared.alphabet.Alphabet.TheVariants.{Plain}
 use Rattle.kb_fsa.specs.Table.{Moves, Table}
@@ -9,14 +9,14 @@ use Rattle.kb_fsadet.proofs.Projections.{are_first_words, words_automaton, symbo
 use Rattle.kb_fsadet.proofs.first_words.first_words.Goals as goal
 
 -- the parts make the automaton of first words
-built : (pairs : Automaton) (count from : ℕ) (table : Table) (initial : List ℕ) (table_rows rows : List Moves) (marks : List Bool)
-    → count ≡ generators pairs.alphabet → table ≡ pairs.table → initial ≡ where_some table.initial → table_rows ≡ table.rows → from ≡ count
-    → rows ≡ map (filter_map (by_first (from + 1))) table_rows
+built : (pairs : Automaton) (count : ℕ) (table : Table) (initial : List ℕ) (table_rows rows : List Moves) (marks : List Bool)
+    → count ≡ generators pairs.alphabet → table ≡ pairs.table → initial ≡ where_some table.initial → table_rows ≡ table.rows
+    → rows ≡ map (filter_map (by_first count)) table_rows
     → record { alphabet = Plain count; initial = initial; rows = rows; accepting = marks } ≡ first_words (generators pairs.alphabet) pairs.table marks
-built pairs count from table initial table_rows rows marks same_count same_table initial_is table_rows_are from_is rows_are =
-    let rows_by : rows ≡ map (filter_map (by_first (generators pairs.alphabet + 1))) pairs.table.rows =
-    rows_are ∙ ap (λ k. map (filter_map (by_first (k + 1))) table_rows) (from_is ∙ same_count)
-    ∙ ap (map (filter_map (by_first (generators pairs.alphabet + 1)))) (table_rows_are ∙ ap (λ (t : Table). t.rows) same_table) in
+built pairs count table initial table_rows rows marks same_count same_table initial_is table_rows_are rows_are =
+    let rows_by : rows ≡ map (filter_map (by_first (generators pairs.alphabet))) pairs.table.rows =
+    rows_are ∙ ap (λ k. map (filter_map (by_first k)) table_rows) same_count
+    ∙ ap (map (filter_map (by_first (generators pairs.alphabet)))) (table_rows_are ∙ ap (λ (t : Table). t.rows) same_table) in
     let initial_by : initial ≡ where_some pairs.table.initial = initial_is ∙ ap (λ (t : Table). where_some t.initial) same_table in
     let Built = λ (k : ℕ) (i : List ℕ) (r : List Moves).
     let nfa : Nondeterministic = record { alphabet = Plain k; initial = i; rows = r; accepting = marks } in nfa in
@@ -39,8 +39,8 @@ new-requires c =
     let same_count : c.generators-generators.result ≡ generators pairs.alphabet =
     c.generators-generators.ensures ∙ ap generators c.alphabet.ensures.alphabet in
     let ends = ends_of pairs c.generators-generators.result c.table-table.result.now marks same_count c.table-table.ensures.table c.in_ok-accepting.ensures in
-    let whole = built pairs c.generators-generators.result c.from.result c.table-table.result.now c.in_ok-initial.initial.items c.rows.result.now
-    c.in_ok-rows.rows.items marks same_count c.table-table.ensures.table c.in_ok-initial.ensures c.rows.ensures.rows c.from.ensures c.in_ok-rows.ensures in
+    let whole = built pairs c.generators-generators.result c.table-table.result.now c.in_ok-initial.initial.items c.rows.result.now
+    c.in_ok-rows.rows.items marks same_count c.table-table.ensures.table c.in_ok-initial.ensures c.rows.ensures.rows c.in_ok-rows.ensures in
     subst IsNondeterministic (sym whole) (words_automaton pairs is.table (symbols_of_pairs pairs k c.requires.1 is) (texts_of_pairs pairs k c.requires.1 is)
     marks ends is.generators)
 
@@ -53,7 +53,7 @@ returns-clause-reads c =
     let same_count : c.generators-generators.result ≡ generators pairs.alphabet =
     c.generators-generators.ensures ∙ ap generators c.alphabet.ensures.alphabet in
     let ends = ends_of pairs c.generators-generators.result c.table-table.result.now marks same_count c.table-table.ensures.table c.in_ok-accepting.ensures in
-    let whole = built pairs c.generators-generators.result c.from.result c.table-table.result.now c.in_ok-initial.initial.items c.rows.result.now
-    c.in_ok-rows.rows.items marks same_count c.table-table.ensures.table c.in_ok-initial.ensures c.rows.ensures.rows c.from.ensures c.in_ok-rows.ensures in
+    let whole = built pairs c.generators-generators.result c.table-table.result.now c.in_ok-initial.initial.items c.rows.result.now
+    c.in_ok-rows.rows.items marks same_count c.table-table.ensures.table c.in_ok-initial.ensures c.rows.ensures.rows c.in_ok-rows.ensures in
     subst (IsFirstWords pairs) (sym (c.new.ensures ∙ whole)) (are_first_words pairs is.table (symbols_of_pairs pairs k c.requires.1 is)
     (texts_of_pairs pairs k c.requires.1 is) marks ends)

@@ -4,4 +4,4 @@ use Rattle.kb_fsadet.proofs.first_words.tail_edges.Given as goal
 
 abbrev pub invariant-loop-row : goal.invariant-loop-row
 invariant-loop-row l =
-    (l.state ≡ l.row-index) × (l.edges.items ++ tail_edges l.padding (suc l.state) (drop l.row-index l.rows) ≡ tail_edges l.padding 1 l.rows)
+    (l.state ≡ l.row-index) × (l.edges.items ++ tail_edges l.symbols.n (suc l.state) (drop l.row-index l.rows) ≡ tail_edges l.symbols.n 1 l.rows)

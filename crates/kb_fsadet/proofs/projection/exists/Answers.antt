@@ -2,7 +2,7 @@ use Rattle.std.proofs.Common.{ℕ, List, ◌↔◌}
 use Rattle.std.proofs.lemmas.Result.{IfOk-weaker}
 use Rattle.kb_fsa.specs.Language.{AcceptsText}
 use Rattle.kb_fsa.specs.Counted.{IsAfterFirst}
-use Rattle.kb_fsadet.specs.Nondeterministic.{IsAmong, AcceptsSomehow}
+use Rattle.kb_fsadet.specs.Nondeterministic.{LeadsSomehow, AcceptsSomehow}
 use Rattle.kb_fsadet.specs.Projection.{IsProjection}
 use Rattle.kb_fsadet.proofs.Projections.{is_projection, texts_of_pairs, MoreSetsThan-like}
 use Rattle.kb_fsadet.proofs.projection.exists.Goals as goal
@@ -22,13 +22,13 @@ returns-clause-language c =
 
 pub returns-clause-few : goal.returns-clause-few
 returns-clause-few c = λ some more.
-    c.determinise.ensures.few some (MoreSetsThan-like (IsAfterFirst c.args.pairs.now) (IsAmong c.in_ok-words.words) c.args.limit
+    c.determinise.ensures.few some (MoreSetsThan-like (IsAfterFirst c.args.pairs.now) (LeadsSomehow c.in_ok-words.words) c.args.limit
     (λ word state. let same = c.in_ok-words.ensures.reads.among word state in (same.1, same.0)) more)
 
 pub returns-clause-many : goal.returns-clause-many
 returns-clause-many c = λ most is.
     let more = c.determinise.ensures.many most is in (
       more.0,
-      MoreSetsThan-like (IsAmong c.in_ok-words.words) (IsAfterFirst c.args.pairs.now) c.args.limit
+      MoreSetsThan-like (LeadsSomehow c.in_ok-words.words) (IsAfterFirst c.args.pairs.now) c.args.limit
           c.in_ok-words.ensures.reads.among more.1,
     )

@@ -32,7 +32,7 @@ loop-first-preserved c =
     let more = grouped_more c.args.moves.now rest groups c.loop-first.invariant symbol count (parts c) in
     let targets = map (λ (move : ℕ × ℕ). move.1) (take count rest) in
     let set : c.of.result ≡ set_of targets =
-    c.of.ensures ∙ ap set_of (c.in_ok-targets.ensures ∙ ap (λ (moves : Moves). map (λ move. move.1) moves) c.split_at.ensures.front) in
+    c.of.ensures ∙ ap set_of (c.in_ok-targets_of.ensures ∙ ap (λ (moves : Moves). map (λ move. move.1) moves) c.split_at.ensures.front) in
     rw (c.in_ok-push.ensures.items, c.split_at.ensures.back, set) more
 
 pub returns : goal.returns

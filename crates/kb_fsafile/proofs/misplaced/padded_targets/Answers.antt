@@ -3,8 +3,8 @@ use Rattle.std.specs.Slice.Iter.{iter_rest}
 use Rattle.std.specs.Iterator.Adapters.{zip_first, zip_second}
 use Rattle.std.proofs.lemmas.List.{length_push}
 use Rattle.std.proofs.lemmas.Slice.Zip.{zip_turn}
-use Rattle.kb_fsafile.specs.Cleaning.{pads, AreTargets}
-use Rattle.kb_fsafile.proofs.PaddingReach.{AreTargets-marked}
+use Rattle.kb_fsafile.specs.Cleaning.{pads, ArePaddedTargets}
+use Rattle.kb_fsafile.proofs.PaddingReach.{ArePaddedTargets-marked}
 use Rattle.kb_fsafile.proofs.misplaced.padded_targets.Goals as goal
 
 pub loop-target-preserved-then-pads : goal.loop-target-preserved-then-pads
@@ -22,9 +22,9 @@ loop-target-preserved-then-pads c =
     let bound = c.requires.targets place (0, 0) turn.0 in
     let target = ap (λ e. e.0) edge in
     let one_each = c.loop-target.invariant.one_each in
-    let marked = AreTargets-marked c.loop-target.invariant c.in-Some.field-0-0.now.0 (sym target) (omega arith) (record {
+    let marked = ArePaddedTargets-marked c.loop-target.invariant c.in-Some.field-0-0.now.0 (sym target) (omega arith) (record {
       from_marked = sym (ap (λ e. get_or marks e.1 false) edge) ∙ sym c.is_marked.ensures ∙ c.if-is_marked.true;
       is_padded = sym (ap (pads c.args.track c.args.n) symbol) ∙ sym c.pads.ensures ∙ c.if-pads.true;
     }) in
-    subst (λ (done : ℕ). AreTargets c.args.track c.args.n edges symbols marks done (set c.loop-target.targets.items c.in-Some.field-0-0.now.0 true))
+    subst (λ (done : ℕ). ArePaddedTargets c.args.track c.args.n edges symbols marks done (set c.loop-target.targets.items c.in-Some.field-0-0.now.0 true))
     (sym (length_push c.loop-target.yielded (c.in-Some.field-0-0, c.in-Some.symbol))) marked

@@ -1,7 +1,7 @@
 use Rattle.std.proofs.Common.{◌≡◌, ◌↔◌, ℕ, ◌+◌, true, false, Bool, List, length, set, replicate, sym, ap, ◌∙◌, subst, length-set}
 use Rattle.std.proofs.lemmas.List.{length-replicate}
 use Rattle.kb_reach.specs.Graphs.{IsMarked, IsReached}
-use Rattle.kb_fsafile.specs.Cleaning.{AreMet, AreTargets}
+use Rattle.kb_fsafile.specs.Cleaning.{AreMet, ArePaddedTargets}
 use Rattle.kb_fsafile.specs.declared.misplaced.Track.{Track}
 use Rattle.kb_fsafile.specs.declared.misplaced.Track.TheVariants.{First, Second}
 use Rattle.kb_fsafile.proofs.PaddingReach.{turned_within, texts_met, padded_met}
@@ -23,10 +23,10 @@ along_same : (marks seeds : List Bool) {forwards others : List (ℕ × ℕ)} →
 along_same marks seeds same reached state = subst (λ (es : List (ℕ × ℕ)). IsMarked marks state ↔ IsReached es seeds state) same (reached state)
 
 targets_same : {track : Track} {n count : ℕ} {edges : List (ℕ × ℕ)} {symbols : List ℕ} {marks seen targets found : List Bool} → seen ≡ marks → found ≡ targets
-    → AreTargets track n edges symbols seen count targets → AreTargets track n edges symbols marks count found
+    → ArePaddedTargets track n edges symbols seen count targets → ArePaddedTargets track n edges symbols marks count found
 targets_same {track} {n} {count} {edges} {symbols} {marks} {targets} one two are =
-    subst (λ (ts : List Bool). AreTargets track n edges symbols marks count ts) (sym two)
-    (subst (λ (ms : List Bool). AreTargets track n edges symbols ms count targets) one are)
+    subst (λ (ts : List Bool). ArePaddedTargets track n edges symbols marks count ts) (sym two)
+    (subst (λ (ms : List Bool). ArePaddedTargets track n edges symbols ms count targets) one are)
 
 pub reached-requires-clause-edges : goal.reached-requires-clause-edges
 reached-requires-clause-edges c =

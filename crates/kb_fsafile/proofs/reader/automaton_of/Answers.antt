@@ -10,12 +10,12 @@ pub read_table-requires : goal.read_table-requires
 read_table-requires c =
     size_of_letters (fields_view c.args.fields.now) c.in_ok-letters.letters.names c.in_ok-letters.letters.alphabet c.in_ok-letters.letters.size c.in_ok-letters.ensures.read
 
-pub cleaned-requires-clause-generators : goal.cleaned-requires-clause-generators
-cleaned-requires-clause-generators c =
+pub automaton_table-requires-clause-generators : goal.automaton_table-requires-clause-generators
+automaton_table-requires-clause-generators c =
     few_letters (fields_view c.args.fields.now) c.in_ok-letters.letters.names c.in_ok-letters.letters.alphabet c.in_ok-letters.letters.size c.in_ok-letters.ensures.read
 
-pub cleaned-requires-clause-symbols : goal.cleaned-requires-clause-symbols
-cleaned-requires-clause-symbols c =
+pub automaton_table-requires-clause-symbols : goal.automaton_table-requires-clause-symbols
+automaton_table-requires-clause-symbols c =
     more_symbols c.in_ok-table.table c.in_ok-letters.letters.size _
     (size_at_most (fields_view c.args.fields.now) c.in_ok-letters.letters.names c.in_ok-letters.letters.alphabet c.in_ok-letters.letters.size c.in_ok-letters.ensures.read)
     c.in_ok-table.ensures.read.symbols

@@ -4,7 +4,7 @@ use Rattle.std.proofs.lemmas.List.{take_all, get_or_default}
 use Rattle.std.proofs.lemmas.List.Elements.{Contains-get_or}
 use Rattle.kb_fsa.specs.Table.{Moves, IsRow}
 use Rattle.kb_fsafile.specs.Kinds.{numbered_from}
-use Rattle.kb_fsafile.specs.RowsRead.{AreTargets}
+use Rattle.kb_fsafile.specs.RowsRead.{AreRowTargets}
 use Rattle.kb_fsafile.specs.Faults.{HasOutOfRange}
 use Rattle.kb_fsafile.proofs.MoveLemmas.{row_among, numbered_ascends, numbered_positive}
 use Rattle.kb_fsafile.proofs.RowLemmas.{targets_more}
@@ -40,6 +40,6 @@ from_vec-requires c =
 
 pub returns-clause-read : goal.returns-clause-read
 returns-clause-read c =
-    let P : Moves → Type 0 = λ ms. AreTargets c.args.count c.args.numbers.now ms in
-    let Q : List ℤ → Type 0 = λ ns. AreTargets c.args.count ns c.loop-number.moves.items in
+    let P : Moves → Type 0 = λ ms. AreRowTargets c.args.count c.args.numbers.now ms in
+    let Q : List ℤ → Type 0 = λ ns. AreRowTargets c.args.count ns c.loop-number.moves.items in
     subst P (sym c.from_vec.ensures) (subst Q (take_all c.loop-number.number-index c.args.numbers.now c.loop-number-test.false) c.loop-number.invariant.are)

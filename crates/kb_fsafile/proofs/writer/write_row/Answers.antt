@@ -31,7 +31,7 @@ loop-symbol-preserved c =
     row_next c.extend_from_slice.new.self.items c.write_number.new.out.items
     (subst (λ (columns : ℕ). IsRowPrinted row symbol columns c.loop-symbol.left.now whole old c.loop-symbol.before.now c.loop-symbol.out.items) more
     c.loop-symbol.invariant)
-    c.split-target.ensures c.in_ok-extend_from_slice.ensures.items c.in_ok-write_number.ensures
+    c.split_at_symbol-target.ensures c.in_ok-extend_from_slice.ensures.items c.in_ok-write_number.ensures
 
 pub returns : goal.returns
 returns c =

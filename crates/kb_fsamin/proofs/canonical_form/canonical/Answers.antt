@@ -5,7 +5,7 @@ use Rattle.kb_explore.specs.Machine.{HasMoreStates}
 use Rattle.kb_fsamin.specs.Quotient.{quotient_of}
 use Rattle.kb_fsamin.proofs.Represented.{no_more_classes}
 use Rattle.kb_fsamin.proofs.Reduced.{reduction_from, represented_from, is_automaton, is_canonical, language_kept, nothing_accepted, rows_none, rows_some}
-use Rattle.kb_fsamin.proofs.Nothing.{answer_canonical, answer_language}
+use Rattle.kb_fsamin.proofs.EmptyCanonical.{answer_canonical, answer_language}
 use Rattle.kb_fsamin.proofs.canonical_form.canonical.Goals as goal
 
 pub returns-then-is_empty-clause-canonical : goal.returns-then-is_empty-clause-canonical

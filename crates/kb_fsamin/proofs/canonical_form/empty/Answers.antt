@@ -2,7 +2,7 @@ use Rattle.std.proofs.Common.{◌≡◌, sym, subst, rules}
 use Rattle.kb_fsa.specs.Table.{Table}
 use Rattle.kb_fsa.specs.Language.{IsAutomaton}
 use Rattle.kb_fsamin.specs.Empty.{empty_table}
-use Rattle.kb_fsamin.proofs.Nothing.{is_automaton}
+use Rattle.kb_fsamin.proofs.EmptyCanonical.{is_automaton}
 use Rattle.kb_fsamin.proofs.canonical_form.empty.Goals as goal
 
 pub new-requires-3 : goal.new-requires-3

@@ -1,6 +1,6 @@
 use Rattle.std.proofs.Common.{◌≡◌, ◌+◌, ℕ, suc, false, List, length, get_or, sym, ap, ◌∙◌, subst, arith}
 use Rattle.kb_fsamin.specs.Firsts.{acceptance, AreByAcceptance}
-use Rattle.kb_fsamin.proofs.Beginnings.{by_more, by_few, classing_by}
+use Rattle.kb_fsamin.proofs.AcceptanceClasses.{by_more, by_few, classing_by}
 use Rattle.kb_fsamin.proofs.classes.by_acceptance.Goals as goal
 
 pub loop-place-preserved : goal.loop-place-preserved

@@ -2,7 +2,7 @@ use Rattle.std.proofs.Common.{◌≡◌, ◌≢◌, ◌<◌, ℕ, suc, List, [],
 use Rattle.std.proofs.lemmas.List.{get_or_read}
 use Rattle.kb_fsa.specs.Canonical.{IsState}
 use Rattle.kb_fsamin.specs.Rounds.{class_of}
-use Rattle.kb_fsamin.proofs.Beginnings.{firsts_none, firsts_kept, firsts_set, firsts_same, firsts_represent}
+use Rattle.kb_fsamin.proofs.AcceptanceClasses.{firsts_none, firsts_kept, firsts_set, firsts_same, firsts_represent}
 use Rattle.kb_fsamin.proofs.classes.first_of_each.Goals as goal
 use Rattle.kb_fsamin.proofs.classes.first_of_each.Goals.{then-class-ne0+then-index-eq0, else-class-ne0, else-class-ne0-via-then-class-ne0+else-index-eq0, else-class-ne0-via-else-class-ne0}
 

@@ -1,7 +1,7 @@
 use Rattle.std.proofs.Common.{◌≡◌, ◌+◌, ℕ, List, sym, ap, ◌∙◌, subst, arith}
 use Rattle.std.proofs.lemmas.List.{get_or_default}
 use Rattle.std.proofs.lemmas.Result.{IfOk-weaker}
-use Rattle.kb_fsamin.specs.Parts.{part_of}
+use Rattle.kb_fsamin.specs.Partitions.{part_of}
 use Rattle.kb_fsamin.specs.Splitting.{AreNumbered}
 use Rattle.kb_fsamin.proofs.Numberings.{numbered_more, numbered_same}
 use Rattle.kb_fsamin.proofs.splitting.by_symbol.Goals as goal

@@ -2,7 +2,7 @@ use Rattle.std.proofs.Common.{◌≡◌, ◌<◌, ◌-◌, ◌∷◌, ◌++◌, 
 use Rattle.std.proofs.lemmas.List.{get_or_read, take_more, take_all}
 use Rattle.std.proofs.lemmas.List.Elements.{All-push, All-nil, Contains-push, Contains-append_left, Contains-push_cases}
 use Rattle.kb_reach.specs.Graphs.{source}
-use Rattle.kb_fsamin.specs.Parts.{part_of, AreMembers}
+use Rattle.kb_fsamin.specs.Partitions.{part_of, AreMembers}
 use Rattle.kb_reach.proofs.LinkLemmas.{earlier_below}
 use Rattle.kb_reach.proofs.Reaching.{numbered}
 use Rattle.kb_fsamin.proofs.Walks.{walk_start, walk_more}

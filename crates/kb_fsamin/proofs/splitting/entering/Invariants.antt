@@ -1,6 +1,6 @@
 use Rattle.std.proofs.Common.{◌≡◌, ◌<◌, ℕ, length, get_or, take, All, Contains}
 use Rattle.kb_reach.specs.Graphs.{IsWalk, source}
-use Rattle.kb_fsamin.specs.Parts.{part_of}
+use Rattle.kb_fsamin.specs.Partitions.{part_of}
 use Rattle.kb_fsamin.proofs.splitting.entering.Given as goal
 
 -- the moves into the states before are listed

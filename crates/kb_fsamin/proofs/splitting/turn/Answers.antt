@@ -1,6 +1,6 @@
 use Rattle.std.proofs.Common.{length, get_or, sym, ap, ◌∙◌, subst, arith}
 use Rattle.std.proofs.lemmas.List.Elements.{Contains-get_or}
-use Rattle.kb_fsamin.specs.Parts.{IsSplit}
+use Rattle.kb_fsamin.specs.Partitions.{IsSplitBy}
 use Rattle.kb_fsamin.specs.Splitting.{IsSplitting, AreLeaving}
 use Rattle.kb_fsamin.proofs.Splittings.{cords_split, blocks_split}
 use Rattle.kb_fsamin.proofs.splitting.turn.Goals as goal
@@ -15,7 +15,7 @@ returns-in-Some-clause-keeps c symbols table backward classing splitting =
     subst (λ bs. IsSplitting table edges symbols start bs cords) (sym c.in-Some.ensures.of) splitting in
     cords_split table edges symbols start blocks cords backward classing here c.in-Some.block c.in_ok-moves.moves.items c.split.new.self.of.items
     c.requires.paired.cord_each c.in_ok-moves.ensures
-    (subst (λ l. IsSplit l cords c.split.new.self.of.items) c.as_slice.ensures.value c.in_ok-split.ensures.split)
+    (subst (λ l. IsSplitBy l cords c.split.new.self.of.items) c.as_slice.ensures.value c.in_ok-split.ensures.split)
 
 pub split-requires-in-Some-take-clause-items : goal.split-requires-in-Some-take-clause-items
 split-requires-in-Some-take-clause-items c k d h =
@@ -46,4 +46,4 @@ returns-in-Some-take-clause-keeps c symbols table backward classing splitting =
     subst (λ cs. IsSplitting table edges symbols start blocks cs) (sym c.in-Some-take.ensures.of) first in
     blocks_split table edges symbols start blocks cords backward classing here c.in-Some-take.cord c.in_ok-states.states.items blocks'
     (ap length c.in_default.ensures.of ∙ c.requires.paired.block_each) c.in_ok-states.ensures
-    (subst (λ l. IsSplit l blocks blocks') c.as_slice-in-Some-take.ensures.value c.in_ok-split-2.ensures.split)
+    (subst (λ l. IsSplitBy l blocks blocks') c.as_slice-in-Some-take.ensures.value c.in_ok-split-2.ensures.split)

@@ -1,5 +1,5 @@
 use Rattle.std.proofs.Common.{◌∷◌, ◌++◌, [], inr, refl}
-use Rattle.kb_record.specs.Token.{name, assign, semicolon}
+use Rattle.kb_lexing.specs.Token.{name, assign, semicolon}
 use Rattle.kb_record.specs.Tree.{record_value}
 use Rattle.kb_record.specs.Grammar.{value_tokens}
 use Rattle.kb_record.proofs.PrintedTokens.{text_tokens}

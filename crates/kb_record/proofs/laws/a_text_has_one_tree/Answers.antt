@@ -1,7 +1,7 @@
 use Rattle.std.proofs.Common.{List, subst}
-use Rattle.kb_record.specs.Token.{Token}
+use Rattle.kb_lexing.specs.Token.{Token}
 use Rattle.kb_record.specs.Grammar.{IsText}
-use Rattle.kb_record.proofs.OneToken.{one_list}
+use Rattle.kb_lexing.proofs.OneToken.{one_list}
 use Rattle.kb_record.proofs.Unique.{one_text}
 use Rattle.kb_record.proofs.laws.a_text_has_one_tree.Goals as goal
 

@@ -1,11 +1,11 @@
 use Rattle.std.proofs.Common.{◌≡◌, ◌≤◌, List, sym, ap, ◌∙◌, subst, Err, arith}
 use Rattle.kb_record.specs.Nesting.{deepest, text_nesting}
 use Rattle.kb_record.specs.Grammar.{TextOf}
-use Rattle.kb_record.specs.Token.{Token}
+use Rattle.kb_lexing.specs.Token.{Token}
 use Rattle.kb_record.specs.Tree.{TextTree}
-use Rattle.kb_record.specs.Lexemes.{tokens_view}
+use Rattle.kb_lexing.specs.Lexemes.{tokens_view}
 use Rattle.kb_record.specs.Reading.{ReadsAll, remaining, read_ended, rec_view}
-use Rattle.kb_record.proofs.Whole.{LexedOf, text_read, text_shallow, text_fault, text_alike}
+use Rattle.kb_record.proofs.TokensToBytes.{LexedOf, text_read, text_shallow, text_fault, text_alike}
 use Rattle.kb_record.proofs.parser.parse.Goals as goal
 
 pub returns-in-Ok-clause-read : goal.returns-in-Ok-clause-read

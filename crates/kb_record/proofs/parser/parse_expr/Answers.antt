@@ -1,10 +1,10 @@
 use Rattle.std.proofs.Common.{◌≡◌, List, sym, ap, ◌∙◌, subst, Err, arith}
 use Rattle.kb_record.specs.Nesting.{deepest}
-use Rattle.kb_record.specs.Token.{Token}
-use Rattle.kb_record.specs.Lexemes.{tokens_view}
+use Rattle.kb_lexing.specs.Token.{Token}
+use Rattle.kb_lexing.specs.Lexemes.{tokens_view}
 use Rattle.kb_record.specs.Reading.{ReadsAll, remaining, read_word}
 use Rattle.kb_record.specs.View.{word_view}
-use Rattle.kb_record.proofs.Whole.{LexedOf, word_read, word_shallow, word_fault}
+use Rattle.kb_record.proofs.TokensToBytes.{LexedOf, word_read, word_shallow, word_fault}
 use Rattle.kb_record.proofs.parser.parse_expr.Goals as goal
 
 pub returns-in-Ok-clause-read : goal.returns-in-Ok-clause-read

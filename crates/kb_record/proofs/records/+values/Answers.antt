@@ -5,7 +5,7 @@ use Rattle.kb_record.specs.Reading.{Reads, read, remaining, passes_comma, joined
 use Rattle.kb_record.specs.View.{value_view}
 use Rattle.kb_record.specs.declared.tree.Value.{Value as ValueType}
 use Rattle.kb_record.specs.declared.cursor.Mark.TheVariants.{CloseRound, CloseSquare, Rec, OpenSquare}
-use Rattle.kb_record.proofs.Rows.{after_items, turn, last, item_fails, comma_fails, as_answered, map_one_more, comma-shorter}
+use Rattle.kb_record.proofs.ReadRows.{after_items, turn, last, item_fails, comma_fails, as_answered, map_one_more, comma-shorter}
 use Rattle.kb_record.proofs.Depths.{value-word, value-record, value-list, value-scalar, same_reading}
 use Rattle.kb_record.proofs.Views.{fields_alike, view-Record}
 use Rattle.kb_record.proofs.records.+values.Goals as goal

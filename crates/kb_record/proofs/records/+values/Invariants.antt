@@ -2,7 +2,7 @@ use Rattle.std.proofs.Common.{◌≡◌, ℕ, ◌+◌, ◌*◌, ◌<◌, ◌≤�
 use Rattle.kb_record.specs.Reading.{remaining, passes_comma, joined, read_value, place_with, field_with, field_view}
 use Rattle.kb_record.specs.View.{value_view}
 use Rattle.kb_record.specs.declared.cursor.Mark.TheVariants.{CloseRound, CloseSquare}
-use Rattle.kb_record.proofs.Rows.{after_items}
+use Rattle.kb_record.proofs.ReadRows.{after_items}
 use Rattle.kb_record.proofs.records.+values.Given as goal
 
 abbrev pub decreases-value : goal.decreases-value

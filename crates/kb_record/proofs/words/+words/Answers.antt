@@ -5,9 +5,9 @@ use Rattle.kb_record.specs.Reading.{Reads, read, remaining, passes, joined, read
 use Rattle.kb_record.specs.View.{factor_view, factors_view, factors_of}
 use Rattle.kb_record.specs.declared.tree.Factor.{Factor as FactorType}
 use Rattle.kb_record.specs.declared.cursor.Mark.TheVariants.{Star}
-use Rattle.kb_record.proofs.Rows.{after_items, fails, turn, last, item_fails, as_answered, not_passed, passed, map_one_more}
+use Rattle.kb_record.proofs.ReadRows.{after_items, fails, turn, last, item_fails, as_answered, not_passed, passed, map_one_more}
 use Rattle.kb_record.proofs.Depths.{read_word_is}
-use Rattle.kb_record.proofs.Marks.{behind-shorter}
+use Rattle.kb_record.proofs.PassedMarks.{behind-shorter}
 use Rattle.kb_record.proofs.words.+words.Goals as goal
 
 pub word-returns-in_err-factor-clause-reads : goal.word-returns-in_err-factor-clause-reads

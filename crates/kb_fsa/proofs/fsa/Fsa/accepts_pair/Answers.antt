@@ -1,6 +1,7 @@
 use Rattle.std.proofs.Common.{◌≡◌, ◌+◌, ◌<◌, ◌≤◌, max, length, get_or, sym, ◌∙◌, rules}
 use Rattle.kb_fsa.specs.Table.{step, after, is_accepting}
-use Rattle.kb_fsa.specs.Padding.{padded, pair_symbol}
+use Rattle.kb_fsa.specs.PairSymbols.{pair_symbol}
+use Rattle.kb_fsa.specs.Padding.{padded}
 use Rattle.kb_fsa.specs.Language.{generators}
 use Rattle.kb_fsa.proofs.Lookups.{after-more, after-all}
 use Rattle.kb_fsa.proofs.Paddings.{length-padded, drop-padded}

@@ -1,8 +1,9 @@
 use Rattle.std.proofs.Common.{◌≡◌, ℕ, ◌+◌, List, [], sym, ap, ◌∙◌, subst, arith}
 use Rattle.kb_fsa.specs.Language.{symbols}
-use Rattle.kb_fsabool.specs.declared.ended.Place.{Place}
-use Rattle.kb_fsabool.specs.Complements.{AreMovesBefore, ended_after, first_after, stride_after}
-use Rattle.kb_fsabool.proofs.PaddedRuns.{stride_positive}
+use Rattle.kb_fsabool.specs.declared.place.Place.{Place}
+use Rattle.kb_fsa.specs.EndedWords.{ended_after, first_after, stride_after}
+use Rattle.kb_fsabool.specs.Complements.{AreMovesBefore}
+use Rattle.kb_fsa.proofs.PaddedRuns.{stride_positive}
 use Rattle.kb_fsabool.proofs.ComplementLemmas.{no_moves_before, moves_with, moves_without, all_moves}
 use Rattle.kb_fsabool.proofs.complement.ComplementMachine.moves.Goals as goal
 use Rattle.kb_fsabool.proofs.complement.ComplementMachine.moves.Goals.{in-Some+in_ok-push, in_default}

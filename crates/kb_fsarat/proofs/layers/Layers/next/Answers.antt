@@ -10,7 +10,7 @@ returns-clause-set c =
     let table = c.self.inside.table.now in
     let sets = c.self.inside.sets.items in
     let last = c.in-Some.last.now in
-    let r = c.before-set.result in
+    let r = c.set_before-set.result in
     let own : table ≡ c.args.self.now.table = ap (λ (layers : Layering). layers.table) c.self.view_is in
     let count = length_unsettled c.self.inside.settled sets c.args.self.now.count (ap (λ (layers : Layering). layers.count) c.self.view_is) c.requires in
     let Turned : List Moves → Type 0 = λ rows. AreTurned table rows in
@@ -20,4 +20,4 @@ returns-clause-set c =
     (subst (P table) count
     (layer_after table c.as_slice.result.now sets last r c.self.invariant.0.is_table
     (subst Turned (sym c.as_slice.ensures.value) c.in_ok-turned.ensures) c.self.invariant.0.layers
-    (subst Last c.deref.ensures.value c.in-Some.ensures.value) c.before-set.ensures))
+    (subst Last c.deref.ensures.value c.in-Some.ensures.value) c.set_before-set.ensures))

@@ -1,0 +1,47 @@
+//! Runs the worked cases of the program, which are plain text, and says what comes of each otherwise than wanted.
+//!
+//! The files named in `data/cases.list` have the cases, in the form that `data/README.md` describes. Each case is
+//! one call of `kb_cli::run` over memory: a shelf with files, an input, and what has to come of them. What a run's
+//! status says is proved below, in `kb_cli`; the cases show what no clause says: that runs succeed where there is
+//! memory, how texts are printed, which of several faults is named, and that the definitions say what was meant.
+//!
+//! # How it is made
+//!
+//! - `section` cuts a file into sections: a keyword, what is behind it on its line, and the indented lines below.
+//! - `token`, `texts` and `terms` read texts: quoted, repeated, by a name, or from a file of data.
+//! - `draft` collects the sections of a case, `row` reads its rows, and `case` makes a case of the sections and a row.
+//! - `suite` goes through the sections of a file.
+//! - `trial` runs a case, and `report` prints what differs.
+//!
+//! Nothing stands above.
+#![tactic(auto)]
+
+mod case;
+mod draft;
+mod mistake;
+mod report;
+mod row;
+mod section;
+mod suite;
+mod terms;
+mod texts;
+mod token;
+mod trial;
+
+use anyhow::{Context, ensure};
+use std::fs;
+
+/// The file with the names of the files of cases, each on a line.
+const LIST: &str = "cases.list";
+
+fn main(rt: HostRuntime) -> anyhow::Result<()> {
+    let list = fs::read_to_string(&rt, LIST).context(LIST)?;
+    let mut differing = 0u64;
+    for name in list.lines() {
+        let tally = suite::try_file(rt.alloc(), &rt, name).context(format_args!("{name}"))?;
+        println!(rt; "{name}: {} cases", tally.cases)?;
+        differing = differing.saturating_add(tally.differing);
+    }
+    ensure!(differing == 0, "{differing} cases differ");
+    Ok(())
+}

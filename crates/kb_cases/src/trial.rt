@@ -1,0 +1,166 @@
+//! One run over memory, compared with what has to come of it.
+
+use crate::case::{Case, Wanted};
+use crate::texts::{Named, find};
+use kb_cli::{Status, run};
+use kb_io::{MemShelf, MemSink, MemSource, OpenGate};
+use std::alloc::{AllocError, Global};
+use std::sync::Wait;
+
+/// Something that came of a run otherwise than wanted.
+#[derive(Drop)]
+pub(crate) struct Difference {
+    /// What it is.
+    pub what: String,
+    /// What was wanted; `None` where nothing was to be there.
+    pub wanted: Option<Vec<u8>>,
+    /// What came.
+    pub came: Option<Vec<u8>>,
+}
+
+/// The differences that were found.
+#[derive(Drop)]
+struct Comparison {
+    alloc: Global,
+    found: Vec<Difference>,
+}
+
+impl Comparison {
+    /// Adds a difference, where there is one.
+    fn compare(
+        &mut self,
+        what: &str,
+        wanted: Option<&[u8]>,
+        came: Option<&[u8]>,
+    ) -> Result<(), AllocError> {
+        if wanted == came {
+            return Ok(());
+        }
+        self.found.push(Difference {
+            what: String::from_str(self.alloc, what)?,
+            wanted: copied(self.alloc, wanted)?,
+            came: copied(self.alloc, came)?,
+        })?;
+        Ok(())
+    }
+
+    /// Compares the exit status, and the kind of a fault of the command line where one is wanted.
+    fn compare_status(&mut self, wanted: &Wanted, status: &Status) -> Result<(), AllocError> {
+        let (exit, came) = (wanted.exit, status.exit());
+        let exit = format!(in self.alloc; "{exit}")?;
+        let came = format!(in self.alloc; "{came}")?;
+        self.compare("the status", Some(exit.as_bytes()), Some(came.as_bytes()))?;
+        match &wanted.kind {
+            Some(kind) => {
+                let came = kind_of(self.alloc, status)?;
+                self.compare("the kind", Some(kind.as_slice()), Some(came.as_bytes()))
+            }
+            None => Ok(()),
+        }
+    }
+
+    /// Compares what is written on err. Where nothing is told of it there is a message with the statuses 1, 4, 5 and 6, and
+    /// none with the others.
+    fn compare_err(&mut self, wanted: &Wanted, came: &[u8]) -> Result<(), AllocError> {
+        match &wanted.err {
+            Some(err) => self.compare("err", Some(err.as_slice()), Some(came)),
+            None if matches!(wanted.exit, 1 | 4 | 5 | 6) => {
+                if came.is_empty() {
+                    self.compare("err", Some(b"a message"), Some(came))
+                } else {
+                    Ok(())
+                }
+            }
+            None => self.compare("err", Some(b""), Some(came)),
+        }
+    }
+
+    /// Compares the files: those that have to be stored are there, the others are as they were, and no word of the command
+    /// line names a new one.
+    fn compare_files(&mut self, case: &Case, shelf: &MemShelf) -> Result<(), AllocError> {
+        let stored = case.wanted.stored.as_slice();
+        self.compare_each(stored, shelf)?;
+        for file in &case.files {
+            let name = file.name.as_str();
+            if find(stored, name).is_none() {
+                self.compare(name, Some(file.bytes.as_slice()), shelf.get(name))?;
+            }
+        }
+        for word in &case.words {
+            let name = word.as_str();
+            if find(stored, name).is_none() && find(case.files.as_slice(), name).is_none() {
+                self.compare(name, None, shelf.get(name))?;
+            }
+        }
+        Ok(())
+    }
+
+    /// Compares files that have to be there.
+    fn compare_each(&mut self, files: &[Named], shelf: &MemShelf) -> Result<(), AllocError> {
+        for file in files {
+            let name = file.name.as_str();
+            self.compare(name, Some(file.bytes.as_slice()), shelf.get(name))?;
+        }
+        Ok(())
+    }
+}
+
+/// A copy of the bytes.
+fn copied(alloc: Global, bytes: Option<&[u8]>) -> Result<Option<Vec<u8>>, AllocError> {
+    match bytes {
+        Some(bytes) => Ok(Some(Vec::from_slice(alloc, bytes)?)),
+        None => Ok(None),
+    }
+}
+
+/// The kind of a fault of the command line.
+fn kind_of(alloc: Global, status: &Status) -> Result<String, AllocError> {
+    match status {
+        Status::Usage(kind) => format!(in alloc; "{kind:?}"),
+        _ => String::from_str(alloc, "no fault of the command line"),
+    }
+}
+
+/// A shelf with the case's files, on which its loads and stores fail.
+fn shelf_of(alloc: Global, case: &Case) -> Result<MemShelf, AllocError> {
+    let loads = case.devices.loads.clone()?;
+    let stores = case.devices.stores.clone()?;
+    let mut shelf = MemShelf::new(alloc, loads, stores);
+    for file in &case.files {
+        shelf.insert(alloc, file.name.as_str(), file.bytes.as_slice())?;
+    }
+    Ok(shelf)
+}
+
+/// Runs the case. What comes of it otherwise than wanted is the result.
+pub(crate) fn differences<R: Wait>(
+    alloc: Global,
+    rt: &R,
+    case: &Case,
+) -> Result<Vec<Difference>, AllocError> {
+    let mut shelf = shelf_of(alloc, case)?;
+    let piece = case.devices.piece.max(1);
+    let input = Vec::from_slice(alloc, case.input.as_slice())?;
+    let mut input = MemSource::new(input, piece, case.devices.reads.clone()?);
+    let mut out = MemSink::new(alloc, rt, piece, case.devices.writes.clone()?);
+    let mut err = MemSink::new(alloc, rt, piece, case.devices.messages.clone()?);
+    let status = run(
+        alloc,
+        case.words.as_slice(),
+        &mut shelf,
+        &mut input,
+        &mut out,
+        &mut err,
+        &OpenGate,
+    );
+    let mut comparison = Comparison {
+        alloc,
+        found: Vec::new(alloc),
+    };
+    comparison.compare_status(&case.wanted, &status)?;
+    let wanted_out = case.wanted.out.as_slice();
+    comparison.compare("out", Some(wanted_out), Some(out.written()))?;
+    comparison.compare_err(&case.wanted, err.written())?;
+    comparison.compare_files(case, &shelf)?;
+    Ok(comparison.found)
+}

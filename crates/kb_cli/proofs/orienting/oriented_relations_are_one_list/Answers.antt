@@ -1,6 +1,0 @@
-use Rattle.std.proofs.Common.{[]}
-use Rattle.kb_cli.proofs.OrientLemmas.{one_orienting}
-use Rattle.kb_cli.proofs.orienting.oriented_relations_are_one_list.Goals as goal
-
-pub returns : goal.returns
-returns c = one_orienting []

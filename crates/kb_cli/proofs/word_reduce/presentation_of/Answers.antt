@@ -1,5 +1,0 @@
-use Rattle.kb_cli.proofs.RunLemmas.{equations-few}
-use Rattle.kb_cli.proofs.word_reduce.presentation_of.Goals as goal
-
-pub returns-in-Ok-clause-few : goal.returns-in-Ok-clause-few
-returns-in-Ok-clause-few c = equations-few _ _ _ _ c.in-Ok.ensures.read.holds.equations

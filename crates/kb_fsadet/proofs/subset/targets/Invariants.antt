@@ -1,5 +1,0 @@
-use Rattle.std.proofs.Common.{◌≡◌, map, take}
-use Rattle.kb_fsadet.proofs.subset.targets.Given as goal
-
-abbrev pub invariant-loop-target : goal.invariant-loop-target
-invariant-loop-target l = l.targets.items ≡ map (λ entry. entry.1) (take l.target-index l.moves)

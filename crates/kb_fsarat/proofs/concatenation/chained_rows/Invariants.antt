@@ -1,7 +1,0 @@
-use Rattle.std.proofs.Common.{◌≡◌, ◌++◌, length, map, take}
-use Rattle.kb_fsarat.specs.Restarts.{shifted}
-use Rattle.kb_fsarat.proofs.concatenation.chained_rows.Given as goal
-
--- the rows so far are added
-abbrev pub invariant-loop-row : goal.invariant-loop-row
-invariant-loop-row l = l.rows.items ≡ l.initial.rows.items ++ map (shifted (length l.first.rows)) (take l.row-index l.row-items)

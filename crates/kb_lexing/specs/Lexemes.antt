@@ -1,0 +1,73 @@
+-- The tokens of `specs/Token.antt` that the code's tokens stand for.
+use Rattle.std.specs.Prelude.{◌≡◌, ℕ, suc, ◌<◌, ◌≤◌, ◌⊎◌, Bool, ◌&&◌, not, nat_le, ◌==◌, List, [], ◌∷◌, ◌++◌, length, take, drop, map, Option, None, Some, slice_get}
+use Rattle.std.specs.List.{AllByRecursion}
+use Rattle.kb_lexing.specs.Token as tree
+use Rattle.kb_lexing.specs.Spelling.{IsDigit, IsNameByte, BeginsWithNameByte, FirstToken}
+use Rattle.kb_lexing.specs.declared.token.Token.{Token}
+use Rattle.kb_lexing.specs.declared.token.Token.TheVariants.{Name, Number, String, Assign, OpenRound, CloseRound, OpenSquare, CloseSquare, Comma, Semicolon, Star, Caret, Dots, Rec}
+use Rattle.kb_lexing.specs.declared.token.Lexeme.{Lexeme}
+
+abbrev pub token_view : Token → tree.Token
+token_view (Name text) = tree.name text.now
+token_view (Number z) = tree.number z
+token_view (String text) = tree.string text.now
+token_view Assign = tree.assign
+token_view OpenRound = tree.open_round
+token_view CloseRound = tree.close_round
+token_view OpenSquare = tree.open_square
+token_view CloseSquare = tree.close_square
+token_view Comma = tree.comma
+token_view Semicolon = tree.semicolon
+token_view Star = tree.star
+token_view Caret = tree.caret
+token_view Dots = tree.dots
+token_view Rec = tree.rec_word
+
+-- the tokens of some lexemes, in order
+abbrev pub tokens_view : List Lexeme → List tree.Token
+tokens_view lexemes = map (λ (lexeme : Lexeme). token_view lexeme.token) lexemes
+
+-- each lexeme has bytes, within a text of this length, and stands behind the one before it
+pub record ArePlaced (text_length : ℕ) (lexemes : List Lexeme) : Type 0 where
+  pub within : (k : ℕ) (lexeme : Lexeme) → slice_get lexemes k ≡ Some lexeme
+      → (lexeme.start < lexeme.end) × (lexeme.end ≤ text_length)
+  pub ascending : (k : ℕ) (lexeme next : Lexeme) → slice_get lexemes k ≡ Some lexeme
+      → slice_get lexemes (suc k) ≡ Some next → lexeme.end ≤ next.start
+
+-- the token that begins the bytes and the length of its spelling, or none where no token begins them
+abbrev pub IsFirst : List ℕ → Option (Token × ℕ) → Type 0
+IsFirst bytes None = (token : tree.Token) (rest : List ℕ) → ¬ FirstToken bytes token rest
+IsFirst bytes (Some found) =
+    FirstToken bytes (token_view found.0) (drop found.1 bytes) × (0 < found.1) × (found.1 ≤ length bytes)
+
+-- the first n bytes have the form, and no longer front has it
+pub record IsLongestFront (HasForm : List ℕ → Type 0) (bytes : List ℕ) (n : ℕ) : Type 0 where
+  pub within : n ≤ length bytes
+  pub formed : HasForm (take n bytes)
+  pub longest : (front tail : List ℕ) → HasForm front → bytes ≡ front ++ tail → length front ≤ n
+
+-- the first byte goes on a name: a name byte, or a dot before one
+abbrev pub GoesOnAt : List ℕ → Type 0
+GoesOnAt [] = ⊥
+GoesOnAt (b ∷ bytes) = IsNameByte b ⊎ ((b ≡ 46) × BeginsWithNameByte bytes)
+
+-- no more than 18 digits
+abbrev pub AreFewDigits : List ℕ → Type 0
+AreFewDigits digits = AllByRecursion IsDigit digits × (length digits ≤ 18)
+
+-- a byte from space to `~`, but for `"`
+abbrev pub is_string_byte : ℕ → Bool
+is_string_byte byte = (nat_le 32 byte && nat_le byte 126) && not (byte == 34)
+
+abbrev pub IsBracket : tree.Token → Type 0
+IsBracket tree.open_round = Unit {0}
+IsBracket tree.close_round = Unit {0}
+IsBracket tree.open_square = Unit {0}
+IsBracket tree.close_square = Unit {0}
+IsBracket _ = ⊥
+
+-- the last token is a bracket
+abbrev pub EndsInBracket : List tree.Token → Type 0
+EndsInBracket [] = ⊥
+EndsInBracket (token ∷ []) = IsBracket token
+EndsInBracket (token ∷ next ∷ tokens) = EndsInBracket (next ∷ tokens)

@@ -1,0 +1,180 @@
+//! What is held between two reads.
+
+ghost use Rattle.std.specs.Prelude.{◌≡◌, ◌<◌, ◌≤◌, ◌+◌, ◌^◌, [], ◌++◌, length, IsTrue, OnOk, OnErr, IfOk, IfErr};
+ghost use Rattle.kb_io.specs.Bytes.{AppendsPrefix};
+ghost use Rattle.kb_io.specs.States.{SinkGoesOn};
+ghost use Rattle.kb_lines.specs.Progress.{IsFresh, IsReady, LineEnds, LineStops, Advances, StopsIn, LineStopIsCounted};
+ghost use Rattle.kb_lines.specs.declared.stop.Stop.TheVariants as stops;
+
+use crate::answerer::Answerer;
+use crate::line::{answer_line, split_line};
+use crate::stop::Stop;
+use kb_io::{Sink, write_all};
+use kb_record::WordError;
+use std::alloc::Global;
+
+/// The line that has begun, how many lines ended before it, and the answers that aren't sent yet.
+#[derive(Drop)]
+pub(crate) struct Progress {
+    line: Vec<u8>,
+    number: u32,
+    pending: Vec<u8>,
+}
+
+/// Answers of so many bytes are sent at once.
+const ENOUGH: usize = 65_536;
+
+impl Progress {
+    /// No line has begun.
+    pub(crate) fn new(alloc: Global) -> Progress
+        ensures { IsFresh result }
+    {
+        Progress {
+            line: Vec::new(alloc),
+            number: 0,
+            pending: Vec::new(alloc),
+        }
+    }
+
+    /// Takes bytes of the input: answers each line that ends in them, sends all answers, and keeps what has come of
+    /// the next line.
+    pub(crate) fn take_bytes<A: Answerer, O: Sink>(
+        &mut self,
+        alloc: Global,
+        answerer: &A,
+        bytes: &[u8],
+        out: &mut O,
+    ) -> Result<(), Stop>
+        requires room { self.old.number + length bytes.now < 2 ^ 32 }
+        ensures advances { IsReady self.old (O.state out.old) → OnOk result
+            (Advances (A.parts answerer.now) (A.answers answerer.now) bytes.now [] self.old self.new
+            (O.state out.old) (O.state out.new)) }
+        ensures sent { OnOk result (self.new.pending.items ≡ []) }
+        ensures number { OnOk result (self.new.number ≤ self.old.number + length bytes.now) }
+
+        // After a stop.
+        ensures stops { IsReady self.old (O.state out.old) → IfErr result
+            (StopsIn (A.parts answerer.now) (A.answers answerer.now) bytes.now self.old
+            (O.state out.old) (O.state out.new)) }
+        ensures counted { IfErr result (LineStopIsCounted (O.state out.old) (O.state out.new)) }
+        ensures goes_on { SinkGoesOn (O.state out.old) (O.state out.new) }
+    {
+        self.take_lines(alloc, answerer, bytes, out)?;
+        self.send(out)
+    }
+
+    /// At the end of the input: answers the last line, and sends all answers.
+    pub(crate) fn finish<A: Answerer, O: Sink>(
+        &mut self,
+        alloc: Global,
+        answerer: &A,
+        out: &mut O,
+    ) -> Result<(), Stop>
+        requires room { self.old.number + 1 < 2 ^ 32 }
+        ensures ends { IsTrue (O.state out.old).told → OnOk result
+            (LineEnds (A.parts answerer.now) (A.answers answerer.now) self.old self.new
+            (O.state out.old) (O.state out.new)) }
+        ensures sent { OnOk result (self.new.pending.items ≡ []) }
+
+        // After a stop.
+        ensures stops { IsTrue (O.state out.old).told → IfErr result
+            (LineStops (A.parts answerer.now) (A.answers answerer.now) self.old (O.state out.old) (O.state out.new)) }
+        ensures counted { IfErr result (LineStopIsCounted (O.state out.old) (O.state out.new)) }
+        ensures goes_on { SinkGoesOn (O.state out.old) (O.state out.new) }
+    {
+        self.end_line(alloc, answerer, out)?;
+        self.send(out)
+    }
+
+    /// Takes bytes of the input: answers each line that ends in them, and keeps what has come of the next.
+    fn take_lines<A: Answerer, O: Sink>(
+        &mut self,
+        alloc: Global,
+        answerer: &A,
+        bytes: &[u8],
+        out: &mut O,
+    ) -> Result<(), Stop>
+        requires room { self.old.number + length bytes.now < 2 ^ 32 }
+        ensures advances { IsReady self.old (O.state out.old) → OnOk result
+            (Advances (A.parts answerer.now) (A.answers answerer.now) bytes.now [] self.old self.new
+            (O.state out.old) (O.state out.new)) }
+        ensures number { OnOk result (self.new.number ≤ self.old.number + length bytes.now) }
+
+        // After a stop.
+        ensures stops { IsReady self.old (O.state out.old) → IfErr result
+            (StopsIn (A.parts answerer.now) (A.answers answerer.now) bytes.now self.old
+            (O.state out.old) (O.state out.new)) }
+        ensures counted { IfErr result (LineStopIsCounted (O.state out.old) (O.state out.new)) }
+        ensures goes_on { SinkGoesOn (O.state out.old) (O.state out.new) }
+    {
+        let mut rest = bytes;
+        while let Some((line, behind)) = split_line(rest) {
+            self.line.extend_from_slice(line)?;
+            self.end_line(alloc, answerer, out)?;
+            rest = behind;
+        }
+        self.line.extend_from_slice(rest)?;
+        Ok(())
+    }
+
+    /// Answers the line that has begun, which has come to its end.
+    fn end_line<A: Answerer, O: Sink>(
+        &mut self,
+        alloc: Global,
+        answerer: &A,
+        out: &mut O,
+    ) -> Result<(), Stop>
+        requires room { self.old.number + 1 < 2 ^ 32 }
+        ensures ends { IsTrue (O.state out.old).told → OnOk result
+            (LineEnds (A.parts answerer.now) (A.answers answerer.now) self.old self.new
+            (O.state out.old) (O.state out.new)) }
+        ensures number { OnOk result (self.new.number ≡ self.old.number + 1) }
+
+        // After a stop.
+        ensures stops { IsTrue (O.state out.old).told → IfErr result
+            (LineStops (A.parts answerer.now) (A.answers answerer.now) self.old (O.state out.old) (O.state out.new)) }
+        ensures counted { IfErr result (LineStopIsCounted (O.state out.old) (O.state out.new)) }
+        ensures goes_on { SinkGoesOn (O.state out.old) (O.state out.new) }
+    {
+        match answer_line(alloc, answerer, &self.line, &mut self.pending) {
+            Ok(()) => {
+                self.line.clear();
+                self.number += 1;
+                if self.pending.len() < ENOUGH {
+                    return Ok(());
+                }
+                self.send(out)
+            }
+            Err(WordError::Memory) => Err(Stop::Memory),
+            Err(fault) => {
+                self.send(out)?;
+                Err(Stop::Refused {
+                    number: self.number + 1,
+                    fault,
+                })
+            }
+        }
+    }
+
+    /// Sends what is pending.
+    fn send<O: Sink>(&mut self, out: &mut O) -> Result<(), Stop>
+        ensures sent { IsTrue (O.state out.old).told
+            → OnOk result ((O.state out.new).written ≡ (O.state out.old).written ++ self.old.pending.items) }
+        ensures none { OnOk result (self.new.pending.items ≡ []) }
+        ensures line { self.new.line ≡ self.old.line }
+        ensures number { self.new.number ≡ self.old.number }
+
+        // After a failure.
+        ensures front { IsTrue (O.state out.old).told
+            → OnErr result (AppendsPrefix (O.state out.old).written (O.state out.new).written self.old.pending.items) }
+        ensures output { IfErr result (λ stop. stop ≡ stops.Output) }
+        ensures counted { OnErr result ((O.state out.old).faults < (O.state out.new).faults) }
+        ensures goes_on { SinkGoesOn (O.state out.old) (O.state out.new) }
+    {
+        let Ok(()) = write_all(out, &self.pending) else {
+            return Err(Stop::Output);
+        };
+        self.pending.clear();
+        Ok(())
+    }
+}

@@ -1,0 +1,89 @@
+-- Items in a row, one at a time.
+use Rattle.std.proofs.Common.{◌≡◌, ℕ, zero, suc, ◌-◌, ◌<◌, List, [], ◌∷◌, ◌++◌, map, length, Bool, true, false, if◌then◌else◌, Option, Some, None, Result, Err, refl, sym, ap, ◌∙◌, subst, arith, append_assoc}
+use Rattle.std.proofs.lemmas.List.{map-append}
+use Rattle.kb_lexing.specs.Token.{Token}
+use Rattle.kb_record.specs.Reading.{Reading, read, unexpected, too_deep, Parse, and_then, reading_map, Reads, joined, behind, passes, passes_to, passes_comma, comma_unless, past}
+use Rattle.kb_record.specs.declared.cursor.Mark.{Mark}
+use Rattle.kb_record.specs.declared.cursor.Mark.TheVariants.{Comma}
+use Rattle.kb_record.specs.declared.cursor.Stop.{Stop}
+use Rattle.kb_record.proofs.PassedMarks.{behind-shorter}
+use Rattle.kb_record.specs.declared.cursor.Stop.TheVariants.{Unexpected, TooDeep, Memory}
+
+-- the items before, and then those that are read
+abbrev pub after_items : {A : Type 0} → List A → Reading (List A) → Reading (List A)
+after_items before reading = reading_map (λ items. before ++ items) reading
+
+-- a reading that fails goes on to fail
+pub fails : {A B C D : Type 0} (reading : Reading A) (view : B → A) (next : A → Parse C) (view' : D → C) (stop : Stop) (rest : List Token) → Reads reading view (Err stop) rest → Reads (and_then reading next) view' (Err stop) rest
+fails reading view next view' (Unexpected expected) rest e = ap (λ r. and_then r next) e
+fails reading view next view' TooDeep rest e = ap (λ r. and_then r next) e
+fails reading view next view' Memory rest e = tt
+
+pub none_before : {A : Type 0} (reading : Reading (List A)) → reading ≡ after_items [] reading
+none_before (read items rest) = refl
+none_before unexpected = refl
+none_before (too_deep rest) = refl
+
+pub one_more : {A : Type 0} (before : List A) (x : A) (reading : Reading (List A)) → after_items before (reading_map (λ items. x ∷ items) reading) ≡ after_items (before ++ x ∷ []) reading
+one_more before x (read items rest) = ap (λ l. read l rest) (sym (append_assoc before (x ∷ []) items))
+one_more before x unexpected = refl
+one_more before x (too_deep rest) = refl
+
+module _ {A : Type 0} (item : Parse A) (goes_on : Parse Bool) where
+  one_then : (n : ℕ) (tokens rest : List Token) (x : A) → item tokens ≡ read x rest
+      → joined item goes_on (suc n) tokens ≡ and_then (goes_on rest) (λ more others. if more then reading_map (λ items. x ∷ items) (joined item goes_on n others) else read (x ∷ []) others)
+  unfolding joined
+  one_then n tokens rest x e =
+      ap (λ r. and_then r (λ first rest'. and_then (goes_on rest') (λ more others. if more then reading_map (λ items. first ∷ items) (joined item goes_on n others) else read (first ∷ []) others))) e
+
+  pub turn : (before : List A) (n : ℕ) (tokens rest others : List Token) (x : A) → 0 < n → item tokens ≡ read x rest → goes_on rest ≡ read true others
+      → after_items before (joined item goes_on n tokens) ≡ after_items (before ++ x ∷ []) (joined item goes_on (n - 1) others)
+  turn before zero tokens rest others x h e f = let never : ⊥ = omega arith in absurd never
+  turn before (suc n) tokens rest others x h e f =
+      let less : n ≡ suc n - 1 = omega arith in
+      ap (after_items before) (one_then n tokens rest x e ∙ ap (λ r. and_then r (λ more others'. if more then reading_map (λ items. x ∷ items) (joined item goes_on n others') else read (x ∷ []) others')) f)
+      ∙ one_more before x (joined item goes_on n others) ∙ ap (λ m. after_items (before ++ x ∷ []) (joined item goes_on m others)) less
+
+  pub last : (before : List A) (n : ℕ) (tokens rest others : List Token) (x : A) → 0 < n → item tokens ≡ read x rest → goes_on rest ≡ read false others
+      → after_items before (joined item goes_on n tokens) ≡ read (before ++ x ∷ []) others
+  last before zero tokens rest others x h e f = let never : ⊥ = omega arith in absurd never
+  last before (suc n) tokens rest others x h e f =
+      ap (after_items before) (one_then n tokens rest x e ∙ ap (λ r. and_then r (λ more others'. if more then reading_map (λ items. x ∷ items) (joined item goes_on n others') else read (x ∷ []) others')) f)
+
+  pub item_fails : {B D : Type 0} (before : List A) (n : ℕ) (tokens rest : List Token) (view : B → A) (view' : D → List A) (stop : Stop) → 0 < n → Reads (item tokens) view (Err stop) rest
+      → Reads (after_items before (joined item goes_on n tokens)) view' (Err stop) rest
+  unfolding joined
+  item_fails before zero tokens rest view view' stop h e = let never : ⊥ = omega arith in absurd never
+  item_fails before (suc n) tokens rest view view' stop h e = fails (joined item goes_on (suc n) tokens) view' _ view' stop rest (fails (item tokens) view _ view' stop rest e)
+
+  pub comma_fails : {B D : Type 0} (before : List A) (n : ℕ) (tokens rest others : List Token) (x : A) (view : B → Bool) (view' : D → List A) (stop : Stop) → 0 < n → item tokens ≡ read x rest → Reads (goes_on rest) view (Err stop) others
+      → Reads (after_items before (joined item goes_on n tokens)) view' (Err stop) others
+  comma_fails before zero tokens rest others x view view' stop h e f = let never : ⊥ = omega arith in absurd never
+  comma_fails before (suc n) tokens rest others x view view' stop h e f =
+      let P : Reading (List A) → Type 0 = λ r. Reads (after_items before r) view' (Err stop) others in
+      subst P (sym (one_then n tokens rest x e)) (fails (and_then (goes_on rest) (λ more others'. if more then reading_map (λ items. x ∷ items) (joined item goes_on n others') else read (x ∷ []) others')) view' _ view' stop others (fails (goes_on rest) view _ view' stop others f))
+
+pub as_answered : {A D : Type 0} (reading whole : Reading A) (view : D → A) (result : Result D Stop) (stop : Stop) (rest : List Token) → whole ≡ reading → result ≡ Err stop → Reads reading view (Err stop) rest → Reads whole view result rest
+as_answered reading whole view result stop rest e f h =
+    let P : Reading _ → Type 0 = λ r. Reads r view result rest in
+    let Q : Result _ Stop → Type 0 = λ r. Reads reading view r rest in
+    subst P (sym e) (subst Q (sym f) h)
+
+pub not_passed : (mark : Mark) (tokens rest : List Token) → behind mark tokens ≡ None → rest ≡ tokens → passes mark tokens ≡ read false rest
+not_passed mark tokens rest e f = ap (passes_to tokens) e ∙ ap (read false) (sym f)
+
+pub passed : (mark : Mark) (tokens rest : List Token) → behind mark tokens ≡ Some rest → passes mark tokens ≡ read true rest
+passed mark tokens rest e = ap (passes_to tokens) e
+
+pub map_one_more : {A B : Type 0} (f : A → B) (xs ys : List A) (x : A) → ys ≡ xs ++ x ∷ [] → map f xs ++ f x ∷ [] ≡ map f ys
+map_one_more f xs ys x e = sym (ap (map f) e ∙ map-append f xs (x ∷ []))
+
+comma_to : (tokens rest : List Token) (more : Bool) (o o' : Option (List Token)) → ((r : List Token) → o ≡ Some r → length r < length tokens) → ((r : List Token) → o' ≡ Some r → length r < length tokens)
+    → behind Comma tokens ≡ o' → comma_unless tokens o ≡ read more rest → length rest < length tokens
+comma_to tokens rest more (Some r) o' h k f e = let same : r ≡ rest = cc in subst (λ x. length x < length tokens) same (h r refl)
+comma_to tokens rest more None (Some r) h k f e = let e' : ◌≡◌ {A = Reading Bool} (read true r) (read more rest) = ap (λ o. past o (λ s. read true s)) (sym f) ∙ e in let same : r ≡ rest = cc in subst (λ x. length x < length tokens) same (k r refl)
+comma_to tokens rest more None None h k f e = let e' : ◌≡◌ {A = Reading Bool} unexpected (read more rest) = ap (λ o. past o (λ s. read true s)) (sym f) ∙ e in cc
+
+pub comma-shorter : (close : Mark) (tokens rest : List Token) (more : Bool) → passes_comma close tokens ≡ read more rest → length rest < length tokens
+comma-shorter close tokens rest more e =
+    comma_to tokens rest more (behind close tokens) (behind Comma tokens) (λ r. behind-shorter close tokens r) (λ r. behind-shorter Comma tokens r) refl e

@@ -1,0 +1,4 @@
+pub mod ValueLemmas
+pub mod OrientLemmas
+pub mod RunLemmas
+pub mod LineLemmas

@@ -1,0 +1,5 @@
+use Rattle.kb_wordreduce.proofs.OrientLemmas.{oriented_congruence}
+use Rattle.kb_wordreduce.proofs.orienting.oriented_relations_keep_the_congruence.Goals as goal
+
+pub returns : goal.returns
+returns c = oriented_congruence

@@ -1,0 +1,162 @@
+//! A run of the command.
+
+ghost use Rattle.std.specs.Prelude.{◌≡◌, ◌≤◌, IfOk, length};
+ghost use Rattle.kb_io.specs.Outside.{outside};
+ghost use Rattle.kb_io.specs.States.{ShelfState, SourceState};
+ghost use Rattle.kb_word.specs.Overlap.{IsConfluent};
+ghost use Rattle.kb_word.specs.Presentations.{parts_of};
+ghost use Rattle.kb_word.specs.Relations.{AreOriented};
+ghost use Rattle.kb_presfile.specs.Holds.{most_equations};
+ghost use Rattle.kb_task.specs.Runs.{IsRun};
+ghost use Rattle.kb_wordreduce.specs.Confluence.{relations, OrientedAreNotConfluent, no_line};
+ghost use Rattle.kb_wordreduce.specs.WordReduce.{AnswersMean, StoresNothing, stop_status};
+
+use crate::normal_forms::NormalForms;
+use crate::orienting::{oriented, oriented_relations_keep_the_congruence, oriented_rules_decrease};
+use crate::word_reduce::WordReduce;
+use kb_confluence::{
+    Verdict, check, least_by_the_same_congruence, normal_forms_by_confluent_rules_are_least,
+};
+use kb_io::{Shelf, Sink, Source};
+use kb_lines::{Stop, answer_lines};
+use kb_rules::{Reducer, Rules, Scan};
+use kb_task::{Cert, Refusal, Status, Task, Which, load_presentation, print_line};
+use kb_word::{Memory, Names, Presentation, Word, print_word};
+use std::alloc::Global;
+
+impl Task for WordReduce {
+    ghost use Rattle.kb_task.specs.Statuses.{AnswersYesOrNo};
+    ghost use Rattle.kb_wordreduce.specs.WordReduce.{WordReduceMeans, wordreduce_may_store, wordreduce_reads, wordreduce_is_unrefused, WordReducesDifferInOptions};
+    ghost use Rattle.kb_wordreduce.specs.WordReduceLaws.{wordreduce_complete, wordreduce_settled, wordreduce_one_function};
+
+    ghost means = { WordReduceMeans };
+
+    ghost may_store = { wordreduce_may_store };
+
+    ghost reads = { wordreduce_reads };
+
+    ghost is_unrefused = { wordreduce_is_unrefused };
+
+    ghost answers = { λ task. AnswersYesOrNo };
+
+    ghost differs_in_options = { WordReducesDifferInOptions };
+
+    fn run<F: Shelf, I: Source, O: Sink>(
+        self,
+        alloc: Global,
+        shelf: &mut F,
+        input: &mut I,
+        out: &mut O,
+    ) -> Status {
+        let workers = self.workers;
+        match load_presentation(alloc, self.file, shelf) {
+            Ok(presentation) => answer_by(alloc, presentation, workers, input, out),
+            Err(status) => status,
+        }
+    }
+
+    ghost complete = { wordreduce_complete };
+
+    ghost settled = { wordreduce_settled };
+
+    ghost one_function = { wordreduce_one_function };
+}
+
+/// Checks the oriented relations, and answers the word lines by them.
+fn answer_by<I: Source, O: Sink>(
+    alloc: Global,
+    presentation: Presentation,
+    workers: u32,
+    input: &mut I,
+    out: &mut O,
+) -> Status
+    requires workers { (1 ≤ workers) × (workers ≤ 64) }
+    requires few { length presentation.eqs ≤ most_equations }
+    ensures { (shelf : ShelfState) → IsRun (AnswersMean (parts_of presentation)) StoresNothing
+        (outside shelf (I.state input.old) (O.state out.old)) (outside shelf (I.state input.new) (O.state out.new)) result }
+{
+    // The range of the number of generators bounds the number of rules.
+    let _generators = presentation.n;
+    let rules = match oriented(alloc, &presentation) {
+        Ok(rules) => rules,
+        Err(Memory) => return Status::Memory,
+    };
+    let scan = match Scan::of(alloc, &rules) {
+        Ok(scan) => scan,
+        Err(Memory) => return Status::Memory,
+    };
+    match check(alloc, &rules, &scan, workers) {
+        Ok(Verdict::Yes) => answer_all(alloc, presentation, &rules, scan, input, out),
+        Ok(Verdict::No { u, v, .. }) => print_no(alloc, &presentation, u, v, out),
+        Err(Memory) => Status::Memory,
+    }
+}
+
+/// Answers the word lines by rules that are confluent.
+fn answer_all<I: Source, O: Sink>(
+    alloc: Global,
+    presentation: Presentation,
+    rules: &Rules,
+    scan: Scan,
+    input: &mut I,
+    out: &mut O,
+) -> Status
+    requires oriented { AreOriented (relations (parts_of presentation)) rules.now }
+    requires confluent { IsConfluent rules.now }
+    requires scan { scan ≡ rules.now }
+    ensures { (shelf : ShelfState) → IsRun (AnswersMean (parts_of presentation)) StoresNothing
+        (outside shelf (I.state input.old) (O.state out.old)) (outside shelf (I.state input.new) (O.state out.new)) result }
+{
+    oriented_rules_decrease();
+    oriented_relations_keep_the_congruence();
+    normal_forms_by_confluent_rules_are_least();
+    least_by_the_same_congruence();
+    let normal_forms = NormalForms { presentation, scan };
+    match answer_lines(alloc, &normal_forms, input, out) {
+        Ok(()) => Status::Yes,
+        Err(stop) => status_of(stop),
+    }
+}
+
+/// The status of a run that a stop ends.
+fn status_of(stop: Stop) -> Status
+    ensures { result ≡ stop_status stop }
+{
+    match stop {
+        Stop::Refused { number, fault } => Status::Refused(Refusal::Line { number, fault }),
+        Stop::TooLong => Status::Refused(Refusal::InputTooLong),
+        Stop::Input => Status::Fault(Which::Input),
+        Stop::Output => Status::Fault(Which::Output),
+        Stop::Memory => Status::Memory,
+    }
+}
+
+/// Prints the line that shows why the rules aren't confluent.
+fn print_no<O: Sink>(
+    alloc: Global,
+    presentation: &Presentation,
+    u: Word,
+    v: Word,
+    out: &mut O,
+) -> Status
+    requires { OrientedAreNotConfluent (parts_of presentation.now) u v }
+    ensures { (shelf : ShelfState) (input : SourceState) → IsRun (AnswersMean (parts_of presentation.now)) StoresNothing
+        (outside shelf input (O.state out.old)) (outside shelf input (O.state out.new)) result }
+{
+    match line_of_no(alloc, &presentation.names, &u, &v) {
+        Ok(line) => print_line(&line, Status::No(Cert::NotConfluent { u, v }), out),
+        Err(Memory) => Status::Memory,
+    }
+}
+
+/// `no confluent U V` and a newline.
+fn line_of_no(alloc: Global, names: &Names, u: &Word, v: &Word) -> Result<Vec<u8>, Memory>
+    ensures { IfOk result (λ line. line.items ≡ no_line names.now u.now v.now) }
+{
+    let mut line = Vec::from_slice(alloc, b"no confluent ")?;
+    print_word(names, u, &mut line)?;
+    line.push(b' ')?;
+    print_word(names, v, &mut line)?;
+    line.push(b'\n')?;
+    Ok(line)
+}
