@@ -5,4 +5,4 @@ returns-in-Ok-clause-stops g c = λ told. c.presentation_of.ensures.stops (g.F.S
     (rw c.deref.ensures.value (c.in-Ok.ensures.held told))
 
 pub returns-in-Ok-clause-counted : goal.returns-in-Ok-clause-counted
-returns-in-Ok-clause-counted g c = c.presentation_of.ensures.unfailed _ _
+returns-in-Ok-clause-counted g c = c.presentation_of.ensures.unfailed (g.F.Shelf.state c.args.shelf.now) (g.F.Shelf.state c.load_text.new.shelf)
