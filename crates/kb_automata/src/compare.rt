@@ -7,8 +7,8 @@ ghost use Rattle.kb_fsa.specs.Language.{IsTextOf, generators};
 ghost use Rattle.kb_task.specs.Runs.{FaultIsCounted};
 ghost use Rattle.kb_automata.specs.Compare.{ComparisonIsPrinted, DifferenceIsPrinted, IsDifferenceLine};
 
-use kb_fsa::{Alphabet, Fsa, pair_of, word_of};
-use kb_fsabool::{Det, Equality, Symbols, equal};
+use kb_fsa::{Alphabet, Fsa, Symbols, pair_of, word_of};
+use kb_fsabool::{Det, Equality, equal};
 use kb_io::{Shelf, Sink, Source};
 use kb_task::{
     Cert, Construction, Kind, Limit, Loaded, Status, Task, load_automaton, load_second,

@@ -1,14 +1,3 @@
-pub mod Read
-pub mod Line
-pub mod SaidLemmas
-pub mod AddLemmas
-pub mod OrientLemmas
-pub mod ProgressLemmas
-pub mod CountLemmas
-pub mod LoadLemmas
-pub mod MakeLemmas
-pub mod CompareLemmas
-pub mod ListLemmas
-pub mod RunLemmas
-pub mod AnswerLemmas
-pub mod OneAnswerLemmas
+pub mod LineLemmas
+pub mod CommandLemmas
+pub mod HeadlineLemmas

@@ -3,7 +3,7 @@ use Rattle.std.specs.Prelude.{ℕ, List}
 use Rattle.kb_io.specs.Outside.{Outside}
 use Rattle.kb_task.specs.declared.status.Status.{Status}
 use Rattle.kb_task.specs.Statuses.{AnswersYesOrNo}
-use Rattle.kb_wordreduce.specs.WordReduce.{WordReduceMeans, wordreduce_may_store, wordreduce_reads, wordreduce_is_unrefused, wordreduce_answers, WordReducesDifferInOptions}
+use Rattle.kb_wordreduce.specs.WordReduce.{WordReduceMeans, wordreduce_may_store, wordreduce_reads, wordreduce_is_unrefused, WordReducesDifferInOptions}
 use Rattle.kb_automata.specs.Tasks.{AutomataMeans, automata_may_store, automata_reads, automata_is_unrefused, automata_answers, AutomataDifferInOptions}
 use Rattle.kb_cli.specs.declared.command.Command.{Command}
 use Rattle.kb_cli.specs.declared.command.Command.TheVariants.{WordReduce, Automata}
@@ -30,7 +30,7 @@ command_is_unrefused (Automata task) = automata_is_unrefused task
 
 -- the statuses with which it then ends, where no device fails
 abbrev pub command_answers : Command → Status → Type 0
-command_answers (WordReduce task) = wordreduce_answers task
+command_answers (WordReduce task) = AnswersYesOrNo
 command_answers (Automata task) = automata_answers task
 
 -- the other command is the same but for options that change no answer

@@ -1,3 +1,4 @@
 pub mod Commands
+pub mod CommandLaws
 pub mod CommandLine
 pub mod Headline

@@ -17,7 +17,7 @@ pub enum Command {
 
 impl Task for Command {
     ghost use Rattle.kb_cli.specs.Commands.{CommandMeans, command_may_store, command_reads, command_is_unrefused, command_answers, CommandsDifferInOptions};
-    ghost use Rattle.kb_cli.proofs.CommandLaws.{commands_complete, commands_settled, commands_one_function};
+    ghost use Rattle.kb_cli.specs.CommandLaws.{commands_complete, commands_settled, commands_one_function};
 
     ghost means = { CommandMeans };
 

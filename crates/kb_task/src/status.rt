@@ -1,7 +1,7 @@
 //! How a run ends.
 
 use clap::error::ErrorKind;
-use kb_fsabool::Symbols;
+use kb_fsa::Symbols;
 use kb_fsafile::FsaError;
 use kb_presfile::PresError;
 use kb_record::WordError;

@@ -1,0 +1,69 @@
+-- The laws over all commands, from those of the commands.
+use Rattle.std.proofs.Common.{◌≡◌, ℕ, List, sym, subst}
+use Rattle.clap.specs.declared.error.kind.ErrorKind.{ErrorKind}
+use Rattle.kb_io.specs.Outside.{Outside}
+use Rattle.kb_task.specs.Runs.{ReadsSame, HasSameEffect}
+use Rattle.kb_task.specs.Statuses.{IsYes, IsConclusive, IsFaultless}
+use Rattle.kb_task.specs.declared.status.Status.{Status}
+use Rattle.kb_task.specs.declared.status.Status.TheVariants.{Yes, Refused, Undecided, No, Memory, Fault, Usage}
+use Rattle.kb_cli.specs.CommandLaws.{commands_complete, commands_settled, commands_one_function}
+use Rattle.kb_cli.specs.CommandLine.{IsLine, IsNoLine}
+use Rattle.kb_cli.specs.Commands.{CommandMeans, command_may_store, command_reads, command_is_unrefused, command_answers, CommandsDifferInOptions}
+use Rattle.kb_cli.specs.Headline.{Headline, ArgumentsStop, no_command, a_command}
+use Rattle.kb_cli.specs.declared.command.Command.{Command}
+use Rattle.kb_cli.proofs.CommandLemmas.{memory_answers, one_command}
+use Rattle.kb_cli.proofs.LineLemmas.{line_or_not}
+
+-- arguments are the line of one command
+pub one_line : (arguments : List (List ℕ)) (one other : Command) → IsLine arguments one → IsLine arguments other → one ≡ other
+one_line arguments one other a b = one_command _ one other a.is b.is
+
+-- where the arguments are a line, a run on them is that command's
+memory_alone : (arguments : List (List ℕ)) (command : Command) (status : Status) → IsLine arguments command → ArgumentsStop arguments status
+    → command_answers command status
+memory_alone arguments command (Usage kind) line stop = absurd (line_or_not arguments command kind line stop)
+memory_alone arguments command Memory line stop = memory_answers command
+memory_alone arguments command _ line stop = absurd stop
+
+inconclusive : (arguments : List (List ℕ)) (status : Status) → ArgumentsStop arguments status → ¬ IsConclusive status
+inconclusive arguments (Usage kind) stop conclusive = conclusive
+inconclusive arguments Memory stop conclusive = conclusive
+inconclusive arguments _ stop conclusive = stop
+
+yes-conclusive : (status : Status) → IsYes status → IsConclusive status
+yes-conclusive Yes yes = tt
+yes-conclusive _ yes = absurd yes
+
+meant : (arguments : List (List ℕ)) (command : Command) (before after : Outside) (status : Status) → IsLine arguments command → IsConclusive status
+    → Headline arguments before after status → CommandMeans command before after status
+meant arguments command before after status line conclusive (no_command stop unchanged) = absurd (inconclusive arguments status stop conclusive)
+meant arguments command before after status line conclusive (a_command found is means) =
+    subst (λ c. CommandMeans c before after status) (one_line arguments found command is line) means
+
+pub headline_answers : (arguments : List (List ℕ)) (command : Command) (before after : Outside) (status : Status) → IsLine arguments command
+    → Headline arguments before after status → command_is_unrefused command before → IsFaultless status → command_answers command status
+headline_answers arguments command before after status line (no_command stop unchanged) unrefused faultless =
+    memory_alone arguments command status line stop
+headline_answers arguments command before after status line (a_command found is means) unrefused faultless =
+    commands_complete command before after status
+    (subst (λ c. CommandMeans c before after status) (one_line arguments found command is line) means) unrefused faultless
+
+pub headline_settled : (arguments : List (List ℕ)) (command : Command) (before after other_before other_after : Outside) (status other : Status)
+    → IsLine arguments command → Headline arguments before after status → Headline arguments other_before other_after other
+    → ReadsSame (command_reads command) before other_before → IsConclusive status → IsConclusive other → status ≡ other
+headline_settled arguments command before after other_before other_after status other line one another same conclusive also =
+    commands_settled command before after other_before other_after status other
+    (meant arguments command before after status line conclusive one)
+    (meant arguments command other_before other_after other line also another) same conclusive also
+
+pub headline_one_function : (arguments other_arguments : List (List ℕ)) (command other_command : Command)
+    (before after other_before other_after : Outside) (status other : Status)
+    → IsLine arguments command → IsLine other_arguments other_command → CommandsDifferInOptions command other_command
+    → Headline arguments before after status → Headline other_arguments other_before other_after other → IsYes status → IsYes other
+    → ReadsSame (command_reads command) before other_before → before.input.left ≡ other_before.input.left
+    → HasSameEffect (command_may_store command) before after other_before other_after
+headline_one_function arguments other_arguments command other_command before after other_before other_after status other line also differ one another yes other_yes same input =
+    commands_one_function command other_command before after other_before other_after status other
+    (meant arguments command before after status line (yes-conclusive status yes) one)
+    (meant other_arguments other_command other_before other_after other also (yes-conclusive other other_yes) another)
+    yes other_yes differ same input
