@@ -46,7 +46,7 @@ pub record HoldsOtherAlphabet (kind : Kind) (names : List (List ℕ)) (alphabet 
   pub others : List (List ℕ)
   pub automaton : Automaton
   pub holds : HoldsAutomaton files name others automaton
-  pub kind : HasKind kind automaton.alphabet
+  pub of_kind : HasKind kind automaton.alphabet
   pub differ : ¬ ((others ≡ names) × (automaton.alphabet ≡ alphabet))
 
 -- why the file of this name holds no automaton of the kind over the alphabet of a first one
