@@ -13,7 +13,7 @@ use Rattle.kb_automata.specs.Loaded.{MeaningOfOne, MeaningOfTwo, OneMeans, TwoMe
 
 -- a run that answered yes answered
 pub yes-conclusive : (status : Status) → IsYes status → IsConclusive status
-yes-conclusive Yes yes = tt
+yes-conclusive Yes is_yes = tt
 yes-conclusive _ no = absurd no
 
 -- where nothing is refused, the status is one of those after the load

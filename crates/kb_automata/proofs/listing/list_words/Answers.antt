@@ -1,5 +1,7 @@
 use Rattle.std.proofs.Common.{refl, arith, []}
-use Rattle.kb_automata.proofs.ListLemmas.{listed-start, listing-stopped}
+use Rattle.kb_io.specs.Outside.{outside}
+use Rattle.kb_task.proofs.RunLemmas.{counted_after}
+use Rattle.kb_automata.proofs.ListLemmas.{listed-start, listing-ended, listing-stopped}
 use Rattle.kb_automata.proofs.listing.list_words.Goals as goal
 
 pub loop-pending-init : goal.loop-pending-init
@@ -11,3 +13,17 @@ loop-pending-init g c = record {
   within = rw c.new-words.ensures (omega arith);
   goes_on = record { told = refl; faults = omega arith };
 }
+
+pub returns-in-Ok-false-clause-printed : goal.returns-in-Ok-false-clause-printed
+returns-in-Ok-false-clause-printed g c = ?
+
+pub returns-in-Err-clause-fault : goal.returns-in-Err-clause-fault
+returns-in-Err-clause-fault g c = λ shelf input.
+    counted_after (outside shelf input (g.O.Sink.state c.args.out.now)) (outside shelf input (g.O.Sink.state c.loop-pending.out))
+    (outside shelf input (g.O.Sink.state c.list_next.new.out)) c.in-Err.status
+    (record {
+      shelf = record { told = refl; load_faults = omega arith; store_faults = omega arith };
+      input = record { told = refl; faults = omega arith };
+      output = c.loop-pending.invariant.goes_on;
+    })
+    (c.in-Err.ensures.fault shelf input)
