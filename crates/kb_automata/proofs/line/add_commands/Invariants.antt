@@ -5,7 +5,4 @@ use Rattle.kb_automata.proofs.line.add_commands.Given as goal
 
 -- the commands that are still to be added make the program whole
 abbrev pub invariant-loop-name : goal.invariant-loop-name
-invariant-loop-name l = record {
-  items : l.name-items ≡ all_names;
-  rest : with_commands (app_of l.program) (drop l.name-index all_names) ≡ with_automata (app_of l.fn.program);
-}
+invariant-loop-name l = with_commands (app_of l.program) (drop l.name-index all_names) ≡ with_automata (app_of l.fn.program)
