@@ -1,11 +1,15 @@
 -- The command that is read of a subcommand's arguments and options.
-use Rattle.std.proofs.Common.{◌≡◌, ◌≢◌, ◌∙◌, ℕ, Option, Some, None, List, [], ◌∷◌, sym, ap, refl, subst, codes, lit<, if◌then◌else◌}
+use Rattle.std.proofs.Common.{◌≡◌, ◌≢◌, ◌∙◌, ℕ, Option, Some, None, List, [], ◌∷◌, sym, ap, refl, subst, codes, lit<, if◌then◌else◌, suc, ◌+◌, ◌<◌, ◌≤◌, get_or, drop, false, arith}
+use Rattle.std.proofs.Math.Seq.{drop-cons}
+use Rattle.std.proofs.lemmas.List.{drop_all}
 use Rattle.std.specs.Str.{bytes_eq}
 use Rattle.std.specs.List.{Contains}
-use Rattle.clap.specs.Words.{Row, Text}
+use Rattle.clap.specs.Words.{AddsSubcommand, App, Row, Text, app_of, with_subcommand}
+use Rattle.clap.specs.declared.builder.command.Command.{Command}
+use Rattle.clap.specs.declared.builder.command.Command.TheViews.{out-Command}
 use Rattle.kb_task.specs.Arguments.{Entered, IsEntered, GivesNumber, GivesStates, ReadsAs}
-use Rattle.kb_task.proofs.ArgumentLemmas.{text_at, number_at, text_given-at, number_given-at, own_name, own_rows}
-use Rattle.kb_automata.specs.Line.{name_text, all_names, command_names, name_of_task, GivesTask, GivesCombine, GivesTransform, GivesMinimise, GivesCompare, GivesEnumerate, IsAutomataTask, IsRead}
+use Rattle.kb_task.proofs.ArgumentLemmas.{added, text_at, number_at, text_given-at, number_given-at, own_name, own_rows}
+use Rattle.kb_automata.specs.Line.{name_text, command_app, with_commands, all_names, command_names, name_of_task, GivesTask, GivesCombine, GivesTransform, GivesMinimise, GivesCompare, GivesEnumerate, IsAutomataTask, IsRead}
 use Rattle.kb_automata.specs.declared.combine.Combination.{Combination}
 use Rattle.kb_automata.specs.declared.combine.Combination.TheVariants.{And, Or, Concat}
 use Rattle.kb_automata.specs.declared.combine.Combine.{Combine}
@@ -187,3 +191,23 @@ pub no_most : (rows : List Row) → ((n : ℕ) → ¬ GivesNumber rows (codes "m
     → (task : AutomataTask) → name_of_task task ≡ names.Enumerate → ¬ GivesTask task rows
 no_most rows none (tasks.Enumerate task) is gives = none task.max gives.max
 no_most rows none _ is gives = cc
+
+-- ---- commands that are added one after another
+
+-- one more command is added
+pub one_added : (index : ℕ) (program sub next : Command) (whole : App) → index < 10
+    → AddsSubcommand program sub next → (out-Command sub).has_globals ≡ false → app_of sub ≡ command_app (get_or all_names index (names.Combine And))
+    → with_commands (app_of program) (drop index all_names) ≡ whole → with_commands (app_of next) (drop (index + 1) all_names) ≡ whole
+one_added index program sub next whole within adds local is_app rest =
+    let name : Name = get_or all_names index (names.Combine And) in
+    let split : drop index all_names ≡ name ∷ drop (suc index) all_names = drop-cons all_names index (names.Combine And) within in
+    let first : with_commands (with_subcommand (app_of program) (command_app name).top) (drop (suc index) all_names) ≡ whole =
+    sym (ap (with_commands (app_of program)) split) ∙ rest in
+    let after : index + 1 ≡ suc index = omega arith in
+    ap (λ k. with_commands (app_of next) (drop k all_names)) after
+    ∙ ap (λ app. with_commands app (drop (suc index) all_names)) (added program sub next (app_of program) (command_app name) adds local is_app refl) ∙ first
+
+-- all commands are added
+pub all_added : (index : ℕ) (program : Command) (whole : App) → 10 ≤ index → with_commands (app_of program) (drop index all_names) ≡ whole
+    → app_of program ≡ whole
+all_added index program whole past rest = sym (ap (with_commands (app_of program)) (drop_all index all_names past)) ∙ rest

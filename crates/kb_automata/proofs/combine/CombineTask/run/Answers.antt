@@ -72,9 +72,10 @@ returns-in-Err-TooManyStates g c =
     run-limit before (g.F.Shelf.state c.load_second.new.shelf) input output loads c.print_limit.result
     (IsMadeOfTwo c.args.self.operation one two) (ExceedsCombined c.args.self.operation c.args.self.max_states one two) c.args.self.out c.in-Ok.first.names
     (States c.construction.result) (g.O.Sink.state c.print_limit.new.out) c.print_limit.ensures.written c.print_limit.ensures.goes_on
-    (c.print_limit.ensures.fault (g.F.Shelf.state c.load_second.new.shelf) input)
-    (ap States c.construction.ensures,
-    c.in-Err-TooManyStates.ensures.many c.in-Err-TooManyStates.field-0-0 (ap Err c.in-Err-TooManyStates.field-0-is))
+    (c.print_limit.ensures.fault (g.F.Shelf.state c.load_second.new.shelf) input) (
+      ap States c.construction.ensures,
+      c.in-Err-TooManyStates.ensures.many c.in-Err-TooManyStates.field-0-0 (ap Err c.in-Err-TooManyStates.field-0-is),
+    )
     (λ told means. both (c.in-Ok.ensures.holds told.shelf) (rw c.kind-kind.ensures at c.in-Ok.ensures.kind)
     (subst (λ files. HoldsAutomaton files c.args.self.two c.in-Ok.first.names two) (same_files c.load_automaton.ensures.only_loads)
     (c.in-Ok-load_second.ensures.holds (told-later goes_on told).shelf))

@@ -35,7 +35,8 @@ returns-in-Err-TooManyStates g c =
     (g.O.Sink.state c.args.out.now) c.load_automaton.ensures.only_loads c.print_limit.result
     (IsTransformed c.args.self.operation one) (ExceedsTransformed c.args.self.operation c.args.self.max_states one) c.args.self.out c.in-Ok.given.names
     (States c.construction.result) (g.O.Sink.state c.print_limit.new.out) c.print_limit.ensures.written c.print_limit.ensures.goes_on
-    (c.print_limit.ensures.fault (g.F.Shelf.state c.load_automaton.new.shelf) (g.I.Source.state c.args._input.now))
-    (ap States c.construction.ensures,
-    c.in-Err-TooManyStates.ensures.many c.in-Err-TooManyStates.field-0-0 (ap Err c.in-Err-TooManyStates.field-0-is))
+    (c.print_limit.ensures.fault (g.F.Shelf.state c.load_automaton.new.shelf) (g.I.Source.state c.args._input.now)) (
+      ap States c.construction.ensures,
+      c.in-Err-TooManyStates.ensures.many c.in-Err-TooManyStates.field-0-0 (ap Err c.in-Err-TooManyStates.field-0-is),
+    )
     (λ told means. loaded (c.in-Ok.ensures.holds told.shelf) (rw c.kind.ensures at c.in-Ok.ensures.kind) means)
