@@ -2,3 +2,4 @@ pub mod MakeLemmas
 pub mod PrintLemmas
 pub mod ListLemmas
 pub mod LineLemmas
+pub mod RunLemmas

@@ -1,11 +1,16 @@
 -- The command that is read of a subcommand's arguments and options.
-use Rattle.std.proofs.Common.{◌≡◌, ◌≢◌, ◌∙◌, ℕ, Option, Some, None, List, [], ◌∷◌, sym, ap, refl, subst, codes, lit<, if◌then◌else◌}
+use Rattle.std.proofs.Common.{◌≡◌, ◌≢◌, ◌∙◌, ℕ, Option, Some, None, List, [], ◌∷◌, sym, ap, refl, subst, codes, lit<, if◌then◌else◌, suc, ◌+◌, ◌<◌, ◌≤◌, get_or, drop, false, arith}
+use Rattle.std.proofs.Math.Seq.{drop-cons}
+use Rattle.std.proofs.lemmas.List.{drop_all}
 use Rattle.std.specs.Str.{bytes_eq}
 use Rattle.std.specs.List.{Contains}
-use Rattle.clap.specs.Words.{Row, Text}
-use Rattle.kb_task.specs.Arguments.{Entered, IsEntered, ReadsAs}
-use Rattle.kb_task.proofs.ArgumentLemmas.{text_at, number_at, text_given-at, number_given-at, own_name, own_rows}
-use Rattle.kb_automata.specs.Line.{name_text, all_names, command_names, name_of_task, GivesTask, GivesCombine, GivesTransform, GivesMinimise, GivesCompare, GivesEnumerate, IsAutomataTask, IsRead}
+use Rattle.clap.specs.Words.{AddsSubcommand, App, Row, Text, app_of, with_subcommand}
+use Rattle.clap.specs.declared.builder.command.Command.{Command}
+use Rattle.clap.specs.declared.builder.command.Command.TheViews.{out-Command}
+use Rattle.kb_task.specs.Arguments.{Entered, IsEntered, GivesNumber, GivesStates, ReadsAs}
+use Rattle.kb_task.proofs.ArgumentLemmas.{added, text_at, number_at, text_given-at, number_given-at, own_name, own_rows}
+use Rattle.kb_automata.specs.Line.{name_text, command_app, with_commands, all_names, command_names, name_of_task, GivesTask, GivesCombine, GivesTransform, GivesMinimise, GivesCompare, GivesEnumerate, IsAutomataTask, IsRead}
+use Rattle.kb_automata.specs.declared.combine.Combination.{Combination}
 use Rattle.kb_automata.specs.declared.combine.Combination.TheVariants.{And, Or, Concat}
 use Rattle.kb_automata.specs.declared.combine.Combine.{Combine}
 use Rattle.kb_automata.specs.declared.compare.Compare.{Compare}
@@ -16,6 +21,7 @@ use Rattle.kb_automata.specs.declared.minimise.Minimise.{Minimise}
 use Rattle.kb_automata.specs.declared.task.AutomataTask.{AutomataTask}
 use Rattle.kb_automata.specs.declared.task.AutomataTask.TheVariants as tasks
 use Rattle.kb_automata.specs.declared.transform.Transform.{Transform}
+use Rattle.kb_automata.specs.declared.transform.Transformation.{Transformation}
 use Rattle.kb_automata.specs.declared.transform.Transformation.TheVariants.{Not, Exists, Star, Reverse}
 
 -- ---- names
@@ -158,3 +164,50 @@ unnamed-entered entered text rows is none task entered_task =
 -- no subcommand is none of the commands
 pub none-entered : (entered : Entered) → entered ≡ None → (task : AutomataTask) → ¬ IsAutomataTask entered task
 none-entered entered none task entered_task = let no : Some (name_text (name_of_task task), entered_task.rows) ≡ None = sym entered_task.is ∙ none in cc
+
+-- ---- arguments that give no command
+
+pub no_combine : (operation : Combination) (rows : List Row) → ((n : ℕ) → ¬ GivesStates rows n)
+    → (task : AutomataTask) → name_of_task task ≡ names.Combine operation → ¬ GivesTask task rows
+no_combine operation rows none (tasks.Combine task) is gives = none task.max_states gives.max_states
+no_combine operation rows none _ is gives = cc
+
+pub no_transform : (operation : Transformation) (rows : List Row) → ((n : ℕ) → ¬ GivesStates rows n)
+    → (task : AutomataTask) → name_of_task task ≡ names.Transform operation → ¬ GivesTask task rows
+no_transform operation rows none (tasks.Transform task) is gives = none task.max_states gives.max_states
+no_transform operation rows none _ is gives = cc
+
+pub no_compare : (rows : List Row) → ((n : ℕ) → ¬ GivesStates rows n)
+    → (task : AutomataTask) → name_of_task task ≡ names.Compare → ¬ GivesTask task rows
+no_compare rows none (tasks.Compare task) is gives = none task.max_states gives.max_states
+no_compare rows none _ is gives = cc
+
+pub no_least : (rows : List Row) → ((n : ℕ) → ¬ GivesNumber rows (codes "min") 0 65535 n)
+    → (task : AutomataTask) → name_of_task task ≡ names.Enumerate → ¬ GivesTask task rows
+no_least rows none (tasks.Enumerate task) is gives = none task.min gives.min
+no_least rows none _ is gives = cc
+
+pub no_most : (rows : List Row) → ((n : ℕ) → ¬ GivesNumber rows (codes "max") 0 65535 n)
+    → (task : AutomataTask) → name_of_task task ≡ names.Enumerate → ¬ GivesTask task rows
+no_most rows none (tasks.Enumerate task) is gives = none task.max gives.max
+no_most rows none _ is gives = cc
+
+-- ---- commands that are added one after another
+
+-- one more command is added
+pub one_added : (index : ℕ) (program sub next : Command) (whole : App) → index < 10
+    → AddsSubcommand program sub next → (out-Command sub).has_globals ≡ false → app_of sub ≡ command_app (get_or all_names index (names.Combine And))
+    → with_commands (app_of program) (drop index all_names) ≡ whole → with_commands (app_of next) (drop (index + 1) all_names) ≡ whole
+one_added index program sub next whole within adds local is_app rest =
+    let name : Name = get_or all_names index (names.Combine And) in
+    let split : drop index all_names ≡ name ∷ drop (suc index) all_names = drop-cons all_names index (names.Combine And) within in
+    let first : with_commands (with_subcommand (app_of program) (command_app name).top) (drop (suc index) all_names) ≡ whole =
+    sym (ap (with_commands (app_of program)) split) ∙ rest in
+    let after : index + 1 ≡ suc index = omega arith in
+    ap (λ k. with_commands (app_of next) (drop k all_names)) after
+    ∙ ap (λ app. with_commands app (drop (suc index) all_names)) (added program sub next (app_of program) (command_app name) adds local is_app refl) ∙ first
+
+-- all commands are added
+pub all_added : (index : ℕ) (program : Command) (whole : App) → 10 ≤ index → with_commands (app_of program) (drop index all_names) ≡ whole
+    → app_of program ≡ whole
+all_added index program whole past rest = sym (ap (with_commands (app_of program)) (drop_all index all_names past)) ∙ rest

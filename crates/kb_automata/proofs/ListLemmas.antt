@@ -130,10 +130,10 @@ listed-start names automaton least most written = record {
   held = refl;
 }
 
-pub listed-more : (names : List (List ℕ)) (enumeration after : Enumeration) (before written pending printed pending' next : List ℕ)
+pub listed-more : (names : List (List ℕ)) (enumeration after : Enumeration) (before written pending shown pending' next : List ℕ)
     → Listed names enumeration before written pending → IsNext enumeration next → after ≡ record enumeration { given = Some next }
-    → printed ≡ pending ++ text_of_word names next → pending' ≡ printed ++ newline ∷ [] → Listed names after before written pending'
-listed-more names enumeration after before written pending printed pending' next listed is_next is prints ends =
+    → shown ≡ pending ++ text_of_word names next → pending' ≡ shown ++ newline ∷ [] → Listed names after before written pending'
+listed-more names enumeration after before written pending shown pending' next listed is_next is prints ends =
     subst (λ e. Listed names e before written pending') (sym is) (record {
       words = listed.words ++ next ∷ [];
       given = given-more enumeration listed.words next listed.given is_next;

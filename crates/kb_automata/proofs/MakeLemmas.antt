@@ -34,17 +34,17 @@ combined-same combinations.And one two made stored same is = same_texts made sto
 combined-same combinations.Or one two made stored same is = same_texts made stored (λ text. AcceptsText one text ⊎ AcceptsText two text) same is
 combined-same combinations.Concat one two made stored same is = same_texts made stored (IsSplit one two) same is
 
-pub made_of_two-same : (operation : Combination) (one two made stored : Automaton) → made.alphabet ≡ one.alphabet → IsCombined operation one two made
-    → stored.alphabet ≡ made.alphabet → SameLanguage made stored → IsMadeOfTwo operation one two stored
-made_of_two-same operation one two made stored over is alphabet same = (alphabet ∙ over, combined-same operation one two made stored same is)
+pub made_of_two-same : (operation : Combination) (one two made : Automaton) → made.alphabet ≡ one.alphabet → IsCombined operation one two made
+    → (stored : Automaton) → stored.alphabet ≡ made.alphabet → SameLanguage made stored → IsMadeOfTwo operation one two stored
+made_of_two-same operation one two made over is stored alphabet same = (alphabet ∙ over, combined-same operation one two made stored same is)
 
-pub transformed-same : (operation : Transformation) (one made stored : Automaton) → IsTransformed operation one made
-    → stored.alphabet ≡ made.alphabet → SameLanguage made stored → IsTransformed operation one stored
-transformed-same transformations.Not one made stored is alphabet same =
+pub transformed-same : (operation : Transformation) (one made : Automaton) → IsTransformed operation one made
+    → (stored : Automaton) → stored.alphabet ≡ made.alphabet → SameLanguage made stored → IsTransformed operation one stored
+transformed-same transformations.Not one made is stored alphabet same =
     (alphabet ∙ is.0, same_texts made stored (λ text. IsTextOf one.alphabet text × ¬ AcceptsText one text) same is.1)
-transformed-same transformations.Exists one made stored is alphabet same = (alphabet ∙ is.0, same_texts made stored (HasSecond one) same is.1)
-transformed-same transformations.Star one made stored is alphabet same = (alphabet ∙ is.0, same_texts made stored (IsProduct one) same is.1)
-transformed-same transformations.Reverse one made stored is alphabet same =
+transformed-same transformations.Exists one made is stored alphabet same = (alphabet ∙ is.0, same_texts made stored (HasSecond one) same is.1)
+transformed-same transformations.Star one made is stored alphabet same = (alphabet ∙ is.0, same_texts made stored (IsProduct one) same is.1)
+transformed-same transformations.Reverse one made is stored alphabet same =
     (alphabet ∙ is.0, same_texts made stored (λ text. AcceptsText one (reverse text)) same is.1)
 
 pub minimised-same : (one stored : Automaton) → stored.alphabet ≡ one.alphabet → SameLanguage one stored → IsMinimised one stored

@@ -34,10 +34,10 @@ module _ (AreSo : List ℕ → List ℕ → Status → Type 0) where
 -- ---- the line of a comparison
 
 -- the line of a word
-pub word-line : (names : List (List ℕ)) (alphabet : Alphabet) (n : ℕ) (text letters begun printed line : List ℕ) → alphabet ≡ Plain n
-    → letters ≡ text → begun ≡ codes "no equal " → printed ≡ begun ++ text_of_word names letters → line ≡ printed ++ newline ∷ []
+pub word-line : (names : List (List ℕ)) (alphabet : Alphabet) (n : ℕ) (text letters begun shown line : List ℕ) → alphabet ≡ Plain n
+    → letters ≡ text → begun ≡ codes "no equal " → shown ≡ begun ++ text_of_word names letters → line ≡ shown ++ newline ∷ []
     → IsDifferenceLine names text alphabet line
-word-line names alphabet n text letters begun printed line plain is_word begins prints ends =
+word-line names alphabet n text letters begun shown line plain is_word begins prints ends =
     subst (λ a. IsDifferenceLine names text a line) (sym plain)
     (word (ends ∙ ap (λ l. l ++ newline ∷ []) (prints ∙ ap (λ l. l ++ text_of_word names letters) begins
     ∙ ap (λ w. codes "no equal " ++ text_of_word names w) is_word)))

@@ -49,9 +49,9 @@ module _ (names : List (List ℕ)) (one two : Automaton) where
 
   -- the line of a yes
   yes_line : (most : ℕ) (line : List ℕ) (status : Status) → IsComparisonLine names one two most line status → IsYes status → line ≡ codes "yes\n"
-  yes_line most line status (same language few) yes = refl
-  yes_line most line status (differ least few is_line) yes = absurd yes
-  yes_line most line status (undecided many) yes = absurd yes
+  yes_line most line status (same language few) is_yes = refl
+  yes_line most line status (differ least few is_line) is_yes = absurd is_yes
+  yes_line most line status (undecided many) is_yes = absurd is_yes
 
   line_answers : (most : ℕ) (line : List ℕ) (status : Status) → IsComparisonLine names one two most line status → IsAnswer status
   line_answers most line status (same language few) = tt
@@ -75,9 +75,9 @@ module _ (names : List (List ℕ)) (one two : Automaton) where
   -- what a yes wrote
   yes_written : (most : ℕ) (before after : List ℕ) (status : Status) → IsYes status → ComparisonIsPrinted names one two most before after status
       → after ≡ before ++ codes "yes\n"
-  yes_written most before after status yes (printed {line = line} is_line is) = is ∙ ap (λ l. before ++ l) (yes_line most line status is_line yes)
-  yes_written most before after status yes (failed is_line front) = absurd yes
-  yes_written most before after status yes (no_memory unwritten) = absurd yes
+  yes_written most before after status is_yes (printed {line = line} is_line is) = is ∙ ap (λ l. before ++ l) (yes_line most line status is_line is_yes)
+  yes_written most before after status is_yes (failed is_line front) = absurd is_yes
+  yes_written most before after status is_yes (no_memory unwritten) = absurd is_yes
 
 pub compare_complete : IsComplete CompareMeans compare_is_unrefused (λ task. IsAnswer)
 compare_complete = λ task before after status means unrefused faultless.
@@ -95,12 +95,12 @@ compare_settled = λ task before after other_before other_after status other mea
     (alike task.one (inl refl)) (alike task.two (inr refl)) means others
 
 pub compare_one_function : IsFunctionOfInputs CompareMeans ComparesDifferInOptions compare_reads compare_may_store
-compare_one_function = λ task other_task before after other_before other_after status other means others yes also differs alike input.
-    over_two before after other_before other_after status other (yes-conclusive status yes) (yes-conclusive other also)
+compare_one_function = λ task other_task before after other_before other_after status other means others is_yes also differs alike input.
+    over_two before after other_before other_after status other (yes-conclusive status is_yes) (yes-conclusive other also)
     (HasSameEffect (compare_may_store task) before after other_before other_after) WordsOrPairs task.one task.two _ _
     (λ names one two prints print. record {
       bytes = codes "yes\n";
-      written = yes_written names one two task.max_states before.output.written after.output.written status yes prints.so;
+      written = yes_written names one two task.max_states before.output.written after.output.written status is_yes prints.so;
       other_written = yes_written names one two other_task.max_states other_before.output.written other_after.output.written other also print.so;
       stored = λ name none. absurd none;
     })

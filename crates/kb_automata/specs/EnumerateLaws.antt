@@ -106,9 +106,9 @@ module _ (names : List (List ℕ)) (automaton : Automaton) (least most : ℕ) wh
     written : after ≡ before ++ lines_of_words names words
 
   wrote_all : (before after : List ℕ) (status : Status) → IsYes status → WordsArePrinted names automaton least most before after status → WroteAll before after
-  wrote_all before after status yes (printed {words = words} all is) = record { words = words; all = all; written = is }
-  wrote_all before after status yes (failed front) = absurd yes
-  wrote_all before after status yes (no_memory front) = absurd yes
+  wrote_all before after status is_yes (printed {words = words} all is) = record { words = words; all = all; written = is }
+  wrote_all before after status is_yes (failed front) = absurd is_yes
+  wrote_all before after status is_yes (no_memory front) = absurd is_yes
 
   one_text : (before after other_before other_after : Outside) → WroteAll before.output.written after.output.written
       → WroteAll other_before.output.written other_after.output.written → HasSameEffect (λ name. ⊥) before after other_before other_after
@@ -136,12 +136,12 @@ enumerate_settled = λ task before after other_before other_after status other m
     (alike task.file refl) means others
 
 pub enumerate_one_function : IsFunctionOfInputs EnumerateMeans EnumeratesDifferInOptions enumerate_reads enumerate_may_store
-enumerate_one_function = λ task other_task before after other_before other_after status other means others yes also differs alike input.
-    over_one before after other_before other_after status other (yes-conclusive status yes) (yes-conclusive other also)
+enumerate_one_function = λ task other_task before after other_before other_after status other means others is_yes also differs alike input.
+    over_one before after other_before other_after status other (yes-conclusive status is_yes) (yes-conclusive other also)
     (HasSameEffect (enumerate_may_store task) before after other_before other_after) Words task.file _ _
     (λ names automaton prints print.
     one_text names automaton task.min task.max before after other_before other_after
-    (wrote_all names automaton task.min task.max before.output.written after.output.written status yes prints.so)
+    (wrote_all names automaton task.min task.max before.output.written after.output.written status is_yes prints.so)
     (wrote_all names automaton task.min task.max other_before.output.written other_after.output.written other also print.so))
     (alike task.file refl) means
     (subst (λ t. EnumerateMeans t other_before other_after other) differs others)

@@ -13,8 +13,8 @@ use Rattle.kb_automata.specs.Loaded.{MeaningOfOne, MeaningOfTwo, OneMeans, TwoMe
 
 -- a run that answered yes answered
 pub yes-conclusive : (status : Status) → IsYes status → IsConclusive status
-yes-conclusive Yes yes = tt
-yes-conclusive _ no = absurd no
+yes-conclusive Yes is_yes = tt
+yes-conclusive _ is_yes = absurd is_yes
 
 -- where nothing is refused, the status is one of those after the load
 module _ (Answers : Status → Type 0) (on_memory : Answers Memory) (before after : Outside) (status : Status) (faultless : IsFaultless status) where

@@ -105,10 +105,10 @@ module _ (IsMade : Automaton → Type 0) (out : List ℕ) (names : List (List �
       → (before after other_before other_after : Outside) (status other : Status) → IsYes status → IsYes other
       → MakeMeans IsMade Exceeds out names before after status → MakeMeans IsMade OtherExceeds out names other_before other_after other
       → HasSameEffect (λ name. name ≡ out) before after other_before other_after
-  make_function Exceeds OtherExceeds alike_made before after other_before other_after Yes Yes yes also means others =
+  make_function Exceeds OtherExceeds alike_made before after other_before other_after Yes Yes is_yes also means others =
       stored_same before after other_before other_after alike_made means.0 others.0
-  make_function Exceeds OtherExceeds alike_made before after other_before other_after Yes other yes also means others = absurd also
-  make_function Exceeds OtherExceeds alike_made before after other_before other_after status other yes also means others = absurd yes
+  make_function Exceeds OtherExceeds alike_made before after other_before other_after Yes other is_yes also means others = absurd also
+  make_function Exceeds OtherExceeds alike_made before after other_before other_after status other is_yes also means others = absurd is_yes
 
 -- ---- `fsaand`, `fsaor`, `fsaconcat`
 
@@ -128,12 +128,12 @@ combine_settled = λ task before after other_before other_after status other mea
     (same task.one (inl refl)) (same task.two (inr refl)) means others
 
 pub combine_one_function : IsFunctionOfInputs CombineMeans CombinesDifferInOptions combine_reads combine_may_store
-combine_one_function = λ task other_task before after other_before other_after status other means others yes also differ same input.
-    over_two before after other_before other_after status other (yes-conclusive status yes) (yes-conclusive other also)
+combine_one_function = λ task other_task before after other_before other_after status other means others is_yes also differ same input.
+    over_two before after other_before other_after status other (yes-conclusive status is_yes) (yes-conclusive other also)
     (HasSameEffect (combine_may_store task) before after other_before other_after) (combined_kind task.operation) task.one task.two _ _
     (λ names one two made mades. make_function (IsMadeOfTwo task.operation one two) task.out names
     (ExceedsCombined task.operation task.max_states one two) (ExceedsCombined task.operation other_task.max_states one two)
-    (made_of_two-alike task.operation one two) before after other_before other_after status other yes also made mades)
+    (made_of_two-alike task.operation one two) before after other_before other_after status other is_yes also made mades)
     (same task.one (inl refl)) (same task.two (inr refl)) means
     (subst (λ t. CombineMeans t other_before other_after other) differ others)
 
@@ -155,12 +155,12 @@ transform_settled = λ task before after other_before other_after status other m
     (same task.file refl) means others
 
 pub transform_one_function : IsFunctionOfInputs TransformMeans TransformsDifferInOptions transform_reads transform_may_store
-transform_one_function = λ task other_task before after other_before other_after status other means others yes also differ same input.
-    over_one before after other_before other_after status other (yes-conclusive status yes) (yes-conclusive other also)
+transform_one_function = λ task other_task before after other_before other_after status other means others is_yes also differ same input.
+    over_one before after other_before other_after status other (yes-conclusive status is_yes) (yes-conclusive other also)
     (HasSameEffect (transform_may_store task) before after other_before other_after) (transformed_kind task.operation) task.file _ _
     (λ names one made mades. make_function (IsTransformed task.operation one) task.out names
     (ExceedsTransformed task.operation task.max_states one) (ExceedsTransformed task.operation other_task.max_states one)
-    (transformed-alike task.operation one) before after other_before other_after status other yes also made mades)
+    (transformed-alike task.operation one) before after other_before other_after status other is_yes also made mades)
     (same task.file refl) means
     (subst (λ t. TransformMeans t other_before other_after other) differ others)
 
@@ -189,10 +189,10 @@ minimise_settled = λ task before after other_before other_after status other me
     (same task.file refl) means others
 
 pub minimise_one_function : IsFunctionOfInputs MinimiseMeans MinimisesDifferInOptions minimise_reads minimise_may_store
-minimise_one_function = λ task other_task before after other_before other_after status other means others yes also differ same input.
-    over_one before after other_before other_after status other (yes-conclusive status yes) (yes-conclusive other also)
+minimise_one_function = λ task other_task before after other_before other_after status other means others is_yes also differ same input.
+    over_one before after other_before other_after status other (yes-conclusive status is_yes) (yes-conclusive other also)
     (HasSameEffect (minimise_may_store task) before after other_before other_after) WordsOrPairs task.file _ _
     (λ names one made mades. make_function (IsMinimised one) task.out names (λ limit. ⊥) (λ limit. ⊥)
-    (minimised-alike one) before after other_before other_after status other yes also made mades)
+    (minimised-alike one) before after other_before other_after status other is_yes also made mades)
     (same task.file refl) means
     (subst (λ t. MinimiseMeans t other_before other_after other) differ others)

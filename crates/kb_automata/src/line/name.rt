@@ -22,13 +22,14 @@ pub(crate) enum Name {
 }
 
 /// What a command is called, and its help.
-pub(crate) struct Label {
+#[derive(Clone, Copy)]
+pub(crate) struct Label<'a> {
     /// Its name on the command line.
-    pub text: &'static str,
+    pub text: &'a str,
     /// What it does.
-    pub about: &'static str,
+    pub about: &'a str,
     /// A command line that uses it.
-    pub example: &'static str,
+    pub example: &'a str,
 }
 
 /// The commands, in the order in which the program lists them.
@@ -51,16 +52,23 @@ impl Name {
         ensures some { IfSome result (λ found. text.now ≡ name_text found) }
         ensures none { result ≡ None → (other : Name) → text.now ≢ name_text other }
     {
-        for name in NAMES {
-            if name.label().text == text {
-                return Some(name);
-            }
+        match text {
+            "fsaand" => Some(Name::Combine(Combination::And)),
+            "fsaor" => Some(Name::Combine(Combination::Or)),
+            "fsaconcat" => Some(Name::Combine(Combination::Concat)),
+            "fsanot" => Some(Name::Transform(Transformation::Not)),
+            "fsaexists" => Some(Name::Transform(Transformation::Exists)),
+            "fsastar" => Some(Name::Transform(Transformation::Star)),
+            "fsareverse" => Some(Name::Transform(Transformation::Reverse)),
+            "fsamin" => Some(Name::Minimise),
+            "fsalequal" => Some(Name::Compare),
+            "fsaenumerate" => Some(Name::Enumerate),
+            _ => None,
         }
-        None
     }
 
     /// What the command is called, and its help.
-    pub fn label(self) -> Label
+    pub fn label<'a>(self) -> Label<'a>
         ensures { result.text.now ≡ name_text self }
     {
         match self {
