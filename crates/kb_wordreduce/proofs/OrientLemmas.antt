@@ -1,7 +1,6 @@
 -- Orienting relations one after another.
-use Rattle.std.proofs.Common.{◌≡◌, ◌∙◌, ℕ, zero, suc, ◌⊎◌, inl, inr, List, [], ◌∷◌, ◌++◌, refl, sym, ap₂, subst, length, Some, append_assoc, arith}
+use Rattle.std.proofs.Common.{◌≡◌, ℕ, zero, suc, inl, inr, List, [], ◌∷◌, ◌++◌, refl, sym, subst, length, Some, append_assoc, arith}
 use Rattle.kb_word.proofs.PathLemmas.{congruent_reflexive, congruent_symmetric, congruent_sides, congruent_implied}
-use Rattle.kb_word.proofs.Shortlex.{shortlex_irreflexive, shortlex_transitive}
 use Rattle.std.proofs.lemmas.List.{append-nil}
 use Rattle.kb_word.specs.Words.{Pair, Less, OneOf}
 use Rattle.kb_word.specs.Congruence.{Congruent, SameCongruence}

@@ -1,5 +1,5 @@
 -- The laws of what the statuses of `wordreduce` mean.
-use Rattle.std.proofs.Common.{◌≡◌, ◌≢◌, ℕ, ◌+◌, ◌<◌, ◌≤◌, inl, inr, List, [], ◌++◌, length, slice_get, refl, sym, ◌∙◌, ap, subst, arith, length-append}
+use Rattle.std.proofs.Common.{◌≡◌, ℕ, ◌<◌, inl, inr, List, ◌++◌, length, slice_get, refl, sym, ◌∙◌, ap, subst, arith, length-append}
 use Rattle.std.proofs.lemmas.Option.{same_Some}
 use Rattle.kb_io.specs.Outside.{Outside}
 use Rattle.kb_word.specs.Words.{Pair}
@@ -21,7 +21,6 @@ use Rattle.kb_task.specs.declared.status.Refusal.TheVariants.{File, Line, InputT
 use Rattle.kb_task.specs.declared.status.Status.{Status}
 use Rattle.kb_task.specs.declared.status.Status.TheVariants.{Yes, Refused, Undecided, No, Memory, Fault, Usage}
 use Rattle.kb_task.proofs.LoadEnds.{memory_at_load, load_inconclusive, same_bytes, one_tree}
-use Rattle.kb_lines.specs.WordLines.{most_input}
 use Rattle.kb_lines.proofs.UniqueLemmas.{one-answered}
 use Rattle.kb_wordreduce.specs.Confluence.{IsLeastIn, OrientedAreConfluent, OrientedAreNotConfluent}
 use Rattle.kb_wordreduce.specs.Given.{Given}

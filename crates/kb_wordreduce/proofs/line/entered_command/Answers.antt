@@ -1,7 +1,6 @@
-use Rattle.std.proofs.Common.{rules, ◌≡◌, ◌∙◌, Some, sym, ap, codes}
+use Rattle.std.proofs.Common.{rules, ◌≡◌, Some, sym, codes}
 use Rattle.clap.specs.Words.{Row, found_of, rows_of, subcommand_rows_of}
 use Rattle.std.specs.Prelude.{List}
-use Rattle.kb_task.specs.Arguments.{Entered}
 use Rattle.kb_task.proofs.ArgumentLemmas.{entered_with, if_ok}
 use Rattle.kb_wordreduce.proofs.LineLemmas.{read_rows}
 use Rattle.kb_wordreduce.proofs.line.entered_command.Goals as goal

@@ -3,7 +3,7 @@ use Rattle.kb_word.specs.Presentations.{PresentationParts, parts_of}
 use Rattle.kb_word.specs.Rewriting.{NormalForm}
 use Rattle.kb_lines.specs.Streams.{Streams, streams}
 use Rattle.kb_lines.proofs.WiderLemmas.{answered-wider, stops-wider}
-use Rattle.kb_wordreduce.specs.Confluence.{relations, IsLeastIn, OrientedAreConfluent}
+use Rattle.kb_wordreduce.specs.Confluence.{relations, IsLeastIn}
 use Rattle.kb_wordreduce.proofs.RunLemmas.{answered-run, stop-run}
 use Rattle.kb_wordreduce.proofs.run.answer_all.Goals as goal
 
