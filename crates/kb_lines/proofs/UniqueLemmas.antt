@@ -1,5 +1,5 @@
 -- Lines are cut in one way, and what they give is one.
-use Rattle.std.proofs.Common.{◌≡◌, ◌≢◌, ℕ, ◌+◌, ◌-◌, ◌<◌, List, [], ◌∷◌, ◌++◌, length, take, Result, Ok, refl, sym, ◌∙◌, ap, ap₂, subst, append_assoc, append-nil, arith, length-append}
+use Rattle.std.proofs.Common.{◌≡◌, ℕ, ◌+◌, ◌-◌, ◌<◌, List, [], ◌∷◌, ◌++◌, length, take, Result, Ok, refl, sym, ◌∙◌, ap, ap₂, subst, append_assoc, append-nil, arith, length-append}
 use Rattle.std.proofs.Math.Seq.{take-append-add}
 use Rattle.std.specs.List.{AllByRecursion}
 use Rattle.kb_io.specs.Bytes.{newline}
@@ -105,7 +105,7 @@ front-lines (line ∷ lines) [] rest last each too also is =
     absurd (no-newline last line (ended lines ++ rest) also (sym is ∙ append_assoc line (newline ∷ ended lines) rest))
 front-lines (line ∷ lines) (other ∷ others) rest last each too also is =
     let first = one-front line other (ended lines ++ rest) (ended others ++ last) each.0 too.0
-        (sym (append_assoc line (newline ∷ ended lines) rest) ∙ is ∙ append_assoc other (newline ∷ ended others) last) in
+    (sym (append_assoc line (newline ∷ ended lines) rest) ∙ is ∙ append_assoc other (newline ∷ ended others) last) in
     let more = front-lines lines others rest last each.1 too.1 also first.1 in
     (more.0, ap₂ (λ l ls. l ∷ ls) (sym first.0) more.1)
 
@@ -124,9 +124,9 @@ module _ (parts : PresentationParts) (Answers : List ℕ → List ℕ → Type 0
   gives-unrefused lines line bytes others last extra given fault each one too also is gives refused =
       let found = front-lines (lines ++ line ∷ []) others bytes last (all-append IsOneLine lines (line ∷ []) each (one, tt)) too also is in
       let same : others ++ extra ≡ lines ++ line ∷ (found.0 ++ extra) =
-          ap (λ ls. ls ++ extra) found.1
-          ∙ append_assoc (lines ++ line ∷ []) found.0 extra
-          ∙ append_assoc lines (line ∷ []) (found.0 ++ extra) in
+      ap (λ ls. ls ++ extra) found.1
+      ∙ append_assoc (lines ++ line ∷ []) found.0 extra
+      ∙ append_assoc lines (line ∷ []) (found.0 ++ extra) in
       let at = gives-at lines line (found.0 ++ extra) given (subst (λ ls. LinesGive parts Answers ls given) same gives) in
       not_both fault at.1 refused
 
@@ -142,8 +142,8 @@ module _ (parts : PresentationParts) (Answers : List ℕ → List ℕ → Type 0
       → EndsWithin most_input (ended refused.lines ++ refused.line) behind → ⊥
   none-refused before after number fault [] all refused is ends =
       let cut = one-cut all.lines refused.lines all.last refused.line all.cuts.each refused.each all.cuts.open_line refused.one
-          (sym all.cuts.whole ∙ refused.whole ∙ ap (λ b. (ended refused.lines ++ refused.line) ++ b) is
-          ∙ append-nil (ended refused.lines ++ refused.line)) in
+      (sym all.cuts.whole ∙ refused.whole ∙ ap (λ b. (ended refused.lines ++ refused.line) ++ b) is
+      ∙ append-nil (ended refused.lines ++ refused.line)) in
       let gives = gives-at all.lines all.last [] all.given all.answered in
       not_both fault (subst (λ l. LineGives parts Answers l gives.0) cut.1 gives.1) refused.faulty
   none-refused before after number fault (byte ∷ bytes) all refused is ends =
@@ -164,21 +164,21 @@ module _ (parts : PresentationParts) (Answers : List ℕ → List ℕ → Type 0
       → EndsWithin most_input (ended refused.lines ++ refused.line) behind → ⊥
   none-refused_within before after number fault [] more all refused is ends =
       let size = ap length (refused.whole ∙ ap (λ b. (ended refused.lines ++ refused.line) ++ b) is
-          ∙ append-nil (ended refused.lines ++ refused.line)) in
+      ∙ append-nil (ended refused.lines ++ refused.line)) in
       omega (arith, more, ends, size)
   none-refused_within before after number fault (byte ∷ bytes) more all refused is ends =
       let front : List ℕ = ended (refused.lines ++ refused.line ∷ []) in
       let whole : before.input.left ≡ front ++ bytes =
-          up_to_newline refused.lines refused.line bytes before.input.left refused.behind byte refused.whole is ends.0 in
+      up_to_newline refused.lines refused.line bytes before.input.left refused.behind byte refused.whole is ends.0 in
       let size : length (ended refused.lines ++ refused.line) + 1 ≡ length front =
-          sym (length-append (ended refused.lines ++ refused.line) (newline ∷ []))
-          ∙ ap length (append_assoc (ended refused.lines) refused.line (newline ∷ []) ∙ ended-next refused.lines refused.line []
-          ∙ append-nil front) in
+      sym (length-append (ended refused.lines ++ refused.line) (newline ∷ []))
+      ∙ ap length (append_assoc (ended refused.lines) refused.line (newline ∷ []) ∙ ended-next refused.lines refused.line []
+      ∙ append-nil front) in
       let short : length front + (most_input - length front) ≡ most_input = let less = ends.1 in omega (arith, less, size) in
       let taken : take most_input before.input.left ≡ front ++ take (most_input - length front) bytes =
-          ap (λ n. take n before.input.left) (sym short)
-          ∙ ap (λ b. take (length front + (most_input - length front)) b) whole
-          ∙ take-append-add front bytes (most_input - length front) in
+      ap (λ n. take n before.input.left) (sym short)
+      ∙ ap (λ b. take (length front + (most_input - length front)) b) whole
+      ∙ take-append-add front bytes (most_input - length front) in
       gives-unrefused refused.lines refused.line (take (most_input - length front) bytes) all.lines all.rest [] all.given fault
       refused.each refused.one all.cuts.each all.cuts.open_line
       (sym taken ∙ all.cuts.whole)

@@ -1,5 +1,5 @@
 -- What has been read and answered between two reads.
-use Rattle.std.specs.Prelude.{◌≡◌, ℕ, ◌≤◌, List, [], length}
+use Rattle.std.specs.Prelude.{◌≡◌, ℕ, List, [], length}
 use Rattle.kb_word.specs.Presentations.{PresentationParts}
 use Rattle.kb_lines.specs.Progress.{IsFresh, Advances}
 use Rattle.kb_lines.specs.Streams.{Streams, Takes}

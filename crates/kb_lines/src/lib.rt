@@ -23,8 +23,8 @@ mod stop;
 
 pub use answerer::Answerer;
 pub use laws::{
-    a_too_long_input_that_was_answered_has_no_refused_line, an_answered_input_has_no_refused_line, an_input_has_one_text_of_answers, lines_give_one_text,
-    no_line_is_answered_and_refused,
+    a_too_long_input_that_was_answered_has_no_refused_line, an_answered_input_has_no_refused_line,
+    an_input_has_one_text_of_answers, lines_give_one_text, no_line_is_answered_and_refused,
 };
 pub use lines::answer_lines;
 pub use stop::Stop;

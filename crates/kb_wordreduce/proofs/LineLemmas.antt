@@ -2,8 +2,8 @@
 use Rattle.std.proofs.Common.{◌≡◌, ◌≢◌, ◌∙◌, Option, Some, None, List, sym, refl, subst, codes, lit<}
 use Rattle.std.specs.List.{Contains}
 use Rattle.clap.specs.Words.{Row, Text}
-use Rattle.kb_task.specs.Arguments.{Entered, IsEntered, ReadsAs}
-use Rattle.kb_task.proofs.ArgumentLemmas.{text_at, number_at, text_given-at, number_given-at, own_name, own_rows}
+use Rattle.kb_task.specs.Arguments.{Entered, ReadsAs}
+use Rattle.kb_task.proofs.ArgumentLemmas.{text_given-at, number_given-at, own_name, own_rows}
 use Rattle.kb_wordreduce.specs.Given.{Given}
 use Rattle.kb_wordreduce.specs.Line.{command_names, GivesWordReduce, GivenAs, IsWordReduce}
 
@@ -11,7 +11,7 @@ same_given : (rows : List Row) (one other : Given) → GivesWordReduce rows one 
 same_given rows one other a b =
     let files : one.file ≡ other.file = text_given-at rows (codes "file") one.file a.file ∙ sym (text_given-at rows (codes "file") other.file b.file) in
     let workers : one.workers ≡ other.workers =
-        number_given-at rows (codes "workers") 1 64 one.workers a.workers ∙ sym (number_given-at rows (codes "workers") 1 64 other.workers b.workers) in
+    number_given-at rows (codes "workers") 1 64 one.workers a.workers ∙ sym (number_given-at rows (codes "workers") 1 64 other.workers b.workers) in
     λ i. record { file = files i; workers = workers i }
 
 -- one entered subcommand is one command at most
