@@ -126,7 +126,7 @@ one_automata_task entered task other a b =
 
 -- ---- a command that is entered has one of the names
 
-is_listed : (name : Name) → Contains command_names (name_text name)
+pub is_listed : (name : Name) → Contains command_names (name_text name)
 is_listed (names.Combine And) = (0, lit< tt, refl)
 is_listed (names.Combine Or) = (1, lit< tt, refl)
 is_listed (names.Combine Concat) = (6, lit< tt, refl)
