@@ -31,8 +31,8 @@ inconclusive arguments Memory stop conclusive = conclusive
 inconclusive arguments _ stop conclusive = stop
 
 yes-conclusive : (status : Status) → IsYes status → IsConclusive status
-yes-conclusive Yes yes = tt
-yes-conclusive _ yes = absurd yes
+yes-conclusive Yes is_yes = tt
+yes-conclusive _ is_yes = absurd is_yes
 
 meant : (arguments : List (List ℕ)) (command : Command) (before after : Outside) (status : Status) → IsLine arguments command → IsConclusive status
     → Headline arguments before after status → CommandMeans command before after status
@@ -62,8 +62,8 @@ pub headline_one_function : (arguments other_arguments : List (List ℕ)) (comma
     → Headline arguments before after status → Headline other_arguments other_before other_after other → IsYes status → IsYes other
     → ReadsSame (command_reads command) before other_before → before.input.left ≡ other_before.input.left
     → HasSameEffect (command_may_store command) before after other_before other_after
-headline_one_function arguments other_arguments command other_command before after other_before other_after status other line also differ one another yes other_yes same input =
+headline_one_function arguments other_arguments command other_command before after other_before other_after status other line also differ one another is_yes also_yes same input =
     commands_one_function command other_command before after other_before other_after status other
-    (meant arguments command before after status line (yes-conclusive status yes) one)
-    (meant other_arguments other_command other_before other_after other also (yes-conclusive other other_yes) another)
-    yes other_yes differ same input
+    (meant arguments command before after status line (yes-conclusive status is_yes) one)
+    (meant other_arguments other_command other_before other_after other also (yes-conclusive other also_yes) another)
+    is_yes also_yes differ same input

@@ -28,4 +28,4 @@ pub commands_one_function : (command other_command : Command) (before after othe
     → before.input.left ≡ other_before.input.left → HasSameEffect (command_may_store command) before after other_before other_after
 commands_one_function (WordReduce task) (WordReduce other) = wordreduce_one_function task other
 commands_one_function (Automata task) (Automata other) = automata_one_function task other
-commands_one_function _ _ = λ before after other_before other_after status answer means others yes also none same input. absurd none
+commands_one_function _ _ = λ before after other_before other_after status answer means others is_yes also none same input. absurd none

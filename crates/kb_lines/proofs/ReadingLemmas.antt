@@ -1,23 +1,22 @@
 -- How the reading of word lines goes on, and how it ends.
-use Rattle.std.proofs.Common.{◌≡◌, ◌⊎◌, ℕ, suc, ◌+◌, ◌<◌, ◌≤◌, List, [], ◌∷◌, ◌++◌, length, take, drop, refl, sym, ◌∙◌, ap, subst, append_assoc, append-nil, arith, length-append, Result, Ok, Err, IfErr, OnOk}
+use Rattle.std.proofs.Common.{◌≡◌, ℕ, ◌+◌, ◌<◌, ◌≤◌, List, [], ◌∷◌, ◌++◌, length, take, drop, refl, sym, ◌∙◌, ap, subst, append_assoc, append-nil, arith, length-append, Result, Ok, Err, IfErr, OnOk}
 use Rattle.std.specs.Prelude.{IsTrue}
 use Rattle.std.proofs.lemmas.List.{take-append-drop, take-take}
 use Rattle.std.proofs.Math.Seq.{take-append_seam}
-use Rattle.std.specs.List.{AllByRecursion}
 use Rattle.kb_io.specs.Bytes.{newline}
-use Rattle.kb_io.specs.States.{SourceState, SinkState, SourceGoesOn, SinkGoesOn}
+use Rattle.kb_io.specs.States.{SourceState, SinkState, SinkGoesOn}
 use Rattle.kb_word.specs.Presentations.{PresentationParts}
 use Rattle.kb_record.specs.declared.error.WordError.{WordError}
-use Rattle.kb_lines.specs.WordLines.{most_input, IsOneLine, ended, Cuts, LinesGive}
-use Rattle.kb_lines.specs.Streams.{Streams, streams, AreTold, StreamsGoOn, Takes, Sends}
+use Rattle.kb_lines.specs.WordLines.{most_input, IsOneLine, ended}
+use Rattle.kb_lines.specs.Streams.{Streams, streams, AreTold, StreamsGoOn}
 use Rattle.kb_lines.specs.Progress.{IsFresh, IsReady, PendingGoesOn, LineEnds, LineFront, LineRefused, LineStops, Advances, FrontIn, RefusesIn, StopsIn, LineStopIsCounted}
 use Rattle.kb_lines.specs.Reading.{IsReading}
 use Rattle.kb_lines.specs.Answered.{AllAnswered, EndedAnswered, FrontAnswered, RefusedAt, StopMeans, Stops, StopIsCounted}
 use Rattle.kb_lines.specs.declared.progress.Progress.{Progress}
 use Rattle.kb_lines.specs.declared.stop.Stop.{Stop}
 use Rattle.kb_lines.specs.declared.stop.Stop.TheVariants.{Refused, TooLong, Input, Output, Memory}
-use Rattle.kb_lines.proofs.LineLemmas.{all-append, ended-next, gives-next}
-use Rattle.kb_lines.proofs.ProgressLemmas.{pending-then, pending-stays, advances-append, advances-none, advances-line_front, stops-append}
+use Rattle.kb_lines.proofs.LineLemmas.{gives-next}
+use Rattle.kb_lines.proofs.ProgressLemmas.{pending-then, pending-stays, advances-append, advances-line_front, stops-append}
 
 -- ---- the streams
 

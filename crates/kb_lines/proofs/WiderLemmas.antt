@@ -1,8 +1,8 @@
 -- What is answered by some answers is answered by all that are among others.
-use Rattle.std.proofs.Common.{◌≡◌, ℕ, List, [], ◌∷◌}
+use Rattle.std.proofs.Common.{ℕ, List, [], ◌∷◌}
 use Rattle.kb_word.specs.Presentations.{PresentationParts}
 use Rattle.kb_record.specs.declared.error.WordError.{WordError}
-use Rattle.kb_lines.specs.WordLines.{LineGives, blank, word, LinesGive, IsFirstRefused}
+use Rattle.kb_lines.specs.WordLines.{LineGives, blank, word, LinesGive}
 use Rattle.kb_lines.specs.Streams.{Streams}
 use Rattle.kb_lines.specs.Answered.{AllAnswered, EndedAnswered, FrontAnswered, RefusedAt, StopMeans, Stops}
 use Rattle.kb_lines.specs.declared.stop.Stop.{Stop}

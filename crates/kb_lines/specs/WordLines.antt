@@ -4,12 +4,12 @@ use Rattle.std.specs.List.{AllByRecursion}
 use Rattle.kb_io.specs.Bytes.{newline}
 use Rattle.kb_word.specs.Presentations.{PresentationParts}
 use Rattle.kb_word.specs.Printed.{text_of_word}
-use Rattle.kb_record.specs.Spelling.{after_gap}
+use Rattle.kb_lexing.specs.Spelling.{after_gap}
 use Rattle.kb_record.specs.Faults.{Meaning, HasWordFault}
 use Rattle.kb_record.specs.declared.error.WordError.{WordError}
 use Rattle.kb_record.specs.declared.error.WordError.TheVariants as word_errors
 
--- so many bytes of word lines are read
+-- the most bytes of word lines that are read
 abbrev pub most_input : ℕ
 most_input = 67108864
 

@@ -1,11 +1,12 @@
 //! Word lines: a stream of bytes is cut at its newlines, and each line that is a word is answered.
 //!
-//! The public contract is that of [`answer_lines`]: each line is answered by what an [`Answerer`] answers, in order;
-//! or why that stopped, what was taken of the input, and which of the answers were sent. The laws say that no line is
-//! both answered and refused, and that the answers are one where each word has one answer.
+//! The public contract is that of [`answer_lines`]: each line that is a word is answered with a word
+//! by an [`Answerer`], in order; or why that stopped, what was taken of the input, and which answers
+//! were sent. By the laws no line is both answered and refused, and the answers to one input are one
+//! text where each word has one answer.
 //!
-//! A line is answered, and its answer sent, before a byte past those that have come is needed. What is held is the
-//! line that has begun, one buffer of input, and the answers that aren't sent yet.
+//! A line is answered, and its answer sent, before a byte past those that have come is needed. What
+//! is held is the line that has begun, one buffer of input, and the answers that aren't sent yet.
 //!
 //! - `answerer` is what answers a word, and `stop` why the lines aren't answered to the end.
 //! - `line` is one line, `progress` what is held between two reads, and `lines` the reading.
@@ -22,6 +23,7 @@ mod stop;
 
 pub use answerer::Answerer;
 pub use laws::{
+    a_too_long_input_that_was_answered_has_no_refused_line, an_answered_input_has_no_refused_line,
     an_input_has_one_text_of_answers, lines_give_one_text, no_line_is_answered_and_refused,
 };
 pub use lines::answer_lines;

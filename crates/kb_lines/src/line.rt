@@ -30,7 +30,8 @@ pub(crate) fn answer_line<A: Answerer>(
 ) -> Result<(), WordError>
     ensures given { OnOk result (AddsGiven (A.parts answerer.now) (A.answers answerer.now) line.now
         pending.old.items pending.new.items) }
-    ensures faulty { IfErr result (λ fault. fault ≢ word_errors.Memory → LineHasFault (A.parts answerer.now) line.now fault) }
+    ensures faulty { IfErr result (λ fault. fault ≢ word_errors.Memory
+        → LineHasFault (A.parts answerer.now) line.now fault) }
     ensures kept { OnErr result (pending.new.items ≡ pending.old.items) }
 {
     if is_blank(line) {
@@ -45,8 +46,8 @@ pub(crate) fn answer_line<A: Answerer>(
 
 /// Appends the word and a newline.
 fn print_answer(names: &Names, answer: &Word, pending: &mut Vec<u8>) -> Result<(), Memory>
-    ensures printed { OnOk result
-        (pending.new.items ≡ pending.old.items ++ (text_of_word names.now answer.now ++ newline ∷ [])) }
+    ensures printed { OnOk result (pending.new.items
+        ≡ pending.old.items ++ (text_of_word names.now answer.now ++ newline ∷ [])) }
     ensures kept { OnErr result (pending.new.items ≡ pending.old.items) }
 {
     let length = pending.len();

@@ -10,10 +10,10 @@ use crate::stop::Stop;
 use kb_io::{Failed, Sink, Source};
 use std::alloc::Global;
 
-/// At most so many bytes of word lines are read.
+/// The most bytes of word lines that are read.
 const MOST_INPUT: usize = 67_108_864;
 
-/// At most so many bytes are asked for at once.
+/// The most bytes that are asked for at once.
 const BUFFER: usize = 65_536;
 
 /// Answers the word lines of the input, up to its end.
@@ -25,16 +25,20 @@ pub fn answer_lines<A: Answerer, I: Source, O: Sink>(
 ) -> Result<(), Stop>
     ensures answered { AreTold (streams (I.state input.old) (O.state out.old)) → OnOk result
         (AllAnswered (A.parts answerer.now) (A.answers answerer.now)
-        (streams (I.state input.old) (O.state out.old)) (streams (I.state input.new) (O.state out.new))) }
+        (streams (I.state input.old) (O.state out.old))
+        (streams (I.state input.new) (O.state out.new))) }
 
     // After a stop.
     ensures stops { AreTold (streams (I.state input.old) (O.state out.old)) → IfErr result
         (Stops (A.parts answerer.now) (A.answers answerer.now)
-        (streams (I.state input.old) (O.state out.old)) (streams (I.state input.new) (O.state out.new))) }
+        (streams (I.state input.old) (O.state out.old))
+        (streams (I.state input.new) (O.state out.new))) }
     ensures counted { IfErr result (StopIsCounted
-        (streams (I.state input.old) (O.state out.old)) (streams (I.state input.new) (O.state out.new))) }
+        (streams (I.state input.old) (O.state out.old))
+        (streams (I.state input.new) (O.state out.new))) }
     ensures goes_on { StreamsGoOn
-        (streams (I.state input.old) (O.state out.old)) (streams (I.state input.new) (O.state out.new)) }
+        (streams (I.state input.old) (O.state out.old))
+        (streams (I.state input.new) (O.state out.new)) }
 {
     let mut space = vec![in alloc; 0u8; BUFFER]?;
     let buffer = space.as_mut_slice();

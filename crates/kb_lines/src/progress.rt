@@ -21,7 +21,7 @@ pub(crate) struct Progress {
     pending: Vec<u8>,
 }
 
-/// Answers of so many bytes are sent at once.
+/// Answers are sent once they have this many bytes, and before the next read.
 const ENOUGH: usize = 65_536;
 
 impl Progress {
@@ -36,8 +36,8 @@ impl Progress {
         }
     }
 
-    /// Takes bytes of the input: answers each line that ends in them, sends all answers, and keeps what has come of
-    /// the next line.
+    /// Takes bytes of the input: answers each line that ends in them, sends all answers, and keeps
+    /// what has come of the next line.
     pub(crate) fn take_bytes<A: Answerer, O: Sink>(
         &mut self,
         alloc: Global,
@@ -78,7 +78,8 @@ impl Progress {
 
         // After a stop.
         ensures stops { IsTrue (O.state out.old).told → IfErr result
-            (LineStops (A.parts answerer.now) (A.answers answerer.now) self.old (O.state out.old) (O.state out.new)) }
+            (LineStops (A.parts answerer.now) (A.answers answerer.now) self.old
+            (O.state out.old) (O.state out.new)) }
         ensures counted { IfErr result (LineStopIsCounted (O.state out.old) (O.state out.new)) }
         ensures goes_on { SinkGoesOn (O.state out.old) (O.state out.new) }
     {
@@ -86,7 +87,8 @@ impl Progress {
         self.send(out)
     }
 
-    /// Takes bytes of the input: answers each line that ends in them, and keeps what has come of the next.
+    /// Takes bytes of the input: answers each line that ends in them, and keeps what has come of
+    /// the next.
     fn take_lines<A: Answerer, O: Sink>(
         &mut self,
         alloc: Global,
@@ -132,7 +134,8 @@ impl Progress {
 
         // After a stop.
         ensures stops { IsTrue (O.state out.old).told → IfErr result
-            (LineStops (A.parts answerer.now) (A.answers answerer.now) self.old (O.state out.old) (O.state out.new)) }
+            (LineStops (A.parts answerer.now) (A.answers answerer.now) self.old
+            (O.state out.old) (O.state out.new)) }
         ensures counted { IfErr result (LineStopIsCounted (O.state out.old) (O.state out.new)) }
         ensures goes_on { SinkGoesOn (O.state out.old) (O.state out.new) }
     {
@@ -158,15 +161,15 @@ impl Progress {
 
     /// Sends what is pending.
     fn send<O: Sink>(&mut self, out: &mut O) -> Result<(), Stop>
-        ensures sent { IsTrue (O.state out.old).told
-            → OnOk result ((O.state out.new).written ≡ (O.state out.old).written ++ self.old.pending.items) }
+        ensures sent { IsTrue (O.state out.old).told → OnOk result
+            ((O.state out.new).written ≡ (O.state out.old).written ++ self.old.pending.items) }
         ensures none { OnOk result (self.new.pending.items ≡ []) }
         ensures line { self.new.line ≡ self.old.line }
         ensures number { self.new.number ≡ self.old.number }
 
         // After a failure.
-        ensures front { IsTrue (O.state out.old).told
-            → OnErr result (AppendsPrefix (O.state out.old).written (O.state out.new).written self.old.pending.items) }
+        ensures front { IsTrue (O.state out.old).told → OnErr result
+            (AppendsPrefix (O.state out.old).written (O.state out.new).written self.old.pending.items) }
         ensures output { IfErr result (λ stop. stop ≡ stops.Output) }
         ensures counted { OnErr result ((O.state out.old).faults < (O.state out.new).faults) }
         ensures goes_on { SinkGoesOn (O.state out.old) (O.state out.new) }

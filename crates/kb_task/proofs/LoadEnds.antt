@@ -4,9 +4,9 @@ use Rattle.std.proofs.Math.Path.{fun_ext}
 use Rattle.std.proofs.lemmas.Option.{same_Some}
 use Rattle.kb_io.specs.States.{ShelfState}
 use Rattle.kb_record.specs.Grammar.{IsText, TextOf}
-use Rattle.kb_record.specs.Token.{Token}
+use Rattle.kb_lexing.specs.Token.{Token}
 use Rattle.kb_record.specs.Tree.{TextTree}
-use Rattle.kb_record.proofs.OneToken.{one_list}
+use Rattle.kb_lexing.proofs.OneToken.{one_list}
 use Rattle.kb_record.proofs.Unique.{one_text}
 use Rattle.kb_fsa.specs.Language.{Automaton}
 use Rattle.kb_fsafile.specs.Holds.{AutomatonOf, HoldsAutomaton as TreeHoldsAutomaton}

@@ -1,4 +1,4 @@
-pub mod ValueLemmas
+pub mod LineLemmas
 pub mod OrientLemmas
 pub mod RunLemmas
-pub mod LineLemmas
+pub mod ValueLemmas

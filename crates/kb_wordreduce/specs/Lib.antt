@@ -1,5 +1,6 @@
 pub mod Given
 pub mod Confluence
+pub mod OrientationLaws
 pub mod WordReduce
 pub mod WordReduceLaws
 pub mod Line

@@ -1,5 +1,5 @@
 -- The laws of what the statuses of `wordreduce` mean.
-use Rattle.std.proofs.Common.{◌≡◌, ◌≢◌, ℕ, ◌+◌, ◌<◌, ◌≤◌, inl, inr, List, [], ◌++◌, length, slice_get, refl, sym, ◌∙◌, ap, subst, arith, length-append}
+use Rattle.std.proofs.Common.{◌≡◌, ℕ, ◌<◌, inl, inr, List, ◌++◌, length, slice_get, refl, sym, ◌∙◌, ap, subst, arith, length-append}
 use Rattle.std.proofs.lemmas.Option.{same_Some}
 use Rattle.kb_io.specs.Outside.{Outside}
 use Rattle.kb_word.specs.Words.{Pair}
@@ -21,12 +21,11 @@ use Rattle.kb_task.specs.declared.status.Refusal.TheVariants.{File, Line, InputT
 use Rattle.kb_task.specs.declared.status.Status.{Status}
 use Rattle.kb_task.specs.declared.status.Status.TheVariants.{Yes, Refused, Undecided, No, Memory, Fault, Usage}
 use Rattle.kb_task.proofs.LoadEnds.{memory_at_load, load_inconclusive, same_bytes, one_tree}
-use Rattle.kb_lines.specs.WordLines.{most_input}
 use Rattle.kb_lines.proofs.UniqueLemmas.{one-answered}
 use Rattle.kb_wordreduce.specs.Confluence.{IsLeastIn, OrientedAreConfluent, OrientedAreNotConfluent}
 use Rattle.kb_wordreduce.specs.Given.{Given}
 use Rattle.kb_wordreduce.specs.WordReduce.{streams_of, AnswersMean, WordReduceMeans, wordreduce_may_store, wordreduce_reads, wordreduce_is_unrefused, WordReducesDifferInOptions}
-use Rattle.kb_wordreduce.proofs.OrientLemmas.{one_orienting}
+use Rattle.kb_wordreduce.specs.OrientationLaws.{one_orienting}
 
 -- ---- confluent or not
 
@@ -154,13 +153,13 @@ wordreduce_settled given before after other_before other_after status other (inr
     (subst (λ p. AnswersMean p before after status) parts means.2) others.2
 
 yes-conclusive : (status : Status) → IsYes status → IsConclusive status
-yes-conclusive Yes yes = tt
-yes-conclusive status yes = absurd yes
+yes-conclusive Yes is_yes = tt
+yes-conclusive status is_yes = absurd is_yes
 
 lines_same : (given : Given) (parts : PresentationParts) (before after other_before other_after : Outside) (status other : Status) → IsYes status → IsYes other
     → AnswersMean parts before after status → AnswersMean parts other_before other_after other → before.input.left ≡ other_before.input.left
     → HasSameEffect (wordreduce_may_store given) before after other_before other_after
-lines_same given parts before after other_before other_after Yes Yes yes also means others same =
+lines_same given parts before after other_before other_after Yes Yes is_yes also means others same =
     let one = means.1 in
     let other = others.1 in
     let text = one-answered (streams_of before) (streams_of after) (streams_of other_before) (streams_of other_after) (one_least parts) one other same in
@@ -170,19 +169,19 @@ lines_same given parts before after other_before other_after Yes Yes yes also me
       other_written = other.sent ∙ ap (λ g. other_before.output.written ++ g) (sym text);
       stored = λ name stored. absurd stored;
     }
-lines_same given parts before after other_before other_after Yes other yes also means others same = absurd also
-lines_same given parts before after other_before other_after status other yes also means others same = absurd yes
+lines_same given parts before after other_before other_after Yes other is_yes also means others same = absurd also
+lines_same given parts before after other_before other_after status other is_yes also means others same = absurd is_yes
 
 pub wordreduce_one_function : (given other_given : Given) (before after other_before other_after : Outside) (status other : Status)
     → WordReduceMeans given before after status → WordReduceMeans other_given other_before other_after other → IsYes status → IsYes other
     → WordReducesDifferInOptions given other_given → ReadsSame (wordreduce_reads given) before other_before
     → before.input.left ≡ other_before.input.left → HasSameEffect (wordreduce_may_store given) before after other_before other_after
-wordreduce_one_function given other_given before after other_before other_after status other (inl means) others yes also file same input =
-    absurd (load_inconclusive (IsPresentationFault before.shelf.holds given.file) given.file status means.0 (yes-conclusive status yes))
-wordreduce_one_function given other_given before after other_before other_after status other (inr means) (inl others) yes also file same input =
+wordreduce_one_function given other_given before after other_before other_after status other (inl means) others is_yes also file same input =
+    absurd (load_inconclusive (IsPresentationFault before.shelf.holds given.file) given.file status means.0 (yes-conclusive status is_yes))
+wordreduce_one_function given other_given before after other_before other_after status other (inr means) (inl others) is_yes also file same input =
     absurd (load_inconclusive (IsPresentationFault other_before.shelf.holds other_given.file) other_given.file other others.0 (yes-conclusive other also))
-wordreduce_one_function given other_given before after other_before other_after status other (inr means) (inr others) yes also file same input =
+wordreduce_one_function given other_given before after other_before other_after status other (inr means) (inr others) is_yes also file same input =
     let held = subst (λ name. HoldsPresentation other_before.shelf.holds name others.0) (sym file) others.1 in
     let parts = one_held (same given.file refl) means.1 held in
-    lines_same given others.0 before after other_before other_after status other yes also
+    lines_same given others.0 before after other_before other_after status other is_yes also
     (subst (λ p. AnswersMean p before after status) parts means.2) others.2 input

@@ -6,5 +6,6 @@ ghost use Rattle.kb_wordreduce.specs.Confluence.{OrientedAreConfluent, OrientedA
 
 /// No presentation's oriented relations are confluent and not.
 pub fn no_presentation_is_confluent_and_not()
-    ensures { (parts : PresentationParts) (u v : List ℕ) → OrientedAreConfluent parts → ¬ OrientedAreNotConfluent parts u v }
+    ensures { (parts : PresentationParts) (u v : List ℕ) → OrientedAreConfluent parts
+        → ¬ OrientedAreNotConfluent parts u v }
 {}

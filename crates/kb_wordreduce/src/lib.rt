@@ -1,13 +1,15 @@
-//! `wordreduce FILE`: the least words of word lines, by a presentation whose oriented relations are confluent.
+//! `wordreduce FILE`: the least words of word lines, by a presentation whose oriented relations are
+//! confluent.
 //!
-//! The public contract is that of [`WordReduce`] as a command (`Task` of kb_task): `specs/WordReduce.antt` is what each
-//! status means. A run orients the defining relations of the presentation, checks that they are confluent, and answers
-//! each word line with the normal form of its word, which is then the least word that the relations make congruent to
-//! it; or it prints two words that show why the rules aren't confluent.
+//! The public contract is that of [`WordReduce`] as a command (`Task` of kb_task):
+//! `specs/WordReduce.antt` is what each status means. A run orients the defining relations of the
+//! presentation and checks that they are confluent. Then it answers each word line with the normal
+//! form of its word, which is the least word that the relations make congruent to it; or it prints
+//! two words that show why the rules aren't confluent.
 //!
 //! - `word_reduce` is the command, `run` a run of it, and `line` the command on the command line.
-//! - `orienting` orients the relations, `normal_forms` answers words by rules, and `laws` says that no presentation's
-//!   oriented relations are confluent and not.
+//! - `orienting` orients the relations, and `normal_forms` answers words by rules.
+//! - By the law of `laws` no presentation's oriented relations are confluent and not.
 //!
 //! Below are kb_task, kb_lines and kb_confluence; above is kb_cli.
 #![tactic(auto)]

@@ -20,10 +20,7 @@ pub fn add_commands<'a>(alloc: Global, program: Command<'a>) -> Result<Command<'
 }
 
 /// The definition of the command of this name, if it is this one.
-pub fn command_named<'a>(
-    alloc: Global,
-    name: &str,
-) -> Result<Option<Command<'a>>, AllocError> {
+pub fn command_named<'a>(alloc: Global, name: &str) -> Result<Option<Command<'a>>, AllocError> {
     if name == "wordreduce" {
         return Ok(Some(definition(alloc)?));
     }
@@ -47,10 +44,7 @@ pub fn entered_command(
 }
 
 /// The command that the matches of `wordreduce` give.
-fn wordreduce_given(
-    alloc: Global,
-    matches: &ArgMatches<'_>,
-) -> Result<Option<WordReduce>, Memory>
+fn wordreduce_given(alloc: Global, matches: &ArgMatches<'_>) -> Result<Option<WordReduce>, Memory>
     ensures { IfOk result (GivenAs (rows_of (found_of matches.now))) }
 {
     let Some(file) = text_given(matches, "file") else {

@@ -10,10 +10,10 @@ use kb_rules::{Rule, Rules};
 use kb_word::{Memory, Presentation, Word, less};
 use std::alloc::Global;
 
-/// The defining relations of a presentation as rules, in order: each is turned so that its greater side
-/// stands on the left. A relation with equal sides gives none, and a rule that stands isn't repeated.
+/// The defining relations of a presentation as rules, in order: each is turned so that its greater
+/// side is on the left. A relation with equal sides gives none, and no rule is repeated.
 pub fn oriented(alloc: Global, presentation: &Presentation) -> Result<Rules, Memory>
-    ensures { IfOk result (λ rules. AreOriented (relations_of presentation.now.inv presentation.now.eqs) rules) }
+    ensures { IfOk result (AreOriented (relations_of presentation.now.inv presentation.now.eqs)) }
 {
     let mut rules = Rules::new(alloc);
     for (left, right) in presentation.relations(alloc)? {
@@ -22,9 +22,10 @@ pub fn oriented(alloc: Global, presentation: &Presentation) -> Result<Rules, Mem
     Ok(rules)
 }
 
-/// Adds the rule that a relation gives, unless it stands.
+/// Adds the rule that a relation gives, unless it is there.
 fn add_relation(rules: &mut Rules, left: Word, right: Word) -> Result<(), Memory>
-    ensures { OnOk result ((added : List Pair) × Orients rules.old ((left, right) ∷ []) added × (rules.new ≡ rules.old ++ added)) }
+    ensures { OnOk result ((added : List Pair) × Orients rules.old ((left, right) ∷ []) added
+        × (rules.new ≡ rules.old ++ added)) }
 {
     if let Some(rule) = orientation(left, right) {
         let stands = rules.contains(&rule);
@@ -51,18 +52,17 @@ fn orientation(left: Word, right: Word) -> Option<Rule>
 
 /// The oriented relations generate the congruence that the relations generate.
 pub fn oriented_relations_keep_the_congruence()
-    ensures { (relations rules : List Pair) → AreOriented relations rules → SameCongruence rules relations }
+    ensures { (relations rules : List Pair) → AreOriented relations rules
+        → SameCongruence rules relations }
 {}
 
 /// Relations are oriented in one way.
 pub fn oriented_relations_are_one_list()
-    ensures { (relations one other : List Pair) → AreOriented relations one → AreOriented relations other → one ≡ other }
+    ensures { (relations one other : List Pair) → AreOriented relations one
+        → AreOriented relations other → one ≡ other }
 {}
 
 /// Each oriented relation's right side is less than its left side.
 pub fn oriented_rules_decrease()
     ensures { (relations rules : List Pair) → AreOriented relations rules → AreDecreasing rules }
 {}
-
-
-

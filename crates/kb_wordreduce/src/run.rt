@@ -73,7 +73,8 @@ fn answer_by<I: Source, O: Sink>(
     requires workers { (1 ≤ workers) × (workers ≤ 64) }
     requires few { length presentation.eqs ≤ most_equations }
     ensures { (shelf : ShelfState) → IsRun (AnswersMean (parts_of presentation)) StoresNothing
-        (outside shelf (I.state input.old) (O.state out.old)) (outside shelf (I.state input.new) (O.state out.new)) result }
+        (outside shelf (I.state input.old) (O.state out.old))
+        (outside shelf (I.state input.new) (O.state out.new)) result }
 {
     // The range of the number of generators bounds the number of rules.
     let _generators = presentation.n;
@@ -105,7 +106,8 @@ fn answer_all<I: Source, O: Sink>(
     requires confluent { IsConfluent rules.now }
     requires scan { scan ≡ rules.now }
     ensures { (shelf : ShelfState) → IsRun (AnswersMean (parts_of presentation)) StoresNothing
-        (outside shelf (I.state input.old) (O.state out.old)) (outside shelf (I.state input.new) (O.state out.new)) result }
+        (outside shelf (I.state input.old) (O.state out.old))
+        (outside shelf (I.state input.new) (O.state out.new)) result }
 {
     oriented_rules_decrease();
     oriented_relations_keep_the_congruence();
@@ -140,7 +142,8 @@ fn print_no<O: Sink>(
     out: &mut O,
 ) -> Status
     requires { OrientedAreNotConfluent (parts_of presentation.now) u v }
-    ensures { (shelf : ShelfState) (input : SourceState) → IsRun (AnswersMean (parts_of presentation.now)) StoresNothing
+    ensures { (shelf : ShelfState) (input : SourceState)
+        → IsRun (AnswersMean (parts_of presentation.now)) StoresNothing
         (outside shelf input (O.state out.old)) (outside shelf input (O.state out.new)) result }
 {
     match line_of_no(alloc, &presentation.names, &u, &v) {

@@ -3,8 +3,8 @@
 use kb_word::OwnedText;
 use std::marker::Model;
 
-/// `wordreduce FILE`: prints the least words of word lines, by a presentation whose oriented relations are confluent.
-/// Contracts see what the command line gives it; there are 1 to 64 workers.
+/// `wordreduce FILE`: prints the least words of word lines, by a presentation whose oriented
+/// relations are confluent. Contracts see what the command line gives it; there are 1 to 64 workers.
 #[derive(Drop)]
 pub struct WordReduce {
     /// The name of the file with the presentation.

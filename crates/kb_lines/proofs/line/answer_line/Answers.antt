@@ -1,5 +1,5 @@
 use Rattle.std.proofs.Common.{rules, ◌≢◌, [], ◌∷◌, ◌++◌, sym, subst, append-nil}
-use Rattle.kb_record.specs.Spelling.{after_gap}
+use Rattle.kb_lexing.specs.Spelling.{after_gap}
 use Rattle.kb_io.specs.Bytes.{newline}
 use Rattle.kb_word.specs.Presentations.{PresentationParts}
 use Rattle.kb_word.specs.Printed.{text_of_word}

@@ -1,5 +1,5 @@
 use Rattle.std.proofs.Common.{[]}
-use Rattle.kb_wordreduce.proofs.OrientLemmas.{one_orienting}
+use Rattle.kb_wordreduce.specs.OrientationLaws.{one_orienting}
 use Rattle.kb_wordreduce.proofs.orienting.oriented_relations_are_one_list.Goals as goal
 
 pub returns : goal.returns

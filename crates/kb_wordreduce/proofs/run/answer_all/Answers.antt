@@ -3,7 +3,7 @@ use Rattle.kb_word.specs.Presentations.{PresentationParts, parts_of}
 use Rattle.kb_word.specs.Rewriting.{NormalForm}
 use Rattle.kb_lines.specs.Streams.{Streams, streams}
 use Rattle.kb_lines.proofs.WiderLemmas.{answered-wider, stops-wider}
-use Rattle.kb_wordreduce.specs.Confluence.{relations, IsLeastIn, OrientedAreConfluent}
+use Rattle.kb_wordreduce.specs.Confluence.{relations, IsLeastIn}
 use Rattle.kb_wordreduce.proofs.RunLemmas.{answered-run, stop-run}
 use Rattle.kb_wordreduce.proofs.run.answer_all.Goals as goal
 
@@ -16,14 +16,15 @@ returns-in-Ok g c = λ shelf.
     (c.oriented_relations_keep_the_congruence.ensures (relations parts) rules c.requires.oriented)
     (c.normal_forms_by_confluent_rules_are_least.ensures rules w m (c.oriented_rules_decrease.ensures (relations parts) rules c.requires.oriented) c.requires.confluent
     (rw c.requires.scan at normal)) in
-    answered-run parts shelf (streams (g.I.Source.state c.args.input.now) (g.O.Sink.state c.args.out.now))
-    (streams (g.I.Source.state c.answer_lines.new.input) (g.O.Sink.state c.answer_lines.new.out))
+    let before : Streams = streams (g.I.Source.state c.args.input.now) (g.O.Sink.state c.args.out.now) in
+    let after : Streams = streams (g.I.Source.state c.answer_lines.new.input) (g.O.Sink.state c.answer_lines.new.out) in
+    answered-run parts shelf before after
     (record { rules = rules; oriented = c.requires.oriented; confluent = c.requires.confluent })
     c.answer_lines.ensures.goes_on
-    (λ told. answered-wider parts (NormalForm c.args.scan) (IsLeastIn parts) among (c.in-Ok.ensures.answered told))
+    (λ told. answered-wider parts (NormalForm c.args.scan) (IsLeastIn parts) among {before = before} {after = after} (c.in-Ok.ensures.answered told))
 
-pub returns-in-Err : goal.returns-in-Err
-returns-in-Err g c = λ shelf.
+pub returns : goal.returns
+returns g c = λ shelf.
     let parts : PresentationParts = parts_of c.args.presentation in
     let rules = c.args.rules.now in
     let among : (w m : List ℕ) → NormalForm c.args.scan w m → IsLeastIn parts w m = λ w m normal.
@@ -31,9 +32,10 @@ returns-in-Err g c = λ shelf.
     (c.oriented_relations_keep_the_congruence.ensures (relations parts) rules c.requires.oriented)
     (c.normal_forms_by_confluent_rules_are_least.ensures rules w m (c.oriented_rules_decrease.ensures (relations parts) rules c.requires.oriented) c.requires.confluent
     (rw c.requires.scan at normal)) in
-    stop-run parts shelf (streams (g.I.Source.state c.args.input.now) (g.O.Sink.state c.args.out.now))
-    (streams (g.I.Source.state c.answer_lines.new.input) (g.O.Sink.state c.answer_lines.new.out))
+    let before : Streams = streams (g.I.Source.state c.args.input.now) (g.O.Sink.state c.args.out.now) in
+    let after : Streams = streams (g.I.Source.state c.answer_lines.new.input) (g.O.Sink.state c.answer_lines.new.out) in
+    stop-run parts shelf before after
     c.in-Err.stop c.status_of.result c.status_of.ensures
     (record { rules = rules; oriented = c.requires.oriented; confluent = c.requires.confluent })
     c.answer_lines.ensures.goes_on c.in-Err.ensures.counted
-    (λ told. stops-wider parts (NormalForm c.args.scan) (IsLeastIn parts) among (c.in-Err.ensures.stops told))
+    (λ told. stops-wider parts (NormalForm c.args.scan) (IsLeastIn parts) among {before = before} {after = after} (c.in-Err.ensures.stops told))

@@ -1,7 +1,7 @@
 use Rattle.std.proofs.Common.{length, ◌<◌, arith}
 use Rattle.kb_word.specs.Overlap.{IsConfluent}
 use Rattle.kb_word.specs.Presentations.{parts_of}
-use Rattle.kb_wordreduce.proofs.RunLemmas.{rules-few, no-refutes, nothing-run}
+use Rattle.kb_wordreduce.proofs.RunLemmas.{rules-few, no-refutes}
 use Rattle.kb_wordreduce.proofs.run.answer_by.Goals as goal
 
 pub check-requires-clause-size : goal.check-requires-clause-size
@@ -14,3 +14,6 @@ pub print_no-requires : goal.print_no-requires
 print_no-requires g c =
     no-refutes (parts_of c.args.presentation) c.in-Ok.rules (IsConfluent c.in-Ok.rules) c.in-Ok-No.field-0-0 c.in-Ok-No.field-0-1 c.in-Ok-No.field-0-2 c.in-Ok-No.u c.in-Ok-No.v
     c.in-Ok.ensures (rw c.in-Ok-No.field-0-is at c.in-Ok-No.ensures.verdict) (rw c.in-Ok-No.field-0-is at c.in-Ok-No.ensures.counterexample)
+
+pub returns-in-Ok-No : goal.returns-in-Ok-No
+returns-in-Ok-No g c = λ shelf. c.print_no.ensures shelf (g.I.Source.state c.args.input.now)
