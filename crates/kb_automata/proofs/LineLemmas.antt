@@ -1,5 +1,5 @@
 -- The command that is read of a subcommand's arguments and options.
-use Rattle.std.proofs.Common.{◌≡◌, ◌≢◌, ◌∙◌, ℕ, Option, Some, None, List, [], ◌∷◌, sym, ap, refl, subst, codes, lit<, if◌then◌else◌, suc, ◌+◌, ◌<◌, ◌≤◌, get_or, drop, false, arith}
+use Rattle.std.proofs.Common.{◌≡◌, ◌≢◌, ◌∙◌, ℕ, Option, Some, None, List, ◌∷◌, sym, ap, refl, subst, codes, lit<, if◌then◌else◌, suc, ◌+◌, ◌<◌, ◌≤◌, get_or, drop, false, arith}
 use Rattle.std.proofs.Math.Seq.{drop-cons}
 use Rattle.std.proofs.lemmas.List.{drop_all}
 use Rattle.std.specs.Str.{bytes_eq}
@@ -7,8 +7,8 @@ use Rattle.std.specs.List.{Contains}
 use Rattle.clap.specs.Words.{AddsSubcommand, App, Row, Text, app_of, with_subcommand}
 use Rattle.clap.specs.declared.builder.command.Command.{Command}
 use Rattle.clap.specs.declared.builder.command.Command.TheViews.{out-Command}
-use Rattle.kb_task.specs.Arguments.{Entered, IsEntered, GivesNumber, GivesStates, ReadsAs}
-use Rattle.kb_task.proofs.ArgumentLemmas.{added, text_at, number_at, text_given-at, number_given-at, own_name, own_rows}
+use Rattle.kb_task.specs.Arguments.{Entered, GivesNumber, GivesStates, ReadsAs}
+use Rattle.kb_task.proofs.ArgumentLemmas.{added, text_given-at, number_given-at, own_name, own_rows}
 use Rattle.kb_automata.specs.Line.{name_text, command_app, with_commands, all_names, command_names, name_of_task, GivesTask, GivesCombine, GivesTransform, GivesMinimise, GivesCompare, GivesEnumerate, IsAutomataTask, IsRead}
 use Rattle.kb_automata.specs.declared.combine.Combination.{Combination}
 use Rattle.kb_automata.specs.declared.combine.Combination.TheVariants.{And, Or, Concat}
@@ -126,7 +126,7 @@ one_automata_task entered task other a b =
 
 -- ---- a command that is entered has one of the names
 
-is_listed : (name : Name) → Contains command_names (name_text name)
+pub is_listed : (name : Name) → Contains command_names (name_text name)
 is_listed (names.Combine And) = (0, lit< tt, refl)
 is_listed (names.Combine Or) = (1, lit< tt, refl)
 is_listed (names.Combine Concat) = (6, lit< tt, refl)

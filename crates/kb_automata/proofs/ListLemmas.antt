@@ -16,7 +16,7 @@ use Rattle.kb_word.specs.Printed.{text_of_word}
 use Rattle.kb_task.specs.declared.status.Status.{Status}
 use Rattle.kb_task.specs.declared.status.Status.TheVariants.{Yes, Memory, Fault}
 use Rattle.kb_task.specs.declared.status.Which.TheVariants.{Output}
-use Rattle.kb_automata.specs.Enumerate.{IsAsked, AreFirstAsked, AreAllAsked, IsFrontOfWords, lines_of_words, WordsArePrinted, printed, failed, no_memory}
+use Rattle.kb_automata.specs.Enumerate.{IsAsked, AreAllAsked, IsFrontOfWords, lines_of_words, WordsArePrinted, printed, failed, no_memory}
 use Rattle.kb_automata.specs.Listed.{HasGiven, Listed, HasLetters, Steps, EnumerationIsPrinted, over, word_count, next_rank}
 
 -- one more element, behind which all the others stand

@@ -1,12 +1,12 @@
 -- What a run means that makes an automaton, from what its parts mean.
-use Rattle.std.proofs.Common.{◌≡◌, ◌↔◌, ◌⊎◌, inl, inr, ℕ, List, refl, sym, ◌∙◌, ap, subst, reverse}
+use Rattle.std.proofs.Common.{◌≡◌, ◌↔◌, ◌⊎◌, inl, inr, ℕ, List, sym, ◌∙◌, subst, reverse}
 use Rattle.kb_io.specs.Outside.{Outside, outside, IsUnchanged}
 use Rattle.kb_io.specs.States.{ShelfState, SourceState, SinkState}
 use Rattle.kb_fsa.specs.Language.{Automaton, AcceptsText, SameLanguage, IsTextOf}
 use Rattle.kb_fsa.specs.Counted.{IsProduct}
 use Rattle.kb_fsadet.specs.Projection.{HasSecond}
 use Rattle.kb_fsarat.specs.Products.{IsSplit}
-use Rattle.kb_task.specs.Effects.{Stores, Writes}
+use Rattle.kb_task.specs.Effects.{Stores}
 use Rattle.kb_task.specs.Limits.{undecided_line}
 use Rattle.kb_task.specs.Lines.{LimitIsPrinted}
 use Rattle.kb_task.specs.Stored.{StoreMeans}

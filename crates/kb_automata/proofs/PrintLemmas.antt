@@ -1,5 +1,5 @@
 -- What a run means that prints, from what is printed.
-use Rattle.std.proofs.Common.{◌≡◌, ◌∙◌, ◌⊎◌, inl, inr, ℕ, List, [], ◌∷◌, ◌++◌, codes, refl, sym, ap, subst}
+use Rattle.std.proofs.Common.{◌≡◌, ◌∙◌, inl, inr, ℕ, List, [], ◌∷◌, ◌++◌, codes, refl, sym, ap, subst}
 use Rattle.kb_word.specs.Printed.{text_of_word}
 use Rattle.kb_io.specs.Bytes.{newline}
 use Rattle.kb_io.specs.Outside.{Outside, outside, IsUnchanged}

@@ -1,5 +1,5 @@
 -- Runs that store or print after they loaded files.
-use Rattle.std.proofs.Common.{◌≡◌, ℕ, List, IsTrue, refl}
+use Rattle.std.proofs.Common.{◌≡◌, ℕ, List, IsTrue}
 use Rattle.kb_io.specs.Outside.{Outside, outside, IsTold}
 use Rattle.kb_io.specs.States.{ShelfState, SourceState, SinkState, SinkGoesOn}
 use Rattle.kb_fsa.specs.Language.{Automaton, SameLanguage}

@@ -1,21 +1,16 @@
 -- The laws of `fsalequal`.
-use Rattle.std.proofs.Common.{◌≡◌, ◌⊎◌, inl, inr, ℕ, List, [], ◌++◌, codes, refl, sym, ◌∙◌, ap, subst}
+use Rattle.std.proofs.Common.{◌≡◌, inl, inr, ℕ, List, ◌++◌, codes, refl, ◌∙◌, ap, subst}
 use Rattle.kb_word.proofs.Shortlex.{shortlex_total}
-use Rattle.kb_io.specs.Outside.{Outside}
 use Rattle.kb_fsa.specs.Language.{Automaton, SameLanguage}
-use Rattle.kb_fsa.specs.Counted.{CountedOr}
 use Rattle.kb_fsabool.specs.Answers.{IsInOne, IsLeastDifference}
 use Rattle.kb_task.specs.Runs.{HasSameEffect, IsComplete, IsSettledByFiles, IsFunctionOfInputs}
 use Rattle.kb_task.specs.Statuses.{IsAnswer, IsConclusive, IsFaultless, IsYes}
 use Rattle.kb_task.specs.declared.loading.automata.Kind.TheVariants.{WordsOrPairs}
 use Rattle.kb_task.specs.declared.status.Cert.TheVariants.{NotEqual}
 use Rattle.kb_task.specs.declared.status.Status.{Status}
-use Rattle.kb_task.specs.declared.status.Status.TheVariants.{Yes, No}
+use Rattle.kb_task.specs.declared.status.Status.TheVariants.{No}
 use Rattle.kb_automata.specs.Compare.{IsComparisonLine, same, differ, undecided, ComparisonIsPrinted, printed, failed, no_memory, CompareMeans, compare_may_store, compare_reads, compare_is_unrefused, ComparesDifferInOptions}
-use Rattle.kb_automata.specs.Loaded.{TwoMean}
 use Rattle.kb_automata.specs.LoadedLaws.{two_answer, over_two, yes-conclusive}
-use Rattle.kb_automata.specs.Printing.{OnlyPrints}
-use Rattle.kb_automata.specs.declared.compare.Compare.{Compare}
 
 -- what is in exactly one of two languages refutes that they are the same
 in_one-differs : (one two : Automaton) (text : List ℕ) → IsInOne one two text → ¬ SameLanguage one two

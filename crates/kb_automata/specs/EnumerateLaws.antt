@@ -1,5 +1,5 @@
 -- The laws of `fsaenumerate`.
-use Rattle.std.proofs.Common.{◌≡◌, ◌⊎◌, inl, inr, ℕ, zero, suc, ◌<◌, List, [], ◌∷◌, ◌++◌, length, get_or, refl, sym, ◌∙◌, ap, ap₂, subst, arith}
+use Rattle.std.proofs.Common.{◌≡◌, ◌⊎◌, inl, inr, ℕ, suc, ◌<◌, List, [], ◌∷◌, ◌++◌, length, refl, sym, ◌∙◌, ap, ap₂, subst, arith}
 use Rattle.std.specs.List.{AllPairs, Contains}
 use Rattle.std.proofs.lemmas.List.Elements.{Contains-append_cases, Contains-append_left, Contains-append_right, Contains-push, Contains-push_cases}
 use Rattle.kb_word.specs.Words.{Less}
@@ -13,8 +13,6 @@ use Rattle.kb_task.specs.declared.status.Status.{Status}
 use Rattle.kb_task.specs.declared.status.Status.TheVariants.{Yes}
 use Rattle.kb_automata.specs.Enumerate.{AreAllAsked, lines_of_words, WordsArePrinted, printed, failed, no_memory, EnumerateMeans, enumerate_may_store, enumerate_reads, enumerate_is_unrefused, EnumeratesDifferInOptions}
 use Rattle.kb_automata.specs.LoadedLaws.{one_answers, over_one, yes-conclusive}
-use Rattle.kb_automata.specs.Printing.{OnlyPrints}
-use Rattle.kb_automata.specs.declared.enumerate.Enumerate.{Enumerate}
 
 -- ---- two ascending lists with the same elements are one list
 

@@ -1,5 +1,5 @@
 -- The commands on automata on the command line, by clap's own definition of what a command takes.
-use Rattle.std.specs.Prelude.{◌≡◌, ℕ, List, [], ◌∷◌, Option, Some, None, codes, map}
+use Rattle.std.specs.Prelude.{◌≡◌, List, [], ◌∷◌, Option, Some, None, codes, map}
 use Rattle.clap.specs.Words.{App, Row, Text, new_app, with_rule, with_subcommand}
 use Rattle.kb_task.specs.Arguments.{Entered, IsEntered, GivesNumber, GivesStates, GivesText, needed_rule, length_rule, states_rule}
 use Rattle.kb_automata.specs.declared.combine.Combination.TheVariants.{And, Or, Concat}

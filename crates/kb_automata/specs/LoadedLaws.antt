@@ -3,7 +3,6 @@
 use Rattle.std.proofs.Common.{◌≡◌, ℕ, List, sym, subst}
 use Rattle.kb_io.specs.Outside.{Outside}
 use Rattle.kb_fsa.specs.Language.{Automaton}
-use Rattle.kb_task.specs.Automata.{HoldsAutomaton}
 use Rattle.kb_task.specs.Statuses.{IsConclusive, IsFaultless, IsYes}
 use Rattle.kb_task.specs.declared.loading.automata.Kind.{Kind}
 use Rattle.kb_task.specs.declared.status.Status.{Status}

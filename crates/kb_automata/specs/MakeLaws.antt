@@ -13,14 +13,10 @@ use Rattle.kb_task.specs.declared.loading.automata.Kind.TheVariants.{WordsOrPair
 use Rattle.kb_task.specs.declared.status.Limit.{Limit}
 use Rattle.kb_task.specs.declared.status.Status.{Status}
 use Rattle.kb_task.specs.declared.status.Status.TheVariants.{Yes, Undecided, No, Memory, Fault}
-use Rattle.kb_automata.specs.Loaded.{OneMeans, TwoMean}
 use Rattle.kb_automata.specs.LoadedLaws.{one_answers, two_answer, over_one, over_two, yes-conclusive}
-use Rattle.kb_automata.specs.Make.{MakeMeans, IsWithin, StoresMade, IsCombined, IsMadeOfTwo, ExceedsCombined, IsTransformed, ExceedsTransformed, IsMinimised, combined_kind, CombineMeans, combine_may_store, combine_reads, combine_is_unrefused, CombinesDifferInOptions, transformed_kind, TransformMeans, transform_may_store, transform_reads, transform_is_unrefused, TransformsDifferInOptions, MinimiseMeans, minimise_may_store, minimise_reads, minimise_is_unrefused, MinimisesDifferInOptions}
+use Rattle.kb_automata.specs.Make.{MakeMeans, StoresMade, IsCombined, IsMadeOfTwo, ExceedsCombined, IsTransformed, ExceedsTransformed, IsMinimised, combined_kind, CombineMeans, combine_may_store, combine_reads, combine_is_unrefused, CombinesDifferInOptions, transformed_kind, TransformMeans, transform_may_store, transform_reads, transform_is_unrefused, TransformsDifferInOptions, MinimiseMeans, minimise_may_store, minimise_reads, minimise_is_unrefused, MinimisesDifferInOptions}
 use Rattle.kb_automata.specs.declared.combine.Combination.{Combination}
 use Rattle.kb_automata.specs.declared.combine.Combination.TheVariants as combinations
-use Rattle.kb_automata.specs.declared.combine.Combine.{Combine}
-use Rattle.kb_automata.specs.declared.minimise.Minimise.{Minimise}
-use Rattle.kb_automata.specs.declared.transform.Transform.{Transform}
 use Rattle.kb_automata.specs.declared.transform.Transformation.{Transformation}
 use Rattle.kb_automata.specs.declared.transform.Transformation.TheVariants as transformations
 

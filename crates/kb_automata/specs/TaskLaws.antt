@@ -1,7 +1,7 @@
 -- The laws of the commands on automata, from those of each.
 use Rattle.std.proofs.Common.{◌≡◌}
 use Rattle.kb_io.specs.Outside.{Outside}
-use Rattle.kb_task.specs.Runs.{HasSameEffect, IsComplete, IsSettledByFiles, IsFunctionOfInputs, ReadsSame}
+use Rattle.kb_task.specs.Runs.{HasSameEffect, ReadsSame}
 use Rattle.kb_task.specs.Statuses.{IsConclusive, IsFaultless, IsYes}
 use Rattle.kb_task.specs.declared.status.Status.{Status}
 use Rattle.kb_automata.specs.CompareLaws.{compare_complete, compare_settled, compare_one_function}

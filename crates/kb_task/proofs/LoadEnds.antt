@@ -1,5 +1,5 @@
 -- Runs that end at a load, and files that are read twice.
-use Rattle.std.proofs.Common.{◌≡◌, ◌∙◌, ℕ, Option, Some, None, List, refl, sym, ap, subst}
+use Rattle.std.proofs.Common.{◌≡◌, ◌∙◌, ℕ, List, refl, sym, subst}
 use Rattle.std.proofs.Math.Path.{fun_ext}
 use Rattle.std.proofs.lemmas.Option.{same_Some}
 use Rattle.kb_io.specs.States.{ShelfState}
@@ -18,8 +18,7 @@ use Rattle.kb_task.specs.declared.loading.LoadStop.{LoadStop}
 use Rattle.kb_task.specs.declared.loading.LoadStop.TheVariants as stops
 use Rattle.kb_task.specs.declared.status.FileFault.{FileFault}
 use Rattle.kb_task.specs.declared.status.Status.{Status}
-use Rattle.kb_task.specs.declared.status.Status.TheVariants.{Memory, Fault}
-use Rattle.kb_task.specs.declared.status.Which.TheVariants.{Load}
+use Rattle.kb_task.specs.declared.status.Status.TheVariants.{Memory}
 
 module _ (IsFault : FileFault → Type 0) (name : List ℕ) where
   memory_of : (stop : LoadStop) → IsUnrefused IsFault → IsCause IsFault stop → IsFaultless (stopped_at name stop) → stopped_at name stop ≡ Memory

@@ -1,5 +1,5 @@
 -- What a load of a file means, from what its parts mean.
-use Rattle.std.proofs.Common.{◌≡◌, ℕ, ◌<◌, List, [], length, slice_get, unwrap_or, refl, sym, ◌∙◌, ap, subst}
+use Rattle.std.proofs.Common.{◌≡◌, ℕ, ◌<◌, List, [], length, slice_get, unwrap_or, sym, ◌∙◌, ap, subst}
 use Rattle.std.proofs.lemmas.List.{ext_get_or}
 use Rattle.std.proofs.lemmas.Option.{unwrap_or-slice_get}
 use Rattle.kb_io.specs.States.{ShelfState, SourceState, SinkState}
@@ -13,7 +13,7 @@ use Rattle.kb_task.specs.Runs.{FaultIsCounted}
 use Rattle.kb_task.specs.declared.loading.LoadStop.{LoadStop}
 use Rattle.kb_task.specs.declared.loading.LoadStop.TheVariants as stops
 use Rattle.kb_task.specs.declared.loading.automata.Kind.{Kind}
-use Rattle.kb_task.specs.declared.loading.automata.Kind.TheVariants.{WordsOrPairs, Words, Pairs}
+use Rattle.kb_task.specs.declared.loading.automata.Kind.TheVariants.{Words, Pairs}
 use Rattle.kb_task.specs.declared.status.FileFault.{FileFault}
 use Rattle.kb_task.specs.declared.status.FileFault.TheVariants.{Missing, TooLong, Presentation, Automaton as NoAutomaton, NotPlain, NotPairs, AlphabetsDiffer}
 use Rattle.kb_task.specs.declared.status.Status.{Status}

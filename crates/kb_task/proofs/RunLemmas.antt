@@ -1,10 +1,9 @@
 -- Runs that go on from a later moment of the outside.
-use Rattle.std.proofs.Common.{◌≡◌, ◌∙◌, ℕ, ◌≤◌, List, Option, Some, None, refl, sym, ap, subst, arith}
+use Rattle.std.proofs.Common.{◌∙◌, ℕ, List, refl, arith}
 use Rattle.kb_io.specs.Outside.{Outside, outside, IsTold, GoesOn, IsUnchanged}
-use Rattle.kb_io.specs.States.{ShelfState, SourceState, SinkState, SinkGoesOn, ShelfGoesOn}
+use Rattle.kb_io.specs.States.{ShelfState, SourceState, SinkState, SinkGoesOn}
 use Rattle.kb_task.specs.Loads.{OnlyLoads}
-use Rattle.kb_task.specs.Runs.{HasFailed, FaultIsCounted, HoldsSameBesides, IsRun}
-use Rattle.kb_task.specs.Statuses.{fault_of}
+use Rattle.kb_task.specs.Runs.{HasFailed, FaultIsCounted, IsRun}
 use Rattle.kb_task.specs.declared.status.Status.{Status}
 use Rattle.kb_task.specs.declared.status.Status.TheVariants.{Fault}
 use Rattle.kb_task.specs.declared.status.Which.{Which}

@@ -1,5 +1,5 @@
 -- Limits that are reached, and the lines that name them.
-use Rattle.std.specs.Prelude.{◌≡◌, ℕ, List, [], ◌∷◌, ◌++◌, codes}
+use Rattle.std.specs.Prelude.{ℕ, List, [], ◌∷◌, ◌++◌, codes}
 use Rattle.kb_io.specs.Bytes.{newline}
 use Rattle.kb_task.specs.declared.status.Limit.{Limit}
 use Rattle.kb_task.specs.declared.status.Limit.TheVariants.{States}

@@ -1,10 +1,10 @@
 -- Files that are read, and why a run ends at one.
-use Rattle.std.specs.Prelude.{◌≡◌, ◌≢◌, ℕ, ◌<◌, ◌≤◌, List, length, Option, Some, None}
+use Rattle.std.specs.Prelude.{◌≡◌, ℕ, ◌<◌, ◌≤◌, List, length, Option, Some, None}
 use Rattle.kb_io.specs.States.{ShelfState, ShelfGoesOn, HoldsSame}
 use Rattle.kb_task.specs.declared.loading.LoadStop.{LoadStop}
 use Rattle.kb_task.specs.declared.loading.LoadStop.TheVariants as stops
 use Rattle.kb_task.specs.declared.status.FileFault.{FileFault}
-use Rattle.kb_task.specs.declared.status.FileFault.TheVariants.{Missing, TooLong, Presentation, Automaton, NotPlain, NotPairs, AlphabetsDiffer}
+use Rattle.kb_task.specs.declared.status.FileFault.TheVariants.{Missing, TooLong}
 use Rattle.kb_task.specs.declared.status.Refusal.TheVariants.{File}
 use Rattle.kb_task.specs.declared.status.Status.{Status}
 use Rattle.kb_task.specs.declared.status.Status.TheVariants.{Refused, Memory, Fault}

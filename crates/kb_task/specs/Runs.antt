@@ -1,5 +1,5 @@
 -- What is true of a run of any command, and the laws of what a command's statuses mean.
-use Rattle.std.specs.Prelude.{◌≡◌, ◌≢◌, ℕ, ◌<◌, List, ◌++◌, IfSome}
+use Rattle.std.specs.Prelude.{◌≡◌, ℕ, ◌<◌, List, ◌++◌, IfSome}
 use Rattle.kb_io.specs.Outside.{Outside, IsTold, GoesOn}
 use Rattle.kb_task.specs.declared.status.Status.{Status}
 use Rattle.kb_task.specs.declared.status.Which.{Which}

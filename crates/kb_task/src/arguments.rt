@@ -81,12 +81,7 @@ pub fn states_given(matches: &ArgMatches<'_>) -> Option<u32>
 }
 
 /// The number from `least` to `most` that is given under the name.
-pub fn number_given(
-    matches: &ArgMatches<'_>,
-    name: &str,
-    least: u32,
-    most: u32,
-) -> Option<u32>
+pub fn number_given(matches: &ArgMatches<'_>, name: &str, least: u32, most: u32) -> Option<u32>
     ensures some { IfSome result (λ number. GivesNumber (rows_of (found_of matches.now)) name.now least most number) }
     ensures none { result ≡ None → (n : ℕ) → ¬ GivesNumber (rows_of (found_of matches.now)) name.now least most n }
 {

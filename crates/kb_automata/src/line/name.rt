@@ -2,6 +2,7 @@
 
 ghost use Rattle.std.specs.Prelude.{◌≡◌, ◌≢◌, IfSome, None};
 ghost use Rattle.kb_automata.specs.Line.{name_text};
+ghost use Rattle.kb_automata.specs.declared.line.name.Name.TheVariants as names;
 
 use crate::combine::Combination;
 use crate::transform::Transformation;
@@ -72,41 +73,8 @@ impl Name {
         ensures { result.text.now ≡ name_text self }
     {
         match self {
-            Name::Combine(Combination::And) => Label {
-                text: "fsaand",
-                about: "Stores the automaton of what both A and B accept",
-                example: "Example: kb fsaand examples/multiples-of-2.fsa examples/multiples-of-3.fsa OUT",
-            },
-            Name::Combine(Combination::Or) => Label {
-                text: "fsaor",
-                about: "Stores the automaton of what A or B accepts",
-                example: "Example: kb fsaor examples/multiples-of-2.fsa examples/multiples-of-3.fsa OUT",
-            },
-            Name::Combine(Combination::Concat) => Label {
-                text: "fsaconcat",
-                about: "Stores the automaton of the words of A followed by words of B",
-                example: "Example: kb fsaconcat examples/multiples-of-2.fsa examples/multiples-of-3.fsa OUT",
-            },
-            Name::Transform(Transformation::Not) => Label {
-                text: "fsanot",
-                about: "Stores the automaton of what A does not accept",
-                example: "Example: kb fsanot examples/golden-mean.fsa OUT",
-            },
-            Name::Transform(Transformation::Exists) => Label {
-                text: "fsaexists",
-                about: "Stores the projection of A to its first words",
-                example: "Example: kb fsaexists examples/free-2.times-a OUT",
-            },
-            Name::Transform(Transformation::Star) => Label {
-                text: "fsastar",
-                about: "Stores the automaton of the Kleene star of A",
-                example: "Example: kb fsastar examples/golden-mean.fsa OUT",
-            },
-            Name::Transform(Transformation::Reverse) => Label {
-                text: "fsareverse",
-                about: "Stores the automaton of the words of A read backwards",
-                example: "Example: kb fsareverse examples/golden-mean.fsa OUT",
-            },
+            Name::Combine(operation) => combination_label(operation),
+            Name::Transform(operation) => transformation_label(operation),
             Name::Minimise => Label {
                 text: "fsamin",
                 about: "Stores the minimal automaton of what A accepts",
@@ -123,5 +91,56 @@ impl Name {
                 example: "Example: kb fsaenumerate 0 5 examples/dihedral-4.wa",
             },
         }
+    }
+}
+
+/// What the commands are called that make an automaton of two.
+fn combination_label<'a>(operation: Combination) -> Label<'a>
+    ensures { result.text.now ≡ name_text (names.Combine operation) }
+{
+    match operation {
+        Combination::And => Label {
+            text: "fsaand",
+            about: "Stores the automaton of what both A and B accept",
+            example: "Example: kb fsaand examples/multiples-of-2.fsa examples/multiples-of-3.fsa OUT",
+        },
+        Combination::Or => Label {
+            text: "fsaor",
+            about: "Stores the automaton of what A or B accepts",
+            example: "Example: kb fsaor examples/multiples-of-2.fsa examples/multiples-of-3.fsa OUT",
+        },
+        Combination::Concat => Label {
+            text: "fsaconcat",
+            about: "Stores the automaton of the words of A followed by words of B",
+            example: "Example: kb fsaconcat examples/multiples-of-2.fsa examples/multiples-of-3.fsa OUT",
+        },
+    }
+}
+
+/// What the commands are called that make an automaton of another.
+fn transformation_label<'a>(operation: Transformation) -> Label<'a>
+    ensures { result.text.now ≡ name_text (names.Transform operation) }
+{
+    match operation {
+        Transformation::Not => Label {
+            text: "fsanot",
+            about: "Stores the automaton of what A does not accept",
+            example: "Example: kb fsanot examples/golden-mean.fsa OUT",
+        },
+        Transformation::Exists => Label {
+            text: "fsaexists",
+            about: "Stores the projection of A to its first words",
+            example: "Example: kb fsaexists examples/free-2.times-a OUT",
+        },
+        Transformation::Star => Label {
+            text: "fsastar",
+            about: "Stores the automaton of the Kleene star of A",
+            example: "Example: kb fsastar examples/golden-mean.fsa OUT",
+        },
+        Transformation::Reverse => Label {
+            text: "fsareverse",
+            about: "Stores the automaton of the words of A read backwards",
+            example: "Example: kb fsareverse examples/golden-mean.fsa OUT",
+        },
     }
 }

@@ -153,8 +153,7 @@ fn second_in<F: Shelf>(
 fn has_same_alphabet(first: &Loaded, second: &Loaded) -> bool
     ensures { IsTrue result ↔ ((second.now.names ≡ first.now.names) × (second.now.fsa.alphabet ≡ first.now.fsa.alphabet)) }
 {
-    have_same_names(&second.names, &first.names)
-        && second.fsa.alphabet() == first.fsa.alphabet()
+    have_same_names(&second.names, &first.names) && second.fsa.alphabet() == first.fsa.alphabet()
 }
 
 /// Whether the letters have the same names, in the same order.

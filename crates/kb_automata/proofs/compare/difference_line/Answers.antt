@@ -1,4 +1,4 @@
-use Rattle.std.proofs.Common.{◌∙◌, ap, subst, sym, ◌≡◌, ◌++◌, [], ◌∷◌}
+use Rattle.std.proofs.Common.{◌∙◌, ap, ◌≡◌, ◌++◌, [], ◌∷◌}
 use Rattle.kb_automata.proofs.PrintLemmas.{word-line, pair-line}
 use Rattle.kb_automata.proofs.compare.difference_line.Goals.{in-Plain+in_ok-word_of-in-Plain+in_ok-print_word-in-Plain, in-Pair+in_ok-u-in-Pair+in_ok-print_word-in-Pair+in_ok-push-in-Pair+in_ok-print_word-in-Pair-2}
 use Rattle.kb_automata.proofs.compare.difference_line.Goals as goal

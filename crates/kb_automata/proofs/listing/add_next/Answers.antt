@@ -1,4 +1,3 @@
-use Rattle.std.proofs.Common.{All, ◌<◌, ◌^◌, sym, subst}
 use Rattle.kb_automata.proofs.ListLemmas.{listed-more, steps-more}
 use Rattle.kb_automata.proofs.listing.add_next.Goals as goal
 

@@ -1,8 +1,8 @@
-use Rattle.std.proofs.Common.{refl, arith, [], ◌∙◌, ap}
+use Rattle.std.proofs.Common.{refl, arith, ◌∙◌, ap}
 use Rattle.kb_io.specs.Outside.{outside}
 use Rattle.kb_fsarat.specs.Enumeration.{Enumeration}
 use Rattle.kb_task.proofs.RunLemmas.{counted_after}
-use Rattle.kb_automata.proofs.ListLemmas.{listed-start, listing-ended, listing-stopped}
+use Rattle.kb_automata.proofs.ListLemmas.{listed-start, listing-ended}
 use Rattle.kb_automata.proofs.listing.list_words.Goals as goal
 
 pub loop-pending-init : goal.loop-pending-init
