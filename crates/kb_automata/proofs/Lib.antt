@@ -3,3 +3,4 @@ pub mod PrintLemmas
 pub mod ListLemmas
 pub mod LineLemmas
 pub mod RunLemmas
+pub mod NameLemmas

@@ -1,6 +1,5 @@
 -- The commands of the families are apart, and what is read of what was entered.
-use Rattle.std.proofs.Common.{◌≡◌, ℕ, ap, arith, slice_index, refl, codes}
-use Rattle.clap.specs.Words.{Text}
+use Rattle.std.proofs.Common.{◌≡◌, ap, codes}
 use Rattle.kb_task.specs.Arguments.{Entered, IsEntered}
 use Rattle.kb_task.specs.declared.status.Status.TheVariants.{Memory}
 use Rattle.kb_task.proofs.ArgumentLemmas.{own_name}
@@ -8,46 +7,19 @@ use Rattle.kb_wordreduce.specs.Given.{Given}
 use Rattle.kb_wordreduce.specs.Line.{IsWordReduce}
 use Rattle.kb_wordreduce.proofs.LineLemmas.{one_wordreduce}
 use Rattle.kb_automata.specs.Line.{IsAutomataTask, GivesTask, name_text, name_of_task}
-use Rattle.kb_automata.specs.declared.combine.Combination.TheVariants.{And, Or, Concat}
-use Rattle.kb_automata.specs.declared.line.name.Name.{Name}
-use Rattle.kb_automata.specs.declared.line.name.Name.TheVariants as names
 use Rattle.kb_automata.specs.declared.task.AutomataTask.{AutomataTask}
 use Rattle.kb_automata.specs.declared.task.AutomataTask.TheVariants as tasks
-use Rattle.kb_automata.specs.declared.transform.Transformation.TheVariants.{Not, Exists, Star, Reverse}
 use Rattle.kb_automata.proofs.LineLemmas.{one_automata_task}
+use Rattle.kb_automata.proofs.NameLemmas.{begins_otherwise}
 use Rattle.kb_cli.specs.CommandLine.{IsCommand}
 use Rattle.kb_cli.specs.Commands.{command_answers}
 use Rattle.kb_cli.specs.declared.command.Command.{Command}
 use Rattle.kb_cli.specs.declared.command.Command.TheVariants.{WordReduce, Automata}
 
-first_byte : Text → ℕ
-first_byte text = slice_index text 0
-
--- each command on automata is called by a name that begins with f
-begins_with_f : (name : Name) → first_byte (name_text name) ≡ 102
-unfolding first_byte
-begins_with_f (names.Combine And) = refl
-begins_with_f (names.Combine Or) = refl
-begins_with_f (names.Combine Concat) = refl
-begins_with_f (names.Transform Not) = refl
-begins_with_f (names.Transform Exists) = refl
-begins_with_f (names.Transform Star) = refl
-begins_with_f (names.Transform Reverse) = refl
-begins_with_f names.Minimise = refl
-begins_with_f names.Compare = refl
-begins_with_f names.Enumerate = refl
-
-begins_with_w : first_byte (codes "wordreduce") ≡ 119
-unfolding first_byte
-begins_with_w = refl
-
 -- no subcommand is a command of both families
 apart : (entered : Entered) (given : Given) (task : AutomataTask) → IsWordReduce entered given → ¬ IsAutomataTask entered task
 apart entered given task one other =
-    let same = ap first_byte (own_name entered (codes "wordreduce") (name_text (name_of_task task)) one.rows (GivesTask task) one.is other) in
-    let w = begins_with_w in
-    let f = begins_with_f (name_of_task task) in
-    absurd (omega (arith, same, w, f))
+    begins_otherwise task (own_name entered (codes "wordreduce") (name_text (name_of_task task)) one.rows (GivesTask task) one.is other)
 
 -- one entered subcommand is one command at most
 pub one_command : (entered : Entered) (one other : Command) → IsCommand entered one → IsCommand entered other → one ≡ other

@@ -1,6 +1,7 @@
 use Rattle.std.proofs.Common.{refl, map, subst, string_bytes}
 use Rattle.clap.specs.Words.{app_of, subcommand_rows_of}
 use Rattle.clap.specs.declared.error.kind.ErrorKind.TheVariants.{ValueValidation}
+use Rattle.kb_task.specs.Arguments.{ReadsAs}
 use Rattle.kb_cli.specs.CommandLine.{IsCommand, no_number}
 use Rattle.kb_cli.specs.declared.command.Command.{Command}
 use Rattle.kb_cli.proofs.LineLemmas.{refused, explained, faultless_line, entered_line}
@@ -9,12 +10,12 @@ use Rattle.kb_cli.proofs.arguments.read_arguments.Goals as goal
 pub returns-in-Err-clause-err : goal.returns-in-Err-clause-err
 returns-in-Err-clause-err c =
     let usage = c.in_ok-usage_error-in-Err.ensures.kind in
-    refused (app_of c.in_ok-program_line.field-0) (map string_bytes c.args.arguments.now) c.in-Err.error c.in_ok-usage_error-in-Err.field-0 c.in_ok-program_line.ensures.app c.in-Err.ensures.kinds usage.0 usage.1
+    refused (app_of c.in_ok-program_line.field-0) (map string_bytes c.args.arguments.now) c.in-Err.error c.in_ok-usage_error-in-Err.field-0 c.in_ok-program_line.ensures c.in-Err.ensures.kinds usage.0 usage.1
 
 pub returns-in-Some-clause-ok : goal.returns-in-Some-clause-ok
 returns-in-Some-clause-ok c =
     let words = map string_bytes c.args.arguments.now in
-    let is = c.in_ok-program_line.ensures.app in
+    let is = c.in_ok-program_line.ensures in
     record {
       faultless = faultless_line (app_of c.in_ok-program_line.field-0) words is c.in-Ok.ensures.kinds;
       is = subst (λ entered. IsCommand entered c.in-Some.command) (entered_line (app_of c.in_ok-program_line.field-0) words c.in-Ok.matches is c.in-Ok.ensures.matches)
@@ -24,7 +25,7 @@ returns-in-Some-clause-ok c =
 pub returns-clause-err : goal.returns-clause-err
 returns-clause-err c =
     let words = map string_bytes c.args.arguments.now in
-    let is = c.in_ok-program_line.ensures.app in
+    let is = c.in_ok-program_line.ensures in
     let app = app_of c.in_ok-program_line.field-0 in
     let unsaid = subst (λ entered. (command : Command) → ¬ IsCommand entered command) (entered_line app words c.in-Ok.matches is c.in-Ok.ensures.matches)
     (subst (ReadsAs IsCommand (subcommand_rows_of c.in-Ok.matches)) c.in-None.is c.in_ok-entered_command.ensures) in
