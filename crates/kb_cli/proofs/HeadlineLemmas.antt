@@ -2,14 +2,14 @@
 use Rattle.std.proofs.Common.{◌≡◌, ℕ, List, sym, subst}
 use Rattle.clap.specs.declared.error.kind.ErrorKind.{ErrorKind}
 use Rattle.kb_io.specs.Outside.{Outside}
-use Rattle.kb_task.specs.Runs.{ReadsSame, HasSameEffect}
+use Rattle.kb_task.specs.Runs.{IsRun, ReadsSame, HasSameEffect}
 use Rattle.kb_task.specs.Statuses.{IsYes, IsConclusive, IsFaultless}
 use Rattle.kb_task.specs.declared.status.Status.{Status}
 use Rattle.kb_task.specs.declared.status.Status.TheVariants.{Yes, Refused, Undecided, No, Memory, Fault, Usage}
 use Rattle.kb_cli.specs.CommandLaws.{commands_complete, commands_settled, commands_one_function}
 use Rattle.kb_cli.specs.CommandLine.{IsLine, IsNoLine}
 use Rattle.kb_cli.specs.Commands.{CommandMeans, command_may_store, command_reads, command_is_unrefused, command_answers, CommandsDifferInOptions}
-use Rattle.kb_cli.specs.Headline.{Headline, ArgumentsStop, no_command, a_command}
+use Rattle.kb_cli.specs.Headline.{Headline, ArgumentsStop, MayStore, no_command, a_command}
 use Rattle.kb_cli.specs.declared.command.Command.{Command}
 use Rattle.kb_cli.proofs.CommandLemmas.{memory_answers, one_command}
 use Rattle.kb_cli.proofs.LineLemmas.{line_or_not}
@@ -67,3 +67,13 @@ headline_one_function arguments other_arguments command other_command before aft
     (meant arguments command before after status line (yes-conclusive status is_yes) one)
     (meant other_arguments other_command other_before other_after other also (yes-conclusive other also_yes) another)
     is_yes also_yes differ same input
+
+-- a run of the command that the arguments are the line of is a run on them
+pub run_of_command : (arguments : List (List ℕ)) (command : Command) (before after : Outside) (status : Status) → IsLine arguments command
+    → IsRun (CommandMeans command) (command_may_store command) before after status → IsRun (Headline arguments) (MayStore arguments) before after status
+run_of_command arguments command before after status line run = record {
+  means = λ told. a_command command line (run.means told);
+  fault = run.fault;
+  goes_on = run.goes_on;
+  files = λ name may_not. run.files name (λ stores. may_not (command, line, stores));
+}

@@ -19,7 +19,7 @@ returns-in-Some-clause-ok c =
     record {
       faultless = faultless_line (app_of c.in_ok-program_line.field-0) words is c.in-Ok.ensures.kinds;
       is = subst (λ entered. IsCommand entered c.in-Some.command) (entered_line (app_of c.in_ok-program_line.field-0) words c.in-Ok.matches is c.in-Ok.ensures.matches)
-          (subst (ReadsAs IsCommand (subcommand_rows_of c.in-Ok.matches)) c.in-Some.is c.in_ok-entered_command.ensures);
+          (subst (ReadsAs IsCommand (subcommand_rows_of c.in-Ok.matches)) c.in-Some.is c.in_ok-command.ensures);
     }
 
 pub returns-clause-err : goal.returns-clause-err
@@ -28,6 +28,6 @@ returns-clause-err c =
     let is = c.in_ok-program_line.ensures in
     let app = app_of c.in_ok-program_line.field-0 in
     let unsaid = subst (λ entered. (command : Command) → ¬ IsCommand entered command) (entered_line app words c.in-Ok.matches is c.in-Ok.ensures.matches)
-    (subst (ReadsAs IsCommand (subcommand_rows_of c.in-Ok.matches)) c.in-None.is c.in_ok-entered_command.ensures) in
+    (subst (ReadsAs IsCommand (subcommand_rows_of c.in-Ok.matches)) c.in-None.is c.in_ok-command.ensures) in
     explained words ValueValidation c.in_ok-number_error-in-None.field-0 c.in_ok-number_error-in-None.ensures.kind
     (no_number (faultless_line app words is c.in-Ok.ensures.kinds) unsaid refl)
