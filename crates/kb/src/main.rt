@@ -20,7 +20,7 @@ fn main(rt: HostRuntime) -> ExitCode {
                 &mut err,
                 b"kb: a word of the command line is no UTF-8 text\n",
             );
-            return ExitCode::from(Status::Usage(ErrorKind::InvalidUtf8).exit());
+            return ExitCode::from(Status::Usage(ErrorKind::InvalidValue).exit());
         }
         Err(_) => Err(AllocError),
     };
