@@ -29,9 +29,6 @@ mod pair_symbols;
 mod row;
 mod symbols;
 mod table;
-#[cfg(test)]
-#[cfg(test)]
-mod tests;
 mod texts;
 
 pub use alphabet::Alphabet;

@@ -23,8 +23,6 @@ mod partition;
 mod quotient;
 mod rounds;
 mod splitting;
-#[cfg(test)]
-mod tests;
 
 pub use canonical_form::canonical;
 pub use laws::one_language_has_one_canonical_automaton;

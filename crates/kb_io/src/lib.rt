@@ -23,8 +23,6 @@ mod shelf;
 mod sink;
 mod source;
 mod system;
-#[cfg(test)]
-mod tests;
 
 pub use failed::Failed;
 pub use gate::{Gate, OpenGate, Point};

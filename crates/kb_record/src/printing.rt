@@ -13,9 +13,6 @@ use crate::tree::{Factor, Rec, Value};
 use itoa::Buffer;
 use kb_word::Memory;
 
-#[cfg(test)]
-mod tests;
-
 /// Appends the printed text of a record: a line for each field, and for each place of a list of lists.
 pub fn print(text: &Rec<'_>, out: &mut Vec<u8>) -> Result<(), Memory>
     ensures printed { OnOk result (out.new.items ≡ out.old.items ++ printed (text_view text.now)) }

@@ -14,8 +14,6 @@ mod reducer;
 mod rule;
 mod rules;
 mod scan;
-#[cfg(test)]
-mod tests;
 mod unread;
 
 pub use laws::{

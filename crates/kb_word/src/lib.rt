@@ -24,8 +24,6 @@ mod order;
 mod owned_text;
 mod presentation;
 mod printed;
-#[cfg(test)]
-mod tests;
 mod word;
 
 pub use equations::{Equations, copy_pair, copy_pairs};

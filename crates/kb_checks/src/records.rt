@@ -1,7 +1,6 @@
 //! The printed text of values of each kind, which shows that the layout is the one that is meant.
 
-use super::*;
-use crate::parser::parse;
+use kb_record::{parse, print};
 use std::alloc::{AllocError, Global};
 use std::test::Fail;
 

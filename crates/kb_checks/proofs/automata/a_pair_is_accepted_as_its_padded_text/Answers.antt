@@ -1,6 +1,6 @@
 use Rattle.std.proofs.Common.{ℕ, ◌<◌, ◌≤◌, lit<, lit≤, [], ◌∷◌, refl}
 use Rattle.std.proofs.lemmas.List.Elements.{All-nil, All-cons}
-use Rattle.kb_fsa.proofs.tests.a_pair_is_accepted_as_its_padded_text.Goals as goal
+use Rattle.kb_checks.proofs.automata.a_pair_is_accepted_as_its_padded_text.Goals as goal
 
 IsLetter : ℕ → Type 0
 IsLetter x = (0 < x) × (x ≤ 1)

@@ -1,6 +1,6 @@
 //! What the adapters do with the system, which no clause says.
 
-use crate::{FileShelf, Load, Shelf, ShelfFault, Source, StdErr, StdIn, StdOut, write_all};
+use kb_io::{FileShelf, Load, Shelf, ShelfFault, Source, StdErr, StdIn, StdOut, write_all};
 use std::{env, fs, io, process};
 
 /// Whether the load is a text of these bytes.
