@@ -7,25 +7,14 @@
 //!
 //! # How it is made
 //!
-//! - `section` cuts a file into sections: a keyword, what is behind it on its line, and the indented lines below.
-//! - `token`, `texts` and `terms` read texts: quoted, repeated, by a name, or from a file of data.
-//! - `draft` collects the sections of a case, `row` reads its rows, and `case` makes a case of the sections and a row.
-//! - `suite` goes through the sections of a file.
+//! - `suite` goes through the sections of a file, which `kb_casefile` reads.
 //! - `trial` runs a case, and `report` prints what differs.
 //!
-//! Nothing stands above.
+//! Below are `kb_casefile` and `kb_cli`; nothing is above.
 #![tactic(auto)]
 
-mod case;
-mod draft;
-mod mistake;
 mod report;
-mod row;
-mod section;
 mod suite;
-mod terms;
-mod texts;
-mod token;
 mod trial;
 
 use anyhow::{Context, ensure};

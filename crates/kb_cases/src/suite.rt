@@ -1,13 +1,8 @@
 //! A file of cases.
 
-use crate::draft::Draft;
-use crate::mistake::{Mistake, Stop, on_line};
 use crate::report::print_differences;
-use crate::row::rows;
-use crate::section::{Section, sections};
-use crate::terms::text_of;
-use crate::texts::Named;
 use crate::trial::differences;
+use kb_casefile::{Draft, Mistake, Named, Section, Stop, on_line, rows, sections, text_of};
 use std::alloc::Global;
 use std::fs;
 use std::rt::Files;

@@ -1,7 +1,6 @@
 //! One run over memory, compared with what has to come of it.
 
-use crate::case::{Case, Wanted};
-use crate::texts::{Named, find};
+use kb_casefile::{Case, Named, Wanted, find};
 use kb_cli::{Status, run};
 use kb_io::{MemShelf, MemSink, MemSource, OpenGate};
 use std::alloc::{AllocError, Global};

@@ -5,7 +5,7 @@ use std::alloc::Global;
 
 /// A line that is not indented, and the indented lines below it.
 #[derive(Drop)]
-pub(crate) struct Section {
+pub struct Section {
     /// The number of its first line, counted from 1.
     pub line: usize,
     /// The first word.
@@ -20,7 +20,7 @@ pub(crate) struct Section {
 
 /// A line of a block.
 #[derive(Drop)]
-pub(crate) struct Line {
+pub struct Line {
     /// Its number in the file, counted from 1.
     pub number: usize,
     pub text: String,
@@ -58,7 +58,7 @@ impl Section {
     }
 
     /// Whether there is a text, on the line or below.
-    pub(crate) fn has_text(&self) -> bool {
+    pub fn has_text(&self) -> bool {
         self.terms.is_some() || !self.block.is_empty()
     }
 }
@@ -70,7 +70,7 @@ fn is_whole(text: &str) -> bool {
 
 /// The sections of a text. A line that begins with `#` is a comment. Empty lines between two lines of a block belong
 /// to it, and others separate sections.
-pub(crate) fn sections(alloc: Global, text: &str) -> Result<Vec<Section>, Stop> {
+pub fn sections(alloc: Global, text: &str) -> Result<Vec<Section>, Stop> {
     let mut sections = Vec::new(alloc);
     let mut empty_lines = 0usize;
     let mut number = 0usize;

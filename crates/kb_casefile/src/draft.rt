@@ -9,7 +9,7 @@ use std::rt::Files;
 
 /// The sections of a case.
 #[derive(Drop)]
-pub(crate) struct Draft {
+pub struct Draft {
     /// The line on which the case begins.
     pub line: usize,
     /// What it shows.
@@ -20,7 +20,7 @@ pub(crate) struct Draft {
 
 impl Draft {
     /// A case that begins with this section.
-    pub(crate) fn begun(alloc: Global, section: Section) -> Draft {
+    pub fn begun(alloc: Global, section: Section) -> Draft {
         Draft {
             line: section.line,
             shows: section.argument,
@@ -29,18 +29,14 @@ impl Draft {
     }
 
     /// The section with the rows.
-    pub(crate) fn heading(&self) -> Option<&Section> {
+    pub fn heading(&self) -> Option<&Section> {
         self.sections
             .iter()
             .find(|section| section.keyword.as_str() == "each")
     }
 
     /// The case that these sections are, by texts that have a name.
-    pub(crate) fn case<R: Files + AllocGlobal>(
-        &self,
-        rt: &R,
-        texts: &[Named],
-    ) -> Result<Case, Stop> {
+    pub fn case<R: Files + AllocGlobal>(&self, rt: &R, texts: &[Named]) -> Result<Case, Stop> {
         let mut case = Case::new(rt.alloc());
         for section in &self.sections {
             on_line(section.line, case.add(rt, section, texts))?;

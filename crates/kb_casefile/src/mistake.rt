@@ -6,7 +6,7 @@ use thiserror::Error;
 
 /// What is wrong with a section of a file of cases.
 #[derive(Clone, Copy, Debug, Error)]
-pub(crate) enum Mistake {
+pub enum Mistake {
     #[error("no memory")]
     Memory,
     #[error("no section begins so")]
@@ -55,7 +55,7 @@ impl<T: Drop> From<AllocFailed<T>> for Mistake {
 
 /// What stops the reading of a file of cases, or the runs of its cases.
 #[derive(Debug, Drop, Error)]
-pub(crate) enum Stop {
+pub enum Stop {
     #[error("line {line}: {mistake}")]
     Malformed { line: usize, mistake: Mistake },
     #[error("{0}")]
@@ -83,7 +83,7 @@ impl From<io::Error> for Stop {
 }
 
 /// The mistake in the section that begins on this line.
-pub(crate) fn on_line<T>(line: usize, answer: Result<T, Mistake>) -> Result<T, Stop> {
+pub fn on_line<T>(line: usize, answer: Result<T, Mistake>) -> Result<T, Stop> {
     match answer {
         Ok(value) => Ok(value),
         Err(mistake) => Err(Stop::Malformed { line, mistake }),

@@ -9,7 +9,7 @@ use std::fs;
 use std::rt::Files;
 
 /// The text of a section: that on its line, or else the lines below it, each with a newline. Without either it is empty.
-pub(crate) fn text_of<R: Files + AllocGlobal>(
+pub fn text_of<R: Files + AllocGlobal>(
     rt: &R,
     section: &Section,
     texts: &[Named],
@@ -229,7 +229,7 @@ fn replaced(
 }
 
 /// The bytes as text.
-pub(crate) fn as_text(bytes: &[u8]) -> Result<&str, Mistake> {
+pub fn as_text(bytes: &[u8]) -> Result<&str, Mistake> {
     match std::str::from_utf8(bytes) {
         Ok(text) => Ok(text),
         Err(_) => Err(Mistake::NoUtf8),

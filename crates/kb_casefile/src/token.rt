@@ -5,7 +5,7 @@ use std::alloc::Global;
 
 /// A word, or a text in quotation marks.
 #[derive(Drop)]
-pub(crate) struct Token {
+pub struct Token {
     /// Its bytes, for a quoted text without the marks and with the bytes that escapes are for.
     pub bytes: Vec<u8>,
     /// Whether it is in quotation marks.
@@ -14,7 +14,7 @@ pub(crate) struct Token {
 
 impl Token {
     /// The token as text.
-    pub(crate) fn text(&self) -> Result<&str, Mistake> {
+    pub fn text(&self) -> Result<&str, Mistake> {
         match std::str::from_utf8(self.bytes.as_slice()) {
             Ok(text) => Ok(text),
             Err(_) => Err(Mistake::NoUtf8),
@@ -116,7 +116,7 @@ impl Reading {
 }
 
 /// The tokens of a line, which blanks separate.
-pub(crate) fn tokens(alloc: Global, line: &str) -> Result<Vec<Token>, Mistake> {
+pub fn tokens(alloc: Global, line: &str) -> Result<Vec<Token>, Mistake> {
     let mut reading = Reading {
         alloc,
         place: Place::Between,

@@ -10,7 +10,7 @@ use std::rt::Files;
 
 /// What a run is given, and what has to come of it.
 #[derive(Drop)]
-pub(crate) struct Case {
+pub struct Case {
     /// Whether there is a command line.
     pub has_command: bool,
     /// The words behind the program's name.
@@ -27,7 +27,7 @@ pub(crate) struct Case {
 
 /// How the outside of a run behaves. Calls are counted from 1.
 #[derive(Drop)]
-pub(crate) struct Devices {
+pub struct Devices {
     /// At most so many bytes go through a stream in one call.
     pub piece: usize,
     /// The loads that fail.
@@ -44,7 +44,7 @@ pub(crate) struct Devices {
 
 /// What has to come of a run.
 #[derive(Drop)]
-pub(crate) struct Wanted {
+pub struct Wanted {
     /// The exit status.
     pub exit: u8,
     /// The kind of a fault of the command line.
@@ -59,7 +59,7 @@ pub(crate) struct Wanted {
 
 impl Case {
     /// A case without a command line, in which nothing is given and nothing fails.
-    pub(crate) fn new(alloc: Global) -> Case {
+    pub fn new(alloc: Global) -> Case {
         Case {
             has_command: false,
             words: Vec::new(alloc),
@@ -84,7 +84,7 @@ impl Case {
     }
 
     /// Adds what a section says.
-    pub(crate) fn add<R: Files + AllocGlobal>(
+    pub fn add<R: Files + AllocGlobal>(
         &mut self,
         rt: &R,
         section: &Section,

@@ -4,14 +4,14 @@ use std::alloc::{AllocError, Global};
 
 /// Bytes and their name.
 #[derive(Drop)]
-pub(crate) struct Named {
+pub struct Named {
     pub name: String,
     pub bytes: Vec<u8>,
 }
 
 impl Named {
     /// These bytes under this name.
-    pub(crate) fn new(alloc: Global, name: &str, bytes: Vec<u8>) -> Result<Named, AllocError> {
+    pub fn new(alloc: Global, name: &str, bytes: Vec<u8>) -> Result<Named, AllocError> {
         Ok(Named {
             name: String::from_str(alloc, name)?,
             bytes,
@@ -20,7 +20,7 @@ impl Named {
 }
 
 /// The bytes that have this name; of several the last.
-pub(crate) fn find<'a>(texts: &'a [Named], name: &str) -> Option<&'a [u8]> {
+pub fn find<'a>(texts: &'a [Named], name: &str) -> Option<&'a [u8]> {
     let mut found: Option<&'a [u8]> = None;
     for text in texts {
         if text.name.as_str() == name {

@@ -12,7 +12,7 @@ const BETWEEN: &str = " => ";
 
 /// A row, or a case without rows.
 #[derive(Drop)]
-pub(crate) struct Row {
+pub struct Row {
     /// Its line in the file.
     pub line: usize,
     /// What the case with this row shows.
@@ -22,7 +22,7 @@ pub(crate) struct Row {
 }
 
 /// The rows of a case: those below `each`, or the numbers from one to another. A case without has one row of no columns.
-pub(crate) fn rows(alloc: Global, draft: &Draft) -> Result<Vec<Row>, Stop> {
+pub fn rows(alloc: Global, draft: &Draft) -> Result<Vec<Row>, Stop> {
     let Some(heading) = draft.heading() else {
         let mut rows = Vec::new(alloc);
         rows.push(Row {
