@@ -16,7 +16,7 @@ use Rattle.kb_task.specs.Loads.{Files}
 use Rattle.kb_task.specs.Presentations.{HoldsPresentation, IsPresentationFault}
 use Rattle.kb_task.specs.Runs.{HasSameEffect, ReadsSame}
 use Rattle.kb_task.specs.Statuses.{AnswersYesOrNo, IsConclusive, IsFaultless, IsYes}
-use Rattle.kb_task.specs.declared.status.Cert.TheVariants.{NotConfluent, NotEqual}
+use Rattle.kb_task.specs.declared.status.Cert.TheVariants.{NotConfluent}
 use Rattle.kb_task.specs.declared.status.Refusal.TheVariants.{File, Line, InputTooLong}
 use Rattle.kb_task.specs.declared.status.Status.{Status}
 use Rattle.kb_task.specs.declared.status.Status.TheVariants.{Yes, Refused, Undecided, No, Memory, Fault, Usage}
@@ -127,16 +127,16 @@ lines_settled : (parts : PresentationParts) (before after other_before other_aft
     → status ≡ other
 lines_settled parts a b c d Yes Yes conclusive also means others = refl
 lines_settled parts a b c d Yes (No (NotConfluent u v)) conclusive also means others = absurd (confluent-not_refuted parts u v means.0 others.0)
-lines_settled parts a b c d Yes (No (NotEqual text)) conclusive also means others = absurd others
+lines_settled parts a b c d Yes (No cert) conclusive also means others = absurd others
 lines_settled parts a b c d Yes (Undecided limit) conclusive also means others = absurd others
 lines_settled parts a b c d Yes other conclusive also means others = absurd also
 lines_settled parts a b c d (No (NotConfluent u v)) Yes conclusive also means others = absurd (confluent-not_refuted parts u v others.0 means.0)
 lines_settled parts a b c d (No (NotConfluent u v)) (No (NotConfluent w x)) conclusive also means others =
     ap No (one_counterexample parts u v w x means.0 others.0)
-lines_settled parts a b c d (No (NotConfluent u v)) (No (NotEqual text)) conclusive also means others = absurd others
+lines_settled parts a b c d (No (NotConfluent u v)) (No cert) conclusive also means others = absurd others
 lines_settled parts a b c d (No (NotConfluent u v)) (Undecided limit) conclusive also means others = absurd others
 lines_settled parts a b c d (No (NotConfluent u v)) other conclusive also means others = absurd also
-lines_settled parts a b c d (No (NotEqual text)) other conclusive also means others = absurd means
+lines_settled parts a b c d (No cert) other conclusive also means others = absurd means
 lines_settled parts a b c d (Undecided limit) other conclusive also means others = absurd means
 lines_settled parts a b c d status other conclusive also means others = absurd conclusive
 
