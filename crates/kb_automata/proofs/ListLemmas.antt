@@ -9,7 +9,7 @@ use Rattle.std.proofs.lemmas.List.Elements.{All-head, All-tail, Contains-append_
 use Rattle.kb_io.specs.Bytes.{AppendsPrefix, newline}
 use Rattle.kb_word.specs.Words.{Less}
 use Rattle.kb_word.specs.Order.{rank}
-use Rattle.kb_word.proofs.Shortlex.{shortlex_transitive, shortlex_total}
+use Rattle.kb_word.specs.ShortlexLaws.{shortlex_transitive, shortlex_total}
 use Rattle.kb_fsa.specs.Language.{Automaton}
 use Rattle.kb_fsarat.specs.Enumeration.{Enumeration, ComesAfter, IsLeft, IsNext}
 use Rattle.kb_word.specs.Printed.{text_of_word}

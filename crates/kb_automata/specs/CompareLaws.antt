@@ -1,6 +1,6 @@
 -- The laws of `fsalequal`.
 use Rattle.std.proofs.Common.{◌≡◌, inl, inr, ℕ, List, ◌++◌, codes, refl, ◌∙◌, ap, subst}
-use Rattle.kb_word.proofs.Shortlex.{shortlex_total}
+use Rattle.kb_word.specs.ShortlexLaws.{shortlex_total}
 use Rattle.kb_fsa.specs.Language.{Automaton, SameLanguage}
 use Rattle.kb_fsabool.specs.Answers.{IsInOne, IsLeastDifference}
 use Rattle.kb_task.specs.Runs.{HasSameEffect, IsComplete, IsSettledByFiles, IsFunctionOfInputs}

@@ -3,7 +3,7 @@ use Rattle.std.proofs.Common.{◌≡◌, ◌⊎◌, inl, inr, ℕ, suc, ◌<◌,
 use Rattle.std.specs.List.{AllPairs, Contains}
 use Rattle.std.proofs.lemmas.List.Elements.{Contains-append_cases, Contains-append_left, Contains-append_right, Contains-push, Contains-push_cases}
 use Rattle.kb_word.specs.Words.{Less}
-use Rattle.kb_word.proofs.Shortlex.{shortlex_irreflexive, shortlex_transitive, shortlex_total}
+use Rattle.kb_word.specs.ShortlexLaws.{shortlex_irreflexive, shortlex_transitive, shortlex_total}
 use Rattle.kb_io.specs.Outside.{Outside}
 use Rattle.kb_fsa.specs.Language.{Automaton}
 use Rattle.kb_task.specs.Runs.{HasSameEffect, IsComplete, IsSettledByFiles, IsFunctionOfInputs}

@@ -1,7 +1,7 @@
 -- Words with a letter more at the end, in the shortlex order.
 use Rattle.std.proofs.Common.{ℕ, ◌<◌, List, [], ◌∷◌, ◌++◌, refl, subst, inl, inr, arith, length-append}
 use Rattle.kb_word.specs.Words.{Less, shorter, earlier, IsEarlier}
-use Rattle.kb_word.proofs.Shortlex.{shortlex_irreflexive, shortlex_transitive, shortlex_total}
+use Rattle.kb_word.specs.ShortlexLaws.{shortlex_irreflexive, shortlex_transitive, shortlex_total}
 
 earlier_continued : (u v more others : List ℕ) → IsEarlier u v → IsEarlier (u ++ more) (v ++ others)
 earlier_continued [] v more others h = absurd h

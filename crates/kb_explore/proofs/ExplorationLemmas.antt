@@ -2,7 +2,7 @@
 use Rattle.std.proofs.Common.{◌≡◌, ◌↔◌, ℕ, zero, suc, ◌<◌, ◌≤◌, IsTrue, List, length, slice_get, Some, None, refl, sym, ap, subst, ◌∙◌, inl, inr, arith}
 use Rattle.std.proofs.lemmas.Option.{none-some, slice_get_within}
 use Rattle.kb_word.specs.Words.{Less}
-use Rattle.kb_word.proofs.Shortlex.{shortlex_total}
+use Rattle.kb_word.specs.ShortlexLaws.{shortlex_total}
 use Rattle.kb_fsa.specs.Table.{Table, AcceptsFrom, is_accepting, state_after}
 use Rattle.kb_fsa.specs.Canonical.{IsLeastText, IsBreadthFirst, AreReached}
 use Rattle.kb_fsa.proofs.Lookups.{after_within}

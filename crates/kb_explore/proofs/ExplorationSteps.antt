@@ -4,7 +4,7 @@ use Rattle.std.specs.List.{All, AllZip}
 use Rattle.std.proofs.lemmas.List.Elements.{All-nil, All-cons, All-weaker, All-head, All-tail}
 use Rattle.std.proofs.lemmas.Option.{none-some, same_Some, slice_get_within}
 use Rattle.kb_word.specs.Words.{Less}
-use Rattle.kb_word.proofs.Shortlex.{shortlex_irreflexive, shortlex_transitive}
+use Rattle.kb_word.specs.ShortlexLaws.{shortlex_irreflexive, shortlex_transitive}
 use Rattle.kb_fsa.specs.Table.{Moves}
 use Rattle.kb_explore.specs.Machine.{Machine, AreMovesOf, leads, HasMoreStates}
 use Rattle.kb_explore.specs.Exploration.{numbered, IsTraced, at_start, along}

@@ -3,7 +3,7 @@ use Rattle.std.proofs.Common.{◌≡◌, ◌↔◌, ℕ, suc, Bool, true, false,
 use Rattle.std.proofs.lemmas.Bool.{true≢false, cases_order, false_from_ne_true}
 use Rattle.std.proofs.lemmas.Option.{same_Some}
 use Rattle.kb_word.specs.Words.{Less}
-use Rattle.kb_word.proofs.Shortlex.{shortlex_transitive}
+use Rattle.kb_word.specs.ShortlexLaws.{shortlex_transitive}
 use Rattle.kb_fsa.specs.Table.{Table, state_after, is_accepting, AcceptsFrom}
 use Rattle.kb_fsa.specs.Language.{Automaton, SameLanguage}
 use Rattle.kb_fsa.proofs.Lookups.{accepting_positive, accepting_within}

@@ -5,7 +5,7 @@ use Rattle.std.specs.Cmp.{both_ways}
 use Rattle.std.proofs.lemmas.Bool.{cases_order, false_from_ne_true}
 use Rattle.std.proofs.lemmas.List.{ext_get_or}
 use Rattle.kb_word.specs.Words.{Less}
-use Rattle.kb_word.proofs.Shortlex.{strong_induction, shortlex_irreflexive, shortlex_transitive}
+use Rattle.kb_word.specs.ShortlexLaws.{strong_induction, shortlex_irreflexive, shortlex_transitive}
 use Rattle.kb_fsa.specs.Table.{Moves, Table, IsTable, moves_of, is_accepting, step, AcceptsFrom, state_after, IsLive, AreEquivalent}
 use Rattle.kb_fsa.specs.Language.{Automaton, IsAutomaton, SameLanguage}
 use Rattle.kb_fsa.specs.Canonical.{IsLeastText, IsState, IsCanonical}

@@ -6,7 +6,7 @@ use Rattle.std.proofs.Math.Nat.{mul-le-mul_right}
 use Rattle.kb_word.specs.Words.{Pair, Less, shorter, earlier, OneOf}
 use Rattle.kb_word.specs.Order.{rank}
 use Rattle.kb_word.specs.Rewriting.{IsIrreducible, AreDecreasing, FirstRewrite, NormalForm}
-use Rattle.kb_word.proofs.Shortlex.{shortlex_order, rank_falls}
+use Rattle.kb_word.specs.ShortlexLaws.{shortlex_order, rank_falls}
 use Rattle.kb_rules.specs.Ending.{IsFirstEnding}
 use Rattle.kb_rules.specs.Reading.{Reads, passed, rewritten}
 use Rattle.kb_rules.proofs.Lists.{from_end, All-front, All-rest}

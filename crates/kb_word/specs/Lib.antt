@@ -1,6 +1,11 @@
 pub mod Words
 pub mod Path
 pub mod Order
+pub mod ShortlexLaws
+pub mod Weights
+pub mod WeightLaws
+pub mod WordOrders
+pub mod WordOrderLaws
 pub mod Congruence
 pub mod Rewriting
 pub mod Overlap

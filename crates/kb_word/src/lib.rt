@@ -25,6 +25,7 @@ mod owned_text;
 mod presentation;
 mod printed;
 mod word;
+mod word_order;
 
 pub use equations::{Equations, copy_pair, copy_pairs};
 pub use factor::factor_at;
@@ -37,3 +38,4 @@ pub use owned_text::OwnedText;
 pub use presentation::{Presentation, none_where_a_letter_has_no_inverse};
 pub use printed::print_word;
 pub use word::Word;
+pub use word_order::{Order, ShortLex, WordOrder, WtLex};

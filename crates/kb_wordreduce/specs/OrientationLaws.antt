@@ -1,6 +1,6 @@
 -- Relations are oriented in one way.
 use Rattle.std.proofs.Common.{◌≡◌, ◌∙◌, ◌⊎◌, inl, inr, ℕ, List, [], ◌∷◌, ◌++◌, refl, sym, ap₂, subst}
-use Rattle.kb_word.proofs.Shortlex.{shortlex_irreflexive, shortlex_transitive}
+use Rattle.kb_word.specs.ShortlexLaws.{shortlex_irreflexive, shortlex_transitive}
 use Rattle.kb_word.specs.Words.{Pair, Less, OneOf}
 use Rattle.kb_word.specs.Relations.{IsOrientation, Orients, none_left, equal_sides, repeated, added}
 

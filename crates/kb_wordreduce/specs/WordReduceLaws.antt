@@ -6,7 +6,7 @@ use Rattle.kb_word.specs.Words.{Pair}
 use Rattle.kb_word.specs.Overlap.{IsConfluent, IsResolved, IsUnresolved, critical_pair}
 use Rattle.kb_word.specs.Rewriting.{NormalForm}
 use Rattle.kb_word.specs.Presentations.{PresentationParts}
-use Rattle.kb_word.proofs.Shortlex.{shortlex_total}
+use Rattle.kb_word.specs.ShortlexLaws.{shortlex_total}
 use Rattle.kb_rules.proofs.Unique.{normal_form_unique}
 use Rattle.kb_confluence.specs.Unjoined.{ComesBefore, IsFirstUnjoined}
 use Rattle.kb_record.specs.Tree.{TextTree}

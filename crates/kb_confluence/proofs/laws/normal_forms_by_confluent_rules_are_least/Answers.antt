@@ -1,4 +1,4 @@
-use Rattle.kb_word.proofs.Shortlex.{shortlex_order}
+use Rattle.kb_word.specs.ShortlexLaws.{shortlex_order}
 use Rattle.kb_rules.proofs.Reducts.{normal_form_congruent}
 use Rattle.kb_confluence.proofs.LeastWords.{normal_form_least}
 use Rattle.kb_confluence.proofs.laws.normal_forms_by_confluent_rules_are_least.Goals as goal

@@ -1,4 +1,4 @@
-use Rattle.kb_word.proofs.Shortlex.{shortlex_order}
+use Rattle.kb_word.specs.ShortlexLaws.{shortlex_order}
 use Rattle.kb_rules.proofs.Exists.{normal_form_exists}
 use Rattle.kb_rules.proofs.laws.normal_forms_exist.Goals as goal
 

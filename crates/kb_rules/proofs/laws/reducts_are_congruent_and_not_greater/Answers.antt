@@ -1,4 +1,4 @@
-use Rattle.kb_word.proofs.Shortlex.{shortlex_order}
+use Rattle.kb_word.specs.ShortlexLaws.{shortlex_order}
 use Rattle.kb_rules.proofs.Reducts.{reduct_congruent, reduct_at_most}
 use Rattle.kb_rules.proofs.laws.reducts_are_congruent_and_not_greater.Goals as goal
 

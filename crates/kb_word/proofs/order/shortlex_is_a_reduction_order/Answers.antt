@@ -1,4 +1,4 @@
-use Rattle.kb_word.proofs.Shortlex.{shortlex_order}
+use Rattle.kb_word.specs.ShortlexLaws.{shortlex_order}
 use Rattle.kb_word.proofs.order.shortlex_is_a_reduction_order.Goals as goal
 
 pub returns : goal.returns

@@ -1,5 +1,5 @@
 use Rattle.std.proofs.Common.{inl, inr}
-use Rattle.kb_word.proofs.Shortlex.{shortlex_total}
+use Rattle.kb_word.specs.ShortlexLaws.{shortlex_total}
 use Rattle.kb_wordreduce.proofs.ValueLemmas.{never}
 use Rattle.kb_wordreduce.proofs.orienting.orientation.Goals as goal
 

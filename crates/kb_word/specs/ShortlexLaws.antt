@@ -16,12 +16,12 @@ strong_below P step (suc n) m h =
 pub strong_induction : (P : ℕ → Type 0) → ((n : ℕ) → ((m : ℕ) → m < n → P m) → P n) → (n : ℕ) → P n
 strong_induction P step n = strong_below P step (suc n) n (omega arith)
 
-IsEarlier-irreflexive : (u : List ℕ) → ¬ IsEarlier u u
+pub IsEarlier-irreflexive : (u : List ℕ) → ¬ IsEarlier u u
 IsEarlier-irreflexive [] h = h
 IsEarlier-irreflexive (x ∷ u) (inl h) = omega arith
 IsEarlier-irreflexive (x ∷ u) (inr h) = IsEarlier-irreflexive u h.1
 
-IsEarlier-transitive : (u v w : List ℕ) → IsEarlier u v → IsEarlier v w → IsEarlier u w
+pub IsEarlier-transitive : (u v w : List ℕ) → IsEarlier u v → IsEarlier v w → IsEarlier u w
 IsEarlier-transitive [] v w g h = absurd g
 IsEarlier-transitive (x ∷ u) [] w g h = absurd g
 IsEarlier-transitive (x ∷ u) (y ∷ v) [] g h = absurd h
@@ -31,13 +31,13 @@ IsEarlier-transitive (x ∷ u) (y ∷ v) (z ∷ w) (inr g) (inl h) = let e = g.0
 IsEarlier-transitive (x ∷ u) (y ∷ v) (z ∷ w) (inr g) (inr h) = inr (g.0 ∙ h.0, IsEarlier-transitive u v w g.1 h.1)
 
 -- of two numbers one is less, or they are equal
-compare_cases : (x y : ℕ) → (x < y) ⊎ ((x ≡ y) ⊎ (y < x))
+pub compare_cases : (x y : ℕ) → (x < y) ⊎ ((x ≡ y) ⊎ (y < x))
 compare_cases x y = elim (cases_lt x y) [
   | inl h ↦ inl h
   | inr h ↦ elim (cases_lt y x) [ inl g ↦ inr (inr g) | inr g ↦ inr (inl (omega arith)) ]
 ]
 
-lex_total-more : (x y : ℕ) (u v : List ℕ) → (x < y) ⊎ ((x ≡ y) ⊎ (y < x))
+pub lex_total-more : (x y : ℕ) (u v : List ℕ) → (x < y) ⊎ ((x ≡ y) ⊎ (y < x))
     → (u ≡ v) ⊎ (IsEarlier u v ⊎ IsEarlier v u)
     → (x ∷ u ≡ y ∷ v) ⊎ (IsEarlier (x ∷ u) (y ∷ v) ⊎ IsEarlier (y ∷ v) (x ∷ u))
 lex_total-more x y u v (inl h) rest = inr (inl (inl h))
@@ -52,13 +52,13 @@ lex_total [] (y ∷ v) e = absurd (let no : ⊥ = omega arith in no)
 lex_total (x ∷ u) [] e = absurd (let no : ⊥ = omega arith in no)
 lex_total (x ∷ u) (y ∷ v) e = lex_total-more x y u v (compare_cases x y) (lex_total u v (omega arith))
 
-IsEarlier-append : (u v after : List ℕ) → IsEarlier u v → IsEarlier (u ++ after) (v ++ after)
+pub IsEarlier-append : (u v after : List ℕ) → IsEarlier u v → IsEarlier (u ++ after) (v ++ after)
 IsEarlier-append [] v after h = absurd h
 IsEarlier-append (x ∷ u) [] after h = absurd h
 IsEarlier-append (x ∷ u) (y ∷ v) after (inl h) = inl h
 IsEarlier-append (x ∷ u) (y ∷ v) after (inr h) = inr (h.0, IsEarlier-append u v after h.1)
 
-IsEarlier-behind : (before u v : List ℕ) → IsEarlier u v → IsEarlier (before ++ u) (before ++ v)
+pub IsEarlier-behind : (before u v : List ℕ) → IsEarlier u v → IsEarlier (before ++ u) (before ++ v)
 IsEarlier-behind [] u v h = h
 IsEarlier-behind (x ∷ before) u v h = inr (refl, IsEarlier-behind before u v h)
 
@@ -127,7 +127,7 @@ total_cases u v (inr (inl e)) = elim (lex_total u v e) [
 pub shortlex_total : (u v : List ℕ) → (u ≡ v) ⊎ (Less u v ⊎ Less v u)
 shortlex_total u v = total_cases u v (compare_cases (length u) (length v))
 
-length-between : (before w after : List ℕ) → length (before ++ w ++ after) ≡ length before + length w + length after
+pub length-between : (before w after : List ℕ) → length (before ++ w ++ after) ≡ length before + length w + length after
 length-between before w after = simp length-append
 
 pub shortlex_kept : (before after u v : List ℕ) → Less u v → Less (before ++ u ++ after) (before ++ v ++ after)
