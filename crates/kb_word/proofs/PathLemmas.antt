@@ -211,7 +211,8 @@ pub congruent_same : {pairs others : List Pair} → SameCongruence pairs others 
 congruent_same same p = congruent_covered same.covered p
 
 -- least words are the same under the same congruence
-pub IsLeast-same : {pairs others : List Pair} → SameCongruence pairs others → (w m : List ℕ) → IsLeast pairs w m → IsLeast others w m
+pub IsLeast-same : {below : List ℕ → List ℕ → Type 0} {pairs others : List Pair} → SameCongruence pairs others → (w m : List ℕ)
+    → IsLeast below pairs w m → IsLeast below others w m
 IsLeast-same same w m least = record {
   congruent = congruent_same same least.congruent;
   least = λ v p. least.least v (congruent_same (SameCongruence-back same) p);

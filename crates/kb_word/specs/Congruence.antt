@@ -1,6 +1,6 @@
 -- The congruence that pairs of words generate, and least words.
 use Rattle.std.specs.Prelude.{◌≡◌, ℕ, ◌⊎◌, List, ◌++◌}
-use Rattle.kb_word.specs.Words.{Pair, Less, OneOf}
+use Rattle.kb_word.specs.Words.{Pair, OneOf}
 use Rattle.kb_word.specs.Path.{Path}
 
 -- v is u with the left side of an allowed pair replaced by its right side, at one place
@@ -26,7 +26,7 @@ pub record SameCongruence (pairs others : List Pair) : Type 0 where
   pub covered : (pair : Pair) → OneOf pairs pair → Congruent (OneOf others) pair.0 pair.1
   pub covers : (pair : Pair) → OneOf others pair → Congruent (OneOf pairs) pair.0 pair.1
 
--- m is congruent to w, and no word that is congruent to w is less than m
-pub record IsLeast (pairs : List Pair) (w m : List ℕ) : Type 0 where
+-- m is congruent to w, and no word that is congruent to w is below m
+pub record IsLeast (below : List ℕ → List ℕ → Type 0) (pairs : List Pair) (w m : List ℕ) : Type 0 where
   pub congruent : Congruent (OneOf pairs) w m
-  pub least : (v : List ℕ) → Congruent (OneOf pairs) w v → ¬ Less v m
+  pub least : (v : List ℕ) → Congruent (OneOf pairs) w v → ¬ below v m

@@ -1,7 +1,9 @@
 -- Presentations: their defining relations, inverses, and oriented relations.
 use Rattle.std.specs.Prelude.{◌≡◌, ℕ, zero, suc, ◌<◌, ◌≤◌, ◌⊎◌, List, [], ◌∷◌, ◌++◌, length, All, Option, Some, None, slice_get, option_and_then}
 use Rattle.std.specs.Option.{option_map}
-use Rattle.kb_word.specs.Words.{Pair, Less, OneOf}
+use Rattle.kb_word.specs.Words.{Pair, OneOf}
+use Rattle.kb_word.specs.WordOrders.{WeighsEach}
+use Rattle.kb_word.specs.declared.word_order.WordOrder.{WordOrder}
 
 -- the inverse of letter x, where place 0 holds that of letter 1
 abbrev pub inverse_letter : List (Option ℕ) → ℕ → Option ℕ
@@ -30,26 +32,28 @@ abbrev pub IsOver : ℕ → List ℕ → Type 0
 IsOver n w = All (λ x. (0 < x) × (x ≤ n)) w
 
 -- what every presentation with n generators keeps
-pub record IsPresentation (n : ℕ) (names : List (List ℕ)) (inverses : List (Option ℕ)) (equations : List Pair) : Type 0 where
+pub record IsPresentation (n : ℕ) (order : WordOrder) (names : List (List ℕ)) (inverses : List (Option ℕ)) (equations : List Pair) : Type 0 where
+  pub one_weight_each : WeighsEach n order
   pub one_name_each : length names ≡ n
   pub one_inverse_each : length inverses ≡ n
   pub mutual_inverses : (x y : ℕ) → inverse_letter inverses x ≡ Some y → inverse_letter inverses y ≡ Some x
   pub letters : (pair : Pair) → OneOf equations pair → IsOver n pair.0 × IsOver n pair.1
 
 -- the rule has the pair's greater side on the left and the lesser on the right
-abbrev pub IsOrientation : Pair → Pair → Type 0
-IsOrientation pair rule = Less rule.1 rule.0 × ((rule ≡ pair) ⊎ (rule ≡ (pair.1, pair.0)))
+abbrev pub IsOrientation : (List ℕ → List ℕ → Type 0) → Pair → Pair → Type 0
+IsOrientation below pair rule = below rule.1 rule.0 × ((rule ≡ pair) ⊎ (rule ≡ (pair.1, pair.0)))
 
 -- What the relations give as rules after those that stand already: each is oriented, a relation with
 -- equal sides gives none, and a rule that stands isn't repeated.
-pub data Orients : List Pair → List Pair → List Pair → Type 0 where
-  none_left : {standing : List Pair} → Orients standing [] []
-  equal_sides : {standing rules rest : List Pair} {side : List ℕ} → Orients standing rest rules → Orients standing ((side, side) ∷ rest) rules
-  repeated : {standing rules rest : List Pair} {pair rule : Pair} → IsOrientation pair rule → OneOf standing rule
-      → Orients standing rest rules → Orients standing (pair ∷ rest) rules
-  added : {standing rules rest : List Pair} {pair rule : Pair} → IsOrientation pair rule → ¬ OneOf standing rule
-      → Orients (standing ++ rule ∷ []) rest rules → Orients standing (pair ∷ rest) (rule ∷ rules)
+pub data Orients (below : List ℕ → List ℕ → Type 0) : List Pair → List Pair → List Pair → Type 0 where
+  none_left : {standing : List Pair} → Orients below standing [] []
+  equal_sides : {standing rules rest : List Pair} {side : List ℕ} → Orients below standing rest rules
+      → Orients below standing ((side, side) ∷ rest) rules
+  repeated : {standing rules rest : List Pair} {pair rule : Pair} → IsOrientation below pair rule → OneOf standing rule
+      → Orients below standing rest rules → Orients below standing (pair ∷ rest) rules
+  added : {standing rules rest : List Pair} {pair rule : Pair} → IsOrientation below pair rule → ¬ OneOf standing rule
+      → Orients below (standing ++ rule ∷ []) rest rules → Orients below standing (pair ∷ rest) (rule ∷ rules)
 
--- the oriented relations
-abbrev pub AreOriented : List Pair → List Pair → Type 0
-AreOriented relations rules = Orients [] relations rules
+-- the relations oriented by the order
+abbrev pub AreOriented : (List ℕ → List ℕ → Type 0) → List Pair → List Pair → Type 0
+AreOriented below relations rules = Orients below [] relations rules

@@ -1,6 +1,6 @@
 -- Reduction by rules, and the normal form that the programs compute.
 use Rattle.std.specs.Prelude.{◌≡◌, ◌≢◌, ℕ, ◌<◌, List, [], ◌++◌, slice_get, Some}
-use Rattle.kb_word.specs.Words.{Pair, Less, OneOf, EndsWith}
+use Rattle.kb_word.specs.Words.{Pair, OneOf, EndsWith}
 use Rattle.kb_word.specs.Path.{Path}
 use Rattle.kb_word.specs.Congruence.{Replaces}
 
@@ -12,9 +12,9 @@ IsIrreducible allowed w = (before : List ℕ) (pair : Pair) (after : List ℕ) �
 abbrev pub ReducesTo : (Pair → Type 0) → List ℕ → List ℕ → Type 0
 ReducesTo allowed = Path (Replaces allowed)
 
--- each rule's right side is less than its left side
-abbrev pub AreDecreasing : List Pair → Type 0
-AreDecreasing rules = (rule : Pair) → OneOf rules rule → Less rule.1 rule.0
+-- each rule's right side is below its left side
+abbrev pub AreDecreasing : (List ℕ → List ℕ → Type 0) → List Pair → Type 0
+AreDecreasing below rules = (rule : Pair) → OneOf rules rule → below rule.1 rule.0
 
 -- The first rewrite of u gives v: in the shortest prefix of u that is reducible, the suffix that is a left
 -- side is replaced, by the first such rule in list order.

@@ -9,48 +9,66 @@ use crate::letter::Letter;
 use crate::memory::Memory;
 use crate::names::Names;
 use crate::word::Word;
+use crate::word_order::WordOrder;
 use std::alloc::Global;
 
 /// A presentation: generators with their names, inverses, and the equations that hold besides.
 ///
-/// Each generator has one name and at most one inverse, inverses are mutual, and each letter of an equation
-/// is a generator.
+/// Each generator has one name, one weight where the order goes by weight, and at most one inverse; inverses are
+/// mutual, and each letter of an equation is a generator.
 #[derive(Debug, Drop)]
 pub struct Presentation {
     /// How many generators there are: letters 1 to `n`.
     pub n: u16,
+    /// The order of words.
+    pub order: WordOrder,
     /// The generators' names.
     pub names: Names,
     /// The generators' inverses.
     pub inv: Inverses,
     /// The equations, in order.
     pub eqs: Equations,
-    pub ghost is_presentation: { IsPresentation n names inv eqs },
+    pub ghost is_presentation: { IsPresentation n order names inv eqs },
 }
 
 impl Presentation {
     /// The presentation with these parts.
-    pub fn new(n: u16, names: Names, inv: Inverses, eqs: Equations) -> Presentation
-        requires { IsPresentation n names inv eqs }
+    pub fn new(
+        n: u16,
+        order: WordOrder,
+        names: Names,
+        inv: Inverses,
+        eqs: Equations,
+    ) -> Presentation
+        requires { IsPresentation n order names inv eqs }
         ensures n { result.n ≡ n }
+        ensures order { result.order ≡ order }
         ensures names { result.names ≡ names }
         ensures inv { result.inv ≡ inv }
         ensures eqs { result.eqs ≡ eqs }
     {
-        Presentation { n, names, inv, eqs }
+        Presentation {
+            n,
+            order,
+            names,
+            inv,
+            eqs,
+        }
     }
 
     /// The same presentation.
     pub fn copy(&self, alloc: Global) -> Result<Presentation, Memory>
         ensures n { IfOk result (λ copy. copy.n ≡ self.now.n) }
+        ensures order { IfOk result (λ copy. copy.order ≡ self.now.order) }
         ensures names { IfOk result (λ copy. copy.names ≡ self.now.names) }
         ensures inv { IfOk result (λ copy. copy.inv ≡ self.now.inv) }
         ensures eqs { IfOk result (λ copy. copy.eqs ≡ self.now.eqs) }
     {
+        let order = self.order.copy(alloc)?;
         let names = self.names.copy(alloc)?;
         let inv = self.inv.copy(alloc)?;
         let eqs = self.eqs.copy(alloc)?;
-        Ok(Presentation::new(self.n, names, inv, eqs))
+        Ok(Presentation::new(self.n, order, names, inv, eqs))
     }
 
     /// The inverse of a letter, and `None` where it has none or is no generator.
