@@ -4,14 +4,10 @@ use Rattle.std.proofs.lemmas.List.{append-nil}
 use Rattle.kb_word.specs.Words.{Pair, OneOf}
 use Rattle.kb_word.specs.Order.{Accessible, IsReductionOrder}
 use Rattle.kb_word.specs.Order.Accessible.{accessible}
-use Rattle.kb_word.specs.Rewriting.{IsIrreducible, FirstRewrite, NormalForm}
+use Rattle.kb_word.specs.Rewriting.{AreDecreasing, IsIrreducible, FirstRewrite, NormalForm}
 use Rattle.kb_rules.proofs.Lists.{empty_middle}
 use Rattle.kb_rules.proofs.Endings.{cases_ending, irreducible_more, first_rewrite_at}
 use Rattle.kb_rules.proofs.Unique.{irreducible_is_normal, normal_form_more}
-
--- each rule's right side is below its left side
-abbrev pub AreFalling : (List ℕ → List ℕ → Type 0) → List Pair → Type 0
-AreFalling below rules = (rule : Pair) → OneOf rules rule → below rule.1 rule.0
 
 no_descent : {below : List ℕ → List ℕ → Type 0} → IsReductionOrder below → (v : List ℕ) → below v []
     → (u : List ℕ) → Accessible below u → ⊥
@@ -49,7 +45,7 @@ reading_from rules front (x ∷ rest) irreducible =
 
 -- the empty word is irreducible, where no left side is empty
 pub empty_irreducible : {below : List ℕ → List ℕ → Type 0} → IsReductionOrder below → (rules : List Pair)
-    → AreFalling below rules
+    → AreDecreasing below rules
     → IsIrreducible (OneOf rules) []
 empty_irreducible {below = below} order rules falling before pair after one whole =
     let left : pair.0 ≡ [] = empty_middle before pair.0 after whole in
@@ -57,13 +53,13 @@ empty_irreducible {below = below} order rules falling before pair after one whol
     nothing_below_empty order pair.1 (subst P left (falling pair one))
 
 pub cases_reducible : {below : List ℕ → List ℕ → Type 0} → IsReductionOrder below → (rules : List Pair)
-    → AreFalling below rules
+    → AreDecreasing below rules
     → (w : List ℕ) → Reading rules w
 cases_reducible order rules falling w = reading_from rules [] w (empty_irreducible order rules falling)
 
 -- a first rewrite gives a word that is below
 pub first_rewrite_below : {below : List ℕ → List ℕ → Type 0} → IsReductionOrder below → (rules : List Pair)
-    → AreFalling below rules
+    → AreDecreasing below rules
     → (u v : List ℕ) → FirstRewrite rules u v → below v u
 first_rewrite_below {below = below} order rules falling u v f =
     let P : List ℕ → Type 0 = λ w. below w u in
@@ -75,7 +71,7 @@ abbrev pub HasNormalForm : List Pair → List ℕ → Type 0
 HasNormalForm rules w = (m : List ℕ) × NormalForm rules w m
 
 exists_from : {below : List ℕ → List ℕ → Type 0} → IsReductionOrder below → (rules : List Pair)
-    → AreFalling below rules
+    → AreDecreasing below rules
     → (w : List ℕ) → Accessible below w → HasNormalForm rules w
 exists_from {below = below} order rules falling w (accessible lower) =
     let next : (v : List ℕ) → below v w → HasNormalForm rules v = λ v fall. exists_from order rules falling v (lower v fall) in
@@ -87,6 +83,6 @@ exists_from {below = below} order rules falling w (accessible lower) =
 
 -- every word has a normal form
 pub normal_form_exists : {below : List ℕ → List ℕ → Type 0} → IsReductionOrder below → (rules : List Pair)
-    → AreFalling below rules
+    → AreDecreasing below rules
     → (w : List ℕ) → HasNormalForm rules w
 normal_form_exists order rules falling w = exists_from order rules falling w (order.well_founded w)

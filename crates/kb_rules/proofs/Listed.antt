@@ -2,7 +2,7 @@
 use Rattle.std.proofs.Common.{◌≡◌, ℕ, zero, suc, ◌+◌, ◌<◌, ◌≤◌, ◌⊎◌, List, [], ◌∷◌, ◌++◌, length, slice_get, get_or, Some, refl, sym, ap, ◌∙◌, subst, inl, inr, arith}
 use Rattle.std.proofs.lemmas.Option.{same_Some, none-some, slice_get_read, slice_get_within}
 use Rattle.std.proofs.lemmas.Bool.{cases_lt}
-use Rattle.kb_word.specs.Words.{Pair, Less, OneOf}
+use Rattle.kb_word.specs.Words.{Pair, OneOf}
 use Rattle.kb_word.specs.Rewriting.{AreDecreasing}
 
 -- what is one of the list with a pair more at the end is one of the list, or that pair
@@ -15,12 +15,12 @@ cases_push (p ∷ pairs) last pair (suc index) is =
     elim (cases_push pairs last pair index is) [ inl one ↦ inl (suc one.0, one.1) | inr same ↦ inr same ]
 
 -- rules stay decreasing with a decreasing rule more
-pub AreDecreasing-push : (rules : List Pair) (rule : Pair) → AreDecreasing rules → Less rule.1 rule.0
-    → AreDecreasing (rules ++ rule ∷ [])
-AreDecreasing-push rules rule decreasing less other one =
+pub AreDecreasing-push : (below : List ℕ → List ℕ → Type 0) (rules : List Pair) (rule : Pair) → AreDecreasing below rules
+    → below rule.1 rule.0 → AreDecreasing below (rules ++ rule ∷ [])
+AreDecreasing-push below rules rule decreasing less other one =
     elim (cases_push rules rule other one.0 one.1) [
       | inl before ↦ decreasing other before
-      | inr same ↦ let P : Pair → Type 0 = λ p. Less p.1 p.0 in subst P same less
+      | inr same ↦ let P : Pair → Type 0 = λ p. below p.1 p.0 in subst P same less
     ]
 
 -- no pair of the first n has the property

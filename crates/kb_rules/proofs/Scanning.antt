@@ -4,9 +4,10 @@ use Rattle.std.proofs.lemmas.List.{append-nil, take_at}
 use Rattle.std.proofs.lemmas.List.Elements.{All-append}
 use Rattle.std.proofs.Math.Nat.{mul-le-mul_right}
 use Rattle.kb_word.specs.Words.{Pair, Less, shorter, earlier, OneOf}
-use Rattle.kb_word.specs.Order.{rank}
+use Rattle.kb_word.specs.WordOrders.{Below}
+use Rattle.kb_word.specs.WordOrderLaws.{word_orders, spread, spread-less, spread-long, order_rank, order_rank_falls}
+use Rattle.kb_word.specs.declared.word_order.WordOrder.{WordOrder}
 use Rattle.kb_word.specs.Rewriting.{IsIrreducible, AreDecreasing, FirstRewrite, NormalForm}
-use Rattle.kb_word.specs.ShortlexLaws.{shortlex_order, rank_falls}
 use Rattle.kb_rules.specs.Ending.{IsFirstEnding}
 use Rattle.kb_rules.specs.Reading.{Reads, passed, rewritten}
 use Rattle.kb_rules.proofs.Lists.{from_end, All-front, All-rest}
@@ -69,8 +70,9 @@ pub less_fits : {u v : List ℕ} → Less u v → length u ≤ length v
 less_fits (shorter h) = omega arith
 less_fits (earlier h _) = omega arith
 
-read_less : {rules : List Pair} {u v : List ℕ} → AreDecreasing rules → FirstRewrite rules u v → Less v u
-read_less {rules = rules} {u = u} {v = v} decreasing f = first_rewrite_below shortlex_order rules decreasing u v f
+read_less : (order : WordOrder) {rules : List Pair} {u v : List ℕ} → AreDecreasing (Below order) rules → FirstRewrite rules u v
+    → Below order v u
+read_less order {rules = rules} {u = u} {v = v} decreasing f = first_rewrite_below (word_orders order) rules decreasing u v f
 
 passed_same : (front : List ℕ) (x : ℕ) (rest front' rest' : List ℕ) → front' ≡ front ++ x ∷ [] → rest' ≡ rest
     → front' ++ rest' ≡ front ++ x ∷ rest
@@ -84,31 +86,38 @@ reads_leads {rules = rules} {front = front} {rest = rest} {front' = front'} {res
     let P : List ℕ → Type 0 = λ w. NormalForm rules w m in subst P (passed_same front x rest front' rest' one two) normal
 reads_leads (rewritten f) m normal = normal_form_more f normal
 
--- the word doesn't grow
-pub reads_fits : {rules : List Pair} {front rest front' rest' : List ℕ} {x : ℕ} → AreDecreasing rules
+-- a word weighs as much as it has letters once each is repeated as often as it weighs
+abbrev pub size : WordOrder → List ℕ → ℕ
+size order w = length (spread order w)
+
+-- the word's weight doesn't grow
+pub reads_fits : {rules : List Pair} {front rest front' rest' : List ℕ} {x : ℕ} (order : WordOrder) → AreDecreasing (Below order) rules
     → Reads rules front x rest front' rest'
-    → length (front' ++ rest') ≤ length (front ++ x ∷ rest)
-reads_fits {front = front} {rest = rest} {front' = front'} {rest' = rest'} {x = x} decreasing (passed one two) =
-    omega (arith, ap length (passed_same front x rest front' rest' one two))
-reads_fits decreasing (rewritten f) = less_fits (read_less decreasing f)
+    → size order (front' ++ rest') ≤ size order (front ++ x ∷ rest)
+reads_fits {front = front} {rest = rest} {front' = front'} {rest' = rest'} {x = x} order decreasing (passed one two) =
+    omega (arith, ap (size order) (passed_same front x rest front' rest' one two))
+reads_fits order decreasing (rewritten f) = less_fits (spread-less order _ _ (read_less order decreasing f))
 
 falls_by_rank : (n low high short long : ℕ) → low < high → short ≤ n → low * (n + 1) + short < high * (n + 1) + long
 falls_by_rank n low high short long falls fits =
     omega (arith, mul-le-mul_right (n + 1) falls)
 
 -- the word's rank falls, or what is to be read gets shorter
-pub reads_falls : {rules : List Pair} {front rest front' rest' : List ℕ} {x : ℕ} (n : ℕ) → AreDecreasing rules
+pub reads_falls : {rules : List Pair} {front rest front' rest' : List ℕ} {x : ℕ} (order : WordOrder) (n : ℕ)
+    → AreDecreasing (Below order) rules
     → Reads rules front x rest front' rest'
     → All (λ y. y < 2 ^ 16) (front ++ x ∷ rest) → All (λ y. y < 2 ^ 16) (front' ++ rest')
-    → length (front ++ x ∷ rest) ≤ n
-    → rank (front' ++ rest') * (n + 1) + length rest' < rank (front ++ x ∷ rest) * (n + 1) + length (x ∷ rest)
-reads_falls {front = front} {rest = rest} {front' = front'} {rest' = rest'} {x = x} n decreasing (passed one two) all all' fits =
-    omega (arith, ap (λ w. rank w * (n + 1)) (passed_same front x rest front' rest' one two), ap length two)
-reads_falls {front = front} {rest = rest} {front' = front'} {rest' = rest'} {x = x} n decreasing (rewritten f) all all' fits =
-    let less : Less (front' ++ rest') (front ++ x ∷ rest) = read_less decreasing f in
-    let short : length rest' ≤ n = omega (arith, less_fits less, length-append front' rest') in
-    let falls : rank (front' ++ rest') < rank (front ++ x ∷ rest) = rank_falls (front' ++ rest') (front ++ x ∷ rest) all' all less in
-    falls_by_rank n (rank (front' ++ rest')) (rank (front ++ x ∷ rest)) (length rest') (length (x ∷ rest)) falls short
+    → size order (front ++ x ∷ rest) ≤ n
+    → order_rank order (front' ++ rest') * (n + 1) + length rest' < order_rank order (front ++ x ∷ rest) * (n + 1) + length (x ∷ rest)
+reads_falls {front = front} {rest = rest} {front' = front'} {rest' = rest'} {x = x} order n decreasing (passed one two) all all' fits =
+    omega (arith, ap (λ w. order_rank order w * (n + 1)) (passed_same front x rest front' rest' one two), ap length two)
+reads_falls {front = front} {rest = rest} {front' = front'} {rest' = rest'} {x = x} order n decreasing (rewritten f) all all' fits =
+    let below : Below order (front' ++ rest') (front ++ x ∷ rest) = read_less order decreasing f in
+    let lighter : size order (front' ++ rest') ≤ size order (front ++ x ∷ rest) = less_fits (spread-less order _ _ below) in
+    let short : length rest' ≤ n = omega (arith, lighter, spread-long order (front' ++ rest'), length-append front' rest', fits) in
+    let falls : order_rank order (front' ++ rest') < order_rank order (front ++ x ∷ rest) =
+    order_rank_falls order (front' ++ rest') (front ++ x ∷ rest) all' all below in
+    falls_by_rank n (order_rank order (front' ++ rest')) (order_rank order (front ++ x ∷ rest)) (length rest') (length (x ∷ rest)) falls short
 
 -- the word that is cut off is named by the lengths that were read
 pub cut_is : {w whole front' : List ℕ} {n m : ℕ} (left : List ℕ) → w ≡ whole → n ≡ length w → m ≡ length left

@@ -1,3 +1,4 @@
+pub mod OrderedRules
 pub mod Ending
 pub mod Reading
 pub mod Sides

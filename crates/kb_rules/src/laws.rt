@@ -1,7 +1,9 @@
 //! The laws of rewriting that callers cite. None of them does anything when it runs.
 
 ghost use Rattle.std.specs.Prelude.{◌≡◌, ◌⊎◌, List};
-ghost use Rattle.kb_word.specs.Words.{Letters, Pair, OneOf, Less};
+ghost use Rattle.kb_word.specs.Words.{Letters, Pair, OneOf};
+ghost use Rattle.kb_word.specs.WordOrders.{Below};
+ghost use Rattle.kb_word.specs.declared.word_order.WordOrder.{WordOrder};
 ghost use Rattle.kb_word.specs.Congruence.{Congruent};
 ghost use Rattle.kb_word.specs.Rewriting.{AreDecreasing, IsIrreducible, NormalForm, ReducesTo};
 
@@ -20,8 +22,8 @@ pub fn irreducible_words_are_normal()
 
 /// Every word has a normal form by decreasing rules.
 pub fn normal_forms_exist()
-    ensures { (rules : List Pair) (w : Letters)
-        → AreDecreasing rules → (m : Letters) × NormalForm rules w m }
+    ensures { (order : WordOrder) (rules : List Pair) (w : Letters)
+        → AreDecreasing (Below order) rules → (m : Letters) × NormalForm rules w m }
 {}
 
 /// A normal form is a reduct of the word, and congruent to it.
@@ -34,6 +36,7 @@ pub fn a_normal_form_is_a_reduct()
 pub fn reducts_are_congruent_and_not_greater()
     ensures congruent { (rules : List Pair) (u v : Letters)
         → ReducesTo (OneOf rules) u v → Congruent (OneOf rules) u v }
-    ensures not_greater { (rules : List Pair) (u v : Letters)
-        → AreDecreasing rules → ReducesTo (OneOf rules) u v → (v ≡ u) ⊎ Less v u }
+    ensures not_greater { (order : WordOrder) (rules : List Pair) (u v : Letters)
+        → AreDecreasing (Below order) rules → ReducesTo (OneOf rules) u v
+        → (v ≡ u) ⊎ Below order v u }
 {}

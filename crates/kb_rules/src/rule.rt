@@ -2,14 +2,14 @@
 
 ghost use Rattle.std.specs.Prelude.{◌≡◌, ◌↔◌, IsTrue, IfOk};
 ghost use Rattle.std.specs.Cmp.{partial_equiv_from_equiv};
-ghost use Rattle.kb_word.specs.Words.{Less};
 ghost use Rattle.kb_rules.specs.Sides.{same_sides, same_sides_equiv};
 
 use kb_word::{Memory, Word};
 use std::alloc::Global;
 use std::marker::Model;
 
-/// A rule: its left side may be replaced by its right side, which is less.
+/// A rule: its left side may be replaced by its right side. Which order it decreases along is said by the list that
+/// holds it.
 #[derive(Debug, Drop)]
 pub struct Rule {
     left: Word,
@@ -17,19 +17,16 @@ pub struct Rule {
 }
 
 impl Model for Rule {
-    ghost use Rattle.kb_word.specs.Words.{Pair, Less};
+    ghost use Rattle.kb_word.specs.Words.{Pair};
 
     ghost Value = { Pair };
 
     ghost view = { λ rule. (rule.left, rule.right) };
-
-    ghost invariant = { λ rule. Less rule.right rule.left };
 }
 
 impl Rule {
     /// The rule with these sides.
     pub fn new(left: Word, right: Word) -> Rule
-        requires { Less right left }
         ensures { result ≡ (left, right) }
     {
         Rule { left, right }
@@ -42,18 +39,16 @@ impl Rule {
         &self.left
     }
 
-    /// The side that it is replaced by, which is less.
+    /// The side that it is replaced by.
     pub fn right(&self) -> &Word
-        ensures value { result.now ≡ self.now.1 }
-        ensures decreasing { Less self.now.1 self.now.0 }
+        ensures { result.now ≡ self.now.1 }
     {
         &self.right
     }
 
     /// Both sides, the left one first, given back without taking memory.
     pub fn into_sides(self) -> (Word, Word)
-        ensures sides { result ≡ self }
-        ensures decreasing { Less result.1 result.0 }
+        ensures { result ≡ self }
     {
         (self.left, self.right)
     }

@@ -2,7 +2,7 @@
 
 ghost use Rattle.std.specs.Prelude.{◌≡◌, ◌<◌, ◌^◌, ◌∷◌, ◌++◌, IfOk, OnOk, IfSome, IfNone, All};
 ghost use Rattle.kb_word.specs.Words.{OneOf};
-ghost use Rattle.kb_word.specs.Rewriting.{AreDecreasing, IsIrreducible, NormalForm};
+ghost use Rattle.kb_word.specs.Rewriting.{IsIrreducible, NormalForm};
 ghost use Rattle.kb_rules.specs.Ending.{IsFirstEnding, NoneEnds};
 ghost use Rattle.kb_rules.specs.Reading.{Reads};
 
@@ -21,16 +21,17 @@ pub struct Scan {
 }
 
 impl Model for Scan {
-    ghost use Rattle.std.specs.Prelude.{List};
-    ghost use Rattle.kb_word.specs.Words.{Pair};
+    ghost use Rattle.kb_rules.specs.OrderedRules.{OrderedRules};
 
-    ghost Value = { List Pair };
+    ghost Value = { OrderedRules };
 
     ghost view = { λ scan. scan.rules };
 }
 
 impl Reducer for Scan {
-    ghost rules = { λ scan. scan };
+    ghost rules = { λ scan. scan.rules };
+
+    ghost order = { λ scan. scan.order };
 
     fn of(alloc: Global, list: &Rules) -> Result<Scan, Memory> {
         let rules = list.copy(alloc)?;
@@ -38,7 +39,7 @@ impl Reducer for Scan {
     }
 
     fn nf(&self, alloc: Global, w: &Word) -> Result<Word, Memory> {
-        normal_form(alloc, self.rules.as_slice(), w)
+        normal_form(alloc, &self.rules, w)
     }
 
     fn copy(&self, alloc: Global) -> Result<Scan, Memory> {
@@ -48,33 +49,34 @@ impl Reducer for Scan {
 }
 
 /// The normal form. What is read is irreducible; a right side is put back, and read again.
-fn normal_form(alloc: Global, rules: &[Rule], w: &Word) -> Result<Word, Memory>
-    requires { AreDecreasing rules.now }
-    ensures { IfOk result (λ m. NormalForm rules.now w.now m) }
+fn normal_form(alloc: Global, list: &Rules, w: &Word) -> Result<Word, Memory>
+    ensures { IfOk result (λ m. NormalForm list.now.rules w.now m) }
 {
+    // A use of the list brings its invariant, that the rules decrease.
+    let _rules = list.as_slice();
     let mut front = Word::new(alloc);
     let mut unread = Unread::of(alloc, w)?;
     while let Some(letter) = unread.next() {
-        read_letter(rules, &mut front, letter, &mut unread)?;
+        read_letter(list, &mut front, letter, &mut unread)?;
     }
     Ok(front)
 }
 
 /// Reads a letter: it joins the front, at whose end a left side is then replaced, if one stands there.
 fn read_letter(
-    rules: &[Rule],
+    list: &Rules,
     front: &mut Word,
     letter: Letter,
     unread: &mut Unread,
 ) -> Result<(), Memory>
-    requires irreducible { IsIrreducible (OneOf rules.now) front.old }
+    requires irreducible { IsIrreducible (OneOf list.now.rules) front.old }
     requires range { All (λ x. x < 2 ^ 16) (front.old ++ letter ∷ unread.old) }
-    ensures irreducible { OnOk result (IsIrreducible (OneOf rules.now) front.new) }
-    ensures reads { OnOk result (Reads rules.now front.old letter unread.old front.new unread.new) }
+    ensures irreducible { OnOk result (IsIrreducible (OneOf list.now.rules) front.new) }
+    ensures reads { OnOk result (Reads list.now.rules front.old letter unread.old front.new unread.new) }
     ensures range { OnOk result (All (λ x. x < 2 ^ 16) (front.new ++ unread.new)) }
 {
     front.push(letter)?;
-    match first_ending(rules, front) {
+    match first_ending(list, front) {
         None => Ok(()),
         Some(rule) => {
             front.truncate(front.len() - rule.left().len());
@@ -84,11 +86,11 @@ fn read_letter(
 }
 
 /// The first rule in list order whose left side ends the word.
-fn first_ending<'a>(rules: &'a [Rule], word: &Word) -> Option<&'a Rule>
-    ensures some { IfSome result (λ rule. IsFirstEnding rules.now word.now rule.now) }
-    ensures none { IfNone result (NoneEnds rules.now word.now) }
+fn first_ending<'a>(list: &'a Rules, word: &Word) -> Option<&'a Rule>
+    ensures some { IfSome result (λ rule. IsFirstEnding list.now.rules word.now rule.now) }
+    ensures none { IfNone result (NoneEnds list.now.rules word.now) }
 {
-    for rule in rules {
+    for rule in list.as_slice() {
         if word.ends_with(rule.left()) {
             return Some(rule);
         }

@@ -3,4 +3,4 @@ use Rattle.kb_rules.proofs.Listed.{NoneBefore}
 use Rattle.kb_rules.proofs.scan.first_ending.Given as goal
 
 abbrev pub invariant-loop-rule : goal.invariant-loop-rule
-invariant-loop-rule l = NoneBefore (λ (pair : Pair). EndsWith l.word pair.0) l.rules l.rule-index
+invariant-loop-rule l = NoneBefore (λ (pair : Pair). EndsWith l.word pair.0) l.rule-items l.rule-index

@@ -1,10 +1,14 @@
-use Rattle.std.proofs.Common.{subst, sym}
+use Rattle.std.proofs.Common.{subst, sym, ap}
+use Rattle.kb_word.specs.WordOrders.{Below}
 use Rattle.kb_word.specs.Rewriting.{AreDecreasing}
+use Rattle.kb_word.specs.declared.word_order.WordOrder.{WordOrder}
 use Rattle.kb_rules.proofs.Listed.{AreDecreasing-push}
 use Rattle.kb_rules.proofs.rules.Rules.push.Goals as goal
 
 pub invariant_of-self-2 : goal.invariant_of-self-2
-invariant_of-self-2 c = subst AreDecreasing (sym c.in_ok-push.ensures.items) (AreDecreasing-push _ _ c.self.invariant c.right-right.ensures.decreasing)
-
-pub returns-clause-decreasing : goal.returns-clause-decreasing
-returns-clause-decreasing c = subst AreDecreasing (sym c.in_ok-push.ensures.items) (AreDecreasing-push _ _ c.self.invariant c.right-right.ensures.decreasing)
+invariant_of-self-2 c =
+    let order = c.self.inside.order in
+    let along : WordOrder → Type 0 = λ own. Below own c.args.rule.1 c.args.rule.0 in
+    let decreases = subst along (sym (ap (λ list. list.order) c.self.view_is)) c.requires in
+    subst (AreDecreasing (Below order)) (sym c.in_ok-push.ensures.items)
+    (AreDecreasing-push (Below order) c.self.inside.rules.items c.args.rule c.self.invariant decreases)
