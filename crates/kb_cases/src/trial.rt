@@ -2,7 +2,7 @@
 
 use kb_casefile::{Case, Named, Wanted, find};
 use kb_cli::{Status, run};
-use kb_io::{MemShelf, MemSink, MemSource, OpenGate};
+use kb_io::{MemShelf, MemSink, MemSource, OpenGate, Shelf, Sink, Source};
 use std::alloc::{AllocError, Global};
 use std::sync::Wait;
 
@@ -131,6 +131,19 @@ fn shelf_of(alloc: Global, case: &Case) -> Result<MemShelf, AllocError> {
     Ok(shelf)
 }
 
+/// Runs the program. Nothing is stated of what it does, so that what is proved here needn't take the program's contract
+/// at the forms over memory, which takes minutes.
+fn status_of_run<F: Shelf, I: Source, O: Sink, E: Sink>(
+    alloc: Global,
+    words: &[String],
+    shelf: &mut F,
+    input: &mut I,
+    out: &mut O,
+    err: &mut E,
+) -> Status {
+    run(alloc, words, shelf, input, out, err, &OpenGate)
+}
+
 /// Runs the case. What comes of it otherwise than wanted is the result.
 pub(crate) fn differences<R: Wait>(
     alloc: Global,
@@ -143,15 +156,8 @@ pub(crate) fn differences<R: Wait>(
     let mut input = MemSource::new(input, piece, case.devices.reads.clone()?);
     let mut out = MemSink::new(alloc, rt, piece, case.devices.writes.clone()?);
     let mut err = MemSink::new(alloc, rt, piece, case.devices.messages.clone()?);
-    let status = run(
-        alloc,
-        case.words.as_slice(),
-        &mut shelf,
-        &mut input,
-        &mut out,
-        &mut err,
-        &OpenGate,
-    );
+    let words = case.words.as_slice();
+    let status = status_of_run(alloc, words, &mut shelf, &mut input, &mut out, &mut err);
     let mut comparison = Comparison {
         alloc,
         found: Vec::new(alloc),

@@ -2,7 +2,8 @@
 
 use kb_rules::{Reducer, Rule, Rules, Scan};
 use kb_word::{
-    Equations, Inverses, Letter, Memory, Names, Presentation, Word, copy_pairs, factor_at, less,
+    Equations, Inverses, Letter, Memory, Names, Order, Presentation, Word, WordOrder,
+    copy_pairs, factor_at, less,
 };
 use std::alloc::Global;
 use std::process::Abort;
@@ -26,6 +27,7 @@ fn of_order_two(alloc: Global) -> Result<Presentation, Memory> {
     let equations = Equations::from_vec(Vec::new(alloc));
     Ok(Presentation::new(
         1,
+        WordOrder::ShortLex,
         Names::from_vec(names),
         Inverses::from_vec(inverses),
         equations,
@@ -67,20 +69,26 @@ fn word(alloc: Global, numbers: &[u16]) -> Result<Word, Memory> {
     Ok(word)
 }
 
-/// The rule with these sides.
-fn rule(rt: &impl Abort, alloc: Global, left: &[u16], right: &[u16]) -> Result<Rule, Memory> {
+/// Adds the rule with these sides.
+fn add_rule(
+    rt: &impl Abort,
+    alloc: Global,
+    rules: &mut Rules,
+    left: &[u16],
+    right: &[u16],
+) -> Result<(), Memory> {
     let left = word(alloc, left)?;
     let right = word(alloc, right)?;
-    assert!(rt; kb_word::less(&right, &left));
-    Ok(Rule::new(left, right))
+    assert!(rt; rules.order().less(&right, &left));
+    rules.push(Rule::new(left, right))
 }
 
 /// The rules aa -> 1, bbb -> 1 and abab -> bba of the letters 1 and 2.
 fn some_rules(rt: &impl Abort, alloc: Global) -> Result<Rules, Memory> {
-    let mut rules = Rules::new(alloc);
-    rules.push(rule(rt, alloc, &[1, 1], &[])?)?;
-    rules.push(rule(rt, alloc, &[2, 2, 2], &[])?)?;
-    rules.push(rule(rt, alloc, &[1, 2, 1, 2], &[2, 2, 1])?)?;
+    let mut rules = Rules::new(alloc, WordOrder::ShortLex);
+    add_rule(rt, alloc, &mut rules, &[1, 1], &[])?;
+    add_rule(rt, alloc, &mut rules, &[2, 2, 2], &[])?;
+    add_rule(rt, alloc, &mut rules, &[1, 2, 1, 2], &[2, 2, 1])?;
     Ok(rules)
 }
 

@@ -3,16 +3,16 @@ use Rattle.std.proofs.Common.{◌≡◌, ℕ, List, subst, inl, inr}
 use Rattle.kb_word.specs.Words.{Pair, OneOf}
 use Rattle.kb_word.specs.Order.{IsReductionOrder}
 use Rattle.kb_word.specs.Congruence.{Replaces, Touches, Congruent}
-use Rattle.kb_word.specs.Rewriting.{IsIrreducible, ReducesTo, NormalForm}
+use Rattle.kb_word.specs.Rewriting.{AreDecreasing, IsIrreducible, ReducesTo, NormalForm}
 use Rattle.kb_word.specs.Overlap.{IsConfluent}
 use Rattle.kb_word.proofs.PathLemmas.{path_step, path_keeps}
-use Rattle.kb_rules.proofs.Exists.{AreFalling, normal_form_exists}
+use Rattle.kb_rules.proofs.Exists.{normal_form_exists}
 use Rattle.kb_rules.proofs.Reducts.{IsAtMost, normal_form_reduct, replaced_below, reduct_at_most}
 use Rattle.kb_confluence.proofs.Newman.{Ends, Meets, one_end}
 use Rattle.kb_confluence.proofs.Replacements.{common_reduct}
 
 module _ {below : List ℕ → List ℕ → Type 0} (order : IsReductionOrder below) (rules : List Pair)
-    (falling : AreFalling below rules) (confluent : IsConfluent rules) where
+    (falling : AreDecreasing below rules) (confluent : IsConfluent rules) where
   ends : (w : List ℕ) → Ends (Replaces (OneOf rules)) (IsIrreducible (OneOf rules)) w
   ends w =
       let normal = normal_form_exists order rules falling w in

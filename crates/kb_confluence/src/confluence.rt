@@ -38,12 +38,13 @@ pub fn check<R: Reducer>(
     reducer: &R,
     workers: u32,
 ) -> Result<Verdict, Memory>
-    requires reducer { R.rules reducer.now ≡ rules.now }
-    requires size { length rules.now ≤ 2 ^ 31 }
+    requires reducer { R.rules reducer.now ≡ rules.now.rules }
+    requires size { length rules.now.rules ≤ 2 ^ 31 }
     requires workers { (1 ≤ workers) × (workers ≤ 64) }
-    ensures verdict { IfOk result (IsVerdict rules.now) }
-    ensures confluent { IfOk result (λ verdict. (verdict ≡ Verdict.Yes) ↔ IsConfluent rules.now) }
-    ensures counterexample { IfOk result (GivesCounterexample rules.now) }
+    ensures verdict { IfOk result (IsVerdict rules.now.rules) }
+    ensures confluent { IfOk result
+        (λ verdict. (verdict ≡ Verdict.Yes) ↔ IsConfluent rules.now.rules) }
+    ensures counterexample { IfOk result (GivesCounterexample rules.now.rules) }
 {
     let _ = workers;
     check_rules(alloc, rules.as_slice(), reducer)

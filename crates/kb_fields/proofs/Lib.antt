@@ -1,5 +1,6 @@
 pub mod ListingLemmas
 pub mod NameFaults
+pub mod NumberLemmas
 pub mod Outcomes
 pub mod PlaceLemmas
 pub mod RepeatLemmas

@@ -1,5 +1,5 @@
 -- Fields of records, and values that are names or lists of names.
-use Rattle.std.specs.Prelude.{◌≡◌, ℕ, zero, suc, ◌<◌, ◌⊎◌, nat_eq, if◌then◌else◌, List, [], ◌∷◌, slice_get, Option, Some, None}
+use Rattle.std.specs.Prelude.{◌≡◌, ℕ, zero, suc, ◌<◌, ◌⊎◌, nat_eq, if◌then◌else◌, ℤ, List, [], ◌∷◌, slice_get, Option, Some, None}
 use lib.Pointwise.{pointwise}
 use Rattle.kb_record.specs.Tree.{named, no_factors, factor, Value, number_value, string_value, record_value, list_value, range_value, word_value, Fields, no_fields, field, Places, no_places, place, empty_place}
 -- the fields, and the places of a list, as the code has them, as trees
@@ -54,6 +54,11 @@ list_of_names (name ∷ names) = place (bare_name name) (list_of_names names)
 -- the value is a list of these names
 abbrev pub IsListOf : List (List ℕ) → Value → Type 0
 IsListOf names value = value ≡ list_value (list_of_names names)
+
+-- a list of these numbers
+abbrev pub list_of_numbers : List ℤ → Places
+list_of_numbers [] = no_places
+list_of_numbers (number ∷ numbers) = place (number_value number) (list_of_numbers numbers)
 
 -- the value at a place that isn't empty
 abbrev pub value_at : Places → ℕ → Option Value

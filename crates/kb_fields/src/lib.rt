@@ -19,7 +19,7 @@
 //!
 //! - `fields` looks up fields, and finds names that stand twice by a set of the names seen. It recurses into
 //!   values, whose nesting the parser bounds.
-//! - `values` tells Names and lists of Names apart from other values.
+//! - `values` tells Names and lists of Names apart from other values, and `numbers` numbers and lists of numbers.
 //! - `generators` joins them to names of generators.
 //!
 //! Definitions speak of the tree of the text (`specs/Tree.antt` of `kb_record`): `specs/Fields.antt` of fields and
@@ -43,10 +43,12 @@ mod error;
 mod fields;
 mod generators;
 mod laws;
+mod numbers;
 mod values;
 
 pub use error::NamesFault;
 pub use fields::{field_named, repeated_name};
 pub use generators::names_of;
 pub use laws::names_of_generators_have_no_fault;
+pub use numbers::{number_of, numbers_listed};
 pub use values::bare_name;

@@ -1,5 +1,5 @@
 -- Fields that say a presentation have no fault.
-use Rattle.std.proofs.Common.{◌≡◌, ℕ, zero, suc, ◌<◌, ◌≤◌, ◌⊎◌, inl, inr, List, [], ◌∷◌, length, slice_get, Option, None, Some, Result, Ok, refl, sym, ap, subst, ◌∙◌, arith}
+use Rattle.std.proofs.Common.{◌≡◌, ℕ, zero, suc, ◌<◌, ◌≤◌, ◌⊎◌, inl, inr, ℤ, List, [], ◌∷◌, length, slice_get, Option, None, Some, Result, Ok, refl, sym, ap, subst, ◌∙◌, arith}
 use Rattle.std.specs.Prelude.{codes}
 use Rattle.std.proofs.lemmas.Bool.{cases_lt}
 use Rattle.std.proofs.lemmas.Option.{slice_get_within}
@@ -13,14 +13,18 @@ use Rattle.kb_fields.specs.Generators.{IsTaken}
 use Rattle.kb_fields.proofs.ListingLemmas.{list_same, some_value}
 use Rattle.kb_presfile.specs.Kinds.{equation_value, list_of_equations, list_of_places}
 use Rattle.kb_word.specs.Presentations.{PresentationParts}
-use Rattle.kb_presfile.specs.Holds.{place_at, IsShortlex, HoldsPlaces, GivesInverses, HasNames, HasInverses, AreMeanings, HoldsPresentation, PresentationOf}
+use Rattle.kb_presfile.specs.Holds.{place_at, IsShortlex, IsOrdering, AreWeights, HasWeights, HasOrder, HoldsPlaces, GivesInverses, HasNames, HasInverses, AreMeanings, HoldsPresentation, PresentationOf}
 use Rattle.kb_presfile.specs.Faults.{IsFaultOf, SidesHaveFault, PlaceIsUnknown, IsNotMutual, InversesHaveFault, HasFieldFault, HasPresFault}
+use Rattle.kb_presfile.specs.declared.order.Ordering.TheVariants as orderings
+use Rattle.kb_word.specs.declared.word_order.WordOrder.{WordOrder}
+use Rattle.kb_word.specs.declared.word_order.WordOrder.TheVariants as orders
+use Rattle.kb_fields.proofs.NumberLemmas.{one_list_of_numbers}
 use Rattle.kb_presfile.specs.declared.error.Field.TheVariants as kinds
 use Rattle.kb_presfile.specs.declared.error.PresError.{PresError}
 use Rattle.kb_presfile.specs.declared.error.PresError.TheVariants as errors
 use Rattle.kb_presfile.proofs.InverseLemmas.{letter_within, inverse_read, inverse_is}
 use Rattle.kb_presfile.proofs.PlaceLemmas.{one_list_of_names}
-use Rattle.kb_presfile.proofs.UniqueParts.{one_list_of_places, one_list_of_inverses, sides_same}
+use Rattle.kb_presfile.proofs.UniqueParts.{one_list_of_places, one_list_of_inverses, sides_same, not_both_orderings}
 
 -- a word that means something has no fault
 word_has_none : (m : Result (List ℕ) WordFault) (w : List ℕ) (error : PresError) → m ≡ Ok w → IsFaultOf m error → error ≡ errors.Memory
@@ -109,8 +113,22 @@ module _ (given : Fields) (parts : PresentationParts) (h : HoldsPresentation giv
       let P : List (Option (List ℕ)) → Type 0 = λ ps. IsNotMutual parts.names ps name in
       none_one_sided parts.names h.inverses.places parts.inverses name h.inverses.gives (subst P places (subst N names fault))
 
-  shortlex_given : (value : Value) → value_of given (codes "ordering") ≡ Some value → value ≡ string_value (codes "shortlex")
-  shortlex_given value is = let P : Option Value → Type 0 = λ o. IsShortlex o in subst P is h.ordering
+  -- the ordering is one of two strings
+  ordering_given : (value : Value) → value_of given (codes "ordering") ≡ Some value
+      → (value ≡ string_value (codes "shortlex")) ⊎ (value ≡ string_value (codes "wtlex"))
+  ordering_given value is = of parts.order h.ordered
+    where
+      of : (order : WordOrder) → HasOrder given parts.names order → (value ≡ string_value (codes "shortlex")) ⊎ (value ≡ string_value (codes "wtlex"))
+      of orders.ShortLex has = let P : Option Value → Type 0 = λ o. IsShortlex o in inl (subst P is has)
+      of (orders.WtLex weights) has = inr (some_value (sym is ∙ has.0))
+
+  -- where the order goes by weight the weights are there
+  weights_given : IsOrdering given orderings.WtLex → (weights : List ℕ) × HasWeights given parts.names weights
+  weights_given ordering = of parts.order h.ordered
+    where
+      of : (order : WordOrder) → HasOrder given parts.names order → (weights : List ℕ) × HasWeights given parts.names weights
+      of orders.ShortLex has = absurd (not_both_orderings given has ordering)
+      of (orders.WtLex weights) has = (weights, has.1)
 
   places_given : (value : Value) → value_of given (codes "inverses") ≡ Some value → value ≡ list_value (list_of_places h.inverses.places)
   places_given value is = let P : Option Value → Type 0 = λ o. HoldsPlaces o h.inverses.places in subst P is h.inverses.placed
@@ -122,10 +140,18 @@ pub no_fault : (given : Fields) (parts : PresentationParts) (error : PresError) 
 no_fault given parts (errors.MissingField kinds.IsRws) h fault = let never = sym fault.1 ∙ h.is_rws in cc
 no_fault given parts (errors.MissingField kinds.Ordering) h fault = absurd fault.0
 no_fault given parts (errors.MissingField kinds.GeneratorOrder) h fault = let never = sym fault.1 ∙ h.named in cc
+no_fault given parts (errors.MissingField kinds.Weight) h fault =
+    let has = weights_given given parts h fault.0 in let never = sym fault.1 ∙ has.1.listed in cc
 no_fault given parts (errors.MissingField kinds.Inverses) h fault = absurd fault.0
 no_fault given parts (errors.MissingField kinds.Equations) h fault = let never = sym fault.1 ∙ h.equations.listed in cc
 no_fault given parts (errors.WrongKind kinds.IsRws) h fault = absurd (fault.2 (some_value (sym fault.1 ∙ h.is_rws)))
-no_fault given parts (errors.WrongKind kinds.Ordering) h fault = absurd (fault.2 (codes "shortlex", shortlex_given given parts h fault.0 fault.1))
+no_fault given parts (errors.WrongKind kinds.Ordering) h fault = elim (ordering_given given parts h fault.0 fault.1) [
+  | inl is ↦ absurd (fault.2 (codes "shortlex", is))
+  | inr is ↦ absurd (fault.2 (codes "wtlex", is))
+]
+no_fault given parts (errors.WrongKind kinds.Weight) h fault = absurd (fault.2 (λ ordering.
+    let has = weights_given given parts h ordering in
+    (has.1.numbers, some_value (sym fault.1 ∙ has.1.listed))))
 no_fault given parts (errors.WrongKind kinds.GeneratorOrder) h fault = absurd (fault.2 (parts.names, some_value (sym fault.1 ∙ h.named)))
 no_fault given parts (errors.WrongKind kinds.Inverses) h fault = absurd (fault.2 (λ names named.
     let same = one_list_of_names given parts.names names h.named named in
@@ -134,7 +160,17 @@ no_fault given parts (errors.WrongKind kinds.Inverses) h fault = absurd (fault.2
 no_fault given parts (errors.WrongKind kinds.Equations) h fault =
     absurd (fault.2 (h.equations.read.sides, some_value (sym fault.1 ∙ h.equations.listed) ∙ ap list_value h.equations.read.listed))
 no_fault given parts (errors.FieldTwice name) h fault = absurd (h.once name fault)
-no_fault given parts errors.OtherOrdering h fault = absurd (fault.2 (text_same (shortlex_given given parts h _ fault.1)))
+no_fault given parts errors.OtherOrdering h fault = elim (ordering_given given parts h _ fault.1) [
+  | inl is ↦ absurd (fault.2 (text_same is))
+  | inr is ↦ absurd (fault.3 (text_same is))
+]
+no_fault given parts errors.WeightsWrong h fault =
+    let has = weights_given given parts h fault.ordering in
+    let same = one_list_of_names given fault.names parts.names fault.named h.named in
+    let numbers = one_list_of_numbers has.1.numbers fault.numbers (some_value (sym has.1.listed ∙ fault.listed)) in
+    let P : List (List ℕ) → Type 0 = λ ns. AreWeights (length ns) fault.numbers has.0 in
+    let Q : List ℤ → Type 0 = λ zs. AreWeights (length parts.names) zs has.0 in
+    absurd (fault.are_none has.0 (subst P (sym same) (subst Q numbers has.1.are)))
 no_fault given parts (errors.NameTaken name) h fault =
     let same = one_list_of_names given fault.0 parts.names fault.1 h.named in
     let P : List (List ℕ) → Type 0 = λ ns. IsTaken ns name in

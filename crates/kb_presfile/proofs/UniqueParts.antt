@@ -1,13 +1,18 @@
 -- A text's fields say one presentation.
-use Rattle.std.proofs.Common.{◌≡◌, ℕ, ◌<◌, List, [], ◌∷◌, map, length, slice_get, get_or, Option, None, Some, Result, Ok, refl, sym, ap, subst, ◌∙◌, arith}
+use Rattle.std.proofs.Common.{◌≡◌, ◌≢◌, ℕ, ◌<◌, ℤ, pos, List, [], ◌∷◌, map, length, slice_get, get_or, Option, None, Some, Result, Ok, refl, sym, ap, subst, ◌∙◌, arith}
 use Rattle.std.proofs.lemmas.List.{same_lists}
 use Rattle.std.proofs.lemmas.Option.{get_or_from_slice_get}
 use Rattle.kb_word.specs.Words.{Pair}
-use Rattle.kb_record.specs.Tree.{Factors, Value, Fields}
+use Rattle.kb_record.specs.Tree.{Factors, Value, string_value, Fields}
 use Rattle.kb_record.specs.Meaning.{WordFault}
 use Rattle.kb_presfile.specs.Kinds.{equation_value, list_of_equations}
 use Rattle.kb_word.specs.Presentations.{PresentationParts}
-use Rattle.kb_presfile.specs.Holds.{place_at, HoldsPlaces, StandFor, HasInverses, AreMeanings, HasEquations, HoldsPresentation}
+use Rattle.kb_presfile.specs.Holds.{place_at, IsShortlex, IsOrdering, HasWeights, HasOrder, HoldsPlaces, StandFor, HasInverses, AreMeanings, HasEquations, HoldsPresentation}
+use Rattle.kb_presfile.specs.declared.order.Ordering.TheVariants as orderings
+use Rattle.kb_word.specs.declared.word_order.WordOrder.{WordOrder}
+use Rattle.kb_word.specs.declared.word_order.WordOrder.TheVariants as orders
+use Rattle.kb_fields.proofs.NumberLemmas.{one_list_of_numbers}
+use Rattle.std.specs.Prelude.{codes}
 use Rattle.kb_fields.proofs.ListingLemmas.{places_of-injective, list_same, some_value}
 use Rattle.kb_presfile.proofs.PlaceLemmas.{places_injective, one_list_of_names}
 use Rattle.kb_presfile.proofs.EquationLemmas.{list_of_equations-places_of}
@@ -94,6 +99,44 @@ one_list_of_equations given names inverses ps qs a b =
     let P : List (Factors × Factors) → Type 0 = λ sides. AreMeanings names inverses sides ps in
     one_list_of_meanings names inverses b.read.sides ps qs (subst P same a.read.meanings) b.read.meanings
 
+weights_same : (xs ys : List ℕ) → map pos xs ≡ map pos ys → xs ≡ ys
+weights_same [] [] e = refl
+weights_same [] (y ∷ ys) e = cc
+weights_same (x ∷ xs) [] e = cc
+weights_same (x ∷ xs) (y ∷ ys) e = let rest = weights_same xs ys (behind e) in let first = front e in cc
+  where
+    front : {a b : ℕ} {u v : List ℤ} → pos a ∷ u ≡ pos b ∷ v → a ≡ b
+    front h = cc
+
+    behind : {a b : ℕ} {u v : List ℤ} → pos a ∷ u ≡ pos b ∷ v → u ≡ v
+    behind h = cc
+
+-- the text gives one list of weights
+one_list_of_weights : (given : Fields) (names : List (List ℕ)) (xs ys : List ℕ) → HasWeights given names xs → HasWeights given names ys → xs ≡ ys
+one_list_of_weights given names xs ys a b =
+    let same = one_list_of_numbers a.numbers b.numbers (some_value (sym a.listed ∙ b.listed)) in
+    weights_same xs ys (sym a.are.same ∙ (same ∙ b.are.same))
+
+-- the order of a text isn't both shortlex and by weight
+pub not_both_orderings : (given : Fields) → IsOrdering given orderings.ShortLex → ¬ IsOrdering given orderings.WtLex
+not_both_orderings given shortlex wtlex =
+    let P : Option Value → Type 0 = λ o. IsShortlex o in
+    let same : string_value (codes "wtlex") ≡ string_value (codes "shortlex") = subst P wtlex shortlex in
+    different (text_same same)
+  where
+    text_same : {a b : List ℕ} → string_value a ≡ string_value b → a ≡ b
+    text_same e = cc
+
+    different : codes "wtlex" ≢ codes "shortlex"
+    different e = cc
+
+-- the text has one order
+one_order : (given : Fields) (names : List (List ℕ)) (one other : WordOrder) → HasOrder given names one → HasOrder given names other → one ≡ other
+one_order given names orders.ShortLex orders.ShortLex a b = refl
+one_order given names orders.ShortLex (orders.WtLex weights) a b = absurd (not_both_orderings given a b.0)
+one_order given names (orders.WtLex weights) orders.ShortLex a b = absurd (not_both_orderings given b a.0)
+one_order given names (orders.WtLex xs) (orders.WtLex ys) a b = ap orders.WtLex (one_list_of_weights given names xs ys a.1 b.1)
+
 pub one_presentation : (given : Fields) (a b : PresentationParts) → HoldsPresentation given a → HoldsPresentation given b → a ≡ b
 one_presentation given a b h k = joined names inverses equations
   where
@@ -115,8 +158,12 @@ one_presentation given a b h k = joined names inverses equations
     equations : a.equations ≡ b.equations
     equations = one_list_of_equations given b.names b.inverses a.equations b.equations (subst F inverses (subst E names h.equations)) k.equations
 
+    O : List (List ℕ) → Type 0
+    O names = HasOrder given names a.order
+
+    order : a.order ≡ b.order
+    order = one_order given b.names a.order b.order (subst O names h.ordered) k.ordered
+
     joined : a.names ≡ b.names → a.inverses ≡ b.inverses → a.equations ≡ b.equations → a ≡ b
     joined p q r =
-        ap (λ (x : List (List ℕ)). record { names = x; inverses = a.inverses; equations = a.equations }) p
-        ∙ (ap (λ (y : List (Option ℕ)). record { names = b.names; inverses = y; equations = a.equations }) q
-        ∙ ap (λ (z : List Pair). record { names = b.names; inverses = b.inverses; equations = z }) r)
+        λ i. record { order = order i; names = p i; inverses = q i; equations = r i }

@@ -1,5 +1,5 @@
 -- When each refusal of a presentation file comes: the fault that it names is there.
-use Rattle.std.specs.Prelude.{◌≡◌, ◌≢◌, ℕ, suc, ◌<◌, ◌≤◌, ◌⊎◌, List, length, codes, Option, Some, None, slice_get, Result, Err}
+use Rattle.std.specs.Prelude.{◌≡◌, ◌≢◌, ℕ, suc, ◌<◌, ◌≤◌, ◌⊎◌, ℤ, List, length, codes, Option, Some, None, slice_get, Result, Err}
 use Rattle.kb_word.specs.Relations.{inverse_letter}
 use Rattle.kb_record.specs.Tree.{Factors, Value, string_value, list_value, Fields, Places, TextTree, record_value}
 use Rattle.kb_record.specs.Grammar.{TextOf}
@@ -7,10 +7,11 @@ use Rattle.kb_record.specs.Nesting.{deepest, text_nesting}
 use Rattle.kb_record.specs.Faults.{HasTextFault}
 use Rattle.kb_record.specs.declared.error.RecordError.TheVariants as record_errors
 use Rattle.kb_record.specs.Meaning.{WordFault, unknown_generator, no_inverse, too_long, letter_from, word_meaning}
-use Rattle.kb_fields.specs.Fields.{value_of, bare_name, list_of_names, value_at, HasFieldTwice, place_count}
+use Rattle.kb_fields.specs.Fields.{value_of, bare_name, list_of_names, list_of_numbers, value_at, HasFieldTwice, place_count}
 use Rattle.kb_fields.specs.Generators.{most_generators, IsTaken}
 use Rattle.kb_presfile.specs.Kinds.{list_of_places, list_of_equations, equation_value}
-use Rattle.kb_presfile.specs.Holds.{most_equations, place_at, HoldsPlaces, HasNames, HasInverses}
+use Rattle.kb_presfile.specs.Holds.{most_equations, IsOrdering, AreWeights, place_at, HoldsPlaces, HasNames, HasInverses}
+use Rattle.kb_presfile.specs.declared.order.Ordering.TheVariants as orderings
 use Rattle.kb_presfile.specs.declared.error.Field.{Field}
 use Rattle.kb_presfile.specs.declared.error.Field.TheVariants as kinds
 use Rattle.kb_presfile.specs.declared.error.PresError.{PresError}
@@ -21,23 +22,28 @@ abbrev pub name_of : Field → List ℕ
 name_of kinds.IsRws = codes "isRWS"
 name_of kinds.Ordering = codes "ordering"
 name_of kinds.GeneratorOrder = codes "generatorOrder"
+name_of kinds.Weight = codes "weight"
 name_of kinds.Inverses = codes "inverses"
 name_of kinds.Equations = codes "equations"
 
--- a presentation file lacks no such field
-abbrev pub IsNeeded : Field → Type 0
-IsNeeded kinds.IsRws = Unit {0}
-IsNeeded kinds.Ordering = ⊥
-IsNeeded kinds.GeneratorOrder = Unit {0}
-IsNeeded kinds.Inverses = ⊥
-IsNeeded kinds.Equations = Unit {0}
+-- a file with these fields lacks no such field
+abbrev pub IsNeeded : Fields → Field → Type 0
+IsNeeded given kinds.IsRws = Unit {0}
+IsNeeded given kinds.Ordering = ⊥
+IsNeeded given kinds.GeneratorOrder = Unit {0}
+IsNeeded given kinds.Weight = IsOrdering given orderings.WtLex
+IsNeeded given kinds.Inverses = ⊥
+IsNeeded given kinds.Equations = Unit {0}
 
--- The value is of the kind that the field holds: the name `true`; a string; a list of names; a list of names
--- and empty places, of which those past the last generator are empty; a list of lists of two words.
+-- The value is of the kind that the field holds: the name `true`; a string; a list of names; a list of numbers, where
+-- the order goes by weight; a list of names and empty places, of which those past the last generator are empty; a list
+-- of lists of two words.
 abbrev pub IsOfKind : Fields → Field → Value → Type 0
 IsOfKind given kinds.IsRws value = value ≡ bare_name (codes "true")
 IsOfKind given kinds.Ordering value = (text : List ℕ) × (value ≡ string_value text)
 IsOfKind given kinds.GeneratorOrder value = (names : List (List ℕ)) × (value ≡ list_value (list_of_names names))
+IsOfKind given kinds.Weight value =
+    IsOrdering given orderings.WtLex → (numbers : List ℤ) × (value ≡ list_value (list_of_numbers numbers))
 IsOfKind given kinds.Inverses value = (names : List (List ℕ)) → HasNames given names
     → (places : List (Option (List ℕ))) × (value ≡ list_value (list_of_places places))
     × ((k : ℕ) → length names ≤ k → place_at places k ≡ None)
@@ -126,14 +132,25 @@ pub record EquationHasFault (fields : Fields) (error : PresError) : Type 0 where
   pub listed : value_of fields (codes "equations") ≡ Some (list_value places)
   pub fault : SomePlaceHasFault names inverses places error
 
+-- the order of the text goes by weight, and the numbers that it gives are no weights of its generators
+pub record HasWrongWeights (fields : Fields) : Type 0 where
+  pub ordering : IsOrdering fields orderings.WtLex
+  pub names : List (List ℕ)
+  pub named : HasNames fields names
+  pub numbers : List ℤ
+  pub listed : value_of fields (codes "weight") ≡ Some (list_value (list_of_numbers numbers))
+  pub are_none : (weights : List ℕ) → ¬ AreWeights (length names) numbers weights
+
 -- the fields have the fault
 abbrev pub HasFieldFault : Fields → PresError → Type 0
-HasFieldFault given (errors.MissingField field) = IsNeeded field × (value_of given (name_of field) ≡ None)
+HasFieldFault given (errors.MissingField field) = IsNeeded given field × (value_of given (name_of field) ≡ None)
 HasFieldFault given (errors.WrongKind field) = (value : Value) × (value_of given (name_of field) ≡ Some value) × ¬ IsOfKind given field value
 HasFieldFault given (errors.FieldTwice name) = HasFieldTwice (record_value given) name
-HasFieldFault given errors.OtherOrdering = (text : List ℕ) × (value_of given (codes "ordering") ≡ Some (string_value text)) × (text ≢ codes "shortlex")
+HasFieldFault given errors.OtherOrdering = (text : List ℕ) × (value_of given (codes "ordering") ≡ Some (string_value text))
+    × (text ≢ codes "shortlex") × (text ≢ codes "wtlex")
 HasFieldFault given (errors.NameTaken name) = (names : List (List ℕ)) × HasNames given names × IsTaken names name
 HasFieldFault given errors.TooManyGenerators = (names : List (List ℕ)) × HasNames given names × (most_generators < length names)
+HasFieldFault given errors.WeightsWrong = HasWrongWeights given
 HasFieldFault given (errors.UnknownGenerator name) = InversesHaveFault given (errors.UnknownGenerator name) ⊎ EquationHasFault given (errors.UnknownGenerator name)
 HasFieldFault given (errors.NoInverse name) = EquationHasFault given (errors.NoInverse name)
 HasFieldFault given (errors.InverseNotMutual name) = InversesHaveFault given (errors.InverseNotMutual name)

@@ -1,14 +1,19 @@
 -- What a text of a presentation holds.
-use Rattle.std.specs.Prelude.{◌≡◌, ℕ, ◌<◌, ◌≤◌, List, [], ◌∷◌, length, codes, Option, Some, None, slice_get, option_and_then, Ok}
+use Rattle.std.specs.Prelude.{◌≡◌, ℕ, ◌<◌, ◌≤◌, ℤ, pos, List, [], ◌∷◌, length, map, All, codes, Option, Some, None, slice_get, option_and_then, Ok}
 use Rattle.kb_word.specs.Words.{Pair}
+use Rattle.kb_word.specs.Weights.{IsWeight}
+use Rattle.kb_word.specs.declared.word_order.WordOrder.{WordOrder}
+use Rattle.kb_word.specs.declared.word_order.WordOrder.TheVariants as orders
 use Rattle.kb_word.specs.Relations.{inverse_letter}
 use Rattle.kb_word.specs.Presentations.{PresentationParts}
 use Rattle.kb_record.specs.Tree.{Factors, Value, string_value, list_value, Fields, Places, TextTree, record_value}
 use Rattle.kb_record.specs.Grammar.{TextOf}
 use Rattle.kb_record.specs.Nesting.{deepest, text_nesting}
 use Rattle.kb_record.specs.Meaning.{letter_from, word_meaning}
-use Rattle.kb_fields.specs.Fields.{value_of, bare_name, list_of_names, place_count, HasFieldTwice}
+use Rattle.kb_fields.specs.Fields.{value_of, bare_name, list_of_names, list_of_numbers, place_count, HasFieldTwice}
 use Rattle.kb_fields.specs.Generators.{AreGeneratorNames}
+use Rattle.kb_presfile.specs.declared.order.Ordering.{Ordering}
+use Rattle.kb_presfile.specs.declared.order.Ordering.TheVariants as orderings
 use Rattle.kb_presfile.specs.Kinds.{list_of_places, list_of_equations, equation_value}
 
 -- a presentation has at most so many equations
@@ -19,6 +24,28 @@ most_equations = 65535
 abbrev pub IsShortlex : Option Value → Type 0
 IsShortlex None = Unit {0}
 IsShortlex (Some value) = value ≡ string_value (codes "shortlex")
+
+-- the orderings that a file may name
+abbrev pub IsOrdering : Fields → Ordering → Type 0
+IsOrdering fields orderings.ShortLex = IsShortlex (value_of fields (codes "ordering"))
+IsOrdering fields orderings.WtLex = value_of fields (codes "ordering") ≡ Some (string_value (codes "wtlex"))
+
+-- the numbers are weights, one for each of n generators
+pub record AreWeights (n : ℕ) (numbers : List ℤ) (weights : List ℕ) : Type 0 where
+  pub same : numbers ≡ map pos weights
+  pub one_each : length weights ≡ n
+  pub range : All IsWeight weights
+
+-- the text gives the generators these weights
+pub record HasWeights (fields : Fields) (names : List (List ℕ)) (weights : List ℕ) : Type 0 where
+  pub numbers : List ℤ
+  pub listed : value_of fields (codes "weight") ≡ Some (list_value (list_of_numbers numbers))
+  pub are : AreWeights (length names) numbers weights
+
+-- the text's order of words is this
+abbrev pub HasOrder : Fields → List (List ℕ) → WordOrder → Type 0
+HasOrder fields names orders.ShortLex = IsOrdering fields orderings.ShortLex
+HasOrder fields names (orders.WtLex weights) = IsOrdering fields orderings.WtLex × HasWeights fields names weights
 
 -- the field is absent or holds this list of names and empty places
 abbrev pub HoldsPlaces : Option Value → List (Option (List ℕ)) → Type 0
@@ -89,9 +116,9 @@ pub record HasEquations (fields : Fields) (names : List (List ℕ)) (inverses : 
 pub record HoldsPresentation (fields : Fields) (parts : PresentationParts) : Type 0 where
   pub once : (name : List ℕ) → ¬ HasFieldTwice (record_value fields) name
   pub is_rws : value_of fields (codes "isRWS") ≡ Some (bare_name (codes "true"))
-  pub ordering : IsShortlex (value_of fields (codes "ordering"))
   pub named : HasNames fields parts.names
   pub names : AreGeneratorNames parts.names
+  pub ordered : HasOrder fields parts.names parts.order
   pub inverses : HasInverses fields parts.names parts.inverses
   pub equations : HasEquations fields parts.names parts.inverses parts.equations
 

@@ -17,6 +17,7 @@ pub enum Field {
     IsRws,
     Ordering,
     GeneratorOrder,
+    Weight,
     Inverses,
     Equations,
 }
@@ -30,6 +31,7 @@ impl Field {
             Field::IsRws => "isRWS",
             Field::Ordering => "ordering",
             Field::GeneratorOrder => "generatorOrder",
+            Field::Weight => "weight",
             Field::Inverses => "inverses",
             Field::Equations => "equations",
         }
@@ -60,7 +62,7 @@ pub enum PresError {
     /// A record has a field name twice.
     #[error("E6 FieldTwice {field}")]
     FieldTwice { field: OwnedText },
-    /// The ordering is another than shortlex.
+    /// The ordering is another than shortlex and wtlex.
     #[error("E7 OtherOrdering")]
     OtherOrdering,
     /// A generator's name stands twice, or is `IdWord` or `_`.
@@ -84,6 +86,9 @@ pub enum PresError {
     /// More than 65,535 equations.
     #[error("E14 TooManyEquations")]
     TooManyEquations,
+    /// The order goes by weight, and the list of weights hasn't one from 1 to 1,000 for each generator.
+    #[error("E29 WeightsWrong")]
+    WeightsWrong,
     /// Memory ran out.
     #[error("no memory")]
     Memory,

@@ -16,7 +16,7 @@ pub fn needed<'r, 'a>(
     fields: &'r [(&'a str, Value<'a>)],
     field: Field,
 ) -> Result<&'r Value<'a>, PresError>
-    requires { IsNeeded field }
+    requires { IsNeeded (fields_view fields.now) field }
     ensures found { IfOk result
         (λ value. value_of (fields_view fields.now) (name_of field) ≡ Some (value_view value.now)) }
     ensures fault { IfErr result (HasFieldFault (fields_view fields.now)) }

@@ -1,13 +1,11 @@
-//! The fields that say what a file is: `isRWS` and `ordering`.
+//! The field that says what a file is: `isRWS`.
 
-ghost use Rattle.std.specs.Prelude.{◌≡◌, ◌⊎◌, codes, Some, None, IfErr, OnOk};
-ghost use Rattle.kb_record.specs.Tree.{string_value};
+ghost use Rattle.std.specs.Prelude.{◌≡◌, codes, Some, IfErr, OnOk};
 ghost use Rattle.kb_fields.specs.Fields.{fields_view, value_of, bare_name};
 ghost use Rattle.kb_presfile.specs.Faults.{HasFieldFault};
 
 use crate::error::{Field, PresError};
 use crate::fields::needed;
-use kb_fields::field_named;
 use kb_record::Value;
 
 /// Refuses a file that doesn't say `isRWS := true`.
@@ -21,24 +19,6 @@ pub fn check_is_rws<'a>(fields: &[(&'a str, Value<'a>)]) -> Result<(), PresError
         Some("true") => Ok(()),
         _ => Err(PresError::WrongKind {
             field: Field::IsRws,
-        }),
-    }
-}
-
-/// Refuses another ordering than shortlex, which stands where none is given.
-pub fn check_ordering<'a>(fields: &[(&'a str, Value<'a>)]) -> Result<(), PresError>
-    ensures ok { OnOk result
-        ((value_of (fields_view fields.now) (codes "ordering") ≡ None)
-        ⊎ (value_of (fields_view fields.now) (codes "ordering")
-        ≡ Some (string_value (codes "shortlex")))) }
-    ensures fault { IfErr result (HasFieldFault (fields_view fields.now)) }
-{
-    match field_named(fields, "ordering") {
-        None => Ok(()),
-        Some(Value::String(text)) if *text == "shortlex" => Ok(()),
-        Some(Value::String(_)) => Err(PresError::OtherOrdering),
-        Some(_) => Err(PresError::WrongKind {
-            field: Field::Ordering,
         }),
     }
 }

@@ -4,8 +4,10 @@
 //! count; others are read and ignored.
 //!
 //! - `isRWS`: the Name `true`.
-//! - `ordering`: the string `"shortlex"`, which stands where the field is absent.
+//! - `ordering`: the string `"shortlex"`, which stands where the field is absent, or `"wtlex"`.
 //! - `generatorOrder`: a list of at most 126 Names, none of them twice and none `IdWord` or `_`.
+//! - `weight`, where the ordering is `"wtlex"`, and ignored elsewhere: a list of numbers from 1 to 1,000, one for each
+//!   generator.
 //! - `inverses`: a list of Names and empty places, one place for each generator. Places that are missing are
 //!   empty, and so are all where the field is absent; places past the last generator must be empty. The
 //!   Name at a generator's place is its inverse, whose inverse is the generator.
@@ -27,7 +29,7 @@
 //!
 //! - `fields` refuses a name that stands twice in a record, and a needed field that is absent.
 //! - `values` tells lists of places and pairs of words apart from other values.
-//! - `header`, `generators`, `inverses` and `equations` read a field each. Words are evaluated over the presentation
+//! - `header`, `order`, `generators`, `inverses` and `equations` read the fields. Words are evaluated over the presentation
 //!   that has the names and the inverses, and no equations yet.
 //! - `reader` joins them.
 //!
@@ -57,6 +59,7 @@ mod generators;
 mod header;
 mod inverses;
 mod laws;
+mod order;
 mod reader;
 mod values;
 

@@ -10,8 +10,9 @@ use crate::equations::read_equations;
 use crate::error::PresError;
 use crate::fields::check_once;
 use crate::generators::read_names;
-use crate::header::{check_is_rws, check_ordering};
+use crate::header::check_is_rws;
 use crate::inverses::read_inverses;
+use crate::order::{read_order, read_ordering};
 use kb_record::{Value, parse};
 use kb_word::{Equations, Presentation};
 use std::alloc::Global;
@@ -41,15 +42,23 @@ fn presentation_of<'a>(
 {
     check_once(alloc, fields)?;
     check_is_rws(fields)?;
-    check_ordering(fields)?;
+    let ordering = read_ordering(fields)?;
     let names = read_names(alloc, fields)?;
+    let order = read_order(alloc, fields, ordering, &names)?;
     let inverses = read_inverses(alloc, fields, &names)?;
     let generators = Presentation::new(
         names.len() as u16,
+        order,
         names,
         inverses,
         Equations::from_vec(Vec::new(alloc)),
     );
     let equations = read_equations(alloc, fields, &generators)?;
-    Ok(Presentation::new(generators.n, generators.names, generators.inv, equations))
+    Ok(Presentation::new(
+        generators.n,
+        generators.order,
+        generators.names,
+        generators.inv,
+        equations,
+    ))
 }

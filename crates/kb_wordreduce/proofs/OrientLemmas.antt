@@ -2,34 +2,34 @@
 use Rattle.std.proofs.Common.{◌≡◌, ℕ, zero, suc, inl, inr, List, [], ◌∷◌, ◌++◌, refl, sym, subst, length, Some, append_assoc, arith}
 use Rattle.kb_word.proofs.PathLemmas.{congruent_reflexive, congruent_symmetric, congruent_sides, congruent_implied}
 use Rattle.std.proofs.lemmas.List.{append-nil}
-use Rattle.kb_word.specs.Words.{Pair, Less, OneOf}
+use Rattle.kb_word.specs.Words.{Pair, OneOf}
 use Rattle.kb_word.specs.Congruence.{Congruent, SameCongruence}
 use Rattle.kb_word.specs.Rewriting.{AreDecreasing}
 use Rattle.kb_word.specs.Relations.{IsOrientation, Orients, AreOriented, none_left, equal_sides, repeated, added}
 use Rattle.kb_wordreduce.proofs.ValueLemmas.{not_both, same_value}
 
 -- the relations of a list are oriented, and then those of another beside the rules that they gave
-pub Orients-append : {standing front rules rest more : List Pair} → Orients standing front rules → Orients (standing ++ rules) rest more
-    → Orients standing (front ++ rest) (rules ++ more)
-Orients-append {standing} {rest = rest} {more = more} none_left h = subst (λ l. Orients l rest more) (append-nil standing) h
+pub Orients-append : {below : List ℕ → List ℕ → Type 0} {standing front rules rest more : List Pair} → Orients below standing front rules → Orients below (standing ++ rules) rest more
+    → Orients below standing (front ++ rest) (rules ++ more)
+Orients-append {below} {standing} {rest = rest} {more = more} none_left h = subst (λ l. Orients below l rest more) (append-nil standing) h
 Orients-append (equal_sides g) h = equal_sides (Orients-append g h)
 Orients-append (repeated is stands g) h = repeated is stands (Orients-append g h)
-Orients-append {standing} {rest = rest} {more = more} (added {rules = rules} {rule = rule} is fresh g) h =
-    added is fresh (Orients-append g (subst (λ l. Orients l rest more) (sym (append_assoc standing (rule ∷ []) rules)) h))
+Orients-append {below} {standing} {rest = rest} {more = more} (added {rules = rules} {rule = rule} is fresh g) h =
+    added is fresh (Orients-append g (subst (λ l. Orients below l rest more) (sym (append_assoc standing (rule ∷ []) rules)) h))
 
 -- one relation more
-pub oriented_more : (relations old more new : List Pair) (relation : Pair) → AreOriented relations old
-    → Orients old (relation ∷ []) more → new ≡ old ++ more → AreOriented (relations ++ relation ∷ []) new
-oriented_more relations old more new relation so_far one is = subst (AreOriented (relations ++ relation ∷ [])) (sym is) (Orients-append so_far one)
+pub oriented_more : {below : List ℕ → List ℕ → Type 0} (relations old more new : List Pair) (relation : Pair) → AreOriented below relations old
+    → Orients below old (relation ∷ []) more → new ≡ old ++ more → AreOriented below (relations ++ relation ∷ []) new
+oriented_more {below} relations old more new relation so_far one is = subst (AreOriented below (relations ++ relation ∷ [])) (sym is) (Orients-append so_far one)
 
 -- what one relation adds
-pub adds_nothing : (old : List Pair) (left right : List ℕ) → left ≡ right → Orients old ((left, right) ∷ []) []
-adds_nothing old left right same = subst (λ r. Orients old ((left, r) ∷ []) []) same (equal_sides none_left)
+pub adds_nothing : {below : List ℕ → List ℕ → Type 0} (old : List Pair) (left right : List ℕ) → left ≡ right → Orients below old ((left, right) ∷ []) []
+adds_nothing {below} old left right same = subst (λ r. Orients below old ((left, r) ∷ []) []) same (equal_sides none_left)
 
-pub adds_no_repeat : (old : List Pair) (relation rule : Pair) → IsOrientation relation rule → OneOf old rule → Orients old (relation ∷ []) []
+pub adds_no_repeat : {below : List ℕ → List ℕ → Type 0} (old : List Pair) (relation rule : Pair) → IsOrientation below relation rule → OneOf old rule → Orients below old (relation ∷ []) []
 adds_no_repeat old relation rule is stands = repeated is stands none_left
 
-pub adds_rule : (old : List Pair) (relation rule : Pair) → IsOrientation relation rule → ¬ OneOf old rule → Orients old (relation ∷ []) (rule ∷ [])
+pub adds_rule : {below : List ℕ → List ℕ → Type 0} (old : List Pair) (relation rule : Pair) → IsOrientation below relation rule → ¬ OneOf old rule → Orients below old (relation ∷ []) (rule ∷ [])
 adds_rule old relation rule is fresh = added is fresh none_left
 
 module _ {X : Type 0} where
@@ -40,13 +40,13 @@ module _ {X : Type 0} where
 -- ---- what the oriented relations are
 
 -- each rule is less on the right
-pub oriented_decrease : {standing relations rules : List Pair} → Orients standing relations rules → AreDecreasing rules
+pub oriented_decrease : {below : List ℕ → List ℕ → Type 0} {standing relations rules : List Pair} → Orients below standing relations rules → AreDecreasing below rules
 oriented_decrease none_left rule (index, is) = cc
 oriented_decrease (equal_sides h) rule one = oriented_decrease h rule one
 oriented_decrease (repeated is stands h) rule one = oriented_decrease h rule one
-oriented_decrease (added {rule = first} is fresh h) rule (zero, at) =
+oriented_decrease {below} (added {rule = first} is fresh h) rule (zero, at) =
     let same : first ≡ rule = same_value (Some first) first rule refl at in
-    subst (λ (p : Pair). Less p.1 p.0) same is.0
+    subst (λ (p : Pair). below p.1 p.0) same is.0
 oriented_decrease (added is fresh h) rule (suc index, at) = oriented_decrease h rule (index, at)
 
 -- ---- the congruence
@@ -61,14 +61,14 @@ one_of_middle [] x ys = (zero, refl)
 one_of_middle (y ∷ xs) x ys = let one = one_of_middle xs x ys in (suc one.0, one.1)
 
 -- a rule and the pair that it orients are congruent by each other
-oriented_congruent : {allowed : Pair → Type 0} (pair rule : Pair) → IsOrientation pair rule → Congruent allowed pair.0 pair.1 → Congruent allowed rule.0 rule.1
-oriented_congruent {allowed} pair rule is h = elim is.1 [
+oriented_congruent : {below : List ℕ → List ℕ → Type 0} {allowed : Pair → Type 0} (pair rule : Pair) → IsOrientation below pair rule → Congruent allowed pair.0 pair.1 → Congruent allowed rule.0 rule.1
+oriented_congruent {below} {allowed} pair rule is h = elim is.1 [
   | inl as_is ↦ subst (λ (p : Pair). Congruent allowed p.0 p.1) (sym as_is) h
   | inr turned ↦ subst (λ (p : Pair). Congruent allowed p.0 p.1) (sym turned) (congruent_symmetric h)
 ]
 
-pair_congruent : {allowed : Pair → Type 0} (pair rule : Pair) → IsOrientation pair rule → Congruent allowed rule.0 rule.1 → Congruent allowed pair.0 pair.1
-pair_congruent {allowed} pair rule is h = elim is.1 [
+pair_congruent : {below : List ℕ → List ℕ → Type 0} {allowed : Pair → Type 0} (pair rule : Pair) → IsOrientation below pair rule → Congruent allowed rule.0 rule.1 → Congruent allowed pair.0 pair.1
+pair_congruent {below} {allowed} pair rule is h = elim is.1 [
   | inl as_is ↦ subst (λ (p : Pair). Congruent allowed p.0 p.1) as_is h
   | inr turned ↦ congruent_symmetric (subst (λ (p : Pair). Congruent allowed p.0 p.1) turned h)
 ]
@@ -80,7 +80,7 @@ moved : (pairs : List Pair) (a b : Pair) → a ≡ b → Congruent (OneOf pairs)
 moved pairs a b same h = subst (λ (p : Pair). Congruent (OneOf pairs) p.0 p.1) same h
 
 -- each rule is congruent by the relations
-pub rules_covered : {standing relations rules : List Pair} → Orients standing relations rules
+pub rules_covered : {below : List ℕ → List ℕ → Type 0} {standing relations rules : List Pair} → Orients below standing relations rules
     → (rule : Pair) → OneOf rules rule → Congruent (OneOf relations) rule.0 rule.1
 rules_covered none_left rule one = absurd (not_both _ rule one.1 refl)
 rules_covered (equal_sides h) rule one = one_more _ _ rule.0 rule.1 (rules_covered h rule one)
@@ -92,24 +92,24 @@ rules_covered (added {rest = rest} {pair = pair} {rule = first} is fresh h) rule
 rules_covered (added is fresh h) rule (suc index, at) = one_more _ _ rule.0 rule.1 (rules_covered h rule (index, at))
 
 -- each relation is congruent by the rules
-pub relations_covered : {standing relations rules : List Pair} → Orients standing relations rules
+pub relations_covered : {below : List ℕ → List ℕ → Type 0} {standing relations rules : List Pair} → Orients below standing relations rules
     → (pair : Pair) → OneOf relations pair → Congruent (OneOf (standing ++ rules)) pair.0 pair.1
 relations_covered none_left pair one = absurd (not_both _ pair one.1 refl)
-relations_covered {standing} {rules = rules} (equal_sides {side = side} h) pair (zero, at) =
+relations_covered {below} {standing} {rules = rules} (equal_sides {side = side} h) pair (zero, at) =
     let same : (side, side) ≡ pair = same_value (Some (side, side)) (side, side) pair refl at in
     moved (standing ++ rules) (side, side) pair same (congruent_reflexive side)
 relations_covered (equal_sides h) pair (suc index, at) = relations_covered h pair (index, at)
-relations_covered {standing} {rules = rules} (repeated {pair = first} {rule = rule} is stands h) pair (zero, at) =
+relations_covered {below} {standing} {rules = rules} (repeated {pair = first} {rule = rule} is stands h) pair (zero, at) =
     let same : first ≡ pair = same_value (Some first) first pair refl at in
     moved (standing ++ rules) first pair same (pair_congruent first rule is (congruent_sides rule (one_of_front standing rules rule stands)))
 relations_covered (repeated is stands h) pair (suc index, at) = relations_covered h pair (index, at)
-relations_covered {standing} (added {rules = rules} {pair = first} {rule = rule} is fresh h) pair (zero, at) =
+relations_covered {below} {standing} (added {rules = rules} {pair = first} {rule = rule} is fresh h) pair (zero, at) =
     let same : first ≡ pair = same_value (Some first) first pair refl at in
     moved (standing ++ rule ∷ rules) first pair same (pair_congruent first rule is (congruent_sides rule (one_of_middle standing rule rules)))
-relations_covered {standing} (added {rules = rules} {rule = rule} is fresh h) pair (suc index, at) =
+relations_covered {below} {standing} (added {rules = rules} {rule = rule} is fresh h) pair (suc index, at) =
     subst (λ l. Congruent (OneOf l) pair.0 pair.1) (append_assoc standing (rule ∷ []) rules) (relations_covered h pair (index, at))
 
-pub oriented_congruence : (relations rules : List Pair) → AreOriented relations rules → SameCongruence rules relations
+pub oriented_congruence : {below : List ℕ → List ℕ → Type 0} (relations rules : List Pair) → AreOriented below relations rules → SameCongruence rules relations
 oriented_congruence relations rules h = record {
   covered = rules_covered h;
   covers = relations_covered h;

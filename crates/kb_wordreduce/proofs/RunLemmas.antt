@@ -5,6 +5,7 @@ use Rattle.kb_io.specs.Bytes.{AppendsPrefix}
 use Rattle.kb_io.specs.Outside.{Outside, outside, IsUnchanged}
 use Rattle.kb_io.specs.States.{ShelfState, SourceState, SinkState, SinkGoesOn}
 use Rattle.kb_word.specs.Words.{Pair, OneOf}
+use Rattle.kb_word.specs.WordOrders.{Below}
 use Rattle.kb_word.specs.Presentations.{PresentationParts}
 use Rattle.kb_word.specs.Relations.{relations_of, inverse_relations, AreOriented, Orients, none_left, equal_sides, repeated, added}
 use Rattle.kb_word.proofs.PathLemmas.{congruent_covered}
@@ -37,22 +38,22 @@ inverse_relations-length x (None ∷ rest) = omega (arith, inverse_relations-len
 inverse_relations-length x (Some y ∷ rest) = omega (arith, inverse_relations-length (suc x) rest)
 
 -- no more rules than relations
-orients-length : {standing relations rules : List Pair} → Orients standing relations rules → length rules ≤ length relations
+orients-length : {below : List ℕ → List ℕ → Type 0} {standing relations rules : List Pair} → Orients below standing relations rules → length rules ≤ length relations
 orients-length none_left = omega arith
 orients-length (equal_sides more) = omega (arith, orients-length more)
 orients-length (repeated orientation stands more) = omega (arith, orients-length more)
 orients-length (added orientation new more) = omega (arith, orients-length more)
 
-pub rules-few : (inverses : List (Option ℕ)) (equations rules : List Pair) → AreOriented (relations_of inverses equations) rules
+pub rules-few : (below : List ℕ → List ℕ → Type 0) (inverses : List (Option ℕ)) (equations rules : List Pair) → AreOriented below (relations_of inverses equations) rules
     → length equations ≤ 65535 → length inverses < 65536 → length rules ≤ 2147483648
-rules-few inverses equations rules oriented few generators =
+rules-few below inverses equations rules oriented few generators =
     omega (arith, orients-length oriented, length-append equations (inverse_relations 1 inverses), inverse_relations-length 1 inverses)
 
 -- ---- confluent or not
 
 -- what a no means of the presentation
 pub no-refutes : (parts : PresentationParts) (rules : List Pair) (when_yes : Type 0) (i j place : ℕ) (u v : List ℕ)
-    → AreOriented (relations parts) rules
+    → AreOriented (Below parts.order) (relations parts) rules
     → MatchVerdict when_yes rules (verdicts.No i j place u v) → IsCounterexample rules u v → OrientedAreNotConfluent parts u v
 no-refutes parts rules when_yes zero j place u v oriented first counterexample = absurd first
 no-refutes parts rules when_yes (suc i) zero place u v oriented first counterexample = absurd first

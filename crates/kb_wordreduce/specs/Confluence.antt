@@ -5,6 +5,7 @@ use Rattle.kb_word.specs.Words.{Pair, OneOf}
 use Rattle.kb_word.specs.Relations.{relations_of, AreOriented}
 use Rattle.kb_word.specs.Congruence.{Congruent, IsLeast}
 use Rattle.kb_word.specs.Overlap.{IsConfluent}
+use Rattle.kb_word.specs.WordOrders.{Below}
 use Rattle.kb_word.specs.Presentations.{PresentationParts}
 use Rattle.kb_word.specs.Printed.{text_of_word}
 use Rattle.kb_confluence.specs.Unjoined.{IsFirstUnjoined, IsCounterexample}
@@ -13,21 +14,21 @@ use Rattle.kb_confluence.specs.Unjoined.{IsFirstUnjoined, IsCounterexample}
 abbrev pub relations : PresentationParts → List Pair
 relations parts = relations_of parts.inverses parts.equations
 
--- the second word is the least that the relations make congruent to the first
+-- the second word is the least by the presentation's order that the relations make congruent to the first
 abbrev pub IsLeastIn : PresentationParts → List ℕ → List ℕ → Type 0
-IsLeastIn parts = IsLeast (relations parts)
+IsLeastIn parts = IsLeast (Below parts.order) (relations parts)
 
 -- the oriented relations of the presentation are confluent
 pub record OrientedAreConfluent (parts : PresentationParts) : Type 0 where
   pub rules : List Pair
-  pub oriented : AreOriented (relations parts) rules
+  pub oriented : AreOriented (Below parts.order) (relations parts) rules
   pub confluent : IsConfluent rules
 
 -- The oriented relations of the presentation aren't confluent: the first overlap that doesn't join leads to
 -- u and v, which are different, irreducible and congruent in the presentation.
 pub record OrientedAreNotConfluent (parts : PresentationParts) (u v : List ℕ) : Type 0 where
   pub rules : List Pair
-  pub oriented : AreOriented (relations parts) rules
+  pub oriented : AreOriented (Below parts.order) (relations parts) rules
   pub i : ℕ
   pub j : ℕ
   pub place : ℕ

@@ -6,7 +6,7 @@ use Rattle.kb_word.specs.Words.{Pair}
 use Rattle.kb_word.specs.Overlap.{IsConfluent, IsResolved, IsUnresolved, critical_pair}
 use Rattle.kb_word.specs.Rewriting.{NormalForm}
 use Rattle.kb_word.specs.Presentations.{PresentationParts}
-use Rattle.kb_word.specs.ShortlexLaws.{shortlex_total}
+use Rattle.kb_word.specs.WordOrderLaws.{word_orders}
 use Rattle.kb_rules.proofs.Unique.{normal_form_unique}
 use Rattle.kb_confluence.specs.Unjoined.{ComesBefore, IsFirstUnjoined}
 use Rattle.kb_record.specs.Tree.{TextTree}
@@ -36,7 +36,7 @@ not_parted joins parted = parted.different (normal_form_unique parted.left joins
 -- no presentation's oriented relations are confluent and not
 pub confluent-not_refuted : (parts : PresentationParts) (u v : List ℕ) → OrientedAreConfluent parts → ¬ OrientedAreNotConfluent parts u v
 confluent-not_refuted parts u v holds refuted =
-    let confluent = subst IsConfluent (one_orienting _ _ holds.rules refuted.rules holds.oriented refuted.oriented) holds.confluent in
+    let confluent = subst IsConfluent (one_orienting (word_orders parts.order) _ _ holds.rules refuted.rules holds.oriented refuted.oriented) holds.confluent in
     let first = refuted.first in
     not_parted (confluent refuted.i refuted.j refuted.place first.first first.second first.overlap) first.parts
 
@@ -72,13 +72,13 @@ one_unjoined {rules} {i} {j} {p} {k} {l} {q} {u} {v} {w} {x} one other =
 one_counterexample : (parts : PresentationParts) (u v w x : List ℕ) → OrientedAreNotConfluent parts u v → OrientedAreNotConfluent parts w x
     → NotConfluent u v ≡ NotConfluent w x
 one_counterexample parts u v w x one other =
-    let rules : other.rules ≡ one.rules = one_orienting _ _ other.rules one.rules other.oriented one.oriented in
+    let rules : other.rules ≡ one.rules = one_orienting (word_orders parts.order) _ _ other.rules one.rules other.oriented one.oriented in
     let words = one_unjoined one.first (subst (λ r. IsFirstUnjoined r other.i other.j other.place w x) rules other.first) in
     ap (λ a. NotConfluent a v) words.0 ∙ ap (NotConfluent w) words.1
 
 -- a word has one least word
 pub one_least : (parts : PresentationParts) (w m n : List ℕ) → IsLeastIn parts w m → IsLeastIn parts w n → m ≡ n
-one_least parts w m n one other = elim (shortlex_total m n) [
+one_least parts w m n one other = elim ((word_orders parts.order).total m n) [
   | inl same ↦ same
   | inr (inl less) ↦ absurd (other.least m one.congruent less)
   | inr (inr more) ↦ absurd (one.least n other.congruent more)

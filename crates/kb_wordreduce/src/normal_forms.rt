@@ -18,7 +18,7 @@ impl Answerer for NormalForms {
 
     ghost parts = { λ it. parts_of it.presentation };
 
-    ghost answers = { λ it. NormalForm it.scan };
+    ghost answers = { λ it. NormalForm it.scan.rules };
 
     fn presentation(&self) -> &Presentation {
         &self.presentation

@@ -2,20 +2,24 @@
 
 ghost use Rattle.std.specs.Prelude.{◌≡◌, [], ◌∷◌, ◌++◌, IfOk, OnOk, IfSome, None, List};
 ghost use Rattle.kb_word.specs.Words.{Pair};
+ghost use Rattle.kb_word.specs.WordOrders.{Below};
+ghost use Rattle.kb_word.specs.declared.word_order.WordOrder.{WordOrder};
 ghost use Rattle.kb_word.specs.Congruence.{SameCongruence};
 ghost use Rattle.kb_word.specs.Rewriting.{AreDecreasing};
 ghost use Rattle.kb_word.specs.Relations.{relations_of, IsOrientation, Orients, AreOriented};
 
 use kb_rules::{Rule, Rules};
-use kb_word::{Memory, Presentation, Word, less};
+use kb_word::{Memory, Order, Presentation, Word, WordOrder};
 use std::alloc::Global;
 
 /// The defining relations of a presentation as rules, in order: each is turned so that its greater
-/// side is on the left. A relation with equal sides gives none, and no rule is repeated.
+/// side by the presentation's order is on the left. A relation with equal sides gives none, and no rule is repeated.
 pub fn oriented(alloc: Global, presentation: &Presentation) -> Result<Rules, Memory>
-    ensures { IfOk result (AreOriented (relations_of presentation.now.inv presentation.now.eqs)) }
+    ensures oriented { IfOk result (λ rules. AreOriented (Below presentation.now.order)
+        (relations_of presentation.now.inv presentation.now.eqs) rules.rules) }
+    ensures order { IfOk result (λ rules. rules.order ≡ presentation.now.order) }
 {
-    let mut rules = Rules::new(alloc);
+    let mut rules = Rules::new(alloc, presentation.order.copy(alloc)?);
     for (left, right) in presentation.relations(alloc)? {
         add_relation(&mut rules, left, right)?;
     }
@@ -24,10 +28,12 @@ pub fn oriented(alloc: Global, presentation: &Presentation) -> Result<Rules, Mem
 
 /// Adds the rule that a relation gives, unless it is there.
 fn add_relation(rules: &mut Rules, left: Word, right: Word) -> Result<(), Memory>
-    ensures { OnOk result ((added : List Pair) × Orients rules.old ((left, right) ∷ []) added
-        × (rules.new ≡ rules.old ++ added)) }
+    ensures adds { OnOk result ((added : List Pair)
+        × Orients (Below rules.old.order) rules.old.rules ((left, right) ∷ []) added
+        × (rules.new.rules ≡ rules.old.rules ++ added)) }
+    ensures order { rules.new.order ≡ rules.old.order }
 {
-    if let Some(rule) = orientation(left, right) {
+    if let Some(rule) = orientation(rules.order(), left, right) {
         let stands = rules.contains(&rule);
         if !stands {
             rules.push(rule)?;
@@ -36,14 +42,14 @@ fn add_relation(rules: &mut Rules, left: Word, right: Word) -> Result<(), Memory
     Ok(())
 }
 
-/// The rule that a relation gives, and none exactly where its sides are equal.
-fn orientation(left: Word, right: Word) -> Option<Rule>
-    ensures some { IfSome result (λ rule. IsOrientation (left, right) rule) }
+/// The rule that a relation gives by an order, and none exactly where its sides are equal.
+fn orientation(order: &WordOrder, left: Word, right: Word) -> Option<Rule>
+    ensures some { IfSome result (IsOrientation (Below order.now) (left, right)) }
     ensures none { result ≡ None → left ≡ right }
 {
-    if less(&right, &left) {
+    if order.less(&right, &left) {
         Some(Rule::new(left, right))
-    } else if less(&left, &right) {
+    } else if order.less(&left, &right) {
         Some(Rule::new(right, left))
     } else {
         None
@@ -52,17 +58,19 @@ fn orientation(left: Word, right: Word) -> Option<Rule>
 
 /// The oriented relations generate the congruence that the relations generate.
 pub fn oriented_relations_keep_the_congruence()
-    ensures { (relations rules : List Pair) → AreOriented relations rules
-        → SameCongruence rules relations }
+    ensures { (order : WordOrder) (relations rules : List Pair)
+        → AreOriented (Below order) relations rules → SameCongruence rules relations }
 {}
 
 /// Relations are oriented in one way.
 pub fn oriented_relations_are_one_list()
-    ensures { (relations one other : List Pair) → AreOriented relations one
-        → AreOriented relations other → one ≡ other }
+    ensures { (order : WordOrder) (relations one other : List Pair)
+        → AreOriented (Below order) relations one → AreOriented (Below order) relations other
+        → one ≡ other }
 {}
 
 /// Each oriented relation's right side is less than its left side.
 pub fn oriented_rules_decrease()
-    ensures { (relations rules : List Pair) → AreOriented relations rules → AreDecreasing rules }
+    ensures { (order : WordOrder) (relations rules : List Pair)
+        → AreOriented (Below order) relations rules → AreDecreasing (Below order) rules }
 {}

@@ -3,6 +3,7 @@
 ghost use Rattle.std.specs.Prelude.{◌≡◌, ◌≤◌, IfOk, length};
 ghost use Rattle.kb_io.specs.Outside.{outside};
 ghost use Rattle.kb_io.specs.States.{ShelfState, SourceState};
+ghost use Rattle.kb_word.specs.WordOrders.{Below};
 ghost use Rattle.kb_word.specs.Overlap.{IsConfluent};
 ghost use Rattle.kb_word.specs.Presentations.{parts_of};
 ghost use Rattle.kb_word.specs.Relations.{AreOriented};
@@ -102,9 +103,10 @@ fn answer_all<I: Source, O: Sink>(
     input: &mut I,
     out: &mut O,
 ) -> Status
-    requires oriented { AreOriented (relations (parts_of presentation)) rules.now }
-    requires confluent { IsConfluent rules.now }
-    requires scan { scan ≡ rules.now }
+    requires oriented { AreOriented (Below presentation.order)
+        (relations (parts_of presentation)) rules.now.rules }
+    requires confluent { IsConfluent rules.now.rules }
+    requires scan { scan.rules ≡ rules.now.rules }
     ensures { (shelf : ShelfState) → IsRun (AnswersMean (parts_of presentation)) StoresNothing
         (outside shelf (I.state input.old) (O.state out.old))
         (outside shelf (I.state input.new) (O.state out.new)) result }

@@ -1,10 +1,10 @@
-use Rattle.kb_word.specs.ShortlexLaws.{shortlex_order}
+use Rattle.kb_word.specs.WordOrderLaws.{word_orders}
 use Rattle.kb_rules.proofs.Reducts.{normal_form_congruent}
 use Rattle.kb_confluence.proofs.LeastWords.{normal_form_least}
 use Rattle.kb_confluence.proofs.laws.normal_forms_by_confluent_rules_are_least.Goals as goal
 
 pub returns : goal.returns
-returns c rules w m decreasing confluent normal = record {
+returns c order rules w m decreasing confluent normal = record {
   congruent = normal_form_congruent normal;
-  least = normal_form_least shortlex_order rules decreasing confluent w m normal;
+  least = normal_form_least (word_orders order) rules decreasing confluent w m normal;
 }

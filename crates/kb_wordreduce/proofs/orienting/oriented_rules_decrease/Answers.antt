@@ -2,4 +2,4 @@ use Rattle.kb_wordreduce.proofs.OrientLemmas.{oriented_decrease}
 use Rattle.kb_wordreduce.proofs.orienting.oriented_rules_decrease.Goals as goal
 
 pub returns : goal.returns
-returns c = λ relations rules h. oriented_decrease h
+returns c order relations rules h = oriented_decrease h

@@ -10,27 +10,29 @@ use Rattle.kb_wordreduce.proofs.run.answer_all.Goals as goal
 pub returns-in-Ok : goal.returns-in-Ok
 returns-in-Ok g c = λ shelf.
     let parts : PresentationParts = parts_of c.args.presentation in
-    let rules = c.args.rules.now in
-    let among : (w m : List ℕ) → NormalForm c.args.scan w m → IsLeastIn parts w m = λ w m normal.
-    c.least_by_the_same_congruence.ensures rules (relations parts) w m
-    (c.oriented_relations_keep_the_congruence.ensures (relations parts) rules c.requires.oriented)
-    (c.normal_forms_by_confluent_rules_are_least.ensures rules w m (c.oriented_rules_decrease.ensures (relations parts) rules c.requires.oriented) c.requires.confluent
+    let order = c.args.presentation.order in
+    let rules = c.args.rules.now.rules in
+    let among : (w m : List ℕ) → NormalForm c.args.scan.rules w m → IsLeastIn parts w m = λ w m normal.
+    c.least_by_the_same_congruence.ensures order rules (relations parts) w m
+    (c.oriented_relations_keep_the_congruence.ensures order (relations parts) rules c.requires.oriented)
+    (c.normal_forms_by_confluent_rules_are_least.ensures order rules w m (c.oriented_rules_decrease.ensures order (relations parts) rules c.requires.oriented) c.requires.confluent
     (rw c.requires.scan at normal)) in
     let before : Streams = streams (g.I.Source.state c.args.input.now) (g.O.Sink.state c.args.out.now) in
     let after : Streams = streams (g.I.Source.state c.answer_lines.new.input) (g.O.Sink.state c.answer_lines.new.out) in
     answered-run parts shelf before after
     (record { rules = rules; oriented = c.requires.oriented; confluent = c.requires.confluent })
     c.answer_lines.ensures.goes_on
-    (λ told. answered-wider parts (NormalForm c.args.scan) (IsLeastIn parts) among {before = before} {after = after} (c.in-Ok.ensures.answered told))
+    (λ told. answered-wider parts (NormalForm c.args.scan.rules) (IsLeastIn parts) among {before = before} {after = after} (c.in-Ok.ensures.answered told))
 
 pub returns : goal.returns
 returns g c = λ shelf.
     let parts : PresentationParts = parts_of c.args.presentation in
-    let rules = c.args.rules.now in
-    let among : (w m : List ℕ) → NormalForm c.args.scan w m → IsLeastIn parts w m = λ w m normal.
-    c.least_by_the_same_congruence.ensures rules (relations parts) w m
-    (c.oriented_relations_keep_the_congruence.ensures (relations parts) rules c.requires.oriented)
-    (c.normal_forms_by_confluent_rules_are_least.ensures rules w m (c.oriented_rules_decrease.ensures (relations parts) rules c.requires.oriented) c.requires.confluent
+    let order = c.args.presentation.order in
+    let rules = c.args.rules.now.rules in
+    let among : (w m : List ℕ) → NormalForm c.args.scan.rules w m → IsLeastIn parts w m = λ w m normal.
+    c.least_by_the_same_congruence.ensures order rules (relations parts) w m
+    (c.oriented_relations_keep_the_congruence.ensures order (relations parts) rules c.requires.oriented)
+    (c.normal_forms_by_confluent_rules_are_least.ensures order rules w m (c.oriented_rules_decrease.ensures order (relations parts) rules c.requires.oriented) c.requires.confluent
     (rw c.requires.scan at normal)) in
     let before : Streams = streams (g.I.Source.state c.args.input.now) (g.O.Sink.state c.args.out.now) in
     let after : Streams = streams (g.I.Source.state c.answer_lines.new.input) (g.O.Sink.state c.answer_lines.new.out) in
@@ -38,4 +40,4 @@ returns g c = λ shelf.
     c.in-Err.stop c.status_of.result c.status_of.ensures
     (record { rules = rules; oriented = c.requires.oriented; confluent = c.requires.confluent })
     c.answer_lines.ensures.goes_on c.in-Err.ensures.counted
-    (λ told. stops-wider parts (NormalForm c.args.scan) (IsLeastIn parts) among {before = before} {after = after} (c.in-Err.ensures.stops told))
+    (λ told. stops-wider parts (NormalForm c.args.scan.rules) (IsLeastIn parts) among {before = before} {after = after} (c.in-Err.ensures.stops told))

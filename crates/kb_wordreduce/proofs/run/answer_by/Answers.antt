@@ -1,5 +1,6 @@
 use Rattle.std.proofs.Common.{length, ◌<◌, arith}
 use Rattle.kb_word.specs.Overlap.{IsConfluent}
+use Rattle.kb_word.specs.WordOrders.{Below}
 use Rattle.kb_word.specs.Presentations.{parts_of}
 use Rattle.kb_wordreduce.proofs.RunLemmas.{rules-few, no-refutes}
 use Rattle.kb_wordreduce.proofs.run.answer_by.Goals as goal
@@ -8,12 +9,12 @@ pub check-requires-clause-size : goal.check-requires-clause-size
 check-requires-clause-size g c =
     let presentation = c.args.presentation in
     let generators : length presentation.inv < 65536 = omega (arith, presentation.is_presentation.one_inverse_each) in
-    rules-few presentation.inv presentation.eqs c.in-Ok.rules c.in-Ok.ensures c.requires.few generators
+    rules-few (Below presentation.order) presentation.inv presentation.eqs c.in-Ok.rules.rules c.in-Ok.ensures.oriented c.requires.few generators
 
 pub print_no-requires : goal.print_no-requires
 print_no-requires g c =
-    no-refutes (parts_of c.args.presentation) c.in-Ok.rules (IsConfluent c.in-Ok.rules) c.in-Ok-No.field-0-0 c.in-Ok-No.field-0-1 c.in-Ok-No.field-0-2 c.in-Ok-No.u c.in-Ok-No.v
-    c.in-Ok.ensures (rw c.in-Ok-No.field-0-is at c.in-Ok-No.ensures.verdict) (rw c.in-Ok-No.field-0-is at c.in-Ok-No.ensures.counterexample)
+    no-refutes (parts_of c.args.presentation) c.in-Ok.rules.rules (IsConfluent c.in-Ok.rules.rules) c.in-Ok-No.field-0-0 c.in-Ok-No.field-0-1 c.in-Ok-No.field-0-2 c.in-Ok-No.u c.in-Ok-No.v
+    c.in-Ok.ensures.oriented (rw c.in-Ok-No.field-0-is at c.in-Ok-No.ensures.verdict) (rw c.in-Ok-No.field-0-is at c.in-Ok-No.ensures.counterexample)
 
 pub returns-in-Ok-No : goal.returns-in-Ok-No
 returns-in-Ok-No g c = λ shelf. c.print_no.ensures shelf (g.I.Source.state c.args.input.now)
