@@ -6,3 +6,4 @@ pub mod OverLemmas
 pub mod PlaceLemmas
 pub mod UniqueParts
 pub mod RefusalLemmas
+pub mod WeightLemmas

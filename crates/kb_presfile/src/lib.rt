@@ -44,6 +44,7 @@
 //!   letters, and whether those are mutual.
 //! - `proofs/EquationLemmas.antt`: faults of sides, of equations and of lists of equations.
 //! - `proofs/OverLemmas.antt`: the letters of a word's meaning are generators.
+//! - `proofs/WeightLemmas.antt`: numbers that are weights.
 //! - `proofs/RefusalLemmas.antt`: what the crates below refuse is a fault of the file.
 //! - `proofs/UniqueParts.antt`, `proofs/NoFault.antt`: a text's fields say one presentation, which has no fault.
 //!

@@ -1,6 +1,6 @@
 //! The fields `ordering` and `weight`: the order of words.
 
-ghost use Rattle.std.specs.Prelude.{◌≡◌, ℕ, List, pos, map, length, All, IfOk, IfErr, IfSome, IfNone};
+ghost use Rattle.std.specs.Prelude.{◌≡◌, ◌≢◌, ℕ, List, pos, IfOk, IfErr, IfSome, IfNone};
 ghost use Rattle.kb_word.specs.Weights.{IsWeight};
 ghost use Rattle.kb_fields.specs.Fields.{fields_view};
 ghost use Rattle.kb_presfile.specs.Holds.{IsOrdering, AreWeights, HasWeights, HasOrder, HasNames};
@@ -33,19 +33,12 @@ pub fn read_ordering<'a>(fields: &[(&'a str, Value<'a>)]) -> Result<Ordering, Pr
 {
     match field_named(fields, "ordering") {
         None => Ok(Ordering::ShortLex),
-        Some(Value::String(text)) => ordering_named(text).ok_or(PresError::OtherOrdering),
+        Some(Value::String(text)) if *text == "shortlex" => Ok(Ordering::ShortLex),
+        Some(Value::String(text)) if *text == "wtlex" => Ok(Ordering::WtLex),
+        Some(Value::String(_)) => Err(PresError::OtherOrdering),
         Some(_) => Err(PresError::WrongKind {
             field: Field::Ordering,
         }),
-    }
-}
-
-/// The ordering of this name.
-fn ordering_named(text: &str) -> Option<Ordering> {
-    match text {
-        "shortlex" => Some(Ordering::ShortLex),
-        "wtlex" => Some(Ordering::WtLex),
-        _ => None,
     }
 }
 
@@ -100,10 +93,21 @@ fn weights_of(alloc: Global, numbers: &[i64], count: usize) -> Result<Option<WtL
     }
     let mut weights = Vec::with_capacity(alloc, numbers.len())?;
     for number in numbers {
-        if *number < 1 || *number > MOST_WEIGHT {
+        let Some(weight) = weight_of(*number) else {
             return Ok(None);
-        }
-        weights.push(*number as u16)?;
+        };
+        weights.push(weight)?;
     }
     Ok(Some(WtLex::from_vec(weights)))
+}
+
+/// The number as a weight, if it is one.
+fn weight_of(number: i64) -> Option<u16>
+    ensures weight { IfSome result (λ weight. (number ≡ pos weight) × IsWeight weight) }
+    ensures none { IfNone result ((weight : ℕ) → IsWeight weight → number ≢ pos weight) }
+{
+    if number < 1 || number > MOST_WEIGHT {
+        return None;
+    }
+    Some(number as u16)
 }

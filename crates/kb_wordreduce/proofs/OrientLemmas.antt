@@ -3,6 +3,8 @@ use Rattle.std.proofs.Common.{◌≡◌, ℕ, zero, suc, inl, inr, List, [], ◌
 use Rattle.kb_word.proofs.PathLemmas.{congruent_reflexive, congruent_symmetric, congruent_sides, congruent_implied}
 use Rattle.std.proofs.lemmas.List.{append-nil}
 use Rattle.kb_word.specs.Words.{Pair, OneOf}
+use Rattle.kb_word.specs.WordOrders.{Below}
+use Rattle.kb_word.specs.declared.word_order.WordOrder.{WordOrder}
 use Rattle.kb_word.specs.Congruence.{Congruent, SameCongruence}
 use Rattle.kb_word.specs.Rewriting.{AreDecreasing}
 use Rattle.kb_word.specs.Relations.{IsOrientation, Orients, AreOriented, none_left, equal_sides, repeated, added}
@@ -21,6 +23,13 @@ Orients-append {below} {standing} {rest = rest} {more = more} (added {rules = ru
 pub oriented_more : {below : List ℕ → List ℕ → Type 0} (relations old more new : List Pair) (relation : Pair) → AreOriented below relations old
     → Orients below old (relation ∷ []) more → new ≡ old ++ more → AreOriented below (relations ++ relation ∷ []) new
 oriented_more {below} relations old more new relation so_far one is = subst (AreOriented below (relations ++ relation ∷ [])) (sym is) (Orients-append so_far one)
+
+-- one relation more, by the order that the list holds
+pub oriented_more_along : (own order : WordOrder) (relations old more new : List Pair) (relation : Pair) → own ≡ order
+    → AreOriented (Below order) relations old → Orients (Below own) old (relation ∷ []) more → new ≡ old ++ more
+    → AreOriented (Below order) (relations ++ relation ∷ []) new
+oriented_more_along own order relations old more new relation same so_far one is =
+    oriented_more relations old more new relation so_far (subst (λ (o : WordOrder). Orients (Below o) old (relation ∷ []) more) same one) is
 
 -- what one relation adds
 pub adds_nothing : {below : List ℕ → List ℕ → Type 0} (old : List Pair) (left right : List ℕ) → left ≡ right → Orients below old ((left, right) ∷ []) []
@@ -61,14 +70,14 @@ one_of_middle [] x ys = (zero, refl)
 one_of_middle (y ∷ xs) x ys = let one = one_of_middle xs x ys in (suc one.0, one.1)
 
 -- a rule and the pair that it orients are congruent by each other
-oriented_congruent : {below : List ℕ → List ℕ → Type 0} {allowed : Pair → Type 0} (pair rule : Pair) → IsOrientation below pair rule → Congruent allowed pair.0 pair.1 → Congruent allowed rule.0 rule.1
-oriented_congruent {below} {allowed} pair rule is h = elim is.1 [
+oriented_congruent : (below : List ℕ → List ℕ → Type 0) {allowed : Pair → Type 0} (pair rule : Pair) → IsOrientation below pair rule → Congruent allowed pair.0 pair.1 → Congruent allowed rule.0 rule.1
+oriented_congruent below {allowed} pair rule is h = elim is.1 [
   | inl as_is ↦ subst (λ (p : Pair). Congruent allowed p.0 p.1) (sym as_is) h
   | inr turned ↦ subst (λ (p : Pair). Congruent allowed p.0 p.1) (sym turned) (congruent_symmetric h)
 ]
 
-pair_congruent : {below : List ℕ → List ℕ → Type 0} {allowed : Pair → Type 0} (pair rule : Pair) → IsOrientation below pair rule → Congruent allowed rule.0 rule.1 → Congruent allowed pair.0 pair.1
-pair_congruent {below} {allowed} pair rule is h = elim is.1 [
+pair_congruent : (below : List ℕ → List ℕ → Type 0) {allowed : Pair → Type 0} (pair rule : Pair) → IsOrientation below pair rule → Congruent allowed rule.0 rule.1 → Congruent allowed pair.0 pair.1
+pair_congruent below {allowed} pair rule is h = elim is.1 [
   | inl as_is ↦ subst (λ (p : Pair). Congruent allowed p.0 p.1) as_is h
   | inr turned ↦ congruent_symmetric (subst (λ (p : Pair). Congruent allowed p.0 p.1) turned h)
 ]
@@ -85,10 +94,10 @@ pub rules_covered : {below : List ℕ → List ℕ → Type 0} {standing relatio
 rules_covered none_left rule one = absurd (not_both _ rule one.1 refl)
 rules_covered (equal_sides h) rule one = one_more _ _ rule.0 rule.1 (rules_covered h rule one)
 rules_covered (repeated is stands h) rule one = one_more _ _ rule.0 rule.1 (rules_covered h rule one)
-rules_covered (added {rest = rest} {pair = pair} {rule = first} is fresh h) rule (zero, at) =
+rules_covered {below} (added {rest = rest} {pair = pair} {rule = first} is fresh h) rule (zero, at) =
     let same : first ≡ rule = same_value (Some first) first rule refl at in
     let here : OneOf (pair ∷ rest) pair = (zero, refl) in
-    moved (pair ∷ rest) first rule same (oriented_congruent pair first is (congruent_sides pair here))
+    moved (pair ∷ rest) first rule same (oriented_congruent below pair first is (congruent_sides pair here))
 rules_covered (added is fresh h) rule (suc index, at) = one_more _ _ rule.0 rule.1 (rules_covered h rule (index, at))
 
 -- each relation is congruent by the rules
@@ -101,11 +110,11 @@ relations_covered {below} {standing} {rules = rules} (equal_sides {side = side} 
 relations_covered (equal_sides h) pair (suc index, at) = relations_covered h pair (index, at)
 relations_covered {below} {standing} {rules = rules} (repeated {pair = first} {rule = rule} is stands h) pair (zero, at) =
     let same : first ≡ pair = same_value (Some first) first pair refl at in
-    moved (standing ++ rules) first pair same (pair_congruent first rule is (congruent_sides rule (one_of_front standing rules rule stands)))
+    moved (standing ++ rules) first pair same (pair_congruent below first rule is (congruent_sides rule (one_of_front standing rules rule stands)))
 relations_covered (repeated is stands h) pair (suc index, at) = relations_covered h pair (index, at)
 relations_covered {below} {standing} (added {rules = rules} {pair = first} {rule = rule} is fresh h) pair (zero, at) =
     let same : first ≡ pair = same_value (Some first) first pair refl at in
-    moved (standing ++ rule ∷ rules) first pair same (pair_congruent first rule is (congruent_sides rule (one_of_middle standing rule rules)))
+    moved (standing ++ rule ∷ rules) first pair same (pair_congruent below first rule is (congruent_sides rule (one_of_middle standing rule rules)))
 relations_covered {below} {standing} (added {rules = rules} {rule = rule} is fresh h) pair (suc index, at) =
     subst (λ l. Congruent (OneOf l) pair.0 pair.1) (append_assoc standing (rule ∷ []) rules) (relations_covered h pair (index, at))
 

@@ -1,10 +1,8 @@
-use Rattle.std.proofs.Common.{List, rules, ◌≡◌, ◌∙◌, [], ◌∷◌, ◌++◌, arith, subst, sym, ap, length, append_assoc}
+use Rattle.std.proofs.Common.{rules, ◌≡◌, ◌∙◌, [], ◌∷◌, ◌++◌, arith, subst, sym, ap, length, append_assoc}
 use Rattle.std.proofs.lemmas.List.{append-nil}
-use Rattle.kb_word.specs.Words.{Pair}
 use Rattle.kb_word.specs.WordOrders.{Below}
-use Rattle.kb_word.specs.Relations.{Orients, AreOriented, none_left}
-use Rattle.kb_word.specs.declared.word_order.WordOrder.{WordOrder}
-use Rattle.kb_wordreduce.proofs.OrientLemmas.{oriented_more, nothing_left}
+use Rattle.kb_word.specs.Relations.{AreOriented, none_left}
+use Rattle.kb_wordreduce.proofs.OrientLemmas.{oriented_more_along, nothing_left}
 use Rattle.kb_wordreduce.proofs.orienting.oriented.Goals as goal
 
 pub loop-left-init : goal.loop-left-init
@@ -19,9 +17,9 @@ pub loop-left-preserved : goal.loop-left-preserved
 loop-left-preserved c =
     let is = c.loop-left.invariant in
     let adds = c.in_ok-add_relation.ensures.adds in
-    let Along : WordOrder → Type 0 = λ order. Orients (Below order) c.loop-left.rules.rules (_ ∷ []) adds.0 in
     let step = c.in-Some.ensures.steps in record {
-      so_far = oriented_more c.loop-left.yielded c.loop-left.rules.rules adds.0 c.add_relation.new.rules.rules _ is.so_far (subst Along is.order adds.1) adds.2;
+      so_far = oriented_more_along c.loop-left.rules.order c.args.presentation.now.order c.loop-left.yielded c.loop-left.rules.rules adds.0
+          c.add_relation.new.rules.rules _ is.order is.so_far adds.1 adds.2;
       order = c.in_ok-add_relation.ensures.order ∙ is.order;
       whole = append_assoc c.loop-left.yielded (_ ∷ []) c.next.new.self.rest.items ∙ (ap (λ l. c.loop-left.yielded ++ l) (sym step.0) ∙ is.whole);
       counted = omega (arith, step.1, is.counted, ap length step.0);
