@@ -5,6 +5,8 @@ use Rattle.std.specs.Option.{option_map}
 use Rattle.std.specs.Cmp.Lexicographic.{pointwise}
 use Rattle.std.proofs.lemmas.List.Elements.{All-nil, All-push, All-append}
 use Rattle.std.proofs.lemmas.Option.{slice_get_within}
+use Rattle.kb_word.specs.WordOrders.{WeighsEach}
+use Rattle.kb_word.specs.declared.word_order.WordOrder.{WordOrder}
 use Rattle.kb_word.specs.Relations.{inverse_letter, inverse_word, IsOver, IsPresentation}
 use Rattle.kb_word.specs.Words.{Pair, OneOf}
 use Rattle.kb_record.specs.Tree.{Factor, named, grouped, Factors, no_factors, factor, Places}
@@ -137,9 +139,10 @@ module _ (names : List (List ℕ)) (inverses : List (Option ℕ)) (both_ways : A
           subst P (some_pair is) (product_over s.0 [] p.0 (over_none (length names)) are.0, product_over s.1 [] p.1 (over_none (length names)) are.1)
       go (suc k) is later = later (k, is)
 
-  pub equations_over : (n : ℕ) (list : Places) (equations : List Pair) → n ≡ length names → AreEquations names inverses list equations
-      → IsPresentation n names inverses equations
-  equations_over n list equations count are = record {
+  pub equations_over : (n : ℕ) (order : WordOrder) (list : Places) (equations : List Pair) → n ≡ length names → WeighsEach n order
+      → AreEquations names inverses list equations → IsPresentation n order names inverses equations
+  equations_over n order list equations count weighed are = record {
+    one_weight_each = weighed;
     one_name_each = sym count;
     one_inverse_each = one_each ∙ sym count;
     mutual_inverses = both_ways;

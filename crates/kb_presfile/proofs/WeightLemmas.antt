@@ -1,8 +1,12 @@
 -- Numbers that are weights, and numbers that are none.
-use Rattle.std.proofs.Common.{◌≡◌, ◌≢◌, ℕ, ◌<◌, ◌≤◌, ℤ, pos, List, ◌∷◌, [], ◌++◌, length, map, take, get_or, All, sym, ap, ◌∙◌, subst, arith}
+use Rattle.std.proofs.Common.{◌≡◌, ◌≢◌, ℕ, ◌+◌, ◌<◌, ◌≤◌, ℤ, pos, List, ◌∷◌, [], ◌++◌, length, map, take, get_or, All, sym, ap, ◌∙◌, subst, arith}
 use Rattle.std.proofs.lemmas.List.{length-map, get_or-map, take_all, take_more, map-append}
 use Rattle.kb_word.specs.Weights.{IsWeight}
-use Rattle.kb_presfile.specs.Holds.{AreWeights}
+use Rattle.kb_word.specs.WordOrders.{WeighsEach}
+use Rattle.kb_word.specs.declared.word_order.WordOrder.{WordOrder}
+use Rattle.kb_word.specs.declared.word_order.WordOrder.TheVariants.{ShortLex, WtLex}
+use Rattle.kb_record.specs.Tree.{Fields}
+use Rattle.kb_presfile.specs.Holds.{AreWeights, HasOrder}
 
 -- the numbers are no weights where one of them is none
 pub are_no_weights : (count : ℕ) (numbers : List ℤ) (k : ℕ) (z : ℤ) → k < length numbers → z ≡ get_or numbers k z
@@ -30,3 +34,13 @@ are_weights count numbers k weights counted all are range =
       one_each = sym (length-map weights pos) ∙ (sym (ap length same) ∙ counted);
       range = range;
     }
+
+weights_are : {own weights : List ℕ} → WtLex own ≡ WtLex weights → own ≡ weights
+weights_are is = cc
+
+-- the order of a text weighs each generator
+pub order_weighs : (given : Fields) (names : List (List ℕ)) (order : WordOrder) (n : ℕ) → HasOrder given names order → n ≡ length names
+    → WeighsEach n order
+order_weighs given names ShortLex n has count weights is = cc
+order_weighs given names (WtLex own) n has count weights is =
+    ap length (sym (weights_are {own = own} {weights = weights} is)) ∙ (has.1.are.one_each ∙ sym count)
