@@ -5,7 +5,7 @@
 //!
 //! - `isRWS`: the Name `true`.
 //! - `ordering`: the string `"shortlex"`, which stands where the field is absent.
-//! - `generatorOrder`: a list of at most 126 Names, none of them twice and none `IdWord` or `_`.
+//! - `generatorOrder`: a list of at most 1,000 Names, none of them twice and none `IdWord` or `_`.
 //! - `inverses`: a list of Names and empty places, one place for each generator. Places that are missing are
 //!   empty, and so are all where the field is absent; places past the last generator must be empty. The
 //!   Name at a generator's place is its inverse, whose inverse is the generator.
