@@ -18,17 +18,17 @@ fn power(alloc: Global, letter: Letter, exponent: usize) -> Result<Word, Memory>
 }
 
 /// The group of one generator `a` with `a*a = IdWord`, and no equation.
-fn of_order_two(alloc: Global) -> Result<Presentation, Memory> {
-    let name = String::from_str(alloc, "a")?;
-    let mut names = Vec::new(alloc);
-    names.push(name)?;
+fn of_order_two(rt: &impl Abort, alloc: Global) -> Result<Presentation, Memory> {
+    let mut names = Names::new(alloc);
+    let is_new = names.push(String::from_str(alloc, "a")?)?;
+    assert!(rt; is_new);
     let mut inverses = Vec::new(alloc);
     inverses.push(Some(Letter::new(1)))?;
     let equations = Equations::from_vec(Vec::new(alloc));
     Ok(Presentation::new(
         1,
         WordOrder::ShortLex,
-        Names::from_vec(names),
+        names,
         Inverses::from_vec(inverses),
         equations,
     ))
@@ -50,8 +50,20 @@ fn words_are_made(rt: HostRuntime) -> Result<(), Fail> {
 }
 
 #[test]
+fn no_name_is_there_twice(rt: HostRuntime) -> Result<(), Fail> {
+    let mut names = Names::new(rt.alloc());
+    assert!(rt; names.push(String::from_str(rt.alloc(), "a")?)?);
+    assert!(rt; names.push(String::from_str(rt.alloc(), "b")?)?);
+    assert!(rt; !names.push(String::from_str(rt.alloc(), "a")?)?);
+    assert_eq!(rt; names.len(), 2);
+    assert_eq!(rt; names.number_of("b"), Some(Letter::new(2)));
+    assert_eq!(rt; names.number_of("c"), None);
+    Ok(())
+}
+
+#[test]
 fn presentations_answer(rt: HostRuntime) -> Result<(), Fail> {
-    let presentation = of_order_two(rt.alloc())?.copy(rt.alloc())?;
+    let presentation = of_order_two(&rt, rt.alloc())?.copy(rt.alloc())?;
     assert_eq!(rt; presentation.names.number_of("a"), Some(Letter::new(1)));
     let square = power(rt.alloc(), Letter::new(1), 2)?;
     let inverse = presentation.inverse_of(rt.alloc(), &square)?;

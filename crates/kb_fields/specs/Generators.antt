@@ -7,7 +7,7 @@ use Rattle.kb_fields.specs.declared.error.NamesFault.TheVariants as faults
 
 -- there are at most so many generators
 abbrev pub most_generators : ℕ
-most_generators = 126
+most_generators = 1000
 
 -- the name stands for the empty word or for padding
 abbrev pub IsReserved : List ℕ → Type 0

@@ -11,7 +11,7 @@ use std::alloc::{AllocError, AllocFailed};
 pub enum NamesFault {
     /// The value is no list of Names.
     WrongKind,
-    /// More than 126 names.
+    /// More than 1,000 names.
     TooMany,
     /// A name stands twice, or is `IdWord` or `_`.
     Taken { name: OwnedText },

@@ -1,10 +1,10 @@
 //! Names of generators.
 
-ghost use Rattle.std.specs.Prelude.{◌≡◌, ◌↔◌, ℕ, List, map, IsTrue, IfOk, IfErr, IfSome, IfNone};
-ghost use Rattle.std.specs.String.{string_bytes};
+ghost use Rattle.std.specs.Prelude.{◌≡◌, ◌↔◌, ◌≤◌, ◌<◌, [], ◌∷◌, ◌++◌, ◌⊎◌, List, ℕ, map, length, Contains, IsTrue, IsFalse, IfOk, IfErr};
+ghost use Rattle.kb_record.specs.Tree as tree;
 ghost use Rattle.kb_record.specs.View.{value_view};
 ghost use Rattle.kb_fields.specs.Fields.{IsListOf};
-ghost use Rattle.kb_fields.specs.Generators.{AreGeneratorNames, IsReserved, IsTaken, HasNamesFault};
+ghost use Rattle.kb_fields.specs.Generators.{most_generators, AreGeneratorNames, IsReserved, HasNamesFault};
 
 use crate::error::NamesFault;
 use crate::values::names_listed;
@@ -13,7 +13,7 @@ use kb_word::{Memory, Names, OwnedText};
 use std::alloc::Global;
 
 /// There are at most so many generators.
-const MOST_GENERATORS: usize = 126;
+const MOST_GENERATORS: usize = 1_000;
 
 /// The names of generators that the value lists, of which none stands twice or is `IdWord` or `_`.
 pub fn names_of<'a>(alloc: Global, value: &Value<'a>) -> Result<Names, NamesFault>
@@ -21,32 +21,47 @@ pub fn names_of<'a>(alloc: Global, value: &Value<'a>) -> Result<Names, NamesFaul
     ensures names { IfOk result AreGeneratorNames }
     ensures fault { IfErr result (HasNamesFault (value_view value.now)) }
 {
-    let Some(names) = names_listed(alloc, value)? else {
+    let Some(listed) = names_listed(alloc, value)? else {
         return Err(NamesFault::WrongKind);
     };
-    if names.len() > MOST_GENERATORS {
+    if listed.len() > MOST_GENERATORS {
         return Err(NamesFault::TooMany);
     }
-    if let Some(name) = first_taken(names.as_slice()) {
-        return Err(NamesFault::Taken {
-            name: OwnedText::from_str(alloc, name)?,
-        });
-    }
-    Ok(Names::from_vec(own_names(alloc, names.as_slice())?))
+    free_names(alloc, listed.as_slice())
 }
 
-/// The first name that stands earlier too, or is `IdWord` or `_`.
-fn first_taken<'a>(names: &[&'a str]) -> Option<&'a str>
-    ensures taken { IfSome result (λ name. IsTaken (map (λ name. name.now) names.now) name.now) }
-    ensures none { IfNone result
-        ((name : List ℕ) → ¬ IsTaken (map (λ name. name.now) names.now) name) }
+/// These names, where none of them is taken. The first that stands earlier too, or is `IdWord` or `_`, is refused.
+fn free_names(alloc: Global, listed: &[&str]) -> Result<Names, NamesFault>
+    requires { length listed.now ≤ most_generators }
+    ensures same { IfOk result (λ names. names ≡ map (λ name. name.now) listed.now) }
+    ensures names { IfOk result AreGeneratorNames }
+    ensures fault { (value : tree.Value) → IsListOf (map (λ name. name.now) listed.now) value
+        → IfErr result (HasNamesFault value) }
 {
-    for (place, name) in names.iter().enumerate() {
-        if is_reserved(name) || names[..place].contains(name) {
-            return Some(name);
+    let mut names = Names::new(alloc);
+    for name in listed {
+        if !push_free(alloc, &mut names, name)? {
+            return Err(NamesFault::Taken {
+                name: OwnedText::from_str(alloc, name)?,
+            });
         }
     }
-    None
+    Ok(names)
+}
+
+/// Appends the name where it isn't reserved and wasn't there, and returns whether that is so.
+fn push_free(alloc: Global, names: &mut Names, name: &str) -> Result<bool, Memory>
+    requires { length names.old < 65534 }
+    ensures free { IfOk result (λ free. IsTrue free
+        → (¬ IsReserved name.now) × (¬ Contains names.old name.now)
+        × (names.new ≡ names.old ++ name.now ∷ [])) }
+    ensures taken { IfOk result (λ free. IsFalse free
+        → IsReserved name.now ⊎ Contains names.old name.now) }
+{
+    if is_reserved(name) {
+        return Ok(false);
+    }
+    names.push(String::from_str(alloc, name)?)
 }
 
 /// Whether the name is `IdWord`, which stands for the empty word, or `_`, which stands for padding.
@@ -54,15 +69,4 @@ fn is_reserved(name: &str) -> bool
     ensures { IsTrue result ↔ IsReserved name.now }
 {
     name == "IdWord" || name == "_"
-}
-
-/// The names in memory of their own.
-fn own_names(alloc: Global, names: &[&str]) -> Result<Vec<String>, Memory>
-    ensures { IfOk result (λ own. map string_bytes own.items ≡ map (λ name. name.now) names.now) }
-{
-    let mut own = Vec::with_capacity(alloc, names.len())?;
-    for name in names {
-        own.push(String::from_str(alloc, name)?)?;
-    }
-    Ok(own)
 }

@@ -6,7 +6,7 @@
 //! - [`repeated_name`] answers the name of a field that stands twice in some record, nested ones too, and none
 //!   where no name does.
 //! - [`bare_name`] takes a value that is a Name, and answers none for any other.
-//! - [`names_of`] answers the names of generators that a value lists: at most 126 Names, none of them twice and
+//! - [`names_of`] answers the names of generators that a value lists: at most 1,000 Names, none of them twice and
 //!   none `IdWord` or `_`. A refusal names a fault that the value has (`HasNamesFault` of
 //!   `specs/Generators.antt`), and by the law [`names_of_generators_have_no_fault`] a value that lists such names
 //!   has none: so, want of memory apart, a value is refused exactly where it has a fault.
@@ -20,7 +20,7 @@
 //! - `fields` looks up fields, and finds names that stand twice by a set of the names seen. It recurses into
 //!   values, whose nesting the parser bounds.
 //! - `values` tells Names and lists of Names apart from other values, and `numbers` numbers and lists of numbers.
-//! - `generators` joins them to names of generators.
+//! - `generators` joins them to names of generators: each name is pushed in turn, and one that was there is taken.
 //!
 //! Definitions speak of the tree of the text (`specs/Tree.antt` of `kb_record`): `specs/Fields.antt` of fields and
 //! of values, `specs/Generators.antt` of names of generators.

@@ -68,7 +68,7 @@ pub enum PresError {
     /// A generator's name stands twice, or is `IdWord` or `_`.
     #[error("E8 NameTaken {name}")]
     NameTaken { name: OwnedText },
-    /// More than 126 generators.
+    /// More than 1,000 generators.
     #[error("E9 TooManyGenerators")]
     TooManyGenerators,
     /// A name that is no generator's.

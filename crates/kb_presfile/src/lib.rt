@@ -5,7 +5,7 @@
 //!
 //! - `isRWS`: the Name `true`.
 //! - `ordering`: the string `"shortlex"`, which stands where the field is absent, or `"wtlex"`.
-//! - `generatorOrder`: a list of at most 126 Names, none of them twice and none `IdWord` or `_`.
+//! - `generatorOrder`: a list of at most 1,000 Names, none of them twice and none `IdWord` or `_`.
 //! - `weight`, where the ordering is `"wtlex"`, and ignored elsewhere: a list of numbers from 1 to 1,000, one for each
 //!   generator.
 //! - `inverses`: a list of Names and empty places, one place for each generator. Places that are missing are

@@ -5,13 +5,14 @@
 //! overlaps and confluence stand here, in `specs/`, since all crates above cite them. The crate's public
 //! contract: `less` decides the shortlex order, which is a reduction order along which `rank` falls,
 //! `factor_at` finds the first place of a factor, and a `Presentation`, with its names, inverses and
-//! equations, lists its defining relations and inverts words. `print_word` appends a word as it is printed.
+//! equations, lists its defining relations and inverts words. `Names` has no name twice and finds a name's
+//! letter by hash. `print_word` appends a word as it is printed.
 //! Any call that allocates may fail for want of memory; no other failure is unspecified.
 //!
 //! Lemmas that proofs above may cite stand in `proofs/`: on paths and congruence in `PathLemmas`, on the
 //! order in `Shortlex`, on the places of factors in `Places`.
 //!
-//! Nothing stands below; all other crates but `kb_io` stand on it, directly or not.
+//! Below stands `indexmap`; all other crates but `kb_io` stand on it, directly or not.
 #![tactic(auto)]
 
 mod equations;

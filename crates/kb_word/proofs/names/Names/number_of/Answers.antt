@@ -1,39 +1,27 @@
-use Rattle.std.proofs.Common.{◌≡◌, ◌<◌, ◌≤◌, length, get_or, nat_eq, rules, below_more}
-use Rattle.std.specs.Cmp.Lexicographic.{pointwise}
+use Rattle.std.proofs.Common.{◌≡◌, ◌≢◌, ◌<◌, ℕ, List, Some, rules, sym, subst, arith}
+use Rattle.std.specs.List.{Contains}
 use Rattle.std.specs.String.{string_bytes}
-use Rattle.kb_word.proofs.NameLemmas.{name_read, name_at, name_found, none_before, other_name, names_count, no_name}
+use Rattle.kb_word.specs.Names.{name_of}
+use Rattle.kb_word.proofs.NameLemmas.{letter_named, none_named, none_named_before}
 use Rattle.kb_word.proofs.names.Names.number_of.Goals as goal
 
-pub returns-then-eq-clause-found : goal.returns-then-eq-clause-found
-returns-then-eq-clause-found c =
-    let xs = c.self.inside.names.items in
-    let place = c.loop-place.place in
-    let known = c.known-item.result in
-    let within : place < length xs = search rules in
-    let is : known ≡ get_or xs place known = search rules in
-    let at = name_read string_bytes xs c.args.self.now place known c.self.view_is within is in
-    let answer : c.eq.result ≡ pointwise nat_eq (string_bytes known) c.args.name.now = search rules in
-    name_at c.args.self.now place c.new.result c.args.name.now c.new.ensures
-    (name_found c.args.self.now place (string_bytes known) c.args.name.now c.eq.result at answer c.if-eq.true)
+pub returns-in_err-place-clause-none : goal.returns-in_err-place-clause-none
+returns-in_err-place-clause-none c =
+    let keys = c.self.inside.names.keys in
+    let missed = sym c.in_err-place.ensures.found in
+    let P : List (List ℕ) → Type 0 = λ names. ¬ Contains names c.args.name.now in
+    let none = subst P c.self.view_is (none_named string_bytes keys c.args.name.now missed) in
+    search (rules, none)
 
-pub returns-then-eq-clause-first : goal.returns-then-eq-clause-first
-returns-then-eq-clause-first c =
-    none_before c.args.self.now c.loop-place.place c.new.result c.args.name.now c.new.ensures c.loop-place.invariant
+pub returns-clause-found : goal.returns-clause-found
+returns-clause-found c =
+    let P : List (List ℕ) → Type 0 = λ names. name_of names c.new.result ≡ Some c.args.name.now in
+    subst P c.self.view_is
+    (letter_named string_bytes c.self.inside.names.keys c.args.name.now c.in_ok-place.place c.new.result (sym c.in_ok-place.ensures.index) (omega arith))
 
-pub loop-place-preserved : goal.loop-place-preserved
-loop-place-preserved c =
-    let xs = c.self.inside.names.items in
-    let place = c.loop-place.place in
-    let known = c.known-item.result in
-    let within : place < length xs = search rules in
-    let is : known ≡ get_or xs place known = search rules in
-    let at = name_read string_bytes xs c.args.self.now place known c.self.view_is within is in
-    let answer : c.eq.result ≡ pointwise nat_eq (string_bytes known) c.args.name.now = search rules in
-    below_more _ _ c.loop-place.invariant
-    (other_name c.args.self.now place (string_bytes known) c.args.name.now c.eq.result at answer c.if-eq.false)
-
-pub returns-clause-none : goal.returns-clause-none
-returns-clause-none c =
-    let count = names_count string_bytes c.self.inside.names.items c.args.self.now c.self.view_is in
-    let end : length c.args.self.now ≤ c.loop-place.place = search rules in
-    no_name c.args.self.now c.loop-place.place c.args.name.now end c.loop-place.invariant
+pub returns-clause-first : goal.returns-clause-first
+returns-clause-first c =
+    let P : List (List ℕ) → Type 0 = λ names. (earlier : ℕ) → earlier < c.new.result → name_of names earlier ≢ Some c.args.name.now in
+    subst P c.self.view_is
+    (none_named_before string_bytes c.self.inside.names.keys c.args.name.now c.in_ok-place.place c.new.result (sym c.in_ok-place.ensures.index) (omega arith)
+    c.self.invariant.1)
