@@ -1,11 +1,12 @@
 -- The states from which texts of one length lead to acceptance.
-use Rattle.std.proofs.Common.{◌≡◌, ◌↔◌, ℕ, zero, suc, ◌+◌, ◌-◌, ◌*◌, ◌/◌, ◌%◌, ◌<◌, ◌≤◌, ◌^◌, Bool, true, false, ◌&&◌, nat_lt, nat_eq, not, cond, if◌then◌else◌, IsTrue, List, [], ◌∷◌, ◌++◌, length, get_or, map, take, slice_get, Option, Some, None, Result, refl, sym, ap, ◌∙◌, subst, inl, inr, true≢false, arith}
+use Rattle.std.proofs.Common.{◌≡◌, ◌↔◌, ℕ, zero, suc, ◌+◌, ◌-◌, ◌*◌, ◌/◌, ◌%◌, ◌<◌, ◌≤◌, ◌^◌, Bool, true, false, ◌&&◌, nat_lt, nat_eq, not, cond, if◌then◌else◌, IsTrue, List, [], ◌∷◌, ◌++◌, length, get_or, map, take, drop, leb, leb-true, rules, slice_get, Option, Some, None, Result, refl, sym, ap, ◌∙◌, subst, inl, inr, true≢false, arith}
 use Rattle.std.specs.Cmp.Lexicographic.{pointwise}
 use Rattle.std.specs.List.{Contains, find, list_any}
+use Rattle.std.specs.List.Sorted.{IsNonDecreasingBy, IsPartitionPoint}
 use Rattle.std.specs.Result.{IfOk}
 use Rattle.std.specs.Option.{MatchOption, IfSome, IfNone}
 use Rattle.std.proofs.lemmas.Bool.Decides.{nat_tests}
-use Rattle.std.proofs.lemmas.Bool.{cases_lt}
+use Rattle.std.proofs.lemmas.Bool.{cases_eq, cases_lt, leb-false}
 use Rattle.std.proofs.Math.Nat.{div-add-mod, mod-lt, mul_comm}
 use Rattle.std.proofs.Math.Seq.{get_or-append_seam}
 use Rattle.std.proofs.lemmas.List.{append-nil, length-append, get_or_append_left, take_more}
@@ -341,6 +342,34 @@ first_found test (move ∷ moves) ascends = by (test move) refl (first_found tes
             ],
           ),
         ))
+
+-- a search from the first symbol above the floor on
+pub find_above : (test : ℕ × ℕ → Bool) (floor : ℕ) (moves : Moves) (place : ℕ)
+    → IsPartitionPoint (λ move. leb move.0 floor ≡ true) (λ move. leb move.0 floor ≡ false) moves place
+    → find test (drop place moves) ≡ find (λ move. nat_lt floor move.0 && test move) moves
+find_above test floor [] zero point = refl
+find_above test floor [] (suc place) point = refl
+find_above test floor (move ∷ moves) zero point =
+    let rest = find_above test floor moves zero
+    ((λ k d low high. absurd (let no : ⊥ = omega arith in no)), λ k d low high. point.1 (suc k) d (omega arith) (omega arith)) in
+    let above = leb-false move.0 floor (point.1 0 move (omega arith) (omega arith)) in
+    let passes : nat_lt floor move.0 ≡ true = grind (arith, nat_tests) in
+    ap (λ found. cond (test move) (Some move) found) rest
+    ∙ ap (λ b. cond (b && test move) (Some move) (find (λ move. nat_lt floor move.0 && test move) moves)) (sym passes)
+find_above test floor (move ∷ moves) (suc place) point =
+    let rest = find_above test floor moves place
+    ((λ k d low high. point.0 (suc k) d (omega arith) (omega arith)), λ k d low high. point.1 (suc k) d (omega arith) (omega arith)) in
+    let below = leb-true move.0 floor (point.0 0 move (omega arith) (omega arith)) in
+    let fails : nat_lt floor move.0 ≡ false = grind (arith, nat_tests) in
+    rest ∙ ap (λ b. cond (b && test move) (Some move) (find (λ move. nat_lt floor move.0 && test move) moves)) (sym fails)
+
+-- symbols that ascend do not fall
+pub non_decreasing_from_ascends : (moves : Moves) → Ascends moves → IsNonDecreasingBy (λ move. move.0) moves
+non_decreasing_from_ascends moves ascends i j d low high =
+    elim (cases_eq i j) [
+      | inl same ↦ let equal = ap (λ k. (get_or moves k d).0) same in omega arith
+      | inr differ ↦ let less = ascends i j d (omega arith) high in omega arith
+    ]
 
 both : (b c : Bool) → (b && c) ≡ true → (b ≡ true) × (c ≡ true)
 both true c e = (refl, e)

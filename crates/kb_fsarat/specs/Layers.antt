@@ -24,7 +24,7 @@ pub record RepeatsFrom (table : Table) (sets : List (List ℕ)) (start : ℕ) : 
   pub within : start < length sets
   pub again : (d : List ℕ) → IsLayer table (length sets) (get_or sets start d)
 
--- the length is the place, or whole rounds from the start to the count after it, where the place is none before the start
+-- the length is some whole rounds past the place: a round goes over each place from the start on, and no place before it
 pub record ComesRound (start count k place : ℕ) : Type 0 where
   pub within : place < count
   pub rounds : ℕ

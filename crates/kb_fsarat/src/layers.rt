@@ -2,8 +2,7 @@
 
 ghost use Rattle.std.specs.Prelude.{◌≡◌, ◌↔◌, ◌+◌, ◌<◌, ◌≤◌, ◌^◌, ◌&&◌, ◌++◌, ℕ, nat_lt, IsTrue, IfOk, IfSome, IfNone, OnOk, OnErr, length, map};
 ghost use Rattle.std.specs.List.{find};
-ghost use Rattle.std.specs.Slice.Iter.{iter_rest};
-ghost use Rattle.kb_fsa.specs.Table.{IsTable, HasSymbols};
+ghost use Rattle.kb_fsa.specs.Table.{Ascends, IsTable, HasSymbols};
 ghost use Rattle.kb_fsadet.specs.SubsetConstruction.{is_member, set_of};
 ghost use Rattle.kb_fsarat.specs.Layers.{HasText, targets_of_each, AreTurned, IsLayer, ComesRound, IsFirstMove, NoMove};
 
@@ -14,7 +13,6 @@ use kb_fsadet::{Branches, StateSet, moves_at};
 use kb_word::Memory;
 use std::alloc::Global;
 use std::marker::Model;
-use std::slice::Iter;
 
 /// The states that accept.
 fn accepting_set(alloc: Global, table: &Table) -> Result<StateSet, Memory>
@@ -36,17 +34,15 @@ fn set_before(alloc: Global, set: &StateSet, turned: &[Branches]) -> Result<Stat
     Ok(StateSet::of(sources))
 }
 
-/// The first of the moves that leads to a member by a symbol above the floor.
-fn first_move_into(
-    set: &StateSet,
-    mut moves: Iter<'_, (u32, u32)>,
-    floor: u32,
-) -> Option<(u32, u32)>
-    ensures { result ≡ find (λ move. nat_lt floor move.0 && is_member set.now move.1)
-        (iter_rest moves.entry) }
+/// The first of the moves, whose symbols ascend, that leads to a member by a symbol above the floor.
+fn first_move_into(set: &StateSet, moves: &[(u32, u32)], floor: u32) -> Option<(u32, u32)>
+    requires { Ascends moves.now }
+    ensures { result ≡ find (λ move. nat_lt floor move.0 && is_member set.now move.1) moves.now }
 {
-    moves
-        .find(|(symbol, target)| *symbol > floor && set.contains(*target))
+    let above = moves.partition_point(|entry| entry.0 <= floor);
+    moves[above..]
+        .iter()
+        .find(|(_, target)| set.contains(*target))
         .copied()
 }
 
@@ -190,7 +186,7 @@ impl<'a> Layers<'a> {
         ensures none { IfNone result (NoMove self.now.table length state floor) }
         ensures table { IsTable self.now.table }
     {
-        first_move_into(self.set(length), self.table.moves(state), floor)
+        first_move_into(self.set(length), self.table.moves(state).as_slice(), floor)
     }
 }
 
