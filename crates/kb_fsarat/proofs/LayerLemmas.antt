@@ -1,5 +1,5 @@
 -- The states from which texts of one length lead to acceptance.
-use Rattle.std.proofs.Common.{◌≡◌, ◌↔◌, ℕ, zero, suc, ◌+◌, ◌-◌, ◌*◌, ◌/◌, ◌%◌, ◌<◌, ◌≤◌, ◌^◌, Bool, true, false, ◌&&◌, nat_lt, nat_eq, not, cond, if◌then◌else◌, IsTrue, List, [], ◌∷◌, ◌++◌, length, get_or, map, take, drop, leb, leb-true, rules, slice_get, Option, Some, None, Result, refl, sym, ap, ◌∙◌, subst, inl, inr, true≢false, arith}
+use Rattle.std.proofs.Common.{◌≡◌, ◌↔◌, ℕ, zero, suc, ◌+◌, ◌-◌, ◌*◌, ◌/◌, ◌%◌, ◌<◌, ◌≤◌, ◌^◌, Bool, true, false, ◌&&◌, nat_lt, nat_eq, not, cond, if◌then◌else◌, IsTrue, List, [], ◌∷◌, ◌++◌, length, get_or, map, take, drop, leb, leb-true, slice_get, Option, Some, None, Result, refl, sym, ap, ◌∙◌, subst, inl, inr, true≢false, arith}
 use Rattle.std.specs.Cmp.Lexicographic.{pointwise}
 use Rattle.std.specs.List.{Contains, find, list_any}
 use Rattle.std.specs.List.Sorted.{IsNonDecreasingBy, IsPartitionPoint}
@@ -147,12 +147,12 @@ alike_onwards table k n (suc more) alike state =
     let P : ℕ → Type 0 = λ m. HasText table m state in
     let longer : (m : ℕ) → (more + m) + 1 ≡ suc more + m = λ m. omega arith in
     let step_on : (m m' : ℕ) → ((s : ℕ) → HasText table (more + m) s → HasText table (more + m') s)
-        → HasText table (suc more + m) state → HasText table (suc more + m') state = λ m m' follows has.
-        let first = (HasText-more table (more + m) state).0 (subst P (sym (longer m)) has) in
-        subst P (longer m') ((HasText-more table (more + m') state).1 (first.0, follows (step table state first.0) first.1)) in
+    → HasText table (suc more + m) state → HasText table (suc more + m') state = λ m m' follows has.
+    let first = (HasText-more table (more + m) state).0 (subst P (sym (longer m)) has) in
+    subst P (longer m') ((HasText-more table (more + m') state).1 (first.0, follows (step table state first.0) first.1)) in
     (step_on k n (λ s. (rest s).0), step_on n k (λ s. (rest s).1))
 
--- one set for two lengths: so is any other set for as many more
+-- lengths of one set: those that are longer by as much have one set too
 layer_onwards : (table : Table) (same members : List ℕ) (k n more : ℕ) → IsLayer table k same → IsLayer table n same
     → IsLayer table (more + k) members → IsLayer table (more + n) members
 layer_onwards table same members k n more one two layer state =
@@ -343,7 +343,7 @@ first_found test (move ∷ moves) ascends = by (test move) refl (first_found tes
           ),
         ))
 
--- a search from the first symbol above the floor on
+-- what the search finds from the first symbol above the floor on, it finds with a test of the symbol from the start on
 pub find_above : (test : ℕ × ℕ → Bool) (floor : ℕ) (moves : Moves) (place : ℕ)
     → IsPartitionPoint (λ move. leb move.0 floor ≡ true) (λ move. leb move.0 floor ≡ false) moves place
     → find test (drop place moves) ≡ find (λ move. nat_lt floor move.0 && test move) moves
@@ -363,7 +363,7 @@ find_above test floor (move ∷ moves) (suc place) point =
     let fails : nat_lt floor move.0 ≡ false = grind (arith, nat_tests) in
     rest ∙ ap (λ b. cond (b && test move) (Some move) (find (λ move. nat_lt floor move.0 && test move) moves)) (sym fails)
 
--- symbols that ascend do not fall
+-- ascending symbols are in order
 pub non_decreasing_from_ascends : (moves : Moves) → Ascends moves → IsNonDecreasingBy (λ move. move.0) moves
 non_decreasing_from_ascends moves ascends i j d low high =
     elim (cases_eq i j) [

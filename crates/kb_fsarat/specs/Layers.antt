@@ -19,12 +19,13 @@ IsLayer table k members = (state : ℕ) → IsTrue (is_member members state) ↔
 abbrev pub AreLayers : Table → List (List ℕ) → Type 0
 AreLayers table sets = (k : ℕ) (d : List ℕ) → k < length sets → IsLayer table k (get_or sets k d)
 
--- the set of the length after the last set is the one at this place
+-- the set that comes after the last one is the one at this place
 pub record RepeatsFrom (table : Table) (sets : List (List ℕ)) (start : ℕ) : Type 0 where
   pub within : start < length sets
   pub again : (d : List ℕ) → IsLayer table (length sets) (get_or sets start d)
 
--- the length is some whole rounds past the place: a round goes over each place from the start on, and no place before it
+-- the length is whole rounds past the place; a round goes over the places from the start on, so that no place before it
+-- comes round
 pub record ComesRound (start count k place : ℕ) : Type 0 where
   pub within : place < count
   pub rounds : ℕ
@@ -39,7 +40,7 @@ AreTurned table rows = (place symbol source : ℕ) → Contains (get_or rows pla
 abbrev pub targets_of_each : List Moves → List ℕ → List ℕ
 targets_of_each rows states = flat_map (λ state. map (λ move. move.1) (moves_at rows state)) states
 
--- for how many lengths there is a set: for all that there can be, once sets repeat
+-- for how many lengths there is a set: for all that there can be, once the sets repeat
 abbrev pub lengths : Option ℕ → List (List ℕ) → ℕ
 lengths (Some start) sets = 2 ^ 64
 lengths None sets = length sets

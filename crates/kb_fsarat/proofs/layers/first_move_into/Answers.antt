@@ -1,5 +1,4 @@
 use Rattle.std.proofs.Common.{◌-◌, leb, drop, length, ◌∙◌, arith, rules, tests}
-use Rattle.std.specs.List.{find}
 use Rattle.std.proofs.lemmas.Iterator.{YieldsList-from_slice}
 use Rattle.std.proofs.lemmas.Iterator.Search.{find_from_yields_List}
 use Rattle.std.proofs.lemmas.List.{length-drop, take_all}

@@ -1,4 +1,4 @@
-use Rattle.std.proofs.Common.{◌≡◌, ◌-◌, ℕ, List, Some, slice_get, length, sym, ap, subst, ◌∙◌}
+use Rattle.std.proofs.Common.{◌≡◌, ℕ, List, sym, ap, subst}
 use Rattle.std.specs.Result.{IfOk}
 use Rattle.kb_fsa.specs.Table.{Moves, Table}
 use Rattle.kb_fsarat.specs.Layers.{IsLayer, AreTurned, Layering}
