@@ -1,14 +1,21 @@
 -- The states from which texts of one length lead to acceptance.
-use Rattle.std.proofs.Common.{◌≡◌, ◌↔◌, ℕ, zero, suc, ◌+◌, ◌-◌, ◌<◌, ◌≤◌, ◌^◌, Bool, true, false, ◌&&◌, nat_lt, cond, IsTrue, List, [], ◌∷◌, ◌++◌, length, get_or, map, take, slice_get, Option, Some, None, Result, refl, sym, ap, ◌∙◌, subst, inl, inr, arith}
-use Rattle.std.specs.List.{Contains, find}
+use Rattle.std.proofs.Common.{◌≡◌, ◌↔◌, ℕ, zero, suc, ◌+◌, ◌-◌, ◌*◌, ◌/◌, ◌%◌, ◌<◌, ◌≤◌, ◌^◌, Bool, true, false, ◌&&◌, nat_lt, nat_eq, not, cond, if◌then◌else◌, IsTrue, List, [], ◌∷◌, ◌++◌, length, get_or, map, take, drop, leb, leb-true, slice_get, Option, Some, None, Result, refl, sym, ap, ◌∙◌, subst, inl, inr, true≢false, arith}
+use Rattle.std.specs.Cmp.Lexicographic.{pointwise}
+use Rattle.std.specs.List.{Contains, find, list_any}
+use Rattle.std.specs.List.Sorted.{IsNonDecreasingBy, IsPartitionPoint}
 use Rattle.std.specs.Result.{IfOk}
 use Rattle.std.specs.Option.{MatchOption, IfSome, IfNone}
 use Rattle.std.proofs.lemmas.Bool.Decides.{nat_tests}
-use Rattle.std.proofs.lemmas.List.{append-nil, take_more}
+use Rattle.std.proofs.lemmas.Bool.{cases_eq, cases_lt, leb-false}
+use Rattle.std.proofs.Math.Nat.{div-add-mod, mod-lt, mul_comm}
+use Rattle.std.proofs.Math.Seq.{get_or-append_seam}
+use Rattle.std.proofs.lemmas.List.{append-nil, length-append, get_or_append_left, take_more}
 use Rattle.std.proofs.lemmas.List.Elements.{Contains-append_cases, Contains-append_left, Contains-append_right}
 use Rattle.std.proofs.lemmas.Grind.{flat_map-append}
 use Rattle.std.proofs.lemmas.Option.{slice_get_within, get_or_from_slice_get}
 use Rattle.std.proofs.lemmas.Result.{IfOk-weaker}
+use Rattle.indexmap.specs.IndexSet.{insert_key}
+use Rattle.kb_word.specs.Comparison.{same_from_pointwise}
 use Rattle.kb_word.specs.declared.memory.Memory.{Memory}
 use Rattle.kb_fsa.specs.Table.{Moves, Ascends, Table, IsTable, HasSymbols, moves_of, is_accepting, step, AcceptsFrom}
 use Rattle.kb_fsa.specs.Canonical.{IsState}
@@ -17,7 +24,7 @@ use Rattle.kb_fsadet.specs.Nondeterministic.{moves_at}
 use Rattle.kb_fsadet.specs.SubsetConstruction.{is_member, set_of}
 use Rattle.kb_fsadet.proofs.Sets.{Contains-set_of}
 use Rattle.kb_fsadet.proofs.Members.{contains_from_member, member_from_contains}
-use Rattle.kb_fsarat.specs.Layers.{HasText, IsLayer, AreLayers, IsLastOf, IsSettled, AreTurned, targets_of_each, lengths, IsFirstMove, NoMove}
+use Rattle.kb_fsarat.specs.Layers.{HasText, IsLayer, AreLayers, RepeatsFrom, ComesRound, IsLayering, AreTurned, targets_of_each, lengths, IsFirstMove, NoMove}
 use Rattle.kb_fsarat.proofs.MoveLists.{Contains-nil, Contains-head, Contains-cons, Contains-cons_cases, Contains-map}
 use Rattle.kb_fsarat.proofs.TableMoves.{step_from_move, move_from_step, accepts_from_state, symbol_within}
 
@@ -126,49 +133,165 @@ layer_before table rows members k is turns layer =
           (backwards table rows state first.0 source turns positive (move_from_step table source first.0 state refl positive)),
     ))
 
--- ---- a set that equals the one before it
+-- ---- sets that repeat
 
--- texts that are longer by one letter lead from the same states as the texts, and so on
-layer_onwards : (table : Table) (members : List ℕ) (k more : ℕ) → IsLayer table k members → IsLayer table (k + 1) members
-    → IsLayer table (k + more) members
-layer_onwards table members k zero layer next =
-    let P : ℕ → Type 0 = λ n. IsLayer table n members in
-    let same : k ≡ k + 0 = omega arith in
-    subst P same layer
-layer_onwards table members k (suc more) layer next =
-    let P : ℕ → Type 0 = λ n. IsLayer table n members in
-    let same : (k + more) + 1 ≡ k + suc more = omega arith in
-    let rest = layer_onwards table members k more layer next in
-    subst P same (λ state. (
-      λ member.
-          let first = (HasText-more table k state).0 ((next state).0 member) in
-          (HasText-more table (k + more) state).1 (first.0, (rest (step table state first.0)).0 ((layer (step table state first.0)).1 first.1)),
-      λ has.
-          let first = (HasText-more table (k + more) state).0 has in
-          (next state).1 ((HasText-more table k state).1 (first.0, (layer (step table state first.0)).0 ((rest (step table state first.0)).1 first.1))),
-    ))
+-- where the texts of two lengths lead from the same states to acceptance, so do those that are longer by as much
+alike_onwards : (table : Table) (k n more : ℕ) → ((state : ℕ) → HasText table k state ↔ HasText table n state)
+    → (state : ℕ) → HasText table (more + k) state ↔ HasText table (more + n) state
+alike_onwards table k n zero alike state =
+    let P : ℕ → Type 0 = λ m. HasText table m state in
+    let same : (m : ℕ) → m ≡ 0 + m = λ m. omega arith in
+    (λ has. subst P (same n) ((alike state).0 (subst P (sym (same k)) has)), λ has. subst P (same k) ((alike state).1 (subst P (sym (same n)) has)))
+alike_onwards table k n (suc more) alike state =
+    let rest = alike_onwards table k n more alike in
+    let P : ℕ → Type 0 = λ m. HasText table m state in
+    let longer : (m : ℕ) → (more + m) + 1 ≡ suc more + m = λ m. omega arith in
+    let step_on : (m m' : ℕ) → ((s : ℕ) → HasText table (more + m) s → HasText table (more + m') s)
+    → HasText table (suc more + m) state → HasText table (suc more + m') state = λ m m' follows has.
+    let first = (HasText-more table (more + m) state).0 (subst P (sym (longer m)) has) in
+    subst P (longer m') ((HasText-more table (more + m') state).1 (first.0, follows (step table state first.0) first.1)) in
+    (step_on k n (λ s. (rest s).0), step_on n k (λ s. (rest s).1))
 
--- until then there is a set for each length below the count
-pub length_unsettled : (settled : Bool) (sets : List (List ℕ)) (count : ℕ) → lengths settled sets ≡ count → count < 2 ^ 64 → length sets ≡ count
-length_unsettled true sets count is below = absurd (omega arith)
-length_unsettled false sets count is below = is
+-- lengths of one set: those that are longer by as much have one set too
+layer_onwards : (table : Table) (same members : List ℕ) (k n more : ℕ) → IsLayer table k same → IsLayer table n same
+    → IsLayer table (more + k) members → IsLayer table (more + n) members
+layer_onwards table same members k n more one two layer state =
+    let alike = alike_onwards table k n more (λ s. (λ has. (two s).0 ((one s).1 has), λ has. (one s).0 ((two s).1 has))) state in
+    (λ member. alike.0 ((layer state).0 member), λ has. (layer state).1 (alike.1 has))
 
-pub settled_from_last : (table : Table) (sets : List (List ℕ)) (members : List ℕ) → AreLayers table sets → IsLastOf sets members
-    → IsLayer table (length sets) members → IsSettled table sets
-settled_from_last table sets members layers is next =
-    let some = is.some in
-    let Set : List ℕ → ℕ → Type 0 = λ set n. IsLayer table n set in
-    let last : IsLayer table (length sets - 1) members =
-    subst (λ set. Set set (length sets - 1)) (is.last members) (layers (length sets - 1) members (omega arith)) in
-    let count : length sets ≡ (length sets - 1) + 1 = omega arith in
+-- any number of rounds later the set is the same
+layer_rounds : (table : Table) (sets : List (List ℕ)) (start place rounds : ℕ) (d : List ℕ) → AreLayers table sets → RepeatsFrom table sets start
+    → start ≤ place → place < length sets → IsLayer table (place + rounds * (length sets - start)) (get_or sets place d)
+layer_rounds table sets start place zero d layers repeats from within =
+    let P : ℕ → Type 0 = λ k. IsLayer table k (get_or sets place d) in
+    let same : place ≡ place + 0 * (length sets - start) = omega arith in
+    subst P same (layers place d within)
+layer_rounds table sets start place (suc rounds) d layers repeats from within =
+    let P : ℕ → Type 0 = λ k. IsLayer table k (get_or sets place d) in
+    let period = length sets - start in
+    let more = (place - start) + rounds * period in
+    let fewer : place + rounds * period ≡ more + start = omega arith in
+    let whole : more + length sets ≡ place + suc rounds * period = let some = repeats.within in omega arith in
+    subst P whole
+    (layer_onwards table (get_or sets start d) (get_or sets place d) start (length sets) more (layers start d repeats.within) (repeats.again d)
+    (subst P fewer (layer_rounds table sets start place rounds d layers repeats from within)))
+
+-- the set where the length comes round to
+pub layer_round : (table : Table) (sets : List (List ℕ)) (start k place : ℕ) (d : List ℕ) → AreLayers table sets → RepeatsFrom table sets start
+    → ComesRound start (length sets) k place → IsLayer table k (get_or sets place d)
+layer_round table sets start k place d layers repeats comes = by comes.rounds comes.after comes.repeated
+  where
+    by : (rounds : ℕ) → k ≡ place + rounds * (length sets - start) → (0 < rounds → start ≤ place) → IsLayer table k (get_or sets place d)
+    by zero after from =
+        let P : ℕ → Type 0 = λ n. IsLayer table n (get_or sets place d) in
+        let same : place ≡ k = omega arith in
+        subst P same (layers place d comes.within)
+    by (suc rounds) after from =
+        let P : ℕ → Type 0 = λ n. IsLayer table n (get_or sets place d) in
+        subst P (sym after) (layer_rounds table sets start place (suc rounds) d layers repeats (from (omega arith)) comes.within)
+
+-- the place that the remainder gives
+pub comes_round : (start count k : ℕ) → start < count → count ≤ k → ComesRound start count k (start + (k - start) % (count - start))
+comes_round start count k before past =
+    let period = count - start in
+    let some : 0 < period = omega arith in
+    let less = mod-lt (k - start) some in
+    let whole = div-add-mod (k - start) period in
+    let turned : (k - start) / period * period ≡ period * ((k - start) / period) = mul_comm ((k - start) / period) period in
     record {
-      some = some;
-      further = λ k d past.
-          let more : (length sets - 1) + (k - (length sets - 1)) ≡ k = omega arith in
-          subst (λ set. Set set k) (sym (is.last d))
-          (subst (λ n. Set members n) more
-          (layer_onwards table members (length sets - 1) (k - (length sets - 1)) last (subst (λ n. Set members n) count next)));
+      within = omega arith;
+      rounds = (k - start) / period;
+      after = omega arith;
+      repeated = λ some. omega arith;
     }
+
+-- the set at the place of a length
+pub layer_at : (table : Table) (sets : List (List ℕ)) (repeats_from : Option ℕ) (k place : ℕ) (members : List ℕ) → IsLayering table sets repeats_from
+    → IfNone repeats_from (place ≡ k) → IfSome repeats_from (λ start. ComesRound start (length sets) k place) → slice_get sets place ≡ Some members
+    → IsLayer table k members
+layer_at table sets None k place members kept none some at =
+    let P : ℕ → Type 0 = λ n. IsLayer table n members in
+    let Q : List ℕ → Type 0 = λ set. IsLayer table place set in
+    subst P none
+    (subst Q (get_or_from_slice_get sets place members members at) (kept.layers place members (slice_get_within sets place members at)))
+layer_at table sets (Some start) k place members kept none some at =
+    let Q : List ℕ → Type 0 = λ set. IsLayer table k set in
+    subst Q (get_or_from_slice_get sets place members members at) (layer_round table sets start k place members kept.layers kept.repeats some)
+
+-- until sets repeat there is one for each length below the count
+pub length_unrepeated : (repeats_from : Option ℕ) (sets : List (List ℕ)) (count : ℕ) → lengths repeats_from sets ≡ count → count < 2 ^ 64
+    → length sets ≡ count
+length_unrepeated (Some start) sets count is below = absurd (omega arith)
+length_unrepeated None sets count is below = is
+
+-- one set more
+layers_more : (table : Table) (sets : List (List ℕ)) (members : List ℕ) → AreLayers table sets → IsLayer table (length sets) members
+    → AreLayers table (sets ++ members ∷ [])
+layers_more table sets members layers next k d within =
+    let Set : List ℕ → Type 0 = λ set. IsLayer table k set in
+    let count = length-append sets (members ∷ []) in
+    elim (cases_lt k (length sets)) [
+      | inl less ↦ subst Set (sym (get_or_append_left sets (members ∷ []) d k less)) (layers k d less)
+      | inr more ↦
+          let last : length sets ≡ k = omega arith in
+          let Next : ℕ → Type 0 = λ n. IsLayer table n (get_or (sets ++ members ∷ []) n d) in
+          let Own : List ℕ → Type 0 = λ set. IsLayer table (length sets) set in
+          subst Next last (subst Own (sym (get_or-append_seam sets members [] d)) next)
+    ]
+
+module _ (table : Table) (sets sets' : List (List ℕ)) (repeats_from : Option ℕ) (members : List ℕ) (is_new : Bool)
+    (kept : IsLayering table sets repeats_from) (next : IsLayer table (length sets) members)
+    (is : is_new ≡ not (list_any (pointwise nat_eq members) sets)) (keys : sets' ≡ insert_key (pointwise nat_eq) sets members) where
+  -- a set that is kept already comes again
+  pub layering_repeats : (place : ℕ) → (k : List ℕ) × (slice_get sets' place ≡ Some k) × (pointwise nat_eq members k ≡ true) → is_new ≡ false
+      → IsLayering table sets' (Some place)
+  layering_repeats place stored old = by (list_any (pointwise nat_eq members) sets) refl
+    where
+      Kept : List (List ℕ) → Type 0
+      Kept known = IsLayering table known (Some place)
+
+      Next : List ℕ → Type 0
+      Next set = IsLayer table (length sets) set
+
+      repeats : sets' ≡ sets → IsLayering table sets (Some place)
+      repeats same =
+          let at : slice_get sets place ≡ Some stored.0 = ap (λ known. slice_get known place) (sym same) ∙ stored.1 in
+          record {
+            is_table = kept.is_table;
+            symbols = kept.symbols;
+            layers = kept.layers;
+            repeats = record {
+              within = slice_get_within sets place stored.0 at;
+              again = λ d. subst Next (same_from_pointwise members stored.0 stored.2 ∙ sym (get_or_from_slice_get sets place stored.0 d at)) next;
+            };
+          }
+
+      by : (b : Bool) → list_any (pointwise nat_eq members) sets ≡ b → IsLayering table sets' (Some place)
+      by true e =
+          let same = keys ∙ ap (λ b. if b then sets else sets ++ members ∷ []) e in
+          subst Kept (sym same) (repeats same)
+      by false e = absurd (true≢false (sym (is ∙ ap not e) ∙ old))
+
+  -- a new set is one more
+  pub layering_more : lengths repeats_from sets < 2 ^ 64 → is_new ≡ true → IsLayering table sets' repeats_from
+  layering_more below new = by (list_any (pointwise nat_eq members) sets) refl
+    where
+      Kept : List (List ℕ) → Type 0
+      Kept known = IsLayering table known repeats_from
+
+      none : (o : Option ℕ) → lengths o sets < 2 ^ 64 → IfSome o (RepeatsFrom table (sets ++ members ∷ []))
+      none None low = tt
+      none (Some start) low = absurd (omega arith)
+
+      by : (b : Bool) → list_any (pointwise nat_eq members) sets ≡ b → IsLayering table sets' repeats_from
+      by true e = absurd (true≢false (sym new ∙ is ∙ ap not e))
+      by false e =
+          subst Kept (sym (keys ∙ ap (λ b. if b then sets else sets ++ members ∷ []) e)) (record {
+            is_table = kept.is_table;
+            symbols = kept.symbols;
+            layers = layers_more table sets members kept.layers next;
+            repeats = none repeats_from below;
+          })
 
 -- ---- the first move that leads on
 
@@ -219,6 +342,34 @@ first_found test (move ∷ moves) ascends = by (test move) refl (first_found tes
             ],
           ),
         ))
+
+-- what the search finds from the first symbol above the floor on, it finds with a test of the symbol from the start on
+pub find_above : (test : ℕ × ℕ → Bool) (floor : ℕ) (moves : Moves) (place : ℕ)
+    → IsPartitionPoint (λ move. leb move.0 floor ≡ true) (λ move. leb move.0 floor ≡ false) moves place
+    → find test (drop place moves) ≡ find (λ move. nat_lt floor move.0 && test move) moves
+find_above test floor [] zero point = refl
+find_above test floor [] (suc place) point = refl
+find_above test floor (move ∷ moves) zero point =
+    let rest = find_above test floor moves zero
+    ((λ k d low high. absurd (let no : ⊥ = omega arith in no)), λ k d low high. point.1 (suc k) d (omega arith) (omega arith)) in
+    let above = leb-false move.0 floor (point.1 0 move (omega arith) (omega arith)) in
+    let passes : nat_lt floor move.0 ≡ true = grind (arith, nat_tests) in
+    ap (λ found. cond (test move) (Some move) found) rest
+    ∙ ap (λ b. cond (b && test move) (Some move) (find (λ move. nat_lt floor move.0 && test move) moves)) (sym passes)
+find_above test floor (move ∷ moves) (suc place) point =
+    let rest = find_above test floor moves place
+    ((λ k d low high. point.0 (suc k) d (omega arith) (omega arith)), λ k d low high. point.1 (suc k) d (omega arith) (omega arith)) in
+    let below = leb-true move.0 floor (point.0 0 move (omega arith) (omega arith)) in
+    let fails : nat_lt floor move.0 ≡ false = grind (arith, nat_tests) in
+    rest ∙ ap (λ b. cond (b && test move) (Some move) (find (λ move. nat_lt floor move.0 && test move) moves)) (sym fails)
+
+-- ascending symbols are in order
+pub non_decreasing_from_ascends : (moves : Moves) → Ascends moves → IsNonDecreasingBy (λ move. move.0) moves
+non_decreasing_from_ascends moves ascends i j d low high =
+    elim (cases_eq i j) [
+      | inl same ↦ let equal = ap (λ k. (get_or moves k d).0) same in omega arith
+      | inr differ ↦ let less = ascends i j d (omega arith) high in omega arith
+    ]
 
 both : (b c : Bool) → (b && c) ≡ true → (b ≡ true) × (c ≡ true)
 both true c e = (refl, e)

@@ -1,5 +1,5 @@
 -- The states from which texts of one length lead to acceptance.
-use Rattle.std.specs.Prelude.{◌≡◌, ◌↔◌, ℕ, suc, ◌-◌, ◌<◌, ◌≤◌, ◌^◌, Bool, true, false, IsTrue, List, [], length, get_or, map, Contains}
+use Rattle.std.specs.Prelude.{◌≡◌, ◌↔◌, ℕ, suc, ◌+◌, ◌-◌, ◌*◌, ◌<◌, ◌≤◌, ◌^◌, IsTrue, Option, Some, None, IfSome, List, [], length, get_or, map, Contains}
 use Rattle.std.specs.List.{flat_map}
 use Rattle.kb_fsa.specs.Table.{Moves, Table, IsTable, HasSymbols, AcceptsFrom, moves_of, step}
 use Rattle.kb_fsadet.specs.Nondeterministic.{moves_at}
@@ -19,15 +19,18 @@ IsLayer table k members = (state : ℕ) → IsTrue (is_member members state) ↔
 abbrev pub AreLayers : Table → List (List ℕ) → Type 0
 AreLayers table sets = (k : ℕ) (d : List ℕ) → k < length sets → IsLayer table k (get_or sets k d)
 
--- the last set is this one
-pub record IsLastOf (sets : List (List ℕ)) (members : List ℕ) : Type 0 where
-  pub some : 0 < length sets
-  pub last : (d : List ℕ) → get_or sets (length sets - 1) d ≡ members
+-- the set that comes after the last one is the one at this place
+pub record RepeatsFrom (table : Table) (sets : List (List ℕ)) (start : ℕ) : Type 0 where
+  pub within : start < length sets
+  pub again : (d : List ℕ) → IsLayer table (length sets) (get_or sets start d)
 
--- the last set is that of all further lengths too
-pub record IsSettled (table : Table) (sets : List (List ℕ)) : Type 0 where
-  pub some : 0 < length sets
-  pub further : (k : ℕ) (d : List ℕ) → length sets ≤ k → IsLayer table k (get_or sets (length sets - 1) d)
+-- the length is whole rounds past the place; a round goes over the places from the start on, so that no place before it
+-- comes round
+pub record ComesRound (start count k place : ℕ) : Type 0 where
+  pub within : place < count
+  pub rounds : ℕ
+  pub after : k ≡ place + rounds * (count - start)
+  pub repeated : 0 < rounds → start ≤ place
 
 -- the rows have the table's moves, each turned round
 abbrev pub AreTurned : Table → List Moves → Type 0
@@ -37,10 +40,10 @@ AreTurned table rows = (place symbol source : ℕ) → Contains (get_or rows pla
 abbrev pub targets_of_each : List Moves → List ℕ → List ℕ
 targets_of_each rows states = flat_map (λ state. map (λ move. move.1) (moves_at rows state)) states
 
--- for how many lengths there is a set: for all that there can be, once the last is that of all further ones
-abbrev pub lengths : Bool → List (List ℕ) → ℕ
-lengths true sets = 2 ^ 64
-lengths false sets = length sets
+-- for how many lengths there is a set: for all that there can be, once the sets repeat
+abbrev pub lengths : Option ℕ → List (List ℕ) → ℕ
+lengths (Some start) sets = 2 ^ 64
+lengths None sets = length sets
 
 -- the sets of a table for all lengths below a count
 pub record Layering : Type 0 where
@@ -48,11 +51,11 @@ pub record Layering : Type 0 where
   pub count : ℕ
 
 -- what the sets keep
-pub record IsLayering (table : Table) (sets : List (List ℕ)) (settled : Bool) : Type 0 where
+pub record IsLayering (table : Table) (sets : List (List ℕ)) (repeats_from : Option ℕ) : Type 0 where
   pub is_table : IsTable table
   pub symbols : HasSymbols 65534 table
   pub layers : AreLayers table sets
-  pub further : IsTrue settled → IsSettled table sets
+  pub repeats : IfSome repeats_from (RepeatsFrom table sets)
 
 -- the move is the state's first by a symbol above the floor to a state from which a text of length k leads to acceptance
 pub record IsFirstMove (table : Table) (k state floor : ℕ) (move : ℕ × ℕ) : Type 0 where

@@ -14,8 +14,8 @@ use std::alloc::Global;
 use std::marker::Model;
 
 /// The accepted words of some lengths, one after another; made by `new`. It holds the last word, and for each length up
-/// to its own the states from which some text of that length leads to acceptance; where they are those of the length
-/// before, it holds no further ones.
+/// to its own the states from which some text of that length leads to acceptance; from the first length where they are
+/// those of an earlier one they repeat, and it holds no further ones.
 #[derive(Drop)]
 pub struct Enumerate<'a> {
     fsa: &'a Fsa,

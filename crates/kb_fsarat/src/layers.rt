@@ -2,18 +2,17 @@
 
 ghost use Rattle.std.specs.Prelude.{◌≡◌, ◌↔◌, ◌+◌, ◌<◌, ◌≤◌, ◌^◌, ◌&&◌, ◌++◌, ℕ, nat_lt, IsTrue, IfOk, IfSome, IfNone, OnOk, OnErr, length, map};
 ghost use Rattle.std.specs.List.{find};
-ghost use Rattle.std.specs.Slice.Iter.{iter_rest};
-ghost use Rattle.kb_fsa.specs.Table.{IsTable, HasSymbols};
+ghost use Rattle.kb_fsa.specs.Table.{Ascends, IsTable, HasSymbols};
 ghost use Rattle.kb_fsadet.specs.SubsetConstruction.{is_member, set_of};
-ghost use Rattle.kb_fsarat.specs.Layers.{HasText, targets_of_each, AreTurned, IsLayer, IsLastOf, IsFirstMove, NoMove};
+ghost use Rattle.kb_fsarat.specs.Layers.{HasText, targets_of_each, AreTurned, IsLayer, ComesRound, IsFirstMove, NoMove};
 
 use crate::reversal::{accepting_states, reversed_rows};
+use indexmap::IndexSet;
 use kb_fsa::Table;
 use kb_fsadet::{Branches, StateSet, moves_at};
 use kb_word::Memory;
 use std::alloc::Global;
 use std::marker::Model;
-use std::slice::Iter;
 
 /// The states that accept.
 fn accepting_set(alloc: Global, table: &Table) -> Result<StateSet, Memory>
@@ -35,17 +34,15 @@ fn set_before(alloc: Global, set: &StateSet, turned: &[Branches]) -> Result<Stat
     Ok(StateSet::of(sources))
 }
 
-/// The first of the moves that leads to a member by a symbol above the floor.
-fn first_move_into(
-    set: &StateSet,
-    mut moves: Iter<'_, (u32, u32)>,
-    floor: u32,
-) -> Option<(u32, u32)>
-    ensures { result ≡ find (λ move. nat_lt floor move.0 && is_member set.now move.1)
-        (iter_rest moves.entry) }
+/// The first of the moves, whose symbols ascend, that leads to a member by a symbol above the floor.
+fn first_move_into(set: &StateSet, moves: &[(u32, u32)], floor: u32) -> Option<(u32, u32)>
+    requires { Ascends moves.now }
+    ensures { result ≡ find (λ move. nat_lt floor move.0 && is_member set.now move.1) moves.now }
 {
-    moves
-        .find(|(symbol, target)| *symbol > floor && set.contains(*target))
+    let above = moves.partition_point(|entry| entry.0 <= floor);
+    moves[above..]
+        .iter()
+        .find(|(_, target)| set.contains(*target))
         .copied()
 }
 
@@ -61,13 +58,15 @@ fn push_targets(states: &mut Vec<u32>, moves: &[(u32, u32)]) -> Result<(), Memor
 
 /// The sets of a table's states for the lengths from 0 on. Set k has exactly the states from which some text of length k
 /// leads to acceptance; each is made when it is asked for, from the members of the one before by the moves turned round.
-/// A set that equals the one before it is that of all further lengths too, and then no more are kept.
+/// Once the next one is the same as one that is kept already, the sets from that one on repeat for all further lengths, and
+/// no more are kept.
 #[derive(Drop)]
 pub(crate) struct Layers<'a> {
     table: &'a Table,
     turned: Option<Vec<Branches>>,
-    sets: Vec<StateSet>,
-    settled: bool,
+    sets: IndexSet<StateSet>,
+    /// The place of the set that comes again after the last one, once it is known.
+    repeats_from: Option<usize>,
 }
 
 impl<'a> Model for Layers<'a> {
@@ -77,9 +76,9 @@ impl<'a> Model for Layers<'a> {
     ghost Value = { Layering };
 
     ghost view = { λ layers.
-        record { table = layers.table.now; count = lengths layers.settled layers.sets.items } };
+        record { table = layers.table.now; count = lengths layers.repeats_from layers.sets.keys } };
 
-    ghost invariant = { λ layers. IsLayering layers.table.now layers.sets.items layers.settled
+    ghost invariant = { λ layers. IsLayering layers.table.now layers.sets.keys layers.repeats_from
         × IfSome layers.turned (λ rows. AreTurned layers.table.now rows.items) };
 }
 
@@ -93,8 +92,8 @@ impl<'a> Layers<'a> {
         Layers {
             table,
             turned: None,
-            sets: Vec::new(alloc),
-            settled: false,
+            sets: IndexSet::new(alloc),
+            repeats_from: None,
         }
     }
 
@@ -121,7 +120,7 @@ impl<'a> Layers<'a> {
     fn reaches(&self, length: usize) -> bool
         ensures { IsTrue result ↔ length < self.now.count }
     {
-        self.settled || length < self.sets.len()
+        self.repeats_from.is_some() || length < self.sets.len()
     }
 
     /// Makes the set of the next length.
@@ -132,10 +131,9 @@ impl<'a> Layers<'a> {
         ensures err { OnErr result (self.new.count ≡ self.old.count) }
     {
         let set = self.next(alloc)?;
-        if is_last(self.sets.as_slice(), &set) {
-            self.settled = true;
-        } else {
-            self.sets.push(set)?;
+        let (place, is_new) = self.sets.insert_full(set)?;
+        if !is_new {
+            self.repeats_from = Some(place);
         }
         Ok(())
     }
@@ -162,7 +160,7 @@ impl<'a> Layers<'a> {
         ensures table { IsTable self.now.table }
         ensures symbols { HasSymbols 65534 self.now.table }
     {
-        &self.sets[length.min(self.sets.len() - 1)]
+        &self.sets[place_of(length, self.sets.len(), self.repeats_from)]
     }
 
     /// Whether no text of the length leads to acceptance from any state.
@@ -188,7 +186,7 @@ impl<'a> Layers<'a> {
         ensures none { IfNone result (NoMove self.now.table length state floor) }
         ensures table { IsTable self.now.table }
     {
-        first_move_into(self.set(length), self.table.moves(state), floor)
+        first_move_into(self.set(length), self.table.moves(state).as_slice(), floor)
     }
 }
 
@@ -208,12 +206,15 @@ fn reversed_once(
     }
 }
 
-/// Whether the last of the sets has the same members as this one.
-fn is_last(sets: &[StateSet], set: &StateSet) -> bool
-    ensures { IsTrue result → IsLastOf sets.now set.now }
+/// Where the set of the length is kept, of so many that are. Past the last of them those from a place on repeat.
+fn place_of(length: usize, kept: usize, repeats_from: Option<usize>) -> usize
+    requires start { IfSome repeats_from (λ start. start < kept) }
+    requires within { IfNone repeats_from (length < kept) }
+    ensures none { IfNone repeats_from (result ≡ length) }
+    ensures some { IfSome repeats_from (λ start. ComesRound start kept length result) }
 {
-    match sets.last() {
-        Some(last) => last == set,
-        None => false,
+    match repeats_from {
+        Some(start) if kept <= length => start + (length - start) % (kept - start),
+        _ => length,
     }
 }

@@ -12,7 +12,7 @@ found : (c : After-first_move_into) → MatchOption c.first_move_into.result (No
     (IsFirstMove c.args.self.now.table c.args.length c.args.state c.args.floor)
 found c =
     let own : c.self.inside.table.now ≡ c.args.self.now.table = ap (λ (layers : Layering). layers.table) c.self.view_is in
-    let moves = c.moves.ensures.moves ∙ ap (λ (table : Table). moves_of table c.args.state) own in
+    let moves = c.as_slice.ensures.value ∙ c.moves.ensures.moves ∙ ap (λ (table : Table). moves_of table c.args.state) own in
     first_move_from_find c.args.self.now.table c.set.result.now c.args.length c.args.state c.args.floor c.first_move_into.result c.set.ensures.table
     c.set.ensures.symbols c.set.ensures.layer
     (c.first_move_into.ensures ∙ ap (λ (moves : Moves). find (λ move. nat_lt c.args.floor move.0 && is_member c.set.result.now move.1) moves) moves)
