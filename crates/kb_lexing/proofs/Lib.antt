@@ -4,3 +4,5 @@ pub mod DigitValues
 pub mod OneToken
 pub mod Lexings
 pub mod TokenFronts
+pub mod Begun
+pub mod FrontTokens

@@ -1,8 +1,8 @@
 -- The tokens of `specs/Token.antt` that the code's tokens stand for.
-use Rattle.std.specs.Prelude.{◌≡◌, ℕ, suc, ◌<◌, ◌≤◌, ◌⊎◌, Bool, ◌&&◌, not, nat_le, ◌==◌, List, [], ◌∷◌, ◌++◌, length, take, drop, map, Option, None, Some, slice_get}
+use Rattle.std.specs.Prelude.{◌≡◌, ℕ, ◌<◌, ◌≤◌, ◌⊎◌, Bool, ◌&&◌, not, nat_le, ◌==◌, List, [], ◌∷◌, ◌++◌, length, take, drop, Option, None, Some}
 use Rattle.std.specs.List.{AllByRecursion}
 use Rattle.kb_lexing.specs.Token as tree
-use Rattle.kb_lexing.specs.Spelling.{IsDigit, IsNameByte, BeginsWithNameByte, FirstToken}
+use Rattle.kb_lexing.specs.Spelling.{IsDigit, IsNameByte, BeginsWithNameByte, FirstToken, after_gap}
 use Rattle.kb_lexing.specs.declared.token.Token.{Token}
 use Rattle.kb_lexing.specs.declared.token.Token.TheVariants.{Name, Number, String, Assign, OpenRound, CloseRound, OpenSquare, CloseSquare, Comma, Semicolon, Star, Caret, Dots, Rec}
 use Rattle.kb_lexing.specs.declared.token.Lexeme.{Lexeme}
@@ -23,16 +23,15 @@ token_view Caret = tree.caret
 token_view Dots = tree.dots
 token_view Rec = tree.rec_word
 
--- the tokens of some lexemes, in order
-abbrev pub tokens_view : List Lexeme → List tree.Token
-tokens_view lexemes = map (λ (lexeme : Lexeme). token_view lexeme.token) lexemes
+-- the first token of the text and the text behind it, or none where no token begins
+abbrev pub IsFirstLexeme : List ℕ → Option Lexeme → Type 0
+IsFirstLexeme text None = (token : tree.Token) (rest : List ℕ) → ¬ FirstToken (after_gap text) token rest
+IsFirstLexeme text (Some lexeme) = FirstToken (after_gap text) (token_view lexeme.token) lexeme.rest.now
 
--- each lexeme has bytes, within a text of this length, and stands behind the one before it
-pub record ArePlaced (text_length : ℕ) (lexemes : List Lexeme) : Type 0 where
-  pub within : (k : ℕ) (lexeme : Lexeme) → slice_get lexemes k ≡ Some lexeme
-      → (lexeme.start < lexeme.end) × (lexeme.end ≤ text_length)
-  pub ascending : (k : ℕ) (lexeme next : Lexeme) → slice_get lexemes k ≡ Some lexeme
-      → slice_get lexemes (suc k) ≡ Some next → lexeme.end ≤ next.start
+-- the tokens that stand first in the text, up to its end or to where no token begins
+abbrev pub AreFirstTokens : List ℕ → List tree.Token → Type 0
+AreFirstTokens text [] = (token : tree.Token) (rest : List ℕ) → ¬ FirstToken (after_gap text) token rest
+AreFirstTokens text (token ∷ tokens) = (rest : List ℕ) × FirstToken (after_gap text) token rest × AreFirstTokens rest tokens
 
 -- the token that begins the bytes and the length of its spelling, or none where no token begins them
 abbrev pub IsFirst : List ℕ → Option (Token × ℕ) → Type 0

@@ -1,57 +1,40 @@
 //! From bytes to tokens.
 
-ghost use Rattle.std.specs.Prelude.{◌≡◌, ◌≢◌, ◌↔◌, ℕ, ◌+◌, ◌<◌, ◌≤◌, false, IsTrue, [], IfOk, pos, List, Some, length, slice_get, slice_index, take, drop, take_while};
+ghost use Rattle.std.specs.Prelude.{◌≡◌, ◌≢◌, ◌↔◌, ℕ, ◌<◌, ◌≤◌, false, IsTrue, [], IfSome, pos, List, Some, length, slice_index, take, drop, take_while};
 ghost use Rattle.std.specs.Char.{is_ascii_digit};
 ghost use Rattle.std.specs.List.{AllByRecursion};
 ghost use Rattle.kb_lexing.specs.Token.{Token as TreeToken};
 ghost use Rattle.kb_lexing.specs.Spelling.{TokensOf, after_gap, after_comment, BeginsNames, IsNameByte, IsDigit, GoesOnAsName, value_after};
-ghost use Rattle.kb_lexing.specs.Lexemes.{tokens_view, ArePlaced, IsFirst, IsLongestFront, GoesOnAt, AreFewDigits, is_string_byte};
-ghost use Rattle.kb_lexing.specs.declared.token.Lexeme.{Lexeme};
+ghost use Rattle.kb_lexing.specs.Lexemes.{IsFirstLexeme, IsFirst, IsLongestFront, GoesOnAt, AreFewDigits, is_string_byte};
 
 use crate::token::{Lexeme, Token};
-use std::alloc::{AllocError, Global};
 
-/// The tokens of a text up to its end, or up to the first byte that belongs to none.
-#[derive(Debug, Drop)]
-pub struct Lexed<'a> {
-    /// The tokens with their places, in order.
-    pub lexemes: Vec<Lexeme<'a>>,
-    /// Whether every byte belongs to a token, a blank or a comment.
-    pub whole: bool,
+/// The token that comes first in a text, behind blanks and comments. It is as long as possible.
+pub fn first_lexeme<'a>(text: &'a [u8]) -> Option<Lexeme<'a>>
+    ensures first { IsFirstLexeme text.now result }
+    ensures shorter { IfSome result (λ lexeme. length lexeme.rest.now < length text.now) }
+{
+    let text = &text[gap_end(text, 0)..];
+    let Some((token, len)) = first_token(text) else {
+        return None;
+    };
+    Some(Lexeme {
+        token,
+        text,
+        rest: &text[len..],
+    })
 }
 
-/// The tokens of the bytes, each as long as possible.
-pub fn lex<'a>(alloc: Global, bytes: &'a [u8]) -> Result<Lexed<'a>, AllocError>
-    ensures whole { IfOk result
-        (λ lexed. IsTrue lexed.whole → TokensOf bytes.now (tokens_view lexed.lexemes.items)) }
-    ensures stopped { IfOk result
-        (λ lexed. lexed.whole ≡ false → (tokens : List TreeToken) → ¬ TokensOf bytes.now tokens) }
-
-    // The front up to the end of each lexeme has the lexemes up to it as its tokens.
-    ensures fronts { IfOk result
-        (λ lexed. (k : ℕ) (lexeme : Lexeme) → slice_get lexed.lexemes.items k ≡ Some lexeme
-        → TokensOf (take lexeme.end bytes.now) (tokens_view (take (k + 1) lexed.lexemes.items))) }
-    ensures places { IfOk result (λ lexed. ArePlaced (length bytes.now) lexed.lexemes.items) }
+/// Whether the bytes have tokens: each byte belongs to a token, a blank or a comment.
+pub fn has_tokens(bytes: &[u8]) -> bool
+    ensures all { IsTrue result → (tokens : List TreeToken) × TokensOf bytes.now tokens }
+    ensures none { result ≡ false → (tokens : List TreeToken) → ¬ TokensOf bytes.now tokens }
 {
-    let mut lexemes = Vec::new(alloc);
-    let mut end = 0;
-    loop {
-        let start = gap_end(bytes, end);
-        if start == bytes.len() {
-            return Ok(Lexed {
-                lexemes,
-                whole: true,
-            });
-        }
-        let Some((token, len)) = first_token(&bytes[start..]) else {
-            return Ok(Lexed {
-                lexemes,
-                whole: false,
-            });
-        };
-        end = start + len;
-        lexemes.push(Lexeme { token, start, end })?;
+    let mut rest = bytes;
+    while let Some(lexeme) = first_lexeme(rest) {
+        rest = lexeme.rest;
     }
+    is_blank(rest)
 }
 
 /// Whether the bytes are blanks and comments alone.

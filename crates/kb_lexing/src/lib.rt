@@ -2,10 +2,11 @@
 //!
 //! # The public contract
 //!
-//! [`lex`] returns the tokens that the bytes have (`TokensOf` of `specs/Spelling.antt`), each as long as possible, or
-//! those up to the first byte that belongs to none. The front up to the end of each token has the tokens up to
-//! it. [`is_blank`] tells whether bytes are blanks and comments alone. The laws are [`a_text_has_one_list_of_tokens`],
-//! and [`a_front_ending_in_a_bracket_keeps_its_tokens`], by which what is read of a front stays so.
+//! [`first_lexeme`] returns the first token of a text, as long as possible, with the text behind it, or none where no
+//! token begins. So a text is read token by token, and its tokens take no memory. [`has_tokens`] tells whether the bytes
+//! have tokens (`TokensOf` of `specs/Spelling.antt`) up to their end, and [`is_blank`] whether they are blanks and
+//! comments alone. The laws are [`a_text_has_one_list_of_tokens`], and
+//! [`a_front_ending_in_a_bracket_keeps_its_tokens`], by which what is read of a front stays so.
 //!
 //! [`syntax_place`] is the length of the longest front of the bytes with which some text begins. Whole runs
 //! compare it, and no clause speaks of it.
@@ -18,6 +19,8 @@
 //! - `proofs/DigitValues.antt`: the values of digits, and how large they are.
 //! - `proofs/OneToken.antt`: a text begins with one token at most, and has one list of tokens.
 //! - `proofs/Lexings.antt`: the tokens of a text as they are read one by one.
+//! - `proofs/Begun.antt`: with which token a text begins, if it begins with one; `proofs/FrontTokens.antt`: the tokens
+//!   that stand first in a text, up to its end or to the first byte that belongs to none.
 //! - `proofs/TokenFronts.antt`: where the last token of a front is a bracket, the whole text begins with its tokens.
 //!
 //! Nothing stands below but `std`. Above stands `kb_record`, which reads trees from the tokens.
@@ -29,6 +32,6 @@ mod place;
 mod token;
 
 pub use laws::{a_front_ending_in_a_bracket_keeps_its_tokens, a_text_has_one_list_of_tokens};
-pub use lexer::{Lexed, is_blank, lex};
-pub use place::{Expected, syntax_place};
+pub use lexer::{first_lexeme, has_tokens, is_blank};
+pub use place::{Expected, Passed, last_place, syntax_place};
 pub use token::{Lexeme, Token};

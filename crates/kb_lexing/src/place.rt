@@ -24,22 +24,64 @@ pub enum Expected {
     Mark,
 }
 
-/// The length of the longest front of the bytes with which some text begins, which no clause says. The
-/// good lexemes are those that begin some text, up to the first that doesn't, and `expected` is what may
-/// come behind them.
-pub fn syntax_place(bytes: &[u8], good: &[Lexeme<'_>], expected: Expected) -> usize {
-    let Some(last) = good.last() else {
+/// The last tokens of those that begin some text.
+#[derive(Clone, Copy, Debug)]
+pub struct Passed<'a> {
+    /// The last token.
+    pub last: Option<Lexeme<'a>>,
+    /// Whether the token before it is the open bracket of a list.
+    pub opens_list: bool,
+}
+
+impl<'a> Passed<'a> {
+    /// No token.
+    pub fn none() -> Passed<'a> {
+        Passed {
+            last: None,
+            opens_list: false,
+        }
+    }
+
+    /// With one more token.
+    pub fn and(&self, lexeme: Lexeme<'a>) -> Passed<'a> {
+        Passed {
+            last: Some(lexeme),
+            opens_list: match self.last {
+                Some(last) => matches!(last.token, Token::OpenSquare),
+                None => false,
+            },
+        }
+    }
+}
+
+/// The length of the longest front of the bytes with which some text begins, which no clause says. The tokens
+/// that were passed begin some text, with the next one they don't, and `expected` is what may come behind them.
+pub fn syntax_place(bytes: &[u8], passed: &Passed<'_>, expected: Expected) -> usize {
+    let Some(last) = passed.last else {
         return expected_place(bytes, bytes, expected);
     };
-    let rest = bytes.get(last.end..).unwrap_or(&[]);
+    let rest = last.rest;
     if goes_on_as_name(last.token, expected) && matches!(rest.first(), Some(b'.')) {
-        return bytes.len().saturating_sub(rest.len()).saturating_add(1);
+        return place_of(bytes, rest).saturating_add(1);
     }
-    if begins_range(good) {
+    if passed.opens_list && matches!(last.token, Token::Number(_)) {
         expected_place(bytes, rest, Expected::Dots)
     } else {
         expected_place(bytes, rest, expected)
     }
+}
+
+/// The place in the bytes of the last token that was passed.
+pub fn last_place(bytes: &[u8], passed: &Passed<'_>) -> usize {
+    match passed.last {
+        Some(last) => place_of(bytes, last.text),
+        None => 0,
+    }
+}
+
+/// Where the rest of the bytes begins.
+fn place_of(bytes: &[u8], rest: &[u8]) -> usize {
+    bytes.len().saturating_sub(rest.len())
 }
 
 /// Whether a dot directly behind the token may go on with a name.
@@ -47,16 +89,6 @@ fn goes_on_as_name(last: Token<'_>, expected: Expected) -> bool {
     match last {
         Token::Name(_) => true,
         Token::Rec => matches!(expected, Expected::Fields),
-        _ => false,
-    }
-}
-
-/// Whether the lexemes end with a list's bracket and a number, so that dots may follow.
-fn begins_range(good: &[Lexeme<'_>]) -> bool {
-    match good {
-        [.., bracket, number] => {
-            matches!(bracket.token, Token::OpenSquare) && matches!(number.token, Token::Number(_))
-        }
         _ => false,
     }
 }
@@ -76,10 +108,7 @@ fn expected_place(bytes: &[u8], rest: &[u8], expected: Expected) -> usize {
         Expected::Rec => common_front(token, b"rec"),
         Expected::Fields | Expected::Mark => 0,
     };
-    bytes
-        .len()
-        .saturating_sub(token.len())
-        .saturating_add(begun)
+    place_of(bytes, token).saturating_add(begun)
 }
 
 /// How many bytes the longest front has that begins some name.

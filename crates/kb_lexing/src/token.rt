@@ -19,10 +19,12 @@ pub enum Token<'a> {
     Rec,
 }
 
-/// A token and where it stands: the bytes from `start` up to `end`.
+/// A token, and where it stands in a text.
 #[derive(Clone, Copy, Debug)]
 pub struct Lexeme<'a> {
     pub token: Token<'a>,
-    pub start: usize,
-    pub end: usize,
+    /// The text from the first byte of the token on.
+    pub text: &'a [u8],
+    /// The text behind the token.
+    pub rest: &'a [u8],
 }

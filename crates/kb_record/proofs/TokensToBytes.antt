@@ -1,8 +1,7 @@
 -- From what the tokens say to what the bytes say.
-use Rattle.std.proofs.Common.{◌≡◌, ℕ, suc, ◌+◌, ◌-◌, ◌<◌, ◌≤◌, List, [], ◌∷◌, ◌++◌, length, take, drop, get_or, Bool, true, false, Option, Some, None, Err, ◌⊎◌, inl, inr, refl, sym, ap, ◌∙◌, subst, arith, append-nil}
-use Rattle.std.specs.Prelude.{slice_get, IsTrue, unwrap_or}
-use Rattle.std.proofs.lemmas.List.{take-map, take-append-drop, length-append, length-map}
-use Rattle.std.proofs.lemmas.Option.{slice_get-get_or}
+use Rattle.std.proofs.Common.{◌≡◌, ℕ, suc, ◌+◌, ◌≤◌, List, [], ◌∷◌, ◌++◌, length, take, Bool, false, Option, Some, None, Err, ◌⊎◌, inl, inr, refl, sym, ap, ◌∙◌, subst, arith, append-nil}
+use Rattle.std.specs.Prelude.{IsTrue, unwrap_or}
+use Rattle.std.proofs.lemmas.List.{length-append}
 use Rattle.std.proofs.Math.Seq.{take-append_seam}
 use Rattle.kb_lexing.specs.Token.{Token, name, assign, semicolon, rec_word, open_round, close_round}
 use Rattle.kb_lexing.specs.Spelling.{TokensOf}
@@ -11,9 +10,7 @@ use Rattle.kb_record.specs.Grammar.{IsText, IsWordText, TextOf, WordOf, AreField
 use Rattle.kb_record.specs.Nesting.{deepest, open_behind, word_nesting, text_nesting, fields_nesting, IsTooDeep}
 use Rattle.kb_record.specs.Faults.{HasTextFault, HasTreeFault}
 use Rattle.kb_record.specs.View.{word_view, text_view}
-use Rattle.kb_lexing.specs.Lexemes.{token_view, tokens_view}
 use Rattle.kb_record.specs.Reading.{Reading, read, unexpected, too_deep, and_then, reading_map, behind, past, read_word, read_text, read_ended, read_fields, skip_semicolon, rec_view, fields_from, FallsShort, ReadsAll, Says}
-use Rattle.kb_lexing.specs.declared.token.Lexeme.{Lexeme}
 use Rattle.kb_record.specs.declared.tree.Rec.{Rec as RecType}
 use Rattle.kb_record.specs.declared.cursor.Mark.TheVariants.{Assign, OpenRound, Rec, Semicolon}
 use Rattle.kb_record.specs.declared.cursor.Stop.{Stop}
@@ -27,18 +24,19 @@ use Rattle.kb_record.proofs.ValueForms.{fields_form, fields_meets}
 use Rattle.kb_record.proofs.Finds.{Finds}
 use Rattle.kb_record.proofs.Unique.{finds_word, finds_text, TextEnd}
 use Rattle.kb_record.proofs.Views.{fields_alike}
-use Rattle.kb_lexing.proofs.OneToken.{one_list}
+use Rattle.kb_lexing.proofs.FrontTokens.{tokens_of, tokens_of-first, tokens_are, fronts}
 
--- what the lexer tells of the bytes
-pub record LexedOf (bytes : List ℕ) (whole : Bool) (lexemes : List Lexeme) : Type 0 where
-  pub all : IsTrue whole → TokensOf bytes (tokens_view lexemes)
+-- what is known of the bytes and whether they have tokens
+pub record LexedOf (bytes : List ℕ) (whole : Bool) : Type 0 where
+  pub all : IsTrue whole → (tokens : List Token) × TokensOf bytes tokens
   pub none : whole ≡ false → (tokens : List Token) → TokensOf bytes tokens → ⊥
-  pub fronts : (k : ℕ) (lexeme : Lexeme) → slice_get lexemes k ≡ Some lexeme → TokensOf (take lexeme.end bytes) (tokens_view (take (k + 1) lexemes))
 
--- a list of tokens of the bytes is that of the lexer, and the lexer came to the end
-only : (bytes : List ℕ) (whole : Bool) (lexemes : List Lexeme) (tokens : List Token) → LexedOf bytes whole lexemes → TokensOf bytes tokens → tokens ≡ tokens_view lexemes
-only bytes true lexemes tokens h t = one_list bytes tokens (tokens_view lexemes) t (h.all refl)
-only bytes false lexemes tokens h t = absurd (h.none refl tokens t)
+-- the first tokens of bytes that have tokens are all of them
+spelled_whole : (bytes : List ℕ) (whole : Bool) → LexedOf bytes whole → IsTrue whole → TokensOf bytes (tokens_of bytes)
+spelled_whole bytes whole lexed e =
+    let found = lexed.all e in
+    let P : List Token → Type 0 = λ ts. TokensOf bytes ts in
+    subst P (tokens_are bytes found.0 found.1) found.1
 
 not_whole : (whole : Bool) (P : Type 0) → (whole ≡ false → ⊥) → ((whole ≡ false) ⊎ P) → P
 not_whole whole P h (inl e) = absurd (h e)
@@ -46,49 +44,32 @@ not_whole whole P h (inr p) = p
 
 -- ---- too deep
 
-some_consumed : (consumed : List Token) (n : ℕ) → ((o : ℕ) → open_behind o consumed ≡ o + suc n) → 0 < length consumed
-some_consumed [] n opens = let e = opens 0 in let never : ⊥ = omega arith in absurd never
-some_consumed (t ∷ ts) n opens = omega arith
-
-front_tokens : (lexemes : List Lexeme) (consumed rest : List Token) → tokens_view lexemes ≡ consumed ++ rest → tokens_view (take (length consumed) lexemes) ≡ consumed
-front_tokens lexemes consumed rest e = sym (take-map (λ (lexeme : Lexeme). token_view lexeme.token) (length consumed) lexemes) ∙ ap (take (length consumed)) e ∙ take-append_seam consumed rest
-
-deep_at : {A : Type 0} (HasForm : List Token → Type 0) (F : Form A) (bytes : List ℕ) (whole : Bool) (lexemes : List Lexeme) (rest : List Token) (last : Lexeme) (k : ℕ) → LexedOf bytes whole lexemes → ((tree : A) → F.Good tree → HasForm (F.spelled tree))
-    → (h : Deepens F (suc deepest) (tokens_view lexemes) rest) → length h.consumed ≡ k + 1 → slice_get lexemes k ≡ Some last → IsTooDeep HasForm bytes
-deep_at HasForm F bytes whole lexemes rest last k lexed form h at here = record {
-  front = take last.end bytes;
-  behind = drop last.end bytes;
-  whole = sym (take-append-drop last.end bytes);
-  tokens = h.consumed;
-  spelled =
-      let P : List Token → Type 0 = λ ts. TokensOf (take last.end bytes) ts in
-      subst P (ap (λ n. tokens_view (take n lexemes)) (sym at) ∙ front_tokens lexemes h.consumed rest h.whole) (lexed.fronts k last here);
-  opened = h.opens 0;
-  more = h.more;
-  possible = let P : List Token → Type 0 = HasForm in subst P (sym h.formed) (form h.tree h.good);
-}
-
-last_at : (lexemes : List Lexeme) (k : ℕ) → k < length lexemes → (last : Lexeme) × (slice_get lexemes k ≡ Some last)
-last_at [] k h = let never : ⊥ = omega arith in absurd never
-last_at (l ∷ ls) k h = (get_or (l ∷ ls) k l, slice_get-get_or (l ∷ ls) k l h)
-
-deep : {A : Type 0} (HasForm : List Token → Type 0) (F : Form A) (bytes : List ℕ) (whole : Bool) (lexemes : List Lexeme) (rest : List Token) → LexedOf bytes whole lexemes → ((tree : A) → F.Good tree → HasForm (F.spelled tree))
-    → Deepens F (suc deepest) (tokens_view lexemes) rest → IsTooDeep HasForm bytes
-deep HasForm F bytes whole lexemes rest lexed form h =
-    let some = some_consumed h.consumed deepest h.opens in
-    let long : length lexemes ≡ length h.consumed + length rest = sym (length-map lexemes (λ (lexeme : Lexeme). token_view lexeme.token)) ∙ ap length h.whole ∙ length-append h.consumed rest in
-    let last = last_at lexemes (length h.consumed - 1) (omega arith) in
-    deep_at HasForm F bytes whole lexemes rest last.0 (length h.consumed - 1) lexed form h (omega arith) last.1
+deep : {A : Type 0} (HasForm : List Token → Type 0) (F : Form A) (bytes : List ℕ) (rest : List Token) → ((tree : A) → F.Good tree → HasForm (F.spelled tree))
+    → Deepens F (suc deepest) (tokens_of bytes) rest → IsTooDeep HasForm bytes
+deep HasForm F bytes rest form h =
+    let few : length h.consumed ≤ length (tokens_of bytes) = omega (arith, ap length h.whole, length-append h.consumed rest) in
+    let cut = fronts bytes (tokens_of bytes) (tokens_of-first bytes) (length h.consumed) few in
+    let same : take (length h.consumed) (tokens_of bytes) ≡ h.consumed = ap (take (length h.consumed)) h.whole ∙ take-append_seam h.consumed rest in
+    record {
+      front = cut.1.front;
+      behind = cut.0;
+      whole = cut.1.whole;
+      tokens = h.consumed;
+      spelled = (let P : List Token → Type 0 = λ ts. TokensOf cut.1.front ts in subst P same cut.1.spelled);
+      opened = h.opens 0;
+      more = h.more;
+      possible = (let P : List Token → Type 0 = HasForm in subst P (sym h.formed) (form h.tree h.good));
+    }
 
 -- ---- words
 
 word_stands : (tokens rest : List Token) (fs : Factors) → read_word deepest tokens ≡ read fs rest → Stands word_form deepest tokens rest fs
 word_stands tokens rest fs e = let P : Reading Factors → Type 0 = λ r. Meets word_form deepest (suc deepest) tokens r in subst P e (word_meets deepest tokens)
 
-pub word_read : (bytes : List ℕ) (whole : Bool) (lexemes : List Lexeme) (fs : Factors) → LexedOf bytes whole lexemes → (read_word deepest (tokens_view lexemes) ≡ read fs []) × IsTrue whole → WordOf bytes fs
-word_read bytes whole lexemes fs lexed h =
-    let stands = word_stands (tokens_view lexemes) [] fs h.0 in
-    record { tokens = tokens_view lexemes; spelled = lexed.all h.1; formed = (stands.good, stands.whole ∙ append-nil (word_tokens fs)) }
+pub word_read : (bytes : List ℕ) (whole : Bool) (fs : Factors) → LexedOf bytes whole → (read_word deepest (tokens_of bytes) ≡ read fs []) × IsTrue whole → WordOf bytes fs
+word_read bytes whole fs lexed h =
+    let stands = word_stands (tokens_of bytes) [] fs h.0 in
+    record { tokens = tokens_of bytes; spelled = spelled_whole bytes whole lexed h.1; formed = (stands.good, stands.whole ∙ append-nil (word_tokens fs)) }
 
 pub word_shallow : (tokens : List Token) (fs : Factors) → read_word deepest tokens ≡ read fs [] → word_nesting fs ≤ deepest
 word_shallow tokens fs e = (word_stands tokens [] fs e).shallow
@@ -98,23 +79,23 @@ short_of d n a (read found left) short h = short h.1
 short_of d n a unexpected short h = h
 short_of d n a (too_deep left) short h = short
 
-word_short : (bytes : List ℕ) (whole : Bool) (lexemes : List Lexeme) (fs : Factors) → LexedOf bytes whole lexemes → ((whole ≡ false) ⊎ FallsShort (read_word deepest (tokens_view lexemes))) → WordOf bytes fs → ⊥
-word_short bytes whole lexemes fs lexed h word =
-    let same = only bytes whole lexemes word.tokens lexed word.spelled in
+word_short : (bytes : List ℕ) (whole : Bool) (fs : Factors) → LexedOf bytes whole → ((whole ≡ false) ⊎ FallsShort (read_word deepest (tokens_of bytes))) → WordOf bytes fs → ⊥
+word_short bytes whole fs lexed h word =
+    let same = tokens_are bytes word.tokens word.spelled in
     let short = not_whole whole _ (λ e. lexed.none e word.tokens word.spelled) h in
     let P : List Token → Type 0 = λ ts. IsWordText ts fs in
-    short_of deepest (word_nesting fs) fs (read_word deepest (tokens_view lexemes)) short (finds_word deepest (tokens_view lexemes) fs (subst P same word.formed))
+    short_of deepest (word_nesting fs) fs (read_word deepest (tokens_of bytes)) short (finds_word deepest (tokens_of bytes) fs (subst P same word.formed))
 
-word_deep : (bytes : List ℕ) (whole : Bool) (lexemes : List Lexeme) (rest : List Token) → LexedOf bytes whole lexemes → read_word deepest (tokens_view lexemes) ≡ too_deep rest → IsTooDeep (λ tokens. (factors : Factors) × IsWordText tokens factors) bytes
-word_deep bytes whole lexemes rest lexed e =
-    let P : Reading Factors → Type 0 = λ r. Meets word_form deepest (suc deepest) (tokens_view lexemes) r in
-    deep (λ tokens. (factors : Factors) × IsWordText tokens factors) word_form bytes whole lexemes rest lexed (λ fs good. (fs, (good, refl))) (subst P e (word_meets deepest (tokens_view lexemes)))
+word_deep : (bytes : List ℕ) (rest : List Token) → read_word deepest (tokens_of bytes) ≡ too_deep rest → IsTooDeep (λ tokens. (factors : Factors) × IsWordText tokens factors) bytes
+word_deep bytes rest e =
+    let P : Reading Factors → Type 0 = λ r. Meets word_form deepest (suc deepest) (tokens_of bytes) r in
+    deep (λ tokens. (factors : Factors) × IsWordText tokens factors) word_form bytes rest (λ fs good. (fs, (good, refl))) (subst P e (word_meets deepest (tokens_of bytes)))
 
-pub word_fault : (bytes : List ℕ) (whole : Bool) (lexemes : List Lexeme) (stop : Stop) (error : RecordError) (rest : List Token) → LexedOf bytes whole lexemes → ReadsAll (read_word deepest (tokens_view lexemes)) word_view whole (Err stop) rest → Says stop error → HasTreeFault bytes error
-word_fault bytes whole lexemes (Unexpected expected) (errors.Syntax at) rest lexed h says = λ fs word. word_short bytes whole lexemes fs lexed h word
-word_fault bytes whole lexemes TooDeep (errors.TooDeep at) rest lexed h says = word_deep bytes whole lexemes rest lexed h
-word_fault bytes whole lexemes Memory errors.Memory rest lexed h says = tt
-word_fault bytes whole lexemes _ _ rest lexed h says = absurd says
+pub word_fault : (bytes : List ℕ) (whole : Bool) (stop : Stop) (error : RecordError) (rest : List Token) → LexedOf bytes whole → ReadsAll (read_word deepest (tokens_of bytes)) word_view whole (Err stop) rest → Says stop error → HasTreeFault bytes error
+word_fault bytes whole (Unexpected expected) (errors.Syntax at) rest lexed h says = λ fs word. word_short bytes whole fs lexed h word
+word_fault bytes whole TooDeep (errors.TooDeep at) rest lexed h says = word_deep bytes rest h
+word_fault bytes whole Memory errors.Memory rest lexed h says = tt
+word_fault bytes whole _ _ rest lexed h says = absurd says
 
 -- ---- texts
 
@@ -186,10 +167,10 @@ is_text : (tokens rest : List Token) (t : Named) → Stands text_form deepest to
 is_text tokens rest t h (inl e) = (h.good, inl (h.whole ∙ ap (λ ts. text_form.spelled t ++ ts) e ∙ append-nil (text_form.spelled t)))
 is_text tokens rest t h (inr e) = (h.good, inr (h.whole ∙ ap (λ ts. text_form.spelled t ++ ts) e))
 
-pub text_read : (bytes : List ℕ) (whole : Bool) (lexemes : List Lexeme) (t : Named) → LexedOf bytes whole lexemes → (read_ended deepest (tokens_view lexemes) ≡ read t []) × IsTrue whole → TextOf bytes (tree_of t)
-text_read bytes whole lexemes t lexed h =
-    let found = ended deepest (tokens_view lexemes) t (read_text deepest (tokens_view lexemes)) (text_meets deepest (tokens_view lexemes)) h.0 in
-    record { tokens = tokens_view lexemes; spelled = lexed.all h.1; formed = is_text (tokens_view lexemes) found.0 t found.1 found.2 }
+pub text_read : (bytes : List ℕ) (whole : Bool) (t : Named) → LexedOf bytes whole → (read_ended deepest (tokens_of bytes) ≡ read t []) × IsTrue whole → TextOf bytes (tree_of t)
+text_read bytes whole t lexed h =
+    let found = ended deepest (tokens_of bytes) t (read_text deepest (tokens_of bytes)) (text_meets deepest (tokens_of bytes)) h.0 in
+    record { tokens = tokens_of bytes; spelled = spelled_whole bytes whole lexed h.1; formed = is_text (tokens_of bytes) found.0 t found.1 found.2 }
 
 pub text_shallow : (tokens : List Token) (t : Named) → read_ended deepest tokens ≡ read t [] → text_nesting (tree_of t) ≤ deepest
 text_shallow tokens t e = (ended deepest tokens t (read_text deepest tokens) (text_meets deepest tokens) e).1.shallow
@@ -200,29 +181,29 @@ text_short_of d n t rest (read found left) (inr e) short h = short (ap skip_semi
 text_short_of d n t rest unexpected end short h = h
 text_short_of d n t rest (too_deep left) end short h = short
 
-text_short : (bytes : List ℕ) (whole : Bool) (lexemes : List Lexeme) (text : TextTree) → LexedOf bytes whole lexemes → ((whole ≡ false) ⊎ FallsShort (read_ended deepest (tokens_view lexemes))) → TextOf bytes text → ⊥
-text_short bytes whole lexemes text lexed h given =
-    let same = only bytes whole lexemes given.tokens lexed given.spelled in
+text_short : (bytes : List ℕ) (whole : Bool) (text : TextTree) → LexedOf bytes whole → ((whole ≡ false) ⊎ FallsShort (read_ended deepest (tokens_of bytes))) → TextOf bytes text → ⊥
+text_short bytes whole text lexed h given =
+    let same = tokens_are bytes given.tokens given.spelled in
     let short = not_whole whole _ (λ e. lexed.none e given.tokens given.spelled) h in
     let P : List Token → Type 0 = λ ts. IsText ts text in
-    let found = finds_text deepest (tokens_view lexemes) text (subst P same given.formed) in
-    text_short_of deepest (text_nesting text) _ found.0 (read_text deepest (tokens_view lexemes)) found.1 short found.2
+    let found = finds_text deepest (tokens_of bytes) text (subst P same given.formed) in
+    text_short_of deepest (text_nesting text) _ found.0 (read_text deepest (tokens_of bytes)) found.1 short found.2
 
 deep_inside : (tokens rest : List Token) (reading : Reading Named) → Meets text_form deepest (suc deepest) tokens reading → and_then reading (λ text left. read text (skip_semicolon left)) ≡ too_deep rest → Deepens text_form (suc deepest) tokens rest
 deep_inside tokens rest (read found left) h e = cc
 deep_inside tokens rest unexpected h e = cc
 deep_inside tokens rest (too_deep left) h e = let P : List Token → Type 0 = λ ts. Deepens text_form (suc deepest) tokens ts in subst P (ap rest_of e) h
 
-text_deep : (bytes : List ℕ) (whole : Bool) (lexemes : List Lexeme) (rest : List Token) → LexedOf bytes whole lexemes → read_ended deepest (tokens_view lexemes) ≡ too_deep rest → IsTooDeep (λ tokens. (text : TextTree) × IsText tokens text) bytes
-text_deep bytes whole lexemes rest lexed e =
-    deep (λ tokens. (text : TextTree) × IsText tokens text) text_form bytes whole lexemes rest lexed (λ t good. (tree_of t, (good, inl refl)))
-    (deep_inside (tokens_view lexemes) rest (read_text deepest (tokens_view lexemes)) (text_meets deepest (tokens_view lexemes)) e)
+text_deep : (bytes : List ℕ) (rest : List Token) → read_ended deepest (tokens_of bytes) ≡ too_deep rest → IsTooDeep (λ tokens. (text : TextTree) × IsText tokens text) bytes
+text_deep bytes rest e =
+    deep (λ tokens. (text : TextTree) × IsText tokens text) text_form bytes rest (λ t good. (tree_of t, (good, inl refl)))
+    (deep_inside (tokens_of bytes) rest (read_text deepest (tokens_of bytes)) (text_meets deepest (tokens_of bytes)) e)
 
-pub text_fault : (bytes : List ℕ) (whole : Bool) (lexemes : List Lexeme) (stop : Stop) (error : RecordError) (rest : List Token) → LexedOf bytes whole lexemes → ReadsAll (read_ended deepest (tokens_view lexemes)) rec_view whole (Err stop) rest → Says stop error → HasTextFault bytes error
-text_fault bytes whole lexemes (Unexpected expected) (errors.Syntax at) rest lexed h says = λ text given. text_short bytes whole lexemes text lexed h given
-text_fault bytes whole lexemes TooDeep (errors.TooDeep at) rest lexed h says = text_deep bytes whole lexemes rest lexed h
-text_fault bytes whole lexemes Memory errors.Memory rest lexed h says = tt
-text_fault bytes whole lexemes _ _ rest lexed h says = absurd says
+pub text_fault : (bytes : List ℕ) (whole : Bool) (stop : Stop) (error : RecordError) (rest : List Token) → LexedOf bytes whole → ReadsAll (read_ended deepest (tokens_of bytes)) rec_view whole (Err stop) rest → Says stop error → HasTextFault bytes error
+text_fault bytes whole (Unexpected expected) (errors.Syntax at) rest lexed h says = λ text given. text_short bytes whole text lexed h given
+text_fault bytes whole TooDeep (errors.TooDeep at) rest lexed h says = text_deep bytes rest h
+text_fault bytes whole Memory errors.Memory rest lexed h says = tt
+text_fault bytes whole _ _ rest lexed h says = absurd says
 
 pub text_alike : (text : RecType) → tree_of (rec_view text) ≡ text_view text
 text_alike text = let make : Fields → TextTree = λ fs. record { title = text.name.now; fields = fs } in ap make (fields_alike text.fields.items)

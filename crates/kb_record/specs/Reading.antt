@@ -1,15 +1,14 @@
 -- Reading tokens from the left: the tree that stands first, and the tokens behind it.
-use Rattle.std.specs.Prelude.{◌≡◌, ◌≢◌, ◌⊎◌, IsTrue, unwrap_or, ℕ, zero, suc, ◌+◌, ℤ, List, [], ◌∷◌, length, drop, ◌<◌, map, Bool, true, false, if◌then◌else◌, Option, Some, None, Result, Ok, Err}
+use Rattle.std.specs.Prelude.{◌≡◌, ◌≢◌, ◌⊎◌, IsTrue, unwrap_or, ℕ, zero, suc, ℤ, List, [], ◌∷◌, length, drop, map, Bool, true, false, if◌then◌else◌, Option, Some, None, Result, Ok, Err}
 use Rattle.std.specs.Borrow.{Bor}
 use Rattle.kb_lexing.specs.Token.{Token, name, number, string, assign, open_round, close_round, open_square, close_square, comma, semicolon, star, caret, dots, rec_word}
 use Rattle.kb_record.specs.Tree.{Factor, named, grouped, Factors, Value, number_value, string_value, record_value, list_value, range_value, word_value, Fields, no_fields, field, no_places}
 use Rattle.kb_record.specs.View.{factors_of, places_of, value_view}
-use Rattle.kb_lexing.specs.Lexemes.{token_view, tokens_view}
+use Rattle.kb_lexing.proofs.FrontTokens.{tokens_from}
 use Rattle.kb_record.specs.declared.tree.Value.{Value as ValueType}
 use Rattle.kb_record.specs.declared.tree.Rec.{Rec as RecType}
 use Rattle.kb_record.specs.declared.error.RecordError.{RecordError}
 use Rattle.kb_record.specs.declared.error.RecordError.TheVariants as errors
-use Rattle.kb_lexing.specs.declared.token.Token.{Token as TokenType}
 use Rattle.kb_record.specs.declared.cursor.Cursor.{Cursor}
 use Rattle.kb_record.specs.declared.cursor.Mark.{Mark}
 use Rattle.kb_record.specs.declared.cursor.Mark.TheVariants.{Assign, OpenRound, CloseRound, OpenSquare, CloseSquare, Comma, Semicolon, Star, Caret, Dots, Rec}
@@ -42,12 +41,11 @@ Reads reading view (Err Memory) rest = Unit {0}
 
 -- the tokens that the cursor has left
 abbrev pub remaining : Cursor → List Token
-remaining cursor = tokens_view (drop cursor.at cursor.lexemes.now)
+remaining cursor = tokens_from cursor.next
 
--- the token is next
-pub record Begins (cursor : Cursor) (token : TokenType) : Type 0 where
-  pub within : cursor.at < length cursor.lexemes.now
-  pub first : remaining cursor ≡ token_view token ∷ tokens_view (drop (cursor.at + 1) cursor.lexemes.now)
+-- those behind the next one
+abbrev pub behind_next : Cursor → List Token
+behind_next cursor = drop 1 (remaining cursor)
 
 abbrev pub is_mark : Mark → Token → Bool
 is_mark Assign assign = true
@@ -159,6 +157,10 @@ place_with value tokens = if ends_place tokens then read None tokens else readin
 
 abbrev pub field_with : Parse Value → Parse (List ℕ × Value)
 field_with value tokens = and_then (read_name tokens) (λ text rest. past (behind Assign rest) (λ others. reading_map (λ tree. (text, tree)) (value others)))
+
+abbrev pub begins_with_dots : List Token → Bool
+begins_with_dots (dots ∷ tokens) = true
+begins_with_dots _ = false
 
 -- the number that a range begins with, and its dots
 abbrev pub begin_range : List Token → Option (ℤ × List Token)

@@ -1,14 +1,15 @@
-//! The tokens that are still to be read.
+//! The tokens that are still to be read, made one by one.
 
-ghost use Rattle.std.specs.Prelude.{◌≡◌, ◌≢◌, ◌<◌, ◌≤◌, ◌∷◌, [], Some, None, length, MatchOption, IfOk, OnOk, IfErr, IsTrue, MatchResult, ◌⊎◌, false};
+ghost use Rattle.std.specs.Prelude.{◌≡◌, ◌≢◌, ◌∷◌, [], Some, None, MatchOption, IfOk, OnOk, IfErr, IsTrue, MatchResult, ◌⊎◌, false};
 ghost use Rattle.kb_record.specs.declared.cursor.Stop.TheVariants as stops;
 ghost use Rattle.std.specs.Bool.{MatchBool};
 ghost use Rattle.kb_record.specs.View.{value_view};
-ghost use Rattle.kb_lexing.specs.Lexemes.{token_view, tokens_view};
-ghost use Rattle.kb_record.specs.Reading.{Reads, remaining, Begins, is_mark, behind, read_name, read_number, read_scalar, begins_word, begin_range, ends_place, passes_comma};
+ghost use Rattle.kb_lexing.specs.Lexemes.{token_view};
+ghost use Rattle.kb_lexing.proofs.FrontTokens.{tokens_of};
+ghost use Rattle.kb_record.specs.Reading.{Reads, remaining, behind_next, is_mark, behind, read_name, read_number, read_scalar, begins_word, begin_range, begins_with_dots, ends_place, passes_comma};
 
 use crate::tree::Value;
-use kb_lexing::{Expected, Lexeme, Token};
+use kb_lexing::{Expected, Lexeme, Passed, Token, first_lexeme};
 use kb_word::Memory;
 use std::alloc::AllocFailed;
 
@@ -76,27 +77,46 @@ impl<T: Drop> From<AllocFailed<T>> for Stop {
     }
 }
 
-/// Goes over the tokens of a text.
+/// Goes over the tokens of a text, which it makes one by one.
 #[derive(Drop)]
-pub(crate) struct Cursor<'t, 'a> {
-    lexemes: &'t [Lexeme<'a>],
-    at: usize,
+pub(crate) struct Cursor<'a> {
+    next: Option<Lexeme<'a>>,
+    passed: Passed<'a>,
 }
 
-impl<'t, 'a> Cursor<'t, 'a> {
-    /// Before the first of the tokens.
-    pub fn new(lexemes: &'t [Lexeme<'a>]) -> Cursor<'t, 'a>
-        ensures { remaining result ≡ tokens_view lexemes.now }
+impl<'a> Cursor<'a> {
+    /// Before the first token of a text.
+    pub fn new(text: &'a [u8]) -> Cursor<'a>
+        ensures { remaining result ≡ tokens_of text.now }
     {
-        Cursor { lexemes, at: 0 }
+        Cursor {
+            next: first_lexeme(text),
+            passed: Passed::none(),
+        }
+    }
+
+    /// The tokens that were passed.
+    pub fn passed(&self) -> &Passed<'a> {
+        &self.passed
     }
 
     /// The next token.
     pub fn peek(&self) -> Option<Token<'a>>
-        ensures { MatchOption result (remaining self.now ≡ []) (Begins self.now) }
+        ensures { MatchOption result (remaining self.now ≡ [])
+            (λ token. remaining self.now ≡ token_view token ∷ behind_next self.now) }
     {
-        let lexeme = self.lexemes.get(self.at)?;
+        let lexeme = self.next.as_ref()?;
         Some(lexeme.token)
+    }
+
+    /// Passes the next token.
+    fn advance(&mut self)
+        ensures { remaining self.new ≡ behind_next self.old }
+    {
+        if let Some(lexeme) = self.next {
+            self.next = first_lexeme(lexeme.rest);
+            self.passed = self.passed.and(lexeme);
+        }
     }
 
     /// Passes the mark, if it comes next.
@@ -111,7 +131,7 @@ impl<'t, 'a> Cursor<'t, 'a> {
         if !mark.is(token) {
             return false;
         }
-        self.at += 1;
+        self.advance();
         true
     }
 
@@ -149,7 +169,7 @@ impl<'t, 'a> Cursor<'t, 'a> {
     {
         match self.peek() {
             Some(Token::Name(name)) => {
-                self.at += 1;
+                self.advance();
                 Ok(name)
             }
             _ => Err(Stop::Unexpected(Expected::Name)),
@@ -163,7 +183,7 @@ impl<'t, 'a> Cursor<'t, 'a> {
     {
         match self.peek() {
             Some(Token::Number(number)) => {
-                self.at += 1;
+                self.advance();
                 Ok(number)
             }
             _ => Err(Stop::Unexpected(Expected::Number)),
@@ -176,11 +196,11 @@ impl<'t, 'a> Cursor<'t, 'a> {
     {
         match self.peek() {
             Some(Token::Number(number)) => {
-                self.at += 1;
+                self.advance();
                 Ok(Value::Number(number))
             }
             Some(Token::String(text)) => {
-                self.at += 1;
+                self.advance();
                 Ok(Value::String(text))
             }
             _ => Err(Stop::Unexpected(Expected::Value)),
@@ -200,16 +220,16 @@ impl<'t, 'a> Cursor<'t, 'a> {
             ((begin_range (remaining self.old) ≡ None) × (remaining self.new ≡ remaining self.old))
             (λ from. begin_range (remaining self.old) ≡ Some (from, remaining self.new)) }
     {
-        let Some(Token::Number(from)) = self.peek() else {
+        let lexeme = self.next?;
+        let Token::Number(from) = lexeme.token else {
             return None;
         };
-        match self.lexemes.get(self.at + 1) {
-            Some(lexeme) if matches!(lexeme.token, Token::Dots) => {
-                self.at += 2;
-                Some(from)
-            }
-            _ => None,
+        if !begins_with_dots(lexeme.rest) {
+            return None;
         }
+        self.advance();
+        self.advance();
+        Some(from)
     }
 
     /// Whether a comma or the bracket that closes a list comes next.
@@ -225,17 +245,20 @@ impl<'t, 'a> Cursor<'t, 'a> {
             (λ stop. ((remaining self.now ≢ []) ⊎ (whole ≡ false))
             × (stop ≡ stops.Unexpected Expected.Mark)) }
     {
-        if whole && self.left() == 0 {
+        if whole && self.next.is_none() {
             Ok(())
         } else {
             Err(Stop::Unexpected(Expected::Mark))
         }
     }
+}
 
-    /// How many tokens are left.
-    pub fn left(&self) -> usize
-        ensures { result ≡ length (remaining self.now) }
-    {
-        self.lexemes.len().saturating_sub(self.at)
+/// Whether the first token of a text is `..`.
+fn begins_with_dots(text: &[u8]) -> bool
+    ensures { result ≡ begins_with_dots (tokens_of text.now) }
+{
+    match first_lexeme(text) {
+        Some(lexeme) => Mark::Dots.is(lexeme.token),
+        None => false,
     }
 }

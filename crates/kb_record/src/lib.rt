@@ -32,7 +32,8 @@
 //!
 //! # How it is made
 //!
-//! - `kb_lexing` makes tokens of the bytes, each as long as possible, up to the first byte that belongs to none.
+//! - `kb_lexing` makes the tokens of the bytes one by one, each as long as possible, up to the first byte that belongs
+//!   to none; so tokens take no memory.
 //! - `cursor` goes over the tokens; `words` and `records` read trees by recursive descent. They recurse
 //!   into brackets alone, of which 64 may be open; what is joined by `*` or `,` is read in loops. Each
 //!   function is proved to compute a function on token lists of `specs/Reading.antt`, and what those say of the

@@ -13,7 +13,7 @@ use crate::meaning::word_of;
 use crate::records::fields;
 use crate::tree::{Expr, Rec};
 use crate::words::word;
-use kb_lexing::{Expected, Lexeme, lex, syntax_place};
+use kb_lexing::{Expected, Passed, has_tokens, last_place, syntax_place};
 use kb_word::{Presentation, Word};
 use std::alloc::Global;
 
@@ -32,11 +32,10 @@ pub fn parse<'a>(alloc: Global, bytes: &'a [u8]) -> Result<Rec<'a>, RecordError>
     ensures shallow { IfOk result (λ text. text_nesting (text_view text) ≤ deepest) }
     ensures fault { IfErr result (HasTextFault bytes.now) }
 {
-    let lexed = lex(alloc, bytes)?;
-    let mut tokens = Cursor::new(&lexed.lexemes);
-    match whole_text(alloc, &mut tokens, lexed.whole) {
+    let mut tokens = Cursor::new(bytes);
+    match whole_text(alloc, &mut tokens, has_tokens(bytes)) {
         Ok(text) => Ok(text),
-        Err(stop) => Err(error_at(bytes, &lexed.lexemes, tokens.left(), stop)),
+        Err(stop) => Err(error_at(bytes, tokens.passed(), stop)),
     }
 }
 
@@ -49,11 +48,10 @@ pub fn parse_expr<'a>(alloc: Global, bytes: &'a [u8]) -> Result<Expr<'a>, Record
     ensures shallow { IfOk result (λ word. word_nesting (word_view word) ≤ deepest) }
     ensures fault { IfErr result (HasTreeFault bytes.now) }
 {
-    let lexed = lex(alloc, bytes)?;
-    let mut tokens = Cursor::new(&lexed.lexemes);
-    match whole_word(alloc, &mut tokens, lexed.whole) {
+    let mut tokens = Cursor::new(bytes);
+    match whole_word(alloc, &mut tokens, has_tokens(bytes)) {
         Ok(word) => Ok(word),
-        Err(stop) => Err(error_at(bytes, &lexed.lexemes, tokens.left(), stop)),
+        Err(stop) => Err(error_at(bytes, tokens.passed(), stop)),
     }
 }
 
@@ -76,24 +74,23 @@ pub fn parse_word(
     word_of(alloc, &tree, presentation)
 }
 
-/// The refusal of a text whose reading stops before so many of its last lexemes.
-fn error_at(bytes: &[u8], lexemes: &[Lexeme<'_>], left: usize, stop: Stop) -> RecordError
+/// The refusal of a text whose reading stops behind the tokens that were passed.
+fn error_at(bytes: &[u8], passed: &Passed<'_>, stop: Stop) -> RecordError
     ensures { Says stop result }
 {
-    let good = &lexemes[..lexemes.len().saturating_sub(left)];
     match stop {
         Stop::Unexpected(expected) => RecordError::Syntax {
-            at: syntax_place(bytes, good, expected),
+            at: syntax_place(bytes, passed, expected),
         },
         Stop::TooDeep => RecordError::TooDeep {
-            at: good.last().map_or(0, |bracket| bracket.start),
+            at: last_place(bytes, passed),
         },
         Stop::Memory => RecordError::Memory,
     }
 }
 
 /// Reads a text that goes to the end of the tokens, which are all that the bytes have.
-fn whole_text<'a>(alloc: Global, tokens: &mut Cursor<'_, 'a>, whole: bool) -> Result<Rec<'a>, Stop>
+fn whole_text<'a>(alloc: Global, tokens: &mut Cursor<'a>, whole: bool) -> Result<Rec<'a>, Stop>
     ensures { ReadsAll (read_ended deepest (remaining tokens.old)) rec_view whole result
         (remaining tokens.new) }
 {
@@ -104,7 +101,7 @@ fn whole_text<'a>(alloc: Global, tokens: &mut Cursor<'_, 'a>, whole: bool) -> Re
 }
 
 /// Reads a name, `:=` and a record.
-fn text<'a>(alloc: Global, tokens: &mut Cursor<'_, 'a>) -> Result<Rec<'a>, Stop>
+fn text<'a>(alloc: Global, tokens: &mut Cursor<'a>) -> Result<Rec<'a>, Stop>
     ensures { Reads (read_text deepest (remaining tokens.old)) rec_view result
         (remaining tokens.new) }
 {
@@ -117,7 +114,7 @@ fn text<'a>(alloc: Global, tokens: &mut Cursor<'_, 'a>) -> Result<Rec<'a>, Stop>
 }
 
 /// Reads a word that goes to the end of the tokens, which are all that the bytes have.
-fn whole_word<'a>(alloc: Global, tokens: &mut Cursor<'_, 'a>, whole: bool) -> Result<Expr<'a>, Stop>
+fn whole_word<'a>(alloc: Global, tokens: &mut Cursor<'a>, whole: bool) -> Result<Expr<'a>, Stop>
     ensures { ReadsAll (read_word deepest (remaining tokens.old)) word_view whole result
         (remaining tokens.new) }
 {

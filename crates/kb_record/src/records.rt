@@ -16,7 +16,7 @@ use std::alloc::Global;
 
 /// Reads a value, with brackets in brackets at most `depth` deep.
 #[cycle(values)]
-fn value<'a>(alloc: Global, tokens: &mut Cursor<'_, 'a>, depth: usize) -> Result<Value<'a>, Stop>
+fn value<'a>(alloc: Global, tokens: &mut Cursor<'a>, depth: usize) -> Result<Value<'a>, Stop>
     ensures reads { Reads (read_value depth (remaining tokens.old)) value_view result
         (remaining tokens.new) }
     ensures shorter { OnOk result (length (remaining tokens.new) ≤ length (remaining tokens.old)) }
@@ -34,11 +34,7 @@ fn value<'a>(alloc: Global, tokens: &mut Cursor<'_, 'a>, depth: usize) -> Result
 }
 
 /// Reads a word as a value.
-fn word_value<'a>(
-    alloc: Global,
-    tokens: &mut Cursor<'_, 'a>,
-    depth: usize,
-) -> Result<Value<'a>, Stop>
+fn word_value<'a>(alloc: Global, tokens: &mut Cursor<'a>, depth: usize) -> Result<Value<'a>, Stop>
     ensures reads { Reads (reading_map word_value (read_word depth (remaining tokens.old)))
         value_view
         result (remaining tokens.new) }
@@ -50,7 +46,7 @@ fn word_value<'a>(
 
 /// Reads a record behind its `rec`.
 #[cycle(values)]
-fn record<'a>(alloc: Global, tokens: &mut Cursor<'_, 'a>, depth: usize) -> Result<Value<'a>, Stop>
+fn record<'a>(alloc: Global, tokens: &mut Cursor<'a>, depth: usize) -> Result<Value<'a>, Stop>
     ensures reads { Reads (read_record depth (remaining tokens.old)) value_view result
         (remaining tokens.new) }
     ensures shorter { OnOk result (length (remaining tokens.new) ≤ length (remaining tokens.old)) }
@@ -64,7 +60,7 @@ fn record<'a>(alloc: Global, tokens: &mut Cursor<'_, 'a>, depth: usize) -> Resul
 #[cycle(values)]
 pub(crate) fn fields<'a>(
     alloc: Global,
-    tokens: &mut Cursor<'_, 'a>,
+    tokens: &mut Cursor<'a>,
     depth: usize,
 ) -> Result<Vec<(&'a str, Value<'a>)>, Stop>
     ensures reads { Reads (read_fields depth (remaining tokens.old))
@@ -85,7 +81,7 @@ pub(crate) fn fields<'a>(
 #[cycle(values)]
 fn some_fields<'a>(
     alloc: Global,
-    tokens: &mut Cursor<'_, 'a>,
+    tokens: &mut Cursor<'a>,
     depth: usize,
 ) -> Result<Vec<(&'a str, Value<'a>)>, Stop>
     ensures reads { Reads
@@ -106,7 +102,7 @@ fn some_fields<'a>(
 #[cycle(values)]
 fn field<'a>(
     alloc: Global,
-    tokens: &mut Cursor<'_, 'a>,
+    tokens: &mut Cursor<'a>,
     depth: usize,
 ) -> Result<(&'a str, Value<'a>), Stop>
     ensures reads { Reads (field_with (read_value depth) (remaining tokens.old)) field_view result
@@ -121,7 +117,7 @@ fn field<'a>(
 
 /// Reads a list or a range behind its open bracket, and the closing bracket.
 #[cycle(values)]
-fn list<'a>(alloc: Global, tokens: &mut Cursor<'_, 'a>, depth: usize) -> Result<Value<'a>, Stop>
+fn list<'a>(alloc: Global, tokens: &mut Cursor<'a>, depth: usize) -> Result<Value<'a>, Stop>
     ensures reads { Reads (read_list depth (remaining tokens.old)) value_view result
         (remaining tokens.new) }
     ensures shorter { OnOk result (length (remaining tokens.new) ≤ length (remaining tokens.old)) }
@@ -143,7 +139,7 @@ fn list<'a>(alloc: Global, tokens: &mut Cursor<'_, 'a>, depth: usize) -> Result<
 #[cycle(values)]
 fn places<'a>(
     alloc: Global,
-    tokens: &mut Cursor<'_, 'a>,
+    tokens: &mut Cursor<'a>,
     depth: usize,
 ) -> Result<Vec<Option<Value<'a>>>, Stop>
     ensures reads { Reads
@@ -165,7 +161,7 @@ fn places<'a>(
 #[cycle(values)]
 fn place<'a>(
     alloc: Global,
-    tokens: &mut Cursor<'_, 'a>,
+    tokens: &mut Cursor<'a>,
     depth: usize,
 ) -> Result<Option<Value<'a>>, Stop>
     ensures reads { Reads (place_with (read_value depth) (remaining tokens.old))
@@ -181,7 +177,7 @@ fn place<'a>(
 }
 
 /// Reads the rest of a range behind its dots, and the closing bracket.
-fn range<'a>(tokens: &mut Cursor<'_, 'a>, from: i64) -> Result<Value<'a>, Stop>
+fn range<'a>(tokens: &mut Cursor<'a>, from: i64) -> Result<Value<'a>, Stop>
     ensures reads { Reads (range_from from (remaining tokens.old)) value_view result
         (remaining tokens.new) }
     ensures shorter { OnOk result (length (remaining tokens.new) ≤ length (remaining tokens.old)) }

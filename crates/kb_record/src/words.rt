@@ -15,7 +15,7 @@ use std::alloc::Global;
 #[cycle(words)]
 pub(crate) fn word<'a>(
     alloc: Global,
-    tokens: &mut Cursor<'_, 'a>,
+    tokens: &mut Cursor<'a>,
     depth: usize,
 ) -> Result<Vec<Factor<'a>>, Stop>
     ensures reads { Reads (read_word depth (remaining tokens.old))
@@ -34,7 +34,7 @@ pub(crate) fn word<'a>(
 
 /// Reads a name or a group, and its power.
 #[cycle(words)]
-fn factor<'a>(alloc: Global, tokens: &mut Cursor<'_, 'a>, depth: usize) -> Result<Factor<'a>, Stop>
+fn factor<'a>(alloc: Global, tokens: &mut Cursor<'a>, depth: usize) -> Result<Factor<'a>, Stop>
     ensures reads { Reads (read_factor depth (remaining tokens.old)) factor_view result
         (remaining tokens.new) }
     ensures shorter { OnOk result (length (remaining tokens.new) ≤ length (remaining tokens.old)) }
@@ -49,11 +49,7 @@ fn factor<'a>(alloc: Global, tokens: &mut Cursor<'_, 'a>, depth: usize) -> Resul
 
 /// Reads the word behind an open bracket, and the closing bracket.
 #[cycle(words)]
-fn group<'a>(
-    alloc: Global,
-    tokens: &mut Cursor<'_, 'a>,
-    depth: usize,
-) -> Result<Vec<Factor<'a>>, Stop>
+fn group<'a>(alloc: Global, tokens: &mut Cursor<'a>, depth: usize) -> Result<Vec<Factor<'a>>, Stop>
     ensures reads { Reads (read_group depth (remaining tokens.old))
         (λ factors. factors_view factors.items)
         result (remaining tokens.new) }
@@ -68,7 +64,7 @@ fn group<'a>(
 }
 
 /// Reads `^` and a number, if there is a power.
-fn power(tokens: &mut Cursor<'_, '_>) -> Result<Option<i64>, Stop>
+fn power(tokens: &mut Cursor<'_>) -> Result<Option<i64>, Stop>
     ensures reads { Reads (read_power (remaining tokens.old)) (λ power. power) result
         (remaining tokens.new) }
     ensures shorter { OnOk result (length (remaining tokens.new) ≤ length (remaining tokens.old)) }
