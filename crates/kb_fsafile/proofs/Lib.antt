@@ -8,10 +8,7 @@ pub mod NumberLemmas
 pub mod PaddedTexts
 pub mod PaddingReach
 pub mod RowLemmas
-pub mod SpelledValues
 pub mod TableLemmas
 pub mod TextLemmas
 pub mod UniqueAutomaton
-pub mod Writings
 pub mod WrittenAutomata
-pub mod WrittenTrees

@@ -18,12 +18,12 @@ use Rattle.kb_fsafile.specs.Kinds.{IsNumbers, StandsFor, IsNumberOf, numbered_fr
 use Rattle.kb_fsafile.specs.Misplaced.{IsDropped, IsMisplaced, IsWithoutMisplaced, IsCleaned}
 use Rattle.kb_fsafile.specs.Holds.{HoldsNames, HoldsAlphabet, HoldsInitial, HoldsAccepting, HoldsEntries, HoldsRow, HoldsRows, HoldsMoves, HoldsTable, HoldsAutomaton, IsPairSize}
 use Rattle.kb_fsafile.specs.Reading.{AreStates}
-use Rattle.kb_fsafile.specs.Printed.{numbers_value, targets_from, dense_rows, accepting_from, accepting_value, names_fields, alphabet_fields, states_fields, table_fields, tree_of}
+use Rattle.kb_fsaprint.specs.Printed.{numbers_value, targets_from, dense_rows, accepting_from, accepting_value, names_fields, alphabet_fields, states_fields, table_fields, tree_of}
 use Rattle.kb_fsafile.specs.declared.format.Format.TheVariants.{Dense}
 use Rattle.kb_fsafile.proofs.NumberLemmas.{IsPos, listed_stands}
 use Rattle.kb_fsafile.proofs.PaddedTexts.{in_place_from_padded}
 use Rattle.kb_fsafile.proofs.UniqueAutomaton.{pos_same}
-use Rattle.kb_fsafile.proofs.WrittenTrees.{tree_once}
+use Rattle.kb_fsaprint.proofs.WrittenTrees.{tree_once}
 
 -- ---- the alphabet
 

@@ -1,3 +1,4 @@
+pub use Rattle.kb_fsaprint.specs.Printed
 pub mod Kinds
 pub mod Misplaced
 pub mod Cleaning
@@ -5,6 +6,4 @@ pub mod Holds
 pub mod Faults
 pub mod Reading
 pub mod RowsRead
-pub mod Printed
-pub mod Writing
 pub mod Refusals

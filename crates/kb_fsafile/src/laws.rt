@@ -7,7 +7,7 @@ ghost use Rattle.kb_fsa.specs.Language.{Automaton, IsAutomaton, generators};
 ghost use Rattle.kb_fsa.specs.Canonical.{IsCanonical};
 ghost use Rattle.kb_fsafile.specs.Holds.{AutomatonOf};
 ghost use Rattle.kb_fsafile.specs.Faults.{HasFsaFault};
-ghost use Rattle.kb_fsafile.specs.Printed.{text_of_automaton};
+ghost use Rattle.kb_fsaprint.specs.Printed.{text_of_automaton};
 ghost use Rattle.kb_fsafile.specs.declared.error.FsaError.{FsaError};
 ghost use Rattle.kb_fsafile.specs.declared.error.FsaError.TheVariants as errors;
 

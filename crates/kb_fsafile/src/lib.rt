@@ -1,4 +1,4 @@
-//! Automaton files: from bytes to automata, and back.
+//! Automaton files: from bytes to automata; and what is written is read again.
 //!
 //! A file is the text of a record, `NAME := rec( FIELDS )`. Its own name is free, and of its fields these count;
 //! others are read and ignored.
@@ -27,8 +27,8 @@
 //! text is read in one way at most. So, want of memory apart, a text is refused exactly where it has a fault. Which
 //! of several faults is named is tested, and not proved; `docs/formats.md` has the order.
 //!
-//! [`write`] returns the one printed text of a canonical automaton over any names. Where they are names of
-//! generators, it is read as that automaton ([`a_written_automaton_is_read_again`]).
+//! [`write`], of `kb_fsaprint`, returns the one printed text of a canonical automaton over any names. Where they are
+//! names of generators, it is read as that automaton ([`a_written_automaton_is_read_again`]).
 //!
 //! # How it is made
 //!
@@ -38,18 +38,18 @@
 //!   to 10^18 before the rows are seen to be as many, so the accepting states are marked after the rows.
 //! - `rows` reads the rows of a table, dense or sparse, as ascending symbols with targets that are states.
 //! - `misplaced` drops moves of automata of pairs, or refuses them.
-//! - `reader` joins them, each step a function called in the order of the refusals, and `writer` prints.
+//! - `reader` joins them, each step a function called in the order of the refusals.
 //!
 //! # Where the definitions and proofs are
 //!
 //! Definitions speak of the tree of the text: in `specs/` the kinds of values in `Kinds`, what a text holds in
-//! `Holds`, what each refusal means in `Faults`, moves that no padded text takes in `Misplaced`, the printed text in
-//! `Printed`; what the functions for fields and rows return in `Reading` and `RowsRead`. In `proofs/`,
-//! `UniqueAutomaton` and `NoFault` have the laws of reading, `WrittenTrees` and `WrittenAutomata` that of writing,
-//! and `PaddedTexts`, `PaddingReach` and `Cleanings` the moves that are dropped.
+//! `Holds`, what each refusal means in `Faults`, moves that no padded text takes in `Misplaced`; what the functions
+//! for fields and rows return in `Reading` and `RowsRead`. In `proofs/`, `UniqueAutomaton` and `NoFault` have the laws
+//! of reading, `WrittenAutomata` that of writing, and `PaddedTexts`, `PaddingReach` and `Cleanings` the moves that are
+//! dropped.
 //!
-//! `kb_record` (trees), `kb_fields` (fields), `kb_fsa` (automata) and `kb_reach` (what moves lead to) are below; the
-//! commands that load and store automata are above.
+//! `kb_record` (trees), `kb_fields` (fields), `kb_fsaprint` (the printed text), `kb_fsa` (automata) and `kb_reach`
+//! (what moves lead to) are below; the commands that load and store automata are above.
 #![tactic(auto)]
 
 mod accepting;
@@ -66,11 +66,10 @@ mod rows;
 mod states;
 mod table;
 mod values;
-mod writer;
 
 pub use error::{Field, FsaError};
+pub use kb_fsaprint::write;
 pub use laws::{
     a_text_says_one_automaton, a_written_automaton_is_read_again, an_automaton_file_has_no_fault,
 };
 pub use reader::read;
-pub use writer::write;

@@ -1,5 +1,5 @@
-use Rattle.kb_fsafile.specs.Printed.{tree_of, text_of_automaton}
-use Rattle.kb_fsafile.proofs.WrittenTrees.{tree_formed, tree_shallow, tree_spelled, title_spelled}
+use Rattle.kb_fsaprint.specs.Printed.{tree_of, text_of_automaton}
+use Rattle.kb_fsaprint.proofs.WrittenTrees.{tree_formed, tree_shallow, tree_spelled, title_spelled}
 use Rattle.kb_fsafile.proofs.WrittenAutomata.{automaton_written}
 use Rattle.kb_fsafile.proofs.laws.a_written_automaton_is_read_again.Goals as goal
 

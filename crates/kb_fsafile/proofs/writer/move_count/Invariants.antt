@@ -1,7 +1,0 @@
-use Rattle.std.proofs.Common.{◌≡◌, ◌+◌, drop}
-use Rattle.kb_fsafile.specs.Printed.{move_count}
-use Rattle.kb_fsafile.proofs.writer.move_count.Given as goal
-
--- the moves of this row and of those behind it are still to be counted
-abbrev pub invariant-loop-row : goal.invariant-loop-row
-invariant-loop-row l = l.count + move_count (drop l.row-index l.rows) ≡ move_count l.rows

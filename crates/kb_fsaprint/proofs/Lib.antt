@@ -1,0 +1,3 @@
+pub mod SpelledValues
+pub mod Writings
+pub mod WrittenTrees

@@ -1,0 +1,10 @@
+use Rattle.std.proofs.Common.{◌++◌}
+use Rattle.std.specs.Prelude.{codes}
+use Rattle.kb_record.specs.Printing.{pieces, IsPrintedUpTo}
+use Rattle.kb_fsaprint.proofs.Writings.{row_text}
+use Rattle.kb_fsaprint.proofs.writer.write_rows.Given as goal
+
+abbrev pub invariant-loop-row : goal.invariant-loop-row
+invariant-loop-row l =
+    IsPrintedUpTo (row_text l.symbols) (codes ",\n") (codes "\n    ]") l.rows
+    (codes "[" ++ (pieces (row_text l.symbols) (codes "\n") (codes ",\n") l.rows ++ codes "\n    ]")) l.fn.out.items l.row-index l.before l.out.items
