@@ -6,11 +6,7 @@ use Rattle.kb_record.specs.Tree.{Value, number_value, place, no_places}
 use Rattle.kb_record.specs.View.{places_of, value_view}
 use Rattle.kb_record.specs.declared.tree.Value as code
 use Rattle.kb_fields.specs.Fields.{places_view}
-use Rattle.kb_fsafile.specs.Kinds.{list_of_numbers, two_places, entry_value, list_of_entries}
-
-pub list_of_numbers-places_of : (numbers : List ℤ) → list_of_numbers numbers ≡ places_of (map (λ (z : ℤ). Some (number_value z)) numbers)
-list_of_numbers-places_of [] = refl
-list_of_numbers-places_of (z ∷ numbers) = ap (place (number_value z)) (list_of_numbers-places_of numbers)
+use Rattle.kb_fsafile.specs.Kinds.{two_places, entry_value, list_of_entries}
 
 pub list_of_entries-places_of : (entries : List (ℤ × ℤ)) → list_of_entries entries ≡ places_of (map (λ (e : ℤ × ℤ). Some (entry_value e)) entries)
 list_of_entries-places_of [] = refl

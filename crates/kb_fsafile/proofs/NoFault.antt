@@ -22,7 +22,8 @@ use Rattle.kb_fsafile.specs.Faults.{HasOtherAlphabet, HasWrongStates, HasOutOfRa
 use Rattle.kb_fsafile.specs.declared.format.Format.TheVariants.{Dense, Sparse}
 use Rattle.kb_fsafile.specs.declared.error.FsaError.{FsaError}
 use Rattle.kb_fsafile.specs.declared.error.FsaError.TheVariants as errors
-use Rattle.kb_fsafile.proofs.NumberLemmas.{one_list_of_numbers, pos_contained}
+use Rattle.kb_fields.proofs.NumberLemmas.{one_list_of_numbers}
+use Rattle.kb_fsafile.proofs.NumberLemmas.{pos_contained}
 use Rattle.kb_fsafile.proofs.UniqueAutomaton.{string_same, one_string, one_count, one_list_of_entries, one_table, pos_same, integers}
 use Rattle.kb_fsafile.proofs.HeldFields.{IsHeldRow, row_at_place, count_of_rows, initial_numbers, dense_format, no_default_target, pairs_of, names_of_base, letters_named, listed_names, type_of, generator_names, size_of, count_of, states_of, default_of, format_of, rows_of, none_missing, none_of_other_kind}
 

@@ -5,29 +5,11 @@ use Rattle.std.proofs.lemmas.Bool.{cases_eq, false≢true}
 use Rattle.std.proofs.lemmas.List.{length-map, get_or-map, get_or-set_same, get_or-set_other, take_more, map-append}
 use Rattle.std.proofs.lemmas.List.Elements.{Contains-get_or, Contains-append_left, Contains-push, Contains-push_cases, All-contains, All-push}
 use Rattle.kb_record.specs.Tree.{Value, number_value, string_value, record_value, list_value, range_value, word_value, Places}
-use Rattle.kb_record.specs.Tree as tree
-use Rattle.kb_fields.proofs.ListingLemmas.{list_same}
+use Rattle.kb_fields.proofs.NumberLemmas.{list_of_numbers-injective}
 use Rattle.kb_fsafile.specs.Kinds.{list_of_numbers, StandsFor, IsNumbers, IsNumberOf}
 use Rattle.kb_fsafile.specs.Reading.{AreStates, IsAcceptingState, StandsForStates}
 use Rattle.kb_fsafile.specs.declared.accepting.Accepting.{Accepting}
 use Rattle.kb_fsafile.specs.declared.accepting.Accepting.TheVariants.{Listed, Range}
-
-front : {v w : ℤ} {p q : Places} → tree.place (number_value v) p ≡ tree.place (number_value w) q → v ≡ w
-front e = cc
-
-behind : {v w : ℤ} {p q : Places} → tree.place (number_value v) p ≡ tree.place (number_value w) q → p ≡ q
-behind e = cc
-
--- a list of numbers is determined by its places
-pub list_of_numbers-injective : (xs ys : List ℤ) → list_of_numbers xs ≡ list_of_numbers ys → xs ≡ ys
-list_of_numbers-injective [] [] e = refl
-list_of_numbers-injective [] (y ∷ ys) e = cc
-list_of_numbers-injective (x ∷ xs) [] e = cc
-list_of_numbers-injective (x ∷ xs) (y ∷ ys) e =
-    let rest = list_of_numbers-injective xs ys (behind e) in let first = front e in cc
-
-pub one_list_of_numbers : (xs ys : List ℤ) → list_value (list_of_numbers xs) ≡ list_value (list_of_numbers ys) → xs ≡ ys
-one_list_of_numbers xs ys e = list_of_numbers-injective xs ys (list_same e)
 
 pos-injective : {a b : ℕ} → pos a ≡ pos b → a ≡ b
 pos-injective e = cc

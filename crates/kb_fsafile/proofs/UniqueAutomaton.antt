@@ -17,7 +17,7 @@ use Rattle.kb_fsafile.specs.Holds.{HoldsRecord, HoldsString, HoldsCount, HoldsNa
 use Rattle.kb_fsafile.specs.declared.format.Format.{Format}
 use Rattle.kb_fsafile.specs.declared.format.Format.TheVariants.{Dense, Sparse}
 use Rattle.kb_fsafile.proofs.KindLemmas.{list_of_entries-places_of}
-use Rattle.kb_fsafile.proofs.NumberLemmas.{one_list_of_numbers}
+use Rattle.kb_fields.proofs.NumberLemmas.{one_list_of_numbers}
 
 -- ---- values of fields
 

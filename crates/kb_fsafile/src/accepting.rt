@@ -10,7 +10,7 @@ ghost use Rattle.kb_fsafile.specs.Reading.{IsAcceptingState, StandsForStates, Ha
 
 use crate::error::{Field, FsaError};
 use crate::fields::needed_value;
-use crate::values::{number_within, numbers_listed, range_of};
+use crate::values::{number_within, range_of};
 use kb_record::Value;
 use kb_word::Memory;
 use std::alloc::Global;

@@ -10,7 +10,7 @@ ghost use Rattle.kb_fsafile.specs.Faults.{name_of, needed, optional, HasFieldFau
 ghost use Rattle.kb_fsafile.specs.Reading.{HasRecords, HasLists, HasStrings, HasNumbers, HasCounts, IsFaultOf};
 
 use crate::error::{Field, FsaError};
-use crate::values::{number_of, string_of};
+use crate::values::string_of;
 use kb_fields::{field_named, repeated_name};
 use kb_record::Value;
 use std::alloc::Global;

@@ -7,7 +7,7 @@ ghost use Rattle.kb_fsafile.specs.Faults.{HasFieldFault};
 
 use crate::error::{Field, FsaError};
 use crate::fields::needed_value;
-use crate::values::{number_within, numbers_listed};
+use crate::values::number_within;
 use kb_record::Value;
 use std::alloc::Global;
 

@@ -5,8 +5,9 @@ ghost use Rattle.std.specs.Option.{option_map};
 ghost use Rattle.kb_record.specs.Tree.{number_value, string_value, list_value, range_value};
 ghost use Rattle.kb_record.specs.View.{value_view};
 ghost use Rattle.kb_fields.specs.Fields.{places_view};
-ghost use Rattle.kb_fsafile.specs.Kinds.{list_of_numbers, two_places, entry_value, list_of_entries, IsNumberOf, IsTargetOf};
+ghost use Rattle.kb_fsafile.specs.Kinds.{two_places, entry_value, list_of_entries, IsNumberOf, IsTargetOf};
 
+use kb_fields::number_of;
 use kb_record::Value;
 use kb_word::Memory;
 use std::alloc::Global;
@@ -22,17 +23,6 @@ pub fn string_of<'a>(value: &Value<'a>) -> Option<&'a str>
     }
 }
 
-/// The number that the value is.
-pub fn number_of<'a>(value: &Value<'a>) -> Option<i64>
-    ensures found { IfSome result (λ number. value_view value.now ≡ number_value number) }
-    ensures none { IfNone result ((number : ℤ) → value_view value.now ≢ number_value number) }
-{
-    match value {
-        Value::Number(number) => Some(*number),
-        _ => None,
-    }
-}
-
 /// The first and the last number of the range that the value is.
 pub fn range_of<'a>(value: &Value<'a>) -> Option<(i64, i64)>
     ensures found { IfSome result (λ ends. value_view value.now ≡ range_value ends.0 ends.1) }
@@ -41,35 +31,6 @@ pub fn range_of<'a>(value: &Value<'a>) -> Option<(i64, i64)>
     match value {
         Value::Range(from, to) => Some((*from, *to)),
         _ => None,
-    }
-}
-
-/// The numbers of a value that is a list of numbers.
-pub fn numbers_listed<'a>(alloc: Global, value: &Value<'a>) -> Result<Option<Vec<i64>>, Memory>
-    ensures listed { IfOk result (λ numbers. IfSome numbers (λ numbers. value_view value.now ≡ list_value (list_of_numbers numbers.items))) }
-    ensures other { IfOk result (λ numbers. IfNone numbers ((numbers : List ℤ) → value_view value.now ≢ list_value (list_of_numbers numbers))) }
-{
-    let Value::List(places) = value else {
-        return Ok(None);
-    };
-    let mut numbers = Vec::with_capacity(alloc, places.len())?;
-    for place in places {
-        let Some(number) = number_at(place) else {
-            return Ok(None);
-        };
-        numbers.push(number)?;
-    }
-    Ok(Some(numbers))
-}
-
-/// The number at a place of a list.
-fn number_at<'a>(place: &Option<Value<'a>>) -> Option<i64>
-    ensures found { IfSome result (λ number. option_map value_view place.now ≡ Some (number_value number)) }
-    ensures none { IfNone result ((number : ℤ) → option_map value_view place.now ≢ Some (number_value number)) }
-{
-    match place {
-        Some(value) => number_of(value),
-        None => None,
     }
 }
 
@@ -114,6 +75,17 @@ fn two_numbers<'a>(places: &[Option<Value<'a>>]) -> Option<(i64, i64)>
         return None;
     }
     Some((number_at(&places[0])?, number_at(&places[1])?))
+}
+
+/// The number at a place of a list.
+fn number_at<'a>(place: &Option<Value<'a>>) -> Option<i64>
+    ensures found { IfSome result (λ number. option_map value_view place.now ≡ Some (number_value number)) }
+    ensures none { IfNone result ((number : ℤ) → option_map value_view place.now ≢ Some (number_value number)) }
+{
+    match place {
+        Some(value) => number_of(value),
+        None => None,
+    }
 }
 
 /// The number, where it is one of 1 to `count`.

@@ -1,15 +1,12 @@
 -- Numbers, and lists of them, as values.
 use Rattle.std.specs.Prelude.{ℕ, ℤ, pos, List, [], ◌∷◌}
 use Rattle.kb_record.specs.Tree.{Value, number_value, list_value, Places, no_places, place}
+-- a list of numbers
+pub use Rattle.kb_fields.specs.Fields.{list_of_numbers}
 
 -- a number from 0 on
 abbrev pub count_value : ℕ → Value
 count_value n = number_value (pos n)
-
--- a list of these numbers
-abbrev pub list_of_numbers : List ℤ → Places
-list_of_numbers [] = no_places
-list_of_numbers (z ∷ numbers) = place (number_value z) (list_of_numbers numbers)
 
 -- the places of two numbers
 abbrev pub two_places : ℤ × ℤ → Places
