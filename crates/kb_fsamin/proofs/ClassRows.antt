@@ -7,10 +7,10 @@ use Rattle.kb_fsa.specs.Table.{Moves, IsRow, Ascends, target}
 use Rattle.kb_fsa.proofs.Lookups.{Ascends-tail, Ascends-head, lookup_here, lookup_there, lookup_below, target_some, target_none}
 use Rattle.kb_fsamin.specs.Rounds.{class_of, classed, class_row}
 
-class_row-dead : (classes : List ℕ) (move : ℕ × ℕ) (rest : Moves) → class_of classes move.1 ≡ 0 → class_row classes (move ∷ rest) ≡ class_row classes rest
+pub class_row-dead : (classes : List ℕ) (move : ℕ × ℕ) (rest : Moves) → class_of classes move.1 ≡ 0 → class_row classes (move ∷ rest) ≡ class_row classes rest
 class_row-dead classes move rest is = rw (eq-eqb (class_of classes move.1) 0 is) refl
 
-class_row-live : (classes : List ℕ) (move : ℕ × ℕ) (rest : Moves) → class_of classes move.1 ≢ 0
+pub class_row-live : (classes : List ℕ) (move : ℕ × ℕ) (rest : Moves) → class_of classes move.1 ≢ 0
     → class_row classes (move ∷ rest) ≡ (move.0, class_of classes move.1) ∷ class_row classes rest
 class_row-live classes move rest some = rw (ne_eqb (class_of classes move.1) 0 some) refl
 

@@ -1,10 +1,11 @@
 -- A round keeps what classes say; where it changes nothing, states of one class have one right language.
-use Rattle.std.proofs.Common.{◌≡◌, ◌≢◌, ℕ, zero, suc, ◌≤◌, List, [], ◌∷◌, length, refl, sym, ap, ◌∙◌, inl, inr, arith}
-use Rattle.std.proofs.lemmas.Bool.{cases_eq, true≢false}
+use Rattle.std.proofs.Common.{◌≡◌, ◌≢◌, ℕ, zero, suc, ◌-◌, ◌<◌, ◌≤◌, List, [], ◌∷◌, length, get_or, refl, sym, ap, ◌∙◌, inl, inr, arith}
+use Rattle.std.proofs.lemmas.Bool.{cases_eq, cases_lt, true≢false}
+use Rattle.std.proofs.lemmas.List.{get_or_past}
 use Rattle.kb_fsa.specs.Table.{Table, target, moves_of, is_accepting, step, AcceptsFrom, AreEquivalent}
 use Rattle.kb_fsa.specs.Canonical.{IsState}
 use Rattle.kb_fsa.proofs.Lookups.{IsRow-moves_of, step_within, after_none, same_from_targets}
-use Rattle.kb_fsamin.specs.Rounds.{class_of, class_row, Sight, sight, IsRefined, IsClassing, IsStable}
+use Rattle.kb_fsamin.specs.Rounds.{class_of, class_row, Sight, sight, IsRefined, IsClassing, IsStable, AreStoodFor}
 use Rattle.kb_fsamin.proofs.Signatures.{pair_is}
 use Rattle.kb_fsamin.proofs.ClassRows.{IsRow-class_row, target-class_row}
 
@@ -76,23 +77,48 @@ module _ (table : Table) (classes : List ℕ) (classing : IsClassing table class
     ];
   }
 
-  module _ (refined : IsRefined table classes classes) where
+  module _ (sees : (p q : ℕ) → IsState table p → IsState table q → class_of classes p ≢ 0 → class_of classes p ≡ class_of classes q
+      → class_row classes (moves_of table p) ≡ class_row classes (moves_of table q)) where
     accepted : (text : List ℕ) (p q : ℕ) → IsState table p → IsState table q → class_of classes p ≢ 0 → class_of classes p ≡ class_of classes q
         → AcceptsFrom table p text → AcceptsFrom table q text
     accepted [] p q one two some same accepts = sym (classing.accepting p q one two some same) ∙ accepts
     accepted (symbol ∷ text) p q one two some same accepts =
         let s = step table p symbol in
         let t = step table q symbol in
-        let alike = refined.refines p q one.within two.within some (λ dead. some (same ∙ dead)) same in
         let classes_alike : class_of classes s ≡ class_of classes t =
-        sym (step_class p symbol) ∙ ap (λ (v : Sight). target v.1 symbol) alike ∙ step_class q symbol in
+        sym (step_class p symbol) ∙ ap (λ row. target row symbol) (sees p q one two some same) ∙ step_class q symbol in
         let first = step_within table p symbol classing.is_table in
         let second = step_within table q symbol classing.is_table in
         let next : class_of classes s ≢ 0 = some_class s text first accepts in
         accepted text s t (has_state s first next) (has_state t second (λ dead. next (classes_alike ∙ dead))) next classes_alike accepts
 
-    pub stable_from_refined : IsStable table classes
-    stable_from_refined p q one two some same = λ text. (
+    stable_from_sights : IsStable table classes
+    stable_from_sights p q one two some same = λ text. (
       accepted text p q one two some same,
       accepted text q p two one (λ dead. some (same ∙ dead)) (sym same),
     )
+
+  pub stable_from_refined : IsRefined table classes classes → IsStable table classes
+  stable_from_refined refined =
+      stable_from_sights
+      (λ p q one two some same. ap (λ (v : Sight). v.1) (refined.refines p q one.within two.within some (λ dead. some (same ∙ dead)) same))
+
+  -- states of a class see what the state sees that stands for them
+  module _ (stood : AreStoodFor table classes (length table.rows)) where
+    pub stable_from_stood : IsStable table classes
+    stable_from_stood =
+        stable_from_sights
+        (λ p q one two some same.
+        let mine = stood p one.positive one.within some in
+        let theirs = stood q two.positive two.within (λ dead. some (same ∙ dead)) in
+        sym mine.alike ∙ ap (λ class. class_row classes (get_or table.rows (class - 1) [])) same ∙ theirs.alike)
+
+    pub small_from_stood : (state : ℕ) → class_of classes state ≤ length table.rows
+    small_from_stood zero = omega (arith, classing.none)
+    small_from_stood (suc place) = elim (cases_lt place (length table.rows)) [
+      | inl within ↦ elim (cases_eq (class_of classes (suc place)) 0) [
+        | inl dead ↦ omega arith
+        | inr some ↦ (stood (suc place) (omega arith) (omega arith) some).within
+      ]
+      | inr beyond ↦ omega (arith, get_or_past classes (suc place) 0 (omega (arith, classing.one_each)))
+    ]

@@ -9,9 +9,10 @@ pub mod ClassRows
 pub mod Classings
 pub mod RisingSums
 pub mod AcceptanceClasses
-pub mod PartitionLemmas
-pub mod Openings
-pub mod Walks
+pub mod Marking
+pub mod Dividing
+pub mod Counting
+pub mod SplitSteps
 pub mod Numberings
 pub mod Splittings
 pub mod NoMoves

@@ -11,7 +11,7 @@ use Rattle.kb_fsamin.specs.Rounds.{sight_of}
 pub pair_is : {X Y : Type 0} (a b : X × Y) → a.0 ≡ b.0 → a.1 ≡ b.1 → a ≡ b
 pair_is {X} {Y} a b one two = ap (λ (x : X). (x, a.1)) one ∙ ap (λ (y : Y). (b.0, y)) two
 
-moves_decide : (a b : ℕ × ℕ) → Decides (nat_eq a.0 b.0 && nat_eq a.1 b.1) (a ≡ b)
+pub moves_decide : (a b : ℕ × ℕ) → Decides (nat_eq a.0 b.0 && nat_eq a.1 b.1) (a ≡ b)
 moves_decide a b =
     Decides-like _ (λ both. pair_is a b both.0 both.1) (λ is. (ap (λ (m : ℕ × ℕ). m.0) is, ap (λ (m : ℕ × ℕ). m.1) is))
     (Decides-and _ _ (Decides-eqb a.0 b.0) (Decides-eqb a.1 b.1))

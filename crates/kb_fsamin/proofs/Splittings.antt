@@ -1,16 +1,19 @@
 -- Splitters keep states of one right language together.
 use Rattle.std.proofs.Common.{◌≡◌, ◌≢◌, ℕ, suc, ◌+◌, ◌<◌, List, [], ◌∷◌, ◌++◌, length, get_or, Contains, sym, ap, ◌∙◌, subst, inl, inr, arith}
 use Rattle.std.proofs.lemmas.Bool.{cases_eq}
-use Rattle.std.proofs.lemmas.List.{length_push, get_or_push, get_or_append_left}
-use Rattle.std.proofs.lemmas.List.Elements.{All-contains}
+use Rattle.std.proofs.lemmas.List.{length_push, get_or_push, get_or_append_left, get_or-map, length-map}
+use Rattle.std.proofs.lemmas.List.Elements.{All-contains, Contains-get_or}
 use Rattle.kb_fsa.specs.Table.{Table, step, AcceptsFrom, AreEquivalent}
 use Rattle.kb_fsa.specs.Canonical.{IsState}
 use Rattle.kb_fsa.proofs.Lookups.{step_within}
 use Rattle.kb_reach.specs.Graphs.{source}
 use Rattle.kb_reach.specs.Moves.{AreBackward}
 use Rattle.kb_fsamin.specs.Rounds.{class_of, IsClassing}
-use Rattle.kb_fsamin.specs.Partitions.{part_of, IsSplitBy}
-use Rattle.kb_fsamin.specs.Splitting.{AreEntering, IsLeaving, AreLeaving, IsSplitting, AreClassesOfBlocks}
+use Rattle.kb_fsamin.specs.Partitions.{part_of, first_of, AreGathered, AreGroups, AreMembers, IsPartition, IsSplitBy}
+use Rattle.kb_fsamin.specs.declared.partition.Groups.{Groups}
+use Rattle.kb_fsamin.specs.declared.partition.Partition.{Partition}
+use Rattle.kb_fsamin.specs.Splitting.{AreEntering, IsLeaving, AreLeaving, IsSplitting, AreClassesOfBlocks, targets}
+use Rattle.kb_fsamin.proofs.SplitSteps.{first_there}
 use Rattle.kb_reach.proofs.MoveLemmas.{edge_from_step}
 use Rattle.kb_fsamin.proofs.Classings.{rejects_none}
 
@@ -35,7 +38,6 @@ module _ (table : Table) (edges : List (ℕ × ℕ)) (symbols start blocks cords
             split.keeps move other (omega arith) (omega arith) (splitting.one_cord move other h i symbol same)
             (enters move other h i same, enters other move i h (λ text. ((same text).1, (same text).0)));
         refines = splitting.refines;
-        first = splitting.first;
       }
 
   -- what is left by a cord is left from all states of one right language
@@ -78,38 +80,49 @@ module _ (table : Table) (edges : List (ℕ × ℕ)) (symbols start blocks cords
         );
     one_cord = splitting.one_cord;
     refines = λ p q h i same. splitting.refines p q h i (split.splits p q (omega arith) (omega arith) same);
-    first = λ state h none. splitting.first state h (split.first state (omega arith) none);
   }
 
-  -- blocks serve as classes
-  pub classing_from_blocks : (classes : List ℕ) → AreClassesOfBlocks start blocks (length start) classes → IsClassing table classes
-  classing_from_blocks classes joined = record {
-    is_table = classing.is_table;
-    one_each = joined.one_each ∙ classing.one_each;
-    none = joined.dead 0 (omega (arith, classing.one_each)) classing.none;
-    live = λ state is. (
-      λ some. (classing.live state is).0 (λ none. some (joined.dead state (low state is) none)),
-      λ leads none.
-          let live = (classing.live state is).1 leads in
-          live (splitting.first state (low state is) (sym (joined.live state (low state is) live) ∙ none)),
-    );
-    accepting = λ p q one two some same.
-        let first : class_of start p ≢ 0 = λ none. some (joined.dead p (low p one) none) in
-        let second : class_of start q ≢ 0 = λ none. some (same ∙ joined.dead q (low q two) none) in
-        classing.accepting p q one two first
-        (splitting.refines p q (low p one) (low q two)
-        (sym (joined.live p (low p one) first) ∙ same ∙ joined.live q (low q two) second));
-    respects = λ p q one two same. elim (cases_eq (class_of start p) 0) [
-      | inl none ↦
-          joined.dead p (low p one) none ∙ sym (joined.dead q (low q two) (sym (classing.respects p q one two same) ∙ none))
-      | inr some ↦
-          joined.live p (low p one) some ∙ splitting.one_block p q (low p one) (low q two) same
-          ∙ sym (joined.live q (low q two) (λ none. some (classing.respects p q one two same ∙ none)))
-    ];
-  }
-    where
-      low : (state : ℕ) → IsState table state → state < length start
-      low state is = omega (arith, is.within, classing.one_each)
+-- blocks serve as classes
+pub classing_from_blocks : (table : Table) (edges : List (ℕ × ℕ)) (symbols start cords : List ℕ) (blocks : Partition) (classes : List ℕ)
+    → IsPartition blocks → length blocks.of.items ≡ length start → IsClassing table start
+    → IsSplitting table edges symbols start blocks.of.items cords → AreClassesOfBlocks start blocks (length start) classes → IsClassing table classes
+classing_from_blocks table edges symbols start cords blocks classes is size classing splitting joined = record {
+  is_table = classing.is_table;
+  one_each = joined.one_each ∙ classing.one_each;
+  none = joined.dead 0 (omega (arith, classing.one_each)) classing.none;
+  live = λ state is_state. (
+    λ some. (classing.live state is_state).0 (λ none. some (joined.dead state (low state is_state) none)),
+    λ leads none.
+        let live = (classing.live state is_state).1 leads in
+        let number = sym (joined.live state (low state is_state) live) ∙ none in
+        let there = first state is_state in
+        live (sym (splitting.refines _ state there.0 (low state is_state) there.1) ∙ ap (class_of start) number ∙ classing.none),
+  );
+  accepting = λ p q one two some same.
+      let live : class_of start p ≢ 0 = λ none. some (joined.dead p (low p one) none) in
+      let lives : class_of start q ≢ 0 = λ none. some (same ∙ joined.dead q (low q two) none) in
+      let number = sym (joined.live p (low p one) live) ∙ same ∙ joined.live q (low q two) lives in
+      classing.accepting p q one two live
+      (splitting.refines p q (low p one) (low q two)
+      (sym (first p one).1 ∙ ap (part_of blocks.of.items) number ∙ (first q two).1));
+  respects = λ p q one two same. elim (cases_eq (class_of start p) 0) [
+    | inl none ↦
+        joined.dead p (low p one) none ∙ sym (joined.dead q (low q two) (sym (classing.respects p q one two same) ∙ none))
+    | inr some ↦
+        joined.live p (low p one) some ∙ ap (first_of blocks) (splitting.one_block p q (low p one) (low q two) same)
+        ∙ sym (joined.live q (low q two) (λ none. some (classing.respects p q one two same ∙ none)))
+  ];
+}
+  where
+    low : (state : ℕ) → IsState table state → state < length start
+    low state is_state = omega (arith, is_state.within, classing.one_each)
+
+    first : (state : ℕ) → IsState table state
+        → (first_of blocks (part_of blocks.of.items state) < length start)
+        × (part_of blocks.of.items (first_of blocks (part_of blocks.of.items state)) ≡ part_of blocks.of.items state)
+    first state is_state =
+        let there = first_there blocks state is (omega (arith, low state is_state, size)) in
+        (omega (arith, there.0, size), there.1)
 
 -- the classes and the symbols begin a splitting
 pub splitting_start : (table : Table) (edges : List (ℕ × ℕ)) (symbols start cords : List ℕ) → IsClassing table start
@@ -120,11 +133,10 @@ splitting_start table edges symbols start cords classing one_class same = record
   one_block = one_class;
   one_cord = λ move other h i symbol _. same move other h i symbol;
   refines = λ p q h i alike. alike;
-  first = λ state h none. none;
 }
 
-pub joined_more : (start blocks : List ℕ) (done class : ℕ) (classes : List ℕ) → (class_of start done ≡ 0 → class ≡ 0)
-    → (class_of start done ≢ 0 → class ≡ part_of blocks done) → AreClassesOfBlocks start blocks done classes
+pub joined_more : (start : List ℕ) (blocks : Partition) (done class : ℕ) (classes : List ℕ) → (class_of start done ≡ 0 → class ≡ 0)
+    → (class_of start done ≢ 0 → class ≡ first_of blocks (part_of blocks.of.items done)) → AreClassesOfBlocks start blocks done classes
     → AreClassesOfBlocks start blocks (done + 1) (classes ++ class ∷ [])
 joined_more start blocks done class classes dead live joined =
     let newest : class_of (classes ++ class ∷ []) done ≡ class = get_or_push classes class 0 done joined.one_each in
@@ -137,8 +149,27 @@ joined_more start blocks done class classes dead live joined =
       ];
       live = λ state h some. elim (cases_eq state done) [
         | inl here ↦
-            ap (class_of (classes ++ class ∷ [])) here ∙ newest ∙ live (λ none. some (ap (class_of start) here ∙ none)) ∙ ap (part_of blocks) (sym here)
+            ap (class_of (classes ++ class ∷ [])) here ∙ newest ∙ live (λ none. some (ap (class_of start) here ∙ none)) ∙ ap (λ x. first_of blocks (part_of blocks.of.items x)) (sym here)
         | inr before ↦
             get_or_append_left classes (class ∷ []) 0 state (omega (arith, joined.one_each)) ∙ joined.live state (omega arith) some
       ];
     }
+
+-- what leads into the states of a block
+pub entering_from : (edges : List (ℕ × ℕ)) (blocks : List ℕ) (block : ℕ) (groups : Groups) (states listed : List ℕ) → AreGroups (targets edges) groups
+    → length groups.parts.items ≡ length blocks → ((move : ℕ) → move < length edges → source edges move < length blocks)
+    → AreMembers blocks block states → AreGathered groups states listed → AreEntering edges blocks block listed
+entering_from edges blocks block groups states listed all size known members gathered = record {
+  sound = λ k d h.
+      let from = gathered.sound (get_or listed k d) (Contains-get_or listed k d h) in
+      let state = All-contains (λ s. (s < length blocks) × (part_of blocks s ≡ block)) states from.0 members.sound from.1 in
+      let group = all from.0 (omega (arith, state.0)) in
+      let move = All-contains (λ m. (m < length (targets edges)) × (part_of (targets edges) m ≡ from.0)) _ (get_or listed k d) group.sound from.2 in
+      let within : get_or listed k d < length edges = omega (arith, move.0, length-map edges (λ (e : ℕ × ℕ). e.0)) in
+      (within, ap (part_of blocks) (sym (get_or-map (λ (e : ℕ × ℕ). e.0) edges (get_or listed k d) (0, 0) 0 within) ∙ move.1) ∙ state.1);
+  complete = λ move h is.
+      let low = known move h in
+      let group = all (source edges move) (omega (arith, low)) in
+      gathered.complete (source edges move) move (members.complete (source edges move) low is)
+      (group.complete move (omega (arith, length-map edges (λ (e : ℕ × ℕ). e.0))) (get_or-map (λ (e : ℕ × ℕ). e.0) edges move (0, 0) 0 h));
+}

@@ -1,58 +1,64 @@
 -- Numbered items in parts, which lists of items split.
-use Rattle.std.specs.Prelude.{◌≡◌, ◌⊎◌, ◌↔◌, ℕ, ◌<◌, ◌≤◌, ◌^◌, nat_lt, List, length, get_or, map, All, Contains, if◌then◌else◌}
-use Rattle.kb_reach.specs.Graphs.{AreLinked}
+use Rattle.std.specs.Prelude.{◌≡◌, ◌≢◌, ◌⊎◌, ◌↔◌, ℕ, ◌+◌, ◌<◌, ◌≤◌, ◌^◌, nat_eq, List, length, get_or, take, sum, count_by, slice_range, All, Contains}
 use Rattle.kb_fsamin.specs.declared.partition.Part.{Part}
+use Rattle.kb_fsamin.specs.declared.partition.Groups.{Groups}
 use Rattle.kb_fsamin.specs.declared.partition.Partition.{Partition}
 
 -- the part of an item
 abbrev pub part_of : List ℕ → ℕ → ℕ
 part_of parts item = get_or parts item 0
 
--- Each item stands among the entries of its part; what has left a part may stand there too.
-pub record AreEntered (of : List ℕ) (count : ℕ) (entries : List (ℕ × ℕ)) (last earlier : List ℕ) : Type 0 where
-  pub linked : AreLinked entries (length entries) count last earlier
-  pub known : (item : ℕ) → item < length of → part_of of item < count
-  pub entered : (item : ℕ) → item < length of → Contains entries (part_of of item, item)
-  pub within : All (λ entry. (entry.0 < count) × (entry.1 < length of)) entries
+-- where the items of a part stand
+abbrev pub range_of : List Part → ℕ → Part
+range_of parts part = get_or parts part (record { first = 0; middle = 0; past = 0 })
 
--- where the items that are hit go, from each part
-abbrev pub destinations : List Part → List ℕ
-destinations parts = map (λ part. part.destination) parts
+-- The item stands in the range of its part.
+pub record IsPlaced (of elements places : List ℕ) (parts : List Part) (item : ℕ) : Type 0 where
+  pub known : part_of of item < length parts
+  pub above : (range_of parts (part_of of item)).first ≤ get_or places item 0
+  pub below : get_or places item 0 < (range_of parts (part_of of item)).past
+  pub element : get_or elements (get_or places item 0) 0 ≡ item
 
--- the part to which an item goes from its part: a new one, that isn't below the bound, or the same
-abbrev pub moved : ℕ → List ℕ → ℕ → ℕ
-moved bound destinations part = if nat_lt (get_or destinations part 0) bound then part else get_or destinations part 0
+-- In the range of the part an item of it stands at the place.
+pub record IsMember (of elements places : List ℕ) (part place : ℕ) : Type 0 where
+  pub of_part : part_of of (get_or elements place 0) ≡ part
+  pub place_is : get_or places (get_or elements place 0) 0 ≡ place
 
--- the destinations are parts; those that aren't below the bound differ, and have themselves none
-pub record AreDestinations (bound : ℕ) (destinations : List ℕ) : Type 0 where
-  pub some_part : (part : ℕ) → part < length destinations → get_or destinations part 0 < length destinations
-  pub fresh : (part : ℕ) → bound ≤ part → part < length destinations → get_or destinations part 0 < bound
-  pub distinct : (part other : ℕ) → part < length destinations → other < length destinations → bound ≤ get_or destinations part 0
-      → get_or destinations part 0 ≡ get_or destinations other 0 → part ≡ other
+-- The first items, as many as are done, stand in the ranges of their parts, and nothing else stands there.
+pub record Stand (of : List ℕ) (done : ℕ) (elements places : List ℕ) (parts : List Part) : Type 0 where
+  pub placed : (item : ℕ) → item < done → IsPlaced of elements places parts item
+  pub within : (part place : ℕ) → part < length parts → (range_of parts part).first ≤ place → place < (range_of parts part).past
+      → get_or elements place 0 < done
+  pub member : (part place : ℕ) → part < length parts → (range_of parts part).first ≤ place → place < (range_of parts part).past
+      → IsMember of elements places part place
+  pub fits : (part : ℕ) → part < length parts → (range_of parts part).past ≤ length elements
+  pub order : (part : ℕ) → part < length parts
+      → ((range_of parts part).first ≤ (range_of parts part).middle) × ((range_of parts part).middle ≤ (range_of parts part).past)
 
--- The parts below the bound were there before, with their last entries; those that wait are parts.
-pub record AreOpened (bound : ℕ) (before : List ℕ) (parts : List Part) (last queue : List ℕ) : Type 0 where
-  pub destinations : AreDestinations bound (destinations parts)
-  pub more : bound ≤ length parts
-  pub one_each : length last ≡ length parts
-  pub kept : (part : ℕ) → get_or last part 0 ≡ get_or before part 0
-  pub queued : All (λ part. part < length parts) queue
+-- the item stands among the marked items of its part
+abbrev pub IsMarked : List ℕ → List ℕ → List Part → ℕ → Type 0
+IsMarked of places parts item = get_or places item 0 < (range_of parts (part_of of item)).middle
 
--- what a partition keeps
+-- all items stand in the ranges of their parts
+pub record IsArranged (parts : Partition) : Type 0 where
+  pub stand : Stand parts.of.items (length parts.of.items) parts.elements.items parts.places.items parts.parts.items
+  pub element_each : length parts.elements.items ≡ length parts.of.items
+  pub place_each : length parts.places.items ≡ length parts.of.items
+  pub few : length parts.of.items < 2 ^ 32
+  pub few_parts : length parts.parts.items < 2 ^ 32
+
+-- the item of the partition is marked
+abbrev pub IsMarkedIn : Partition → ℕ → Type 0
+IsMarkedIn parts item = IsMarked parts.of.items parts.places.items parts.parts.items item
+
+-- all items stand in the ranges of their parts, and none is marked
 pub record IsPartition (parts : Partition) : Type 0 where
-  pub entered : AreEntered parts.of.items (length parts.parts.items) parts.entries.items parts.last.items parts.earlier.items
-  pub opened : AreOpened (length parts.parts.items) parts.last.items parts.parts.items parts.last.items parts.queue.items
-  pub few : length parts.of.items ≤ 2 ^ 32
+  pub arranged : IsArranged parts
+  pub unmarked : (item : ℕ) → item < length parts.of.items → ¬ IsMarkedIn parts item
 
--- the list has the items of the part
-pub record AreMembers (of : List ℕ) (part : ℕ) (listed : List ℕ) : Type 0 where
-  pub sound : All (λ item. (item < length of) × (part_of of item ≡ part)) listed
-  pub complete : (item : ℕ) → item < length of → part_of of item ≡ part → Contains listed item
-
--- each item has its part for an entry
-pub record AreEntries (of : List ℕ) (done : ℕ) (entries : List (ℕ × ℕ)) : Type 0 where
-  pub all_done : length entries ≡ done
-  pub each : (item : ℕ) → item < done → get_or entries item (0, 0) ≡ (part_of of item, item)
+-- the first item of the part of an item, as they stand
+abbrev pub first_of : Partition → ℕ → ℕ
+first_of parts part = get_or parts.elements.items (range_of parts.parts.items part).first 0
 
 -- The parts are split by the items: what was in one part stays so where both are among the items, or neither. What was
 -- in two parts is still.
@@ -62,11 +68,106 @@ pub record IsSplitBy (items old new : List ℕ) : Type 0 where
       → Contains items one ↔ Contains items other → part_of new one ≡ part_of new other
   pub splits : (one other : ℕ) → one < length old → other < length old → part_of new one ≡ part_of new other
       → part_of old one ≡ part_of old other
-  pub first : (item : ℕ) → item < length old → part_of new item ≡ 0 → part_of old item ≡ 0
 
--- the items that are done have gone to other parts, the others haven't
-pub record AreMoved (bound : ℕ) (destinations items old new : List ℕ) : Type 0 where
+-- the item is marked, and nothing else changes
+pub record IsMarkedMore (item : ℕ) (old new : Partition) : Type 0 where
+  pub of_is : new.of.items ≡ old.of.items
+  pub count : length new.parts.items ≡ length old.parts.items
+  pub marked : (other : ℕ) → other < length old.of.items → IsMarkedIn new other ↔ (IsMarkedIn old other ⊎ (other ≡ item))
+
+-- The part is split into its marked items and the others, none of which is marked; other parts are as they were.
+pub record IsDivided (part : ℕ) (old new : Partition) : Type 0 where
+  pub one_each : length new.of.items ≡ length old.of.items
+  pub keeps : (one other : ℕ) → one < length old.of.items → other < length old.of.items
+      → part_of old.of.items one ≡ part_of old.of.items other → IsMarkedIn old one ↔ IsMarkedIn old other
+      → part_of new.of.items one ≡ part_of new.of.items other
+  pub splits : (one other : ℕ) → one < length old.of.items → other < length old.of.items
+      → part_of new.of.items one ≡ part_of new.of.items other → part_of old.of.items one ≡ part_of old.of.items other
+  pub cleared : (item : ℕ) → item < length old.of.items → part_of old.of.items item ≡ part → ¬ IsMarkedIn new item
+  pub kept : (item : ℕ) → item < length old.of.items → part_of old.of.items item ≢ part → IsMarkedIn new item ↔ IsMarkedIn old item
+
+-- The parts are those of before, and the items in the list are marked.
+pub record AreMarked (items : List ℕ) (old new : Partition) : Type 0 where
+  pub arranged : IsArranged new
+  pub of_is : new.of.items ≡ old.of.items
+  pub marked : (item : ℕ) → item < length old.of.items → IsMarkedIn new item ↔ Contains items item
+
+-- Of the marked items the parts of those that are done are split, and these are marked no more.
+pub record AreDivided (items done : List ℕ) (old new : Partition) : Type 0 where
+  pub arranged : IsArranged new
+  pub split : IsSplitBy items old.of.items new.of.items
+  pub sound : (item : ℕ) → item < length old.of.items → IsMarkedIn new item → Contains items item
+  pub cleared : (item : ℕ) → item < length old.of.items → Contains done item → ¬ IsMarkedIn new item
+  pub even : (one other : ℕ) → one < length old.of.items → other < length old.of.items
+      → part_of new.of.items one ≡ part_of new.of.items other → Contains items one ↔ Contains items other
+      → IsMarkedIn new one → IsMarkedIn new other
+
+-- an item is found at the place
+pub record IsFound (of elements places : List ℕ) (place : ℕ) : Type 0 where
+  pub item : get_or elements place 0 < length of
+  pub place_is : get_or places (get_or elements place 0) 0 ≡ place
+
+-- the items that stand in the range, up to the place, are in the part, and the others where they were
+pub record AreRelabelled (places : List ℕ) (range : Part) (part place : ℕ) (old new : List ℕ) : Type 0 where
   pub one_each : length new ≡ length old
-  pub each : (item : ℕ) → item < length old
-      → (Contains items item × (part_of new item ≡ moved bound destinations (part_of old item)))
-      ⊎ ((Contains items item → ⊥) × (part_of new item ≡ part_of old item))
+  pub inside : (item : ℕ) → item < length old → range.first ≤ get_or places item 0 → get_or places item 0 < place
+      → part_of new item ≡ part
+  pub outside : (item : ℕ) → item < length old → (range.first ≤ get_or places item 0 → get_or places item 0 < place → ⊥)
+      → part_of new item ≡ part_of old item
+
+-- the list has the items of the part
+pub record AreMembers (of : List ℕ) (part : ℕ) (listed : List ℕ) : Type 0 where
+  pub sound : All (λ item. (item < length of) × (part_of of item ≡ part)) listed
+  pub complete : (item : ℕ) → item < length of → part_of of item ≡ part → Contains listed item
+
+-- what stands in the range of a part
+abbrev pub group_of : Groups → ℕ → List ℕ
+group_of groups part = slice_range groups.elements.items (range_of groups.parts.items part).first (range_of groups.parts.items part).past
+
+-- the ranges are within what stands there
+abbrev pub AreWithin : Groups → Type 0
+AreWithin groups = (part : ℕ) → part < length groups.parts.items
+    → ((range_of groups.parts.items part).first ≤ (range_of groups.parts.items part).past)
+    × ((range_of groups.parts.items part).past ≤ length groups.elements.items)
+
+-- the items of each part stand in its range
+abbrev pub AreGroups : List ℕ → Groups → Type 0
+AreGroups of groups = (part : ℕ) → part < length groups.parts.items → AreMembers of part (group_of groups part)
+
+-- the list has what stands in the ranges of these parts
+pub record AreGathered (groups : Groups) (chosen listed : List ℕ) : Type 0 where
+  pub sound : (item : ℕ) → Contains listed item → (part : ℕ) × Contains chosen part × Contains (group_of groups part) item
+  pub complete : (part item : ℕ) → Contains chosen part → Contains (group_of groups part) item → Contains listed item
+
+-- how many of the items have the part
+abbrev pub occurrences : ℕ → List ℕ → ℕ
+occurrences part of = count_by (λ other. nat_eq other part) of
+
+-- how many of the first items, as many as are done, each part has
+pub record AreCounts (of : List ℕ) (done count : ℕ) (counts : List ℕ) : Type 0 where
+  pub one_each : length counts ≡ count
+  pub each : (part : ℕ) → part < count → get_or counts part 0 ≡ occurrences part (take done of)
+  pub total : sum counts ≡ done
+
+-- The first ranges, as many as are done, leave room for as many items, and have none.
+pub record AreRanges (counts : List ℕ) (done : ℕ) (parts : List Part) : Type 0 where
+  pub one_each : length parts ≡ done
+  pub empty : (part : ℕ) → part < done
+      → range_of parts part ≡ record { first = sum (take part counts); middle = sum (take part counts); past = sum (take part counts) }
+
+-- Ranges with room for as many items have the first items, as many as are done.
+pub record AreFilled (of counts : List ℕ) (done : ℕ) (elements places : List ℕ) (parts : List Part) : Type 0 where
+  pub one_each : length parts ≡ length counts
+  pub first : (part : ℕ) → part < length counts → (range_of parts part).first ≡ sum (take part counts)
+  pub past : (part : ℕ) → part < length counts → (range_of parts part).past ≡ sum (take part counts) + occurrences part (take done of)
+  pub none_marked : (part : ℕ) → part < length counts → (range_of parts part).middle ≡ sum (take part counts)
+  pub element_each : length elements ≡ length of
+  pub place_each : length places ≡ done
+  pub stand : Stand of done elements places parts
+
+-- two ranges without marked items, one of the marked items of the whole, and one of the others
+pub data AreHalves (whole : Part) : Part → Part → Type 0 where
+  others_first : AreHalves whole (record { first = whole.middle; middle = whole.middle; past = whole.past })
+      (record { first = whole.first; middle = whole.first; past = whole.middle })
+  marked_first : AreHalves whole (record { first = whole.first; middle = whole.first; past = whole.middle })
+      (record { first = whole.middle; middle = whole.middle; past = whole.past })

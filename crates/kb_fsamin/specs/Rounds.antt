@@ -1,5 +1,5 @@
 -- Classes of states, and the rounds that refine them.
-use Rattle.std.specs.Prelude.{◌≡◌, ◌≢◌, ◌↔◌, ℕ, suc, ◌<◌, ◌≤◌, nat_eq, List, length, get_or, filter_map, Option, Some, None, if◌then◌else◌}
+use Rattle.std.specs.Prelude.{◌≡◌, ◌≢◌, ◌↔◌, ℕ, suc, ◌-◌, ◌<◌, ◌≤◌, nat_eq, List, [], length, get_or, filter_map, Option, Some, None, if◌then◌else◌}
 use Rattle.kb_fsa.specs.Table.{Moves, Table, IsTable, moves_of, is_accepting, IsLive, AreEquivalent}
 use Rattle.kb_fsa.specs.Canonical.{IsState}
 use Rattle.kb_fsamin.specs.declared.rounds.Signature.{Signature}
@@ -85,3 +85,14 @@ sight_of signature = (signature.class, signature.moves.items)
 abbrev pub IsStable : Table → List ℕ → Type 0
 IsStable table classes = (p q : ℕ) → IsState table p → IsState table q → class_of classes p ≢ 0 → class_of classes p ≡ class_of classes q
     → AreEquivalent table p q
+
+-- A state has its own number for class, and the row of another state has the same class row as its own.
+pub record StandsFor (rows : List Moves) (classes : List ℕ) (state : ℕ) (row : Moves) : Type 0 where
+  pub within : state ≤ length rows
+  pub own : class_of classes state ≡ state
+  pub alike : class_row classes (get_or rows (state - 1) []) ≡ class_row classes row
+
+-- each of the first states has a state that stands for it, unless its class is 0
+abbrev pub AreStoodFor : Table → List ℕ → ℕ → Type 0
+AreStoodFor table classes done = (state : ℕ) → 0 < state → state ≤ done → class_of classes state ≢ 0
+    → StandsFor table.rows classes (class_of classes state) (moves_of table state)

@@ -1,10 +1,10 @@
 -- Blocks of states and cords of moves, which split each other.
-use Rattle.std.specs.Prelude.{◌≡◌, ◌≢◌, ℕ, suc, ◌<◌, ◌≤◌, List, length, get_or, All, Contains}
+use Rattle.std.specs.Prelude.{◌≡◌, ◌≢◌, ℕ, suc, ◌<◌, ◌≤◌, List, length, get_or, map, All, Contains}
 use Rattle.kb_fsa.specs.Table.{Table, AreEquivalent}
 use Rattle.kb_reach.specs.Graphs.{source, end}
 use Rattle.kb_reach.specs.Moves.{AreBackward}
 use Rattle.kb_fsamin.specs.Rounds.{class_of, IsClassing}
-use Rattle.kb_fsamin.specs.Partitions.{part_of, IsPartition}
+use Rattle.kb_fsamin.specs.Partitions.{part_of, first_of, IsPartition}
 use Rattle.kb_fsamin.specs.declared.partition.Partition.{Partition}
 
 -- The list numbers the first symbols, as many as are done; equal symbols have one number, their place among the seen.
@@ -40,13 +40,12 @@ pub record ArePaired (edges : List (ℕ × ℕ)) (start : List ℕ) (blocks cord
   pub cord_each : length cords.of.items ≡ length edges
 
 -- States of one right language are in one block, and moves by one symbol to such states in one cord. Blocks are within
--- the classes that they came from, and so is the first.
+-- the classes that they came from.
 pub record IsSplitting (table : Table) (edges : List (ℕ × ℕ)) (symbols start blocks cords : List ℕ) : Type 0 where
   pub one_block : (p q : ℕ) → p < length start → q < length start → AreEquivalent table p q → part_of blocks p ≡ part_of blocks q
   pub one_cord : (move other : ℕ) → move < length edges → other < length edges → get_or symbols move 0 ≡ get_or symbols other 0
       → AreEquivalent table (source edges move) (source edges other) → part_of cords move ≡ part_of cords other
   pub refines : (p q : ℕ) → p < length start → q < length start → part_of blocks p ≡ part_of blocks q → class_of start p ≡ class_of start q
-  pub first : (state : ℕ) → state < length start → part_of blocks state ≡ 0 → class_of start state ≡ 0
 
 -- for whatever table has these moves and classes, the splitting goes on
 abbrev pub KeepsSplitting : List (ℕ × ℕ) → List ℕ → List ℕ → Partition → Partition → Partition → Partition → Type 0
@@ -55,8 +54,12 @@ KeepsSplitting edges symbols start blocks cords blocks' cords' = (table : Table)
     → IsSplitting table edges symbols start blocks.of.items cords.of.items
     → IsSplitting table edges symbols start blocks'.of.items cords'.of.items
 
--- the first states, as many as are done, have their blocks for classes, but for those of class 0
-pub record AreClassesOfBlocks (start blocks : List ℕ) (done : ℕ) (classes : List ℕ) : Type 0 where
+-- the first states, as many as are done, have the first states of their blocks for classes, but for those of class 0
+pub record AreClassesOfBlocks (start : List ℕ) (blocks : Partition) (done : ℕ) (classes : List ℕ) : Type 0 where
   pub one_each : length classes ≡ done
   pub dead : (state : ℕ) → state < done → class_of start state ≡ 0 → class_of classes state ≡ 0
-  pub live : (state : ℕ) → state < done → class_of start state ≢ 0 → class_of classes state ≡ part_of blocks state
+  pub live : (state : ℕ) → state < done → class_of start state ≢ 0 → class_of classes state ≡ first_of blocks (part_of blocks.of.items state)
+
+-- where each move leads
+abbrev pub targets : List (ℕ × ℕ) → List ℕ
+targets edges = map (λ edge. edge.0) edges

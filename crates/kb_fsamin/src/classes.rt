@@ -5,10 +5,11 @@
 //! The classes are split by splitters, the smaller half first: Hopcroft, "An n log n algorithm for minimizing states in
 //! a finite automaton", 1971, in the form for automata that lack moves of Valmari, "Fast brief practical DFA
 //! minimization", Information Processing Letters 112, 2012. Of this it is proved that it never separates states of one right
-//! language. Then Moore's rounds ("Gedanken-experiments on sequential machines", 1956) refine the classes: each tells apart
-//! the states of a class that have moves by different symbols, or to different classes. Once a round changes nothing, the
-//! states of a class have one right language. That the splitters leave the rounds nothing to refine is not proved, and
-//! no clause rests on it: without them the answer is the same, after more rounds.
+//! language. Then each state is compared with one that stands for its class: where both have moves by the same symbols to
+//! the same classes, for all states, the states of a class have one right language. Otherwise Moore's rounds
+//! ("Gedanken-experiments on sequential machines", 1956) refine the classes until that is so. That the splitters leave them
+//! nothing to refine is not proved, and no clause rests on it: without the splitters the answer is the same, after more
+//! rounds.
 
 ghost use Rattle.std.specs.Prelude.{◌≡◌, ◌↔◌, ◌+◌, ◌<◌, ◌≤◌, ℕ, length, All, IfOk};
 ghost use Rattle.kb_fsa.specs.Table.{IsLive};
@@ -19,6 +20,7 @@ ghost use Rattle.kb_fsamin.specs.Rounds.{IsClassing, IsStable, class_of};
 
 use crate::rounds::refine_until_stable;
 use crate::splitting::split_by_splitters;
+use crate::stability::is_stable;
 use kb_fsa::Table;
 use kb_reach::{live, reversed};
 use kb_word::Memory;
@@ -31,7 +33,10 @@ pub(crate) fn representatives(alloc: Global, table: &Table) -> Result<Vec<u32>, 
     let moves = reversed(alloc, table)?;
     let marks = live(alloc, table, &moves)?;
     let start = by_acceptance(alloc, table, marks.as_slice())?;
-    let split = split_by_splitters(alloc, &moves, start.as_slice())?;
+    let split = split_by_splitters(alloc, moves, start.as_slice())?;
+    if is_stable(table, split.as_slice()) {
+        return first_of_each(alloc, table, split.as_slice());
+    }
     let classes = refine_until_stable(alloc, table, split.as_slice())?;
     first_of_each(alloc, table, classes.as_slice())
 }

@@ -11,8 +11,9 @@
 //!
 //! - `Uniqueness`: one language has one canonical automaton.
 //! - `AcceptanceClasses`, `Classings`, `RoundSteps`, `ClassRows`, `Signatures`, `RisingSums`: the classes by acceptance,
-//!   and the rounds that refine them until they are stable.
-//! - `PartitionLemmas`, `Openings`, `Walks`, `Numberings`, `Splittings`: partitions, and the splitters.
+//!   when they are stable, and the rounds that refine them until they are.
+//! - `Counting`, `Marking`, `Dividing`, `SplitSteps`: the refinable partition, by a counting sort, and how it is split.
+//! - `Numberings`, `Splittings`: the splitters.
 //! - `Represented`, `RepresentedMoves`, `Reduced`, `EmptyCanonical`: the quotient by the classes is canonical.
 #![tactic(auto)]
 
@@ -23,6 +24,7 @@ mod partition;
 mod quotient;
 mod rounds;
 mod splitting;
+mod stability;
 
 pub use canonical_form::canonical;
 pub use laws::one_language_has_one_canonical_automaton;

@@ -1,27 +1,24 @@
-//! Numbered items in parts, which lists of items split.
+//! A refinable partition: numbered items in parts, which are split by marking items.
 //!
-//! Where some items of a part are in the list, they go to a new part. Of the two parts the smaller waits to be taken,
-//! or both where the part had been waiting: so each item is in few of the parts that are taken. Partition keep their items
-//! in chains of entries; an entry of an item that has left is skipped, and all chains are made anew once they are long.
+//! The items stand in one array, those of a part side by side, and of these the marked ones first, so that to mark an item
+//! is to exchange two items. Where some items of a part are marked, they or the others go to a new part, whichever are
+//! fewer; so each item goes to a new part at most as often as its part can be halved.
 
-ghost use Rattle.std.specs.Prelude.{◌≡◌, ◌<◌, ◌≤◌, ◌^◌, length, All, IfOk, OnOk, IfSome};
-ghost use Rattle.kb_fsamin.specs.Partitions.{AreEntered, AreEntries, AreMembers, AreMoved, AreOpened, AreDestinations, IsPartition, IsSplitBy, destinations};
+ghost use Rattle.std.specs.Prelude.{◌≡◌, ◌<◌, ◌≤◌, ◌^◌, ℕ, length, get_or, sum, All, IfOk, OnOk};
+ghost use Rattle.kb_fsamin.specs.Partitions.{AreCounts, AreGroups, AreHalves, AreMembers, AreRanges, AreRelabelled, IsArranged, IsDivided, IsFound, IsMarkedMore, IsPartition, IsSplitBy, AreWithin, first_of, group_of, part_of};
 
-use kb_reach::{Links, link};
 use kb_word::Memory;
 use std::alloc::Global;
 
-/// What is known of a part.
+/// Where the items of a part stand.
 #[derive(Clone, Copy)]
-struct Part {
-    /// How many items it has.
-    size: usize,
-    /// How many of them were hit.
-    hits: usize,
-    /// The part to which those go.
-    destination: u32,
-    /// Whether it waits to be taken.
-    waiting: bool,
+pub(crate) struct Part {
+    /// The place of the first item.
+    first: u32,
+    /// The place past the marked items.
+    middle: u32,
+    /// The place past the last item.
+    past: u32,
 }
 
 /// Items in parts.
@@ -29,257 +26,234 @@ struct Part {
 pub(crate) struct Partition {
     /// The part of each item.
     pub(crate) of: Vec<u32>,
-    /// Partition, each with an item that came to it.
-    entries: Vec<(u32, u32)>,
-    /// For each part the number of its last entry, from 1 on.
-    last: Vec<usize>,
-    /// For each entry the number of the one before it of the same part.
-    earlier: Vec<usize>,
+    /// The items, part after part.
+    elements: Vec<u32>,
+    /// Where each item stands.
+    places: Vec<u32>,
     parts: Vec<Part>,
-    /// The parts that wait.
-    queue: Vec<u32>,
+}
+
+/// Items side by side with those of their part.
+#[derive(Drop)]
+pub(crate) struct Groups {
+    elements: Vec<u32>,
+    parts: Vec<Part>,
+}
+
+impl Groups {
+    /// The items of a part.
+    pub(crate) fn members(&self, part: u32) -> &[u32]
+        requires within { AreWithin self.now }
+        requires part { part < length self.now.parts.items }
+        ensures { result.now ≡ group_of self.now part }
+    {
+        let range = self.parts[part as usize];
+        &self.elements.as_slice()[range.first as usize..range.past as usize]
+    }
 }
 
 impl Partition {
-    /// The items in these parts, all of which wait.
+    /// The items in these parts, by a counting sort.
     pub(crate) fn new(alloc: Global, of: Vec<u32>, count: usize) -> Result<Partition, Memory>
         requires known { All (λ part. part < count) of.items }
-        requires few { length of.items ≤ 2 ^ 32 }
-        requires count { count ≤ 2 ^ 32 }
+        requires few { length of.items < 2 ^ 32 }
+        requires count { count < 2 ^ 32 }
         ensures partition { IfOk result (λ parts. IsPartition parts) }
         ensures of { IfOk result (λ parts. parts.of.items ≡ of.items) }
+        ensures count { IfOk result (λ parts. length parts.parts.items ≡ count) }
     {
-        let mut queue = Vec::new(alloc);
-        let mut parts = Vec::new(alloc);
-        for part in 0..count {
-            queue.push(part as u32)?;
-            parts.push(Part {
-                size: 0,
-                hits: 0,
-                destination: 0,
-                waiting: true,
-            })?;
+        let counts = counts_of(alloc, of.as_slice(), count)?;
+        let mut parts = laid_out(alloc, counts.as_slice())?;
+        let mut elements = vec![in alloc; 0; of.len()]?;
+        let mut places = Vec::new(alloc);
+        for (item, part) in of.iter().enumerate() {
+            let mut filled = parts[*part as usize];
+            elements[filled.past as usize] = item as u32;
+            places.push(filled.past)?;
+            filled.past += 1;
+            parts[*part as usize] = filled;
         }
-        count_sizes(of.as_slice(), &mut parts);
-        let entries = entries_of(alloc, of.as_slice())?;
-        let Links { last, earlier } = link(alloc, entries.as_slice(), count)?;
         Ok(Partition {
             of,
-            entries,
-            last,
-            earlier,
+            elements,
+            places,
             parts,
-            queue,
         })
     }
 
-    /// A part that waits, which waits no more.
-    pub(crate) fn take(&mut self) -> Option<u32>
-        requires { IsPartition self.old }
-        ensures partition { IsPartition self.new }
-        ensures of { self.new.of.items ≡ self.old.of.items }
-        ensures within { IfSome result (λ part. part < length self.new.parts.items) }
+    /// How many parts there are.
+    pub(crate) fn len(&self) -> usize
+        requires { IsPartition self.now }
+        ensures count { result ≡ length self.now.parts.items }
+        ensures few { result < 2 ^ 32 }
     {
-        let part = self.queue.pop()?;
-        self.parts[part as usize].waiting = false;
-        Some(part)
+        self.parts.len()
     }
 
-    /// The items of the part.
-    pub(crate) fn members(&self, alloc: Global, part: u32) -> Result<Vec<u32>, Memory>
+    /// The items of a part.
+    pub(crate) fn members(&self, part: u32) -> &[u32]
         requires partition { IsPartition self.now }
         requires part { part < length self.now.parts.items }
-        ensures { IfOk result (λ listed. AreMembers self.now.of.items part listed.items) }
+        ensures { AreMembers self.now.of.items part result.now }
     {
-        let mut listed = Vec::new(alloc);
-        let mut number = self.last[part as usize];
-        while number != 0 {
-            let item = self.entries[number - 1].1;
-            if self.of[item as usize] == part {
-                listed.push(item)?;
-            }
-            number = self.earlier[number - 1];
-        }
-        Ok(listed)
+        let range = self.parts[part as usize];
+        &self.elements.as_slice()[range.first as usize..range.past as usize]
+    }
+
+    /// An item of the part of an item, the same for all items of the part.
+    pub(crate) fn representative(&self, item: u32) -> u32
+        requires partition { IsPartition self.now }
+        requires item { item < length self.now.of.items }
+        ensures { result ≡ first_of self.now (part_of self.now.of.items item) }
+    {
+        let part = self.of[item as usize];
+        self.elements[self.parts[part as usize].first as usize]
     }
 
     /// Splits each part into the items that are in the list and those that aren't.
-    pub(crate) fn split(&mut self, alloc: Global, items: &[u32]) -> Result<(), Memory>
+    pub(crate) fn split(&mut self, items: &[u32]) -> Result<(), Memory>
         requires partition { IsPartition self.old }
         requires items { All (λ item. item < length self.old.of.items) items.now }
         ensures partition { OnOk result (IsPartition self.new) }
         ensures split { OnOk result (IsSplitBy items.now self.old.of.items self.new.of.items) }
     {
-        let bound = self.parts.len();
-        let touched = count_hits(alloc, self.of.as_slice(), items, &mut self.parts)?;
-        open_parts(
-            &mut self.parts,
-            &mut self.last,
-            &mut self.queue,
-            touched.as_slice(),
-        )?;
-        relabel(
-            &mut self.of,
-            &mut self.entries,
-            &mut self.last,
-            &mut self.earlier,
-            self.parts.as_slice(),
-            bound,
-            items,
-        )?;
-        self.shorten(alloc)
-    }
-
-    /// Leaves out the entries of items that have left their parts, once there are many.
-    fn shorten(&mut self, alloc: Global) -> Result<(), Memory>
-        requires { IsPartition self.old }
-        ensures partition { OnOk result (IsPartition self.new) }
-        ensures of { OnOk result (self.new.of.items ≡ self.old.of.items) }
-    {
-        if self.entries.len() / 2 <= self.of.len() {
-            return Ok(());
+        for item in items {
+            self.mark(*item);
         }
-        self.entries = entries_of(alloc, self.of.as_slice())?;
-        let Links { last, earlier } = link(alloc, self.entries.as_slice(), self.parts.len())?;
-        self.last = last;
-        self.earlier = earlier;
+        for item in items {
+            let part = self.of[*item as usize];
+            self.divide(part)?;
+        }
         Ok(())
     }
-}
 
-/// An entry for each item.
-fn entries_of(alloc: Global, of: &[u32]) -> Result<Vec<(u32, u32)>, Memory>
-    requires { length of.now ≤ 2 ^ 32 }
-    ensures { IfOk result (λ entries. AreEntries of.now (length of.now) entries.items) }
-{
-    let mut entries = Vec::new(alloc);
-    for (item, part) in of.iter().enumerate() {
-        entries.push((*part, item as u32))?;
+    /// The items by their parts, which don't change any more.
+    pub(crate) fn into_groups(self) -> Groups
+        requires { IsPartition self }
+        ensures within { AreWithin result }
+        ensures groups { AreGroups self.of.items result }
+        ensures count { length result.parts.items ≡ length self.parts.items }
+    {
+        Groups {
+            elements: self.elements,
+            parts: self.parts,
+        }
     }
-    Ok(entries)
+
+    /// Marks the item.
+    fn mark(&mut self, item: u32)
+        requires arranged { IsArranged self.old }
+        requires item { item < length self.old.of.items }
+        ensures arranged { IsArranged self.new }
+        ensures marked { IsMarkedMore item self.old self.new }
+    {
+        let part = self.of[item as usize];
+        let mut range = self.parts[part as usize];
+        let place = self.places[item as usize];
+        if range.middle <= place {
+            let other = self.elements[range.middle as usize];
+            self.elements[place as usize] = other;
+            self.places[other as usize] = place;
+            self.elements[range.middle as usize] = item;
+            self.places[item as usize] = range.middle;
+            range.middle += 1;
+            self.parts[part as usize] = range;
+        }
+    }
+
+    /// Splits the part into its marked items and the others, none of which is marked then.
+    fn divide(&mut self, part: u32) -> Result<(), Memory>
+        requires arranged { IsArranged self.old }
+        requires part { part < length self.old.parts.items }
+        ensures arranged { OnOk result (IsArranged self.new) }
+        ensures divided { OnOk result (IsDivided part self.old self.new) }
+    {
+        let number = self.parts.len() as u32;
+        let whole = self.parts[part as usize];
+        if whole.middle == whole.first || whole.middle == whole.past || number == u32::MAX {
+            self.parts[part as usize].middle = whole.first;
+            return Ok(());
+        }
+        let (rest, smaller) = halves(whole);
+        self.parts.push(smaller)?;
+        self.parts[part as usize] = rest;
+        self.relabel(smaller, number);
+        Ok(())
+    }
+
+    /// Puts the items that stand in the range into the part.
+    fn relabel(&mut self, range: Part, part: u32)
+        requires range { (range.first ≤ range.past)
+            × (range.past ≤ length self.old.elements.items) }
+        requires members { (place : ℕ) → range.first ≤ place → place < range.past
+            → IsFound self.old.of.items self.old.elements.items self.old.places.items place }
+        requires placed { (item : ℕ) → item < length self.old.of.items
+            → get_or self.old.elements.items (get_or self.old.places.items item 0) 0 ≡ item }
+        ensures others { self.new ≡ record self.old { of = self.new.of } }
+        ensures of { AreRelabelled self.old.places.items range part range.past
+            self.old.of.items self.new.of.items }
+    {
+        for place in range.first..range.past {
+            let item = self.elements[place as usize];
+            self.of[item as usize] = part;
+        }
+    }
 }
 
-/// Counts the items of each part.
-fn count_sizes(of: &[u32], parts: &mut Vec<Part>)
-    requires { All (λ part. part < length parts.old.items) of.now }
-    ensures { destinations parts.new.items ≡ destinations parts.old.items }
+/// The halves of a part, its marked items and the others, the larger half first.
+fn halves(whole: Part) -> (Part, Part)
+    requires { (whole.first ≤ whole.middle) × (whole.middle ≤ whole.past) }
+    ensures { AreHalves whole result.0 result.1 }
 {
+    let Part {
+        first,
+        middle,
+        past,
+    } = whole;
+    let marked = Part {
+        first,
+        middle: first,
+        past: middle,
+    };
+    let others = Part {
+        first: middle,
+        middle,
+        past,
+    };
+    if middle - first <= past - middle {
+        (others, marked)
+    } else {
+        (marked, others)
+    }
+}
+
+/// How many items each part has.
+fn counts_of(alloc: Global, of: &[u32], count: usize) -> Result<Vec<u32>, Memory>
+    requires known { All (λ part. part < count) of.now }
+    requires few { length of.now < 2 ^ 32 }
+    ensures { IfOk result (λ counts. AreCounts of.now (length of.now) count counts.items) }
+{
+    let mut counts = vec![in alloc; 0; count]?;
     for part in of {
-        let mut counted = parts[*part as usize];
-        counted.size = counted.size.saturating_add(1);
-        parts[*part as usize] = counted;
+        counts[*part as usize] += 1;
     }
+    Ok(counts)
 }
 
-/// Counts how many of the items each part has; the parts that have some.
-fn count_hits(
-    alloc: Global,
-    of: &[u32],
-    items: &[u32],
-    parts: &mut Vec<Part>,
-) -> Result<Vec<u32>, Memory>
-    requires known { All (λ part. part < length parts.old.items) of.now }
-    requires items { All (λ item. item < length of.now) items.now }
-    ensures touched { IfOk result (λ touched.
-        All (λ part. part < length parts.old.items) touched.items) }
-    ensures destinations { destinations parts.new.items ≡ destinations parts.old.items }
+/// Room for as many items of each part, part after part, with none yet.
+fn laid_out(alloc: Global, counts: &[u32]) -> Result<Vec<Part>, Memory>
+    requires { sum counts.now < 2 ^ 32 }
+    ensures { IfOk result (λ parts. AreRanges counts.now (length counts.now) parts.items) }
 {
-    let mut touched = Vec::new(alloc);
-    for item in items {
-        let part = of[*item as usize];
-        let mut hit = parts[part as usize];
-        if hit.hits == 0 {
-            touched.push(part)?;
-        }
-        hit.hits = hit.hits.saturating_add(1);
-        parts[part as usize] = hit;
+    let mut parts = Vec::new(alloc);
+    let mut first = 0;
+    for count in counts {
+        parts.push(Part {
+            first,
+            middle: first,
+            past: first,
+        })?;
+        first += *count;
     }
-    Ok(touched)
-}
-
-/// Makes a new part for what is hit of each part that isn't hit as a whole; what was hit is counted no more.
-fn open_parts(
-    parts: &mut Vec<Part>,
-    last: &mut Vec<usize>,
-    queue: &mut Vec<u32>,
-    touched: &[u32],
-) -> Result<(), Memory>
-    requires touched { All (λ part. part < length parts.old.items) touched.now }
-    requires opened { AreOpened (length parts.old.items) last.old.items parts.old.items
-        last.old.items queue.old.items }
-    ensures { OnOk result (AreOpened (length parts.old.items) last.old.items parts.new.items
-        last.new.items queue.new.items) }
-{
-    for part in touched {
-        let hit = parts[*part as usize];
-        let destination = parts.len();
-        if hit.hits < hit.size && destination < u32::MAX as usize {
-            let (rest, new) = halves(hit, destination as u32);
-            queue.push(if new.waiting {
-                destination as u32
-            } else {
-                *part
-            })?;
-            last.push(0)?;
-            parts.push(new)?;
-            parts[*part as usize] = rest;
-        } else {
-            parts[*part as usize] = Part { hits: 0, ..hit };
-        }
-    }
-    Ok(())
-}
-
-/// A part without what is hit, and the new part of that; the smaller of them comes to wait, or both where the part waits.
-fn halves(hit: Part, destination: u32) -> (Part, Part)
-    ensures rest { result.0.destination ≡ destination }
-    ensures new { result.1.destination ≡ 0 }
-{
-    let left = hit.size.saturating_sub(hit.hits);
-    let smaller = hit.hits <= left;
-    let rest = Part {
-        size: left,
-        hits: 0,
-        destination,
-        waiting: hit.waiting || !smaller,
-    };
-    let new = Part {
-        size: hit.hits,
-        hits: 0,
-        destination: 0,
-        waiting: hit.waiting || smaller,
-    };
-    (rest, new)
-}
-
-/// Moves the items to the destinations of their parts, those that aren't below the bound.
-fn relabel(
-    of: &mut Vec<u32>,
-    entries: &mut Vec<(u32, u32)>,
-    last: &mut Vec<usize>,
-    earlier: &mut Vec<usize>,
-    parts: &[Part],
-    bound: usize,
-    items: &[u32],
-) -> Result<(), Memory>
-    requires entered { AreEntered of.old.items (length parts.now) entries.old.items last.old.items
-        earlier.old.items }
-    requires destinations { AreDestinations bound (destinations parts.now) }
-    requires items { All (λ item. item < length of.old.items) items.now }
-    ensures entered { OnOk result (AreEntered of.new.items (length parts.now) entries.new.items
-        last.new.items earlier.new.items) }
-    ensures moved { OnOk result (AreMoved bound (destinations parts.now) items.now of.old.items
-        of.new.items) }
-{
-    for item in items {
-        let part = of[*item as usize];
-        let destination = parts[part as usize].destination;
-        if destination as usize >= bound {
-            of[*item as usize] = destination;
-            entries.push((destination, *item))?;
-            earlier.push(last[destination as usize])?;
-            last[destination as usize] = entries.len();
-        }
-    }
-    Ok(())
+    Ok(parts)
 }

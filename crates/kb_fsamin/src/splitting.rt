@@ -6,96 +6,122 @@
 
 ghost use Rattle.std.specs.Prelude.{◌≡◌, ◌<◌, ◌≤◌, ◌^◌, ℕ, suc, ◌+◌, List, length, get_or, All, IfOk, OnOk};
 ghost use Rattle.kb_fsa.specs.Table.{Table};
-ghost use Rattle.kb_reach.specs.Graphs.{AreLinksOf};
 ghost use Rattle.kb_reach.specs.Moves.{IsBackwardOf};
-ghost use Rattle.kb_fsamin.specs.Partitions.{IsPartition, part_of};
+ghost use Rattle.kb_fsamin.specs.Partitions.{AreGroups, AreWithin, IsPartition, part_of};
 ghost use Rattle.kb_fsamin.specs.Rounds.{IsClassing};
-ghost use Rattle.kb_fsamin.specs.Splitting.{AreEntering, AreClassesOfBlocks, AreLeaving, ArePaired, KeepsSplitting};
+ghost use Rattle.kb_fsamin.specs.Splitting.{AreEntering, AreClassesOfBlocks, AreLeaving, ArePaired, KeepsSplitting, targets};
 
-use crate::partition::Partition;
+use crate::partition::{Groups, Partition};
 use indexmap::IndexSet;
-use kb_reach::{Backward, Links, link};
+use kb_reach::Backward;
 use kb_word::Memory;
 use std::alloc::Global;
 
-/// Splits the classes, of which there are at most three, as far as splitters do.
+/// Splits the classes, of which there are at most three, as far as splitters do. A class is numbered by a state of it.
 pub(crate) fn split_by_splitters(
     alloc: Global,
-    moves: &Backward,
+    moves: Backward,
     start: &[u32],
 ) -> Result<Vec<u32>, Memory>
-    requires count { length start.now ≤ 2 ^ 32 }
     requires classes { All (λ class. class < 3) start.now }
-    requires symbols { length moves.now.symbols.items ≡ length moves.now.edges.items }
-    requires known { All (λ edge. edge.0 < length start.now) moves.now.edges.items }
-    requires states { All (λ edge. edge.1 < length start.now) moves.now.edges.items }
-    ensures { IfOk result (λ classes. (table : Table) → IsBackwardOf table moves.now
+    requires symbols { length moves.symbols.items ≡ length moves.edges.items }
+    requires known { All (λ edge. edge.0 < length start.now) moves.edges.items }
+    requires states { All (λ edge. edge.1 < length start.now) moves.edges.items }
+    ensures { IfOk result (λ classes. (table : Table) → IsBackwardOf table moves
         → IsClassing table start.now → IsClassing table classes.items) }
 {
-    let edges = moves.edges.as_slice();
     let of = Vec::from_slice(alloc, start)?;
-    if edges.len() >= u32::MAX as usize {
+    if start.len().max(moves.edges.len()) >= u32::MAX as usize {
         return Ok(of);
     }
-    let links = link(alloc, edges, start.len())?;
+    let Backward { edges, symbols } = moves;
+    let mut cords = by_symbol(alloc, symbols.as_slice())?;
+    drop(symbols);
     let mut blocks = Partition::new(alloc, of, 3)?;
-    let mut cords = by_symbol(alloc, moves.symbols.as_slice())?;
-    // Each part is taken once, and once more at most for each new part.
-    for _ in 0..start.len() + edges.len() + 3 {
-        if !turn(alloc, edges, &links, start, &mut blocks, &mut cords)? {
-            break;
-        }
-    }
-    classes_of_blocks(alloc, start, blocks.of.as_slice())
+    let edges = edges.as_slice();
+    let incoming = incoming(alloc, edges, start.len())?;
+    refine(alloc, edges, &incoming, start, &mut blocks, &mut cords)?;
+    classes_of_blocks(alloc, start, &blocks)
 }
 
-/// Splits the cords by a block that waits, or else the blocks by a cord that does; whether one of them waited.
-fn turn(
+/// Splits the cords by each block, and the blocks by each cord, also by those that come.
+fn refine(
     alloc: Global,
     edges: &[(u32, u32)],
-    links: &Links,
+    incoming: &Groups,
     start: &[u32],
     blocks: &mut Partition,
     cords: &mut Partition,
-) -> Result<bool, Memory>
-    requires few { length edges.now < 2 ^ 32 }
-    requires links { AreLinksOf edges.now (length start.now) links.now }
+) -> Result<(), Memory>
     requires known { All (λ edge. edge.0 < length start.now) edges.now }
     requires states { All (λ edge. edge.1 < length start.now) edges.now }
+    requires within { AreWithin incoming.now }
+    requires count { length incoming.now.parts.items ≡ length start.now }
+    requires incoming { AreGroups (targets edges.now) incoming.now }
     requires paired { ArePaired edges.now start.now blocks.old cords.old }
     ensures paired { OnOk result (ArePaired edges.now start.now blocks.new cords.new) }
     ensures keeps { OnOk result ((symbols : List ℕ)
         → KeepsSplitting edges.now symbols start.now blocks.old cords.old blocks.new cords.new) }
 {
-    if let Some(block) = blocks.take() {
-        let moves = entering(alloc, edges, links, blocks, block)?;
-        cords.split(alloc, moves.as_slice())?;
-        return Ok(true);
+    let mut block = 0;
+    let mut cord = 0;
+    loop {
+        if block < blocks.len() {
+            let moves = entering(alloc, incoming, blocks, block as u32)?;
+            cords.split(moves.as_slice())?;
+            block += 1;
+        } else if cord < cords.len() {
+            let states = leaving(alloc, edges, start, cords, cord as u32)?;
+            blocks.split(states.as_slice())?;
+            cord += 1;
+        } else {
+            return Ok(());
+        }
     }
-    if let Some(cord) = cords.take() {
-        let states = leaving(alloc, edges, start, cords, cord)?;
-        blocks.split(alloc, states.as_slice())?;
-        return Ok(true);
-    }
-    Ok(false)
 }
 
-/// The blocks as classes, but for what has class 0.
-fn classes_of_blocks(alloc: Global, start: &[u32], blocks: &[u32]) -> Result<Vec<u32>, Memory>
-    requires { length blocks.now ≡ length start.now }
+/// The moves by the states that they lead to.
+fn incoming(alloc: Global, edges: &[(u32, u32)], states: usize) -> Result<Groups, Memory>
+    requires few { length edges.now < 2 ^ 32 }
+    requires states { states < 2 ^ 32 }
+    requires known { All (λ edge. edge.0 < states) edges.now }
+    ensures within { IfOk result (λ groups. AreWithin groups) }
+    ensures groups { IfOk result (λ groups. AreGroups (targets edges.now) groups) }
+    ensures count { IfOk result (λ groups. length groups.parts.items ≡ states) }
+{
+    let targets = targets(alloc, edges)?;
+    Ok(Partition::new(alloc, targets, states)?.into_groups())
+}
+
+/// Where each move leads.
+fn targets(alloc: Global, edges: &[(u32, u32)]) -> Result<Vec<u32>, Memory>
+    ensures { IfOk result (λ states. states.items ≡ targets edges.now) }
+{
+    let states = edges.iter().map(|edge| edge.0).collect(alloc)?;
+    Ok(states)
+}
+
+/// The blocks as classes, each numbered by a state of it, but for what has class 0.
+fn classes_of_blocks(alloc: Global, start: &[u32], blocks: &Partition) -> Result<Vec<u32>, Memory>
+    requires blocks { IsPartition blocks.now }
+    requires one_each { length blocks.now.of.items ≡ length start.now }
     ensures { IfOk result (λ classes.
         AreClassesOfBlocks start.now blocks.now (length start.now) classes.items) }
 {
     let mut classes = Vec::new(alloc);
     for (state, class) in start.iter().enumerate() {
-        classes.push(if *class == 0 { 0 } else { blocks[state] })?;
+        classes.push(if *class == 0 {
+            0
+        } else {
+            blocks.representative(state as u32)
+        })?;
     }
     Ok(classes)
 }
 
 /// Cords of all moves by one symbol each.
 fn by_symbol(alloc: Global, symbols: &[u32]) -> Result<Partition, Memory>
-    requires { length symbols.now ≤ 2 ^ 32 }
+    requires { length symbols.now < 2 ^ 32 }
     ensures partition { IfOk result (λ cords. IsPartition cords) }
     ensures one_each { IfOk result (λ cords. length cords.of.items ≡ length symbols.now) }
     ensures same { IfOk result (λ cords. (k other : ℕ) → k < length symbols.now
@@ -115,26 +141,21 @@ fn by_symbol(alloc: Global, symbols: &[u32]) -> Result<Partition, Memory>
 /// The moves that lead into a block.
 fn entering(
     alloc: Global,
-    edges: &[(u32, u32)],
-    links: &Links,
+    incoming: &Groups,
     blocks: &Partition,
     block: u32,
 ) -> Result<Vec<u32>, Memory>
-    requires few { length edges.now < 2 ^ 32 }
-    requires links { AreLinksOf edges.now (length blocks.now.of.items) links.now }
-    requires known { All (λ edge. edge.0 < length blocks.now.of.items) edges.now }
+    requires within { AreWithin incoming.now }
+    requires count { length incoming.now.parts.items ≡ length blocks.now.of.items }
     requires blocks { IsPartition blocks.now }
     requires block { block < length blocks.now.parts.items }
-    ensures { IfOk result (λ listed. AreEntering edges.now blocks.now.of.items block listed.items) }
+    ensures { IfOk result (λ listed. (edges : List (ℕ × ℕ)) → AreGroups (targets edges) incoming.now
+        → All (λ edge. edge.0 < length blocks.now.of.items) edges
+        → AreEntering edges blocks.now.of.items block listed.items) }
 {
     let mut listed = Vec::new(alloc);
-    let states = blocks.members(alloc, block)?;
-    for state in &states {
-        let mut number = links.last[*state as usize];
-        while number != 0 {
-            listed.push((number - 1) as u32)?;
-            number = links.earlier[number - 1];
-        }
+    for state in blocks.members(block) {
+        listed.extend_from_slice(incoming.members(*state))?;
     }
     Ok(listed)
 }
@@ -155,8 +176,7 @@ fn leaving(
         AreLeaving edges.now start.now cords.now.of.items cord listed.items) }
 {
     let mut listed = Vec::new(alloc);
-    let moves = cords.members(alloc, cord)?;
-    for number in &moves {
+    for number in cords.members(cord) {
         let (to, from) = edges[*number as usize];
         if start[to as usize] != 0 {
             listed.push(from)?;

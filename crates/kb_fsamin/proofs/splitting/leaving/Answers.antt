@@ -18,11 +18,11 @@ loop-number-preserved c =
     let edges = c.args.edges.now in
     let start = c.args.start.now in
     let of = c.args.cords.now.of.items in
-    let moves = c.deref-number-items.result.now in
+    let moves = c.members-number-items.result.now in
     let place = c.loop-number.number-index in
     let number = get_or moves place 0 in
     let listed = c.loop-number.listed.items in
-    let members : AreMembers of c.args.cord moves = subst (AreMembers of c.args.cord) (sym c.deref-number-items.ensures.value) c.in_ok-moves.ensures in
+    let members : AreMembers of c.args.cord moves = c.members-number-items.ensures in
     let member = members.sound place 0 (omega arith) in
     let within : number < length edges = omega (arith, member.0, c.requires.one_each) in
     let cases : (move : ℕ) → Contains (take (place + 1) moves) move → Contains (take place moves) move ⊎ (number ≡ move) =
@@ -62,8 +62,8 @@ pub returns : goal.returns
 returns c =
     let edges = c.args.edges.now in
     let of = c.args.cords.now.of.items in
-    let moves = c.deref-number-items.result.now in
-    let members : AreMembers of c.args.cord moves = subst (AreMembers of c.args.cord) (sym c.deref-number-items.ensures.value) c.in_ok-moves.ensures in
+    let moves = c.members-number-items.result.now in
+    let members : AreMembers of c.args.cord moves = c.members-number-items.ensures in
     record {
       sound = c.loop-number.invariant.sound;
       complete = λ state leaving.

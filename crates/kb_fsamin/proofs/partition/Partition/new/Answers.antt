@@ -1,42 +1,73 @@
-use Rattle.std.proofs.Common.{◌≡◌, ◌<◌, ◌+◌, ℕ, length, get_or, All, refl, sym, ap, ◌∙◌, subst, arith}
-use Rattle.std.proofs.lemmas.List.{length_push}
-use Rattle.std.proofs.lemmas.List.Elements.{All-push, All-weaker}
-use Rattle.kb_reach.specs.Graphs.{AreLinked}
-use Rattle.kb_fsamin.specs.Partitions.{destinations, AreEntries}
-use Rattle.kb_fsamin.proofs.Openings.{destinations-push, same_length, opened_first}
-use Rattle.kb_fsamin.proofs.Walks.{entered_all, linked_as}
+use Rattle.std.proofs.Common.{◌≡◌, ◌<◌, ◌+◌, [], ◌∷◌, ◌++◌, ℕ, List, length, get_or, set, sym, ap, ◌∙◌, subst, arith}
+use Rattle.std.proofs.lemmas.List.{get_or_read}
+use Rattle.kb_fsamin.specs.declared.partition.Part.{Part}
+use Rattle.kb_fsamin.specs.Partitions.{AreCounts, AreFilled, range_of}
+use Rattle.kb_fsamin.proofs.Counting.{place_within, filled_more}
 use Rattle.kb_fsamin.proofs.partition.Partition.new.Goals as goal
 
-pub loop-part-preserved : goal.loop-part-preserved
-loop-part-preserved c =
-    let n = c.loop-part.part in
-    let none = c.loop-part.invariant.none in
-    let P = λ (part : ℕ). part < n + 1 in
-    record {
-      count = ap length c.in_ok-push-2.ensures.items ∙ length_push c.loop-part.parts.items _ ∙ ap (λ k. k + 1) c.loop-part.invariant.count;
-      none = λ part.
-          ap (λ ps. get_or (destinations ps) part 0) c.in_ok-push-2.ensures.items ∙ destinations-push c.loop-part.parts.items _ part refl none;
-      queued = subst (All P) (sym c.in_ok-push.ensures.items)
-          (All-push P c.loop-part.queue.items n
-          (All-weaker (λ part. part < n) P (λ part h. omega arith) c.loop-part.queue.items c.loop-part.invariant.queued) (omega arith));
-    }
-
-pub returns-clause-partition : goal.returns-clause-partition
-returns-clause-partition c =
+pub index_mut-requires : goal.index_mut-requires
+index_mut-requires c =
     let of = c.args.of.items in
-    let parts = c.count_sizes.new.parts.items in
-    let entries = c.in_ok-entries.entries.items in
-    let size = same_length parts c.loop-part.parts.items c.count_sizes.ensures in
-    let count : c.args.count ≡ length parts = omega (arith, c.loop-part.invariant.count, c.loop-part.auto.part-end) in
-    let known : (item : ℕ) → item < length of → get_or of item 0 < length parts = λ item h. omega (arith, c.requires.known item 0 h) in
-    let made : AreEntries of (length of) entries = subst (λ o. AreEntries o (length o) entries) c.as_slice-2.ensures.value c.in_ok-entries.ensures in
-    let linked : AreLinked entries (length entries) (length parts) c.in_ok-last.field-0.last.items c.in_ok-last.field-0.earlier.items =
-    linked_as _ entries _ (length parts) _ _ c.as_slice-3.ensures.value count c.in_ok-last.ensures in
-    record {
-      entered = entered_all of (length parts) entries _ _ known made linked;
-      opened = opened_first parts _ c.loop-part.queue.items linked.one_each
-          (λ part. ap (λ ts. get_or ts part 0) c.count_sizes.ensures ∙ c.loop-part.invariant.none part)
-          (All-weaker (λ part. part < c.loop-part.part) (λ part. part < length parts) (λ part h. omega (arith, c.loop-part.invariant.count))
-          c.loop-part.queue.items c.loop-part.invariant.queued);
-      few = c.requires.few;
-    }
+    let counts = c.in_ok-counts.counts.items in
+    let parts = c.loop-item.parts.items in
+    let all = c.loop-item.invariant in
+    let done = c.loop-item.item in
+    let same = c.deref-part-items.ensures.value in
+    let counted : AreCounts of (length of) c.args.count counts = subst (λ o. AreCounts o (length o) c.args.count counts) c.as_slice.ensures.value c.in_ok-counts.ensures in
+    let low : done < length of = omega (arith, ap length same) in
+    let part : get_or c.deref-part-items.result.now done 0 ≡ get_or of done 0 = ap (λ o. get_or o done 0) same in
+    let known : get_or of done 0 < c.args.count = c.requires.known done 0 low in
+    let range_is : c.index-filled.result.now ≡ range_of parts (get_or of done 0) =
+    get_or_read parts _ c.index-filled.result.now (omega (arith, all.one_each, counted.one_each)) c.index-filled.ensures (record { first = 0; middle = 0; past = 0 })
+    ∙ ap (range_of parts) part in
+    omega (
+      arith,
+      place_within of counts c.args.count counted done low c.loop-item.elements.items c.loop-item.places.items parts all known c.index-filled.result.now range_is,
+      all.element_each,
+      c.loop-item.elements.ok,
+    )
+
+pub overflow_add-filled : goal.overflow_add-filled
+overflow_add-filled c =
+    let of = c.args.of.items in
+    let counts = c.in_ok-counts.counts.items in
+    let parts = c.loop-item.parts.items in
+    let all = c.loop-item.invariant in
+    let done = c.loop-item.item in
+    let same = c.deref-part-items.ensures.value in
+    let counted : AreCounts of (length of) c.args.count counts = subst (λ o. AreCounts o (length o) c.args.count counts) c.as_slice.ensures.value c.in_ok-counts.ensures in
+    let low : done < length of = omega (arith, ap length same) in
+    let part : get_or c.deref-part-items.result.now done 0 ≡ get_or of done 0 = ap (λ o. get_or o done 0) same in
+    let known : get_or of done 0 < c.args.count = c.requires.known done 0 low in
+    let range_is : c.index-filled.result.now ≡ range_of parts (get_or of done 0) =
+    get_or_read parts _ c.index-filled.result.now (omega (arith, all.one_each, counted.one_each)) c.index-filled.ensures (record { first = 0; middle = 0; past = 0 })
+    ∙ ap (range_of parts) part in
+    omega (
+      arith,
+      place_within of counts c.args.count counted done low c.loop-item.elements.items c.loop-item.places.items parts all known c.index-filled.result.now range_is,
+      c.requires.few,
+    )
+
+pub loop-item-preserved : goal.loop-item-preserved
+loop-item-preserved c =
+    let of = c.args.of.items in
+    let counts = c.in_ok-counts.counts.items in
+    let parts = c.loop-item.parts.items in
+    let elements = c.loop-item.elements.items in
+    let places = c.loop-item.places.items in
+    let all = c.loop-item.invariant in
+    let done = c.loop-item.item in
+    let range = c.index-filled.result.now in
+    let same = c.deref-part-items.ensures.value in
+    let counted : AreCounts of (length of) c.args.count counts = subst (λ o. AreCounts o (length o) c.args.count counts) c.as_slice.ensures.value c.in_ok-counts.ensures in
+    let low : done < length of = omega (arith, ap length same) in
+    let part : get_or c.deref-part-items.result.now done 0 ≡ get_or of done 0 = ap (λ o. get_or o done 0) same in
+    let known : get_or of done 0 < c.args.count = c.requires.known done 0 low in
+    let range_is : range ≡ range_of parts (get_or of done 0) =
+    get_or_read parts _ range (omega (arith, all.one_each, counted.one_each)) c.index-filled.ensures (record { first = 0; middle = 0; past = 0 })
+    ∙ ap (range_of parts) part in
+    let new : Part = record { first = range.first; middle = range.middle; past = range.past + 1 } in
+    let P : List ℕ → Type 0 = λ ps. AreFilled of counts (done + 1) (set elements range.past done) ps (set parts (get_or c.deref-part-items.result.now done 0) new) in
+    let Q : ℕ → Type 0 = λ p. AreFilled of counts (done + 1) (set elements range.past done) (places ++ range.past ∷ []) (set parts p new) in
+    subst P (sym c.in_ok-push.ensures.items)
+    (subst Q (sym part) (filled_more of counts c.args.count counted done low elements places parts all known range range_is))

@@ -1,0 +1,61 @@
+use Rattle.std.proofs.Common.{◌≡◌, ◌<◌, ◌+◌, ℕ, length, get_or, set, refl, sym, ap, ◌∙◌, arith, length-set}
+use Rattle.std.proofs.lemmas.List.{get_or_read}
+use Rattle.kb_fsamin.specs.Partitions.{part_of, range_of}
+use Rattle.kb_fsamin.proofs.Marking.{stand_marked, marks_marked}
+use Rattle.kb_fsamin.proofs.partition.Partition.mark.Goals as goal
+
+pub returns-then-range-place-clause-arranged : goal.returns-then-range-place-clause-arranged
+returns-then-range-place-clause-arranged c =
+    let self = c.args.self.now in
+    let of = self.of.items in
+    let elements = self.elements.items in
+    let places = self.places.items in
+    let parts = self.parts.items in
+    let item = c.args.item in
+    let all = c.requires.arranged in
+    let part = c.index-part.result.now in
+    let place = c.index-place.result.now in
+    let other = c.index-other.result.now in
+    let range = c.index-range.result.now in
+    let part_is : part ≡ part_of of item = get_or_read of item part c.requires.item c.index-part.ensures 0 in
+    let known : part < length parts = omega (arith, (all.stand.placed item c.requires.item).known) in
+    let place_is : place ≡ get_or places item 0 = get_or_read places item place (omega (arith, all.place_each)) c.index-place.ensures 0 in
+    let range_is : range ≡ range_of parts part = get_or_read parts part range known c.index-range.ensures (record { first = 0; middle = 0; past = 0 }) in
+    let low : place < length elements = omega (arith, (all.stand.placed item c.requires.item).below, all.stand.fits (part_of of item) (omega arith)) in
+    let other_is : other ≡ get_or elements range.middle 0 =
+    get_or_read elements range.middle other (omega (arith, c.if-range-place.true)) c.index-other.ensures 0 in
+    record {
+      stand = stand_marked of elements places parts all.stand all.element_each all.place_each item c.requires.item part place other range
+          part_is place_is range_is c.if-range-place.true other_is;
+      element_each = omega (arith, length-set (set elements place other) range.middle item, length-set elements place other, all.element_each);
+      place_each = omega (arith, length-set (set places other place) item range.middle, length-set places other place, all.place_each);
+      few = all.few;
+      few_parts = omega (arith, length-set parts part (record { first = range.first; middle = range.middle + 1; past = range.past }), all.few_parts);
+    }
+
+pub returns-then-range-place-clause-marked : goal.returns-then-range-place-clause-marked
+returns-then-range-place-clause-marked c =
+    let self = c.args.self.now in
+    let of = self.of.items in
+    let elements = self.elements.items in
+    let places = self.places.items in
+    let parts = self.parts.items in
+    let item = c.args.item in
+    let all = c.requires.arranged in
+    let part = c.index-part.result.now in
+    let place = c.index-place.result.now in
+    let other = c.index-other.result.now in
+    let range = c.index-range.result.now in
+    let part_is : part ≡ part_of of item = get_or_read of item part c.requires.item c.index-part.ensures 0 in
+    let known : part < length parts = omega (arith, (all.stand.placed item c.requires.item).known) in
+    let place_is : place ≡ get_or places item 0 = get_or_read places item place (omega (arith, all.place_each)) c.index-place.ensures 0 in
+    let range_is : range ≡ range_of parts part = get_or_read parts part range known c.index-range.ensures (record { first = 0; middle = 0; past = 0 }) in
+    let low : place < length elements = omega (arith, (all.stand.placed item c.requires.item).below, all.stand.fits (part_of of item) (omega arith)) in
+    let other_is : other ≡ get_or elements range.middle 0 =
+    get_or_read elements range.middle other (omega (arith, c.if-range-place.true)) c.index-other.ensures 0 in
+    record {
+      of_is = refl;
+      count = length-set parts part (record { first = range.first; middle = range.middle + 1; past = range.past });
+      marked = marks_marked of elements places parts all.stand all.element_each all.place_each item c.requires.item part place other range
+          part_is place_is range_is c.if-range-place.true other_is;
+    }
