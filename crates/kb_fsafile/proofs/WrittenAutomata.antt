@@ -1,11 +1,12 @@
 -- The tree of a canonical automaton says it.
-use Rattle.std.proofs.Common.{◌≡◌, ◌≢◌, ◌↔◌, ℕ, zero, suc, ◌+◌, ◌<◌, ◌≤◌, ◌⊎◌, inl, inr, Bool, true, false, IsTrue, ◌&&◌, nat_le, if◌then◌else◌, ℤ, pos, ◌≤ℤ◌, List, [], ◌∷◌, ◌++◌, map, length, get_or, Contains, Option, refl, sym, ap, subst, ◌∙◌, arith}
+use Rattle.std.proofs.Common.{◌≡◌, ◌≢◌, ◌↔◌, ℕ, zero, suc, ◌+◌, ◌<◌, ◌≤◌, ◌⊎◌, inl, inr, Bool, true, false, IsTrue, ◌&&◌, nat_le, if◌then◌else◌, ℤ, pos, ◌≤ℤ◌, List, [], ◌∷◌, ◌++◌, map, length, get_or, Contains, Option, Some, refl, sym, ap, subst, ◌∙◌, arith}
 use Rattle.std.specs.List.{All, list_all}
 use Rattle.std.proofs.lemmas.Int.{ints}
 use Rattle.std.specs.Option.{unwrap_or}
 use Rattle.std.proofs.lemmas.Bool.{cases_eq, cases_lt}
 use Rattle.std.proofs.lemmas.List.Elements.{All-nil, All-cons, All-head, All-tail}
-use Rattle.kb_record.specs.Tree.{Value, range_value}
+use Rattle.kb_record.specs.Tree.{Value, string_value, record_value, list_value, range_value}
+use Rattle.kb_fields.specs.Fields.{HasFieldTwice}
 use Rattle.kb_fields.specs.Generators.{AreGeneratorNames}
 use Rattle.kb_fsa.specs.declared.alphabet.Alphabet.{Alphabet}
 use Rattle.kb_fsa.specs.declared.alphabet.Alphabet.TheVariants.{Plain, Pair}
@@ -16,14 +17,16 @@ use Rattle.kb_fsa.proofs.Lookups.{lookup_here, lookup_there, lookup_nowhere, tar
 use Rattle.kb_fsa.proofs.PairSymbolLaws.{square}
 use Rattle.kb_fsafile.specs.Kinds.{IsNumbers, StandsFor, IsNumberOf, numbered_from}
 use Rattle.kb_fsafile.specs.Misplaced.{IsDropped, IsMisplaced, IsWithoutMisplaced, IsCleaned}
-use Rattle.kb_fsafile.specs.Holds.{HoldsNames, HoldsAlphabet, HoldsInitial, HoldsAccepting, HoldsEntries, HoldsRow, HoldsRows, HoldsMoves, HoldsTable, HoldsAutomaton, IsPairSize}
+use Rattle.kb_fsafile.specs.Holds.{HoldsNames, HoldsAlphabet, HoldsInitial, HoldsAccepting, HoldsEntries, HoldsRow, HoldsRows, HoldsMoves, HoldsTable, HoldsAutomaton, IsPairSize, format_name}
 use Rattle.kb_fsafile.specs.Reading.{AreStates}
-use Rattle.kb_fsaprint.specs.Printed.{numbers_value, targets_from, dense_rows, accepting_from, accepting_value, names_fields, alphabet_fields, states_fields, table_fields, tree_of}
-use Rattle.kb_fsafile.specs.declared.format.Format.TheVariants.{Dense}
+use Rattle.kb_fsaprint.specs.Printed.{numbers_value, targets_from, list_of_moves, row_places, rows_places, format_of, format_name as printed_name, accepting_from, accepting_value, names_fields, alphabet_fields, states_fields, table_fields, tree_of}
+use Rattle.kb_fsaprint.specs.declared.format.RowFormat.{RowFormat}
+use Rattle.kb_fsaprint.specs.declared.format.RowFormat.TheVariants as printed
+use Rattle.kb_fsafile.specs.declared.format.Format.{Format}
+use Rattle.kb_fsafile.specs.declared.format.Format.TheVariants.{Dense, Sparse}
 use Rattle.kb_fsafile.proofs.NumberLemmas.{IsPos, listed_stands}
 use Rattle.kb_fsafile.proofs.PaddedTexts.{in_place_from_padded}
 use Rattle.kb_fsafile.proofs.UniqueAutomaton.{pos_same}
-use Rattle.kb_fsaprint.proofs.WrittenTrees.{tree_once}
 
 -- ---- the alphabet
 
@@ -204,9 +207,9 @@ no_target row size symbol is within outside = target_none row symbol (lookup_now
       | inr above ↦ omega (arith, small, same, above)
     ]))
 
-row_written : (size count : ℕ) (row : Moves) → IsRow row → All (λ (move : ℕ × ℕ). move.1 ≤ count) row → All (λ (move : ℕ × ℕ). move.0 ≤ size) row
+dense_row_written : (size count : ℕ) (row : Moves) → IsRow row → All (λ (move : ℕ × ℕ). move.1 ≤ count) row → All (λ (move : ℕ × ℕ). move.0 ≤ size) row
     → HoldsRow size count Dense (numbers_value (targets_from row 1 size)) row
-row_written size count row is targets within = record {
+dense_row_written size count row is targets within = record {
   entries = numbered_from 1 (targets_from row 1 size);
   holds = HoldsEntries.dense (targets_from row 1 size) refl (targets_length row 1 size) refl;
   targets = targets_bounded count row 1 size targets;
@@ -219,14 +222,53 @@ row_written size count row is targets within = record {
     at symbol (inr low) (inl above) = no_target row size symbol is within (inr above) ∙ sym (target_outside row 1 size symbol (inr (omega (arith, above))))
     at symbol (inr low) (inr high) = sym (target_numbered row 1 size symbol low (omega (arith, high)))
 
-rows_written : (size count : ℕ) (rows : List Moves) → All IsRow rows → All (All (λ (move : ℕ × ℕ). move.1 ≤ count)) rows → All (All (λ (move : ℕ × ℕ). move.0 ≤ size)) rows
-    → HoldsRows size count Dense (dense_rows size rows) rows
-rows_written size count [] are targets within = refl
-rows_written size count (row ∷ rows) are targets within =
+sparse_row_written : (size count : ℕ) (row : Moves) → IsRow row → All (λ (move : ℕ × ℕ). move.1 ≤ count) row → All (λ (move : ℕ × ℕ). move.0 ≤ size) row
+    → HoldsRow size count Sparse (list_value (list_of_moves row)) row
+sparse_row_written size count row is targets within = record {
+  entries = row;
+  holds = HoldsEntries.sparse refl (λ i j d before inside same. (let less = is.ascends i j d before inside in omega (arith, less, same)))
+      (λ k d inside. ((is.numbers k d inside).0, within k d inside));
+  targets = targets;
+  is_row = is;
+  same = λ symbol. refl;
+}
+
+-- the format as which printed rows are read
+abbrev read_as : RowFormat → Format
+read_as (printed.Dense size) = Dense
+read_as printed.Sparse = Sparse
+
+same_name : (format : RowFormat) → printed_name format ≡ format_name (read_as format)
+same_name (printed.Dense size) = refl
+same_name printed.Sparse = refl
+
+-- the format is one for rows over so many symbols
+abbrev IsFor : ℕ → RowFormat → Type 0
+IsFor size (printed.Dense columns) = columns ≡ size
+IsFor size printed.Sparse = Unit {0}
+
+format_for : (alphabet : Alphabet) → IsFor (symbols alphabet) (format_of alphabet)
+format_for alphabet = go (nat_le (generators alphabet) 126)
+  where
+    go : (few : Bool) → IsFor (symbols alphabet) (if few then printed.Dense (symbols alphabet) else printed.Sparse)
+    go true = refl
+    go false = tt
+
+row_written : (format : RowFormat) (size count : ℕ) (row : Moves) → IsFor size format → IsRow row → All (λ (move : ℕ × ℕ). move.1 ≤ count) row
+    → All (λ (move : ℕ × ℕ). move.0 ≤ size) row → HoldsRow size count (read_as format) (list_value (row_places format row)) row
+row_written (printed.Dense columns) size count row for_them is targets within =
+    let P : ℕ → Type 0 = λ n. HoldsRow size count Dense (numbers_value (targets_from row 1 n)) row in
+    subst P (sym for_them) (dense_row_written size count row is targets within)
+row_written printed.Sparse size count row for_them is targets within = sparse_row_written size count row is targets within
+
+rows_written : (format : RowFormat) (size count : ℕ) (rows : List Moves) → IsFor size format → All IsRow rows → All (All (λ (move : ℕ × ℕ). move.1 ≤ count)) rows
+    → All (All (λ (move : ℕ × ℕ). move.0 ≤ size)) rows → HoldsRows size count (read_as format) (rows_places format rows) rows
+rows_written format size count [] for_them are targets within = refl
+rows_written format size count (row ∷ rows) for_them are targets within =
     let T : Moves → Type 0 = λ r. All (λ (move : ℕ × ℕ). move.1 ≤ count) r in
     let S : Moves → Type 0 = λ r. All (λ (move : ℕ × ℕ). move.0 ≤ size) r in (
-      row_written size count row (All-head IsRow row rows are) (All-head T row rows targets) (All-head S row rows within),
-      rows_written size count rows (All-tail IsRow row rows are) (All-tail T row rows targets) (All-tail S row rows within),
+      row_written format size count row for_them (All-head IsRow row rows are) (All-head T row rows targets) (All-head S row rows within),
+      rows_written format size count rows for_them (All-tail IsRow row rows are) (All-tail T row rows targets) (All-tail S row rows within),
     )
 
 -- ---- the table
@@ -254,20 +296,25 @@ accepting_written names automaton is = record {
 moves_written : (names : List (List ℕ)) (automaton : Automaton) → IsTable automaton.table → HasSymbols (symbols automaton.alphabet) automaton.table
     → HoldsMoves (tree_of names automaton).fields (symbols automaton.alphabet) automaton.table.rows
 moves_written names automaton is within = record {
-  table = table_fields (symbols automaton.alphabet) automaton.table.rows;
+  table = table_fields (format_of automaton.alphabet) automaton.table.rows;
   is_record = refl;
   no_default = tt;
-  format = Dense;
-  named = refl;
-  places = dense_rows (symbols automaton.alphabet) automaton.table.rows;
+  format = read_as (format_of automaton.alphabet);
+  named = ap (λ name. Some (string_value name)) (same_name (format_of automaton.alphabet));
+  places = rows_places (format_of automaton.alphabet) automaton.table.rows;
   listed = refl;
-  each = rows_written (symbols automaton.alphabet) (length automaton.table.rows) automaton.table.rows is.rows is.targets within;
+  each = rows_written (format_of automaton.alphabet) (symbols automaton.alphabet) (length automaton.table.rows) automaton.table.rows
+      (format_for automaton.alphabet) is.rows is.targets within;
 }
 
-table_written : (names : List (List ℕ)) (automaton : Automaton) → IsAutomaton automaton → automaton.table.initial ≡ 1 → AreGeneratorNames names
-    → length names ≡ generators automaton.alphabet → HoldsTable (tree_of names automaton).fields names automaton.alphabet automaton.table
-table_written names automaton is first free counted = record {
-  once = λ name. tree_once names automaton name;
+-- the tree has no field twice
+abbrev pub HasEachOnce : List (List ℕ) → Automaton → Type 0
+HasEachOnce names automaton = (name : List ℕ) → ¬ HasFieldTwice (record_value (tree_of names automaton).fields) name
+
+table_written : (names : List (List ℕ)) (automaton : Automaton) → HasEachOnce names automaton → IsAutomaton automaton → automaton.table.initial ≡ 1
+    → AreGeneratorNames names → length names ≡ generators automaton.alphabet → HoldsTable (tree_of names automaton).fields names automaton.alphabet automaton.table
+table_written names automaton once is first free counted = record {
+  once = once;
   is_fsa = refl;
   letters = alphabet_fields automaton.alphabet names;
   is_record = refl;
@@ -317,10 +364,10 @@ cleaned_written : (alphabet : Alphabet) (table : Table) → IsAutomaton (record 
 cleaned_written (Plain n) table is = refl
 cleaned_written (Pair n) table is = (none_left_out n table is, all_padded n table is)
 
-pub automaton_written : (names : List (List ℕ)) (automaton : Automaton) → IsAutomaton automaton → automaton.table.initial ≡ 1 → AreGeneratorNames names
-    → length names ≡ generators automaton.alphabet → HoldsAutomaton (tree_of names automaton).fields names automaton
-automaton_written names automaton is first free counted = record {
+pub automaton_written : (names : List (List ℕ)) (automaton : Automaton) → HasEachOnce names automaton → IsAutomaton automaton → automaton.table.initial ≡ 1
+    → AreGeneratorNames names → length names ≡ generators automaton.alphabet → HoldsAutomaton (tree_of names automaton).fields names automaton
+automaton_written names automaton once is first free counted = record {
   read = automaton.table;
-  holds = table_written names automaton is first free counted;
+  holds = table_written names automaton once is first free counted;
   cleaned = cleaned_written automaton.alphabet automaton.table is;
 }

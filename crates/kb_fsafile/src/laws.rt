@@ -11,9 +11,8 @@ ghost use Rattle.kb_fsaprint.specs.Printed.{text_of_automaton};
 ghost use Rattle.kb_fsafile.specs.declared.error.FsaError.{FsaError};
 ghost use Rattle.kb_fsafile.specs.declared.error.FsaError.TheVariants as errors;
 
-use kb_record::{
-    a_printed_text_is_read_again, a_shallow_text_is_not_too_deep, a_text_has_one_tree,
-};
+use kb_fsaprint::a_written_automaton_is_a_text_of_its_tree;
+use kb_record::{a_shallow_text_is_not_too_deep, a_text_has_one_tree};
 
 /// Bytes that say an automaton have no fault; want of memory is none of theirs.
 pub fn an_automaton_file_has_no_fault()
@@ -38,5 +37,5 @@ pub fn a_written_automaton_is_read_again()
         → AreGeneratorNames names → All IsName names → length names ≡ generators automaton.alphabet
         → AutomatonOf (text_of_automaton names automaton) names automaton }
 {
-    a_printed_text_is_read_again();
+    a_written_automaton_is_a_text_of_its_tree();
 }

@@ -11,9 +11,10 @@ use Rattle.kb_record.proofs.PrintedPieces.{pieces_go, pieces_end}
 use Rattle.kb_fields.specs.Fields.{bare_name, list_of_names}
 use Rattle.kb_fsa.specs.Table.{Moves, IsRow, IsSplit, target}
 use Rattle.kb_fsa.proofs.RowSplits.{rest_of_split}
-use Rattle.kb_fsaprint.specs.Values.{count_value, list_of_numbers}
-use Rattle.kb_fsaprint.specs.Printed.{numbers_value, names_fields, states_fields, flags_value, targets_from, dense_rows, accepting_from, accepting_value}
-use Rattle.kb_fsaprint.specs.Writing.{number_text, IsRowPrinted}
+use Rattle.kb_fsaprint.specs.Values.{count_value, list_of_numbers, entry_value}
+use Rattle.kb_fsaprint.specs.Printed.{numbers_value, names_fields, states_fields, flags_value, targets_from, list_of_moves, row_places, rows_places, accepting_from, accepting_value}
+use Rattle.kb_fsaprint.specs.Writing.{number_text, move_text, IsRowPrinted}
+use Rattle.kb_fsaprint.specs.declared.format.RowFormat.{RowFormat}
 
 -- ---- lists on one line
 
@@ -115,34 +116,58 @@ row_next {row} {left} {after_it} {symbol} {to} {columns} {whole} {old} {before} 
       same = λ later more. sym (rest.others later (λ e. omega arith)) ∙ printed.same later (omega arith);
     }
 
--- a dense row on a line of its own
-abbrev pub row_text : ℕ → Moves → List ℕ
-row_text symbols row = indent 3 ++ line_of (numbers_value (targets_from row 1 symbols))
+-- a move's list on one line
+move_line : (move : ℕ × ℕ) → line_of (entry_value (pos move.0, pos move.1)) ≡ move_text move
+move_line move =
+    let symbol = number_text move.0 in
+    let to = number_text move.1 in
+    ap (λ t. codes "[" ++ t)
+    (append_assoc symbol (codes "," ++ (to ++ [])) (codes "]") ∙ ap (λ t. symbol ++ (codes "," ++ (t ++ codes "]"))) (append-nil to))
 
-rows_are_lists : (symbols : ℕ) (rows : List Moves) → are_lists (dense_rows symbols rows) ≡ true
-rows_are_lists symbols [] = refl
-rows_are_lists symbols (row ∷ rows) = rows_are_lists symbols rows
+more_move_pieces : (row : Moves) → line_of_more_places (list_of_moves row) ≡ pieces move_text (codes ",") (codes ",") row
+more_move_pieces [] = refl
+more_move_pieces (move ∷ row) =
+    ap (λ t. codes "," ++ (t ++ line_of_more_places (list_of_moves row))) (move_line move)
+    ∙ ap (λ t. codes "," ++ (move_text move ++ t)) (more_move_pieces row)
 
-some_row_lines : (symbols : ℕ) (row : Moves) (rows : List Moves) (after_them : List ℕ)
-    → row_text symbols row ++ (pieces (row_text symbols) (codes ",\n") (codes ",\n") rows ++ (codes "\n" ++ after_them))
-    ≡ lines_of_places 3 (dense_rows symbols (row ∷ rows)) ++ after_them
-some_row_lines symbols row [] after_them = simp append_assoc
-some_row_lines symbols row (next ∷ rows) after_them =
-    let more = some_row_lines symbols next rows after_them in
-    let here : row_text symbols row ++ (codes ",\n" ++ (lines_of_places 3 (dense_rows symbols (next ∷ rows)) ++ after_them))
-    ≡ lines_of_places 3 (dense_rows symbols (row ∷ (next ∷ rows))) ++ after_them = simp append_assoc in
-    ap (λ t. row_text symbols row ++ (codes ",\n" ++ t))
-    (append_assoc (row_text symbols next) (pieces (row_text symbols) (codes ",\n") (codes ",\n") rows) (codes "\n" ++ after_them) ∙ more)
+pub move_pieces : (row : Moves) → codes "[" ++ (pieces move_text [] (codes ",") row ++ codes "]") ≡ line_of (list_value (list_of_moves row))
+move_pieces [] = refl
+move_pieces (move ∷ row) =
+    ap (λ t. codes "[" ++ ((move_text move ++ t) ++ codes "]")) (sym (more_move_pieces row))
+    ∙ ap (λ t. codes "[" ++ ((t ++ line_of_more_places (list_of_moves row)) ++ codes "]")) (sym (move_line move))
+
+-- the move on its way, piece by piece
+abbrev pub move_texts : ℕ → ℕ → List (List ℕ)
+move_texts symbol to = codes "[" ∷ number_text symbol ∷ codes "," ∷ number_text to ∷ codes "]" ∷ []
+
+-- a row on a line of its own
+abbrev pub row_text : RowFormat → Moves → List ℕ
+row_text format row = indent 3 ++ line_of (list_value (row_places format row))
+
+rows_are_lists : (format : RowFormat) (rows : List Moves) → are_lists (rows_places format rows) ≡ true
+rows_are_lists format [] = refl
+rows_are_lists format (row ∷ rows) = rows_are_lists format rows
+
+some_row_lines : (format : RowFormat) (row : Moves) (rows : List Moves) (after_them : List ℕ)
+    → row_text format row ++ (pieces (row_text format) (codes ",\n") (codes ",\n") rows ++ (codes "\n" ++ after_them))
+    ≡ lines_of_places 3 (rows_places format (row ∷ rows)) ++ after_them
+some_row_lines format row [] after_them = simp append_assoc
+some_row_lines format row (next ∷ rows) after_them =
+    let more = some_row_lines format next rows after_them in
+    let here : row_text format row ++ (codes ",\n" ++ (lines_of_places 3 (rows_places format (next ∷ rows)) ++ after_them))
+    ≡ lines_of_places 3 (rows_places format (row ∷ (next ∷ rows))) ++ after_them = simp append_assoc in
+    ap (λ t. row_text format row ++ (codes ",\n" ++ t))
+    (append_assoc (row_text format next) (pieces (row_text format) (codes ",\n") (codes ",\n") rows) (codes "\n" ++ after_them) ∙ more)
     ∙ here
 
-pub row_lines : (symbols : ℕ) (rows : List Moves) → rows ≢ []
-    → codes "[" ++ (pieces (row_text symbols) (codes "\n") (codes ",\n") rows ++ codes "\n    ]") ≡ text_of_value 2 (list_value (dense_rows symbols rows))
-row_lines symbols [] some = absurd (some refl)
-row_lines symbols (row ∷ rows) some =
+pub row_lines : (format : RowFormat) (rows : List Moves) → rows ≢ []
+    → codes "[" ++ (pieces (row_text format) (codes "\n") (codes ",\n") rows ++ codes "\n    ]") ≡ text_of_value 2 (list_value (rows_places format rows))
+row_lines format [] some = absurd (some refl)
+row_lines format (row ∷ rows) some =
     ap (λ t. codes "[\n" ++ t)
-    (append_assoc (row_text symbols row) (pieces (row_text symbols) (codes ",\n") (codes ",\n") rows) (codes "\n    ]")
-    ∙ some_row_lines symbols row rows (codes "    ]"))
-    ∙ sym (rw (rows_are_lists symbols rows) (simp append_assoc))
+    (append_assoc (row_text format row) (pieces (row_text format) (codes ",\n") (codes ",\n") rows) (codes "\n    ]")
+    ∙ some_row_lines format row rows (codes "    ]"))
+    ∙ sym (rw (rows_are_lists format rows) (simp append_assoc))
 
 -- behind the last piece, where none is left
 pub pieces_done : {A : Type 0} {text : A → List ℕ} {between ending : List ℕ} {xs : List A} {whole old before now : List ℕ} (mid : List ℕ)
@@ -231,21 +256,25 @@ pairs_record size base = sym (record_lines 1 (
     (field (codes "base") base no_fields))))) []) ∙ append-nil _
 
 -- the record of a table
-abbrev pub table_texts : ℕ → Value → List (List ℕ)
-table_texts count transitions =
-    codes "rec(\n    format := \"dense deterministic\",\n    numTransitions := " ∷ number_text count ∷ codes ",\n    transitions := "
+abbrev pub table_texts : List ℕ → ℕ → Value → List (List ℕ)
+table_texts format count transitions =
+    codes "rec(\n    format := \"" ∷ format ∷ codes "\",\n    numTransitions := " ∷ number_text count ∷ codes ",\n    transitions := "
     ∷ text_of_value 2 transitions ∷ codes "\n  )" ∷ []
 
-pub table_record : (count : ℕ) (transitions : Value)
-    → joined (table_texts count transitions)
+pub table_record : (format : List ℕ) (count : ℕ) (transitions : Value)
+    → joined (table_texts format count transitions)
     ≡ text_of_value 1 (record_value
-    (field (codes "format") (string_value (codes "dense deterministic"))
+    (field (codes "format") (string_value format)
     (field (codes "numTransitions") (count_value count)
     (field (codes "transitions") transitions no_fields))))
-table_record count transitions = sym (record_lines 1 (
-    field (codes "format") (string_value (codes "dense deterministic"))
+table_record format count transitions =
+    let behind = codes ",\n    numTransitions := " ++ (number_text count ++ (codes ",\n    transitions := " ++ (text_of_value 2 transitions ++ codes "\n  )"))) in
+    ap (λ t. codes "rec(\n    format := \"" ++ t) (sym (append_assoc format (codes "\"") behind))
+    ∙ sym (record_lines 1 (
+    field (codes "format") (string_value format)
     (field (codes "numTransitions") (count_value count)
-    (field (codes "transitions") transitions no_fields))) []) ∙ append-nil _
+    (field (codes "transitions") transitions no_fields))) [])
+    ∙ append-nil _
 
 -- the whole text
 abbrev pub whole_texts : Value → Value → Value → ℕ → List (List ℕ)

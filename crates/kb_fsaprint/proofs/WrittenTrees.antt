@@ -1,16 +1,17 @@
 -- The tree of a canonical automaton can be spelled, is shallow, and has no field twice.
 use Rattle.std.proofs.Common.{◌≡◌, ℕ, zero, suc, ◌+◌, ◌*◌, ◌<◌, ◌≤◌, ◌⊎◌, inl, inr, Bool, true, false, ◌&&◌, if◌then◌else◌, nat_le, ℤ, pos, List, [], ◌∷◌, map, length, refl, ap, arith}
 use Rattle.std.specs.Prelude.{codes}
-use Rattle.std.specs.List.{All, list_all}
+use Rattle.std.specs.List.{All, AllByRecursion, list_all}
 use Rattle.std.proofs.Math.Nat.{max-le}
 use Rattle.std.proofs.lemmas.Nat.{mul-le}
 use Rattle.std.proofs.lemmas.List.Elements.{All-head, All-tail}
 use Rattle.kb_record.specs.Tree.{Value, range_value, list_value, record_value}
-use Rattle.kb_record.specs.Spelling.{IsName}
+use Rattle.kb_record.specs.Spelling.{IsName, IsStringByte}
 use Rattle.kb_record.specs.Grammar.{IsValue, AreFields, IsPlaceList, ArePlaces}
 use Rattle.kb_record.specs.Layout.{IsShortNumber, IsSpelledValue, AreSpelledFields, AreSpelledPlaces}
 use Rattle.kb_record.specs.Nesting.{value_nesting, fields_nesting, places_nesting, text_nesting, deepest}
 use Rattle.kb_fields.specs.Fields.{list_of_names, field_names, HasFieldTwice, SomePlaceHasTwice}
+use Rattle.kb_fields.specs.Generators.{most_generators}
 use Rattle.kb_fsa.specs.declared.alphabet.Alphabet.{Alphabet}
 use Rattle.kb_fsa.specs.declared.alphabet.Alphabet.TheVariants.{Plain, Pair}
 use Rattle.kb_fsa.specs.Table.{Moves, IsRow, Table, IsTable, HasSymbols, target}
@@ -18,7 +19,9 @@ use Rattle.kb_fsa.specs.Language.{Automaton, IsAutomaton, generators, symbols}
 use Rattle.kb_fsa.proofs.Lookups.{Ascends-head, Ascends-tail, target_within}
 use Rattle.kb_fsa.specs.Table.{Ascends}
 use Rattle.kb_fsaprint.specs.Values.{list_of_numbers}
-use Rattle.kb_fsaprint.specs.Printed.{numbers_value, targets_from, dense_rows, move_count, accepting_from, accepting_value, names_fields, alphabet_fields, states_fields, flags_value, table_fields, tree_of}
+use Rattle.kb_fsaprint.specs.Printed.{numbers_value, targets_from, list_of_moves, row_places, rows_places, format_of, format_name, move_count, accepting_from, accepting_value, names_fields, alphabet_fields, states_fields, flags_value, table_fields, tree_of}
+use Rattle.kb_fsaprint.specs.declared.format.RowFormat.{RowFormat}
+use Rattle.kb_fsaprint.specs.declared.format.RowFormat.TheVariants.{Dense, Sparse}
 use Rattle.kb_fsaprint.proofs.SpelledValues.{word_is_name, string_bytes, none_stands_twice}
 
 -- what holds of a range and of a list holds of the accepting states
@@ -40,9 +43,17 @@ numbers_formed : (numbers : List ℤ) → IsPlaceList (list_of_numbers numbers) 
 numbers_formed [] = (tt, tt)
 numbers_formed (z ∷ numbers) = (tt, (tt, (numbers_formed numbers).1))
 
-rows_formed : (size : ℕ) (rows : List Moves) → IsPlaceList (dense_rows size rows) × ArePlaces (dense_rows size rows)
-rows_formed size [] = (tt, tt)
-rows_formed size (row ∷ rows) = (tt, (numbers_formed (map pos (targets_from row 1 size)), (rows_formed size rows).1))
+moves_formed : (row : Moves) → IsPlaceList (list_of_moves row) × ArePlaces (list_of_moves row)
+moves_formed [] = (tt, tt)
+moves_formed (move ∷ row) = (tt, ((tt, (tt, (tt, tt))), (moves_formed row).1))
+
+row_formed : (format : RowFormat) (row : Moves) → IsPlaceList (row_places format row) × ArePlaces (row_places format row)
+row_formed (Dense size) row = numbers_formed (map pos (targets_from row 1 size))
+row_formed Sparse row = moves_formed row
+
+rows_formed : (format : RowFormat) (rows : List Moves) → IsPlaceList (rows_places format rows) × ArePlaces (rows_places format rows)
+rows_formed format [] = (tt, tt)
+rows_formed format (row ∷ rows) = (tt, (row_formed format row, (rows_formed format rows).1))
 
 letters_formed : (names : List (List ℕ)) → AreFields (names_fields names)
 letters_formed names = (tt, (tt, (tt, (names_formed names, tt))))
@@ -64,7 +75,7 @@ tree_formed names automaton = (
           (tt, (tt, tt)),
           (
             accepting_by IsValue automaton.table.accepting tt (numbers_formed (map pos (accepting_from 1 automaton.table.accepting))),
-            ((tt, (tt, (rows_formed (symbols automaton.alphabet) automaton.table.rows, tt))), tt),
+            ((tt, (tt, (rows_formed (format_of automaton.alphabet) automaton.table.rows, tt))), tt),
           ),
         ),
       ),
@@ -85,9 +96,17 @@ numbers_shallow (z ∷ numbers) = max-le (omega arith) (numbers_shallow numbers)
 list_shallow : (numbers : List ℤ) → value_nesting (list_value (list_of_numbers numbers)) ≤ 1
 list_shallow numbers = omega (arith, numbers_shallow numbers)
 
-rows_shallow : (size : ℕ) (rows : List Moves) → places_nesting (dense_rows size rows) ≤ 1
-rows_shallow size [] = omega arith
-rows_shallow size (row ∷ rows) = max-le (list_shallow (map pos (targets_from row 1 size))) (rows_shallow size rows)
+moves_shallow : (row : Moves) → places_nesting (list_of_moves row) ≤ 1
+moves_shallow [] = omega arith
+moves_shallow (move ∷ row) = max-le (omega arith) (moves_shallow row)
+
+row_shallow : (format : RowFormat) (row : Moves) → value_nesting (list_value (row_places format row)) ≤ 2
+row_shallow (Dense size) row = omega (arith, list_shallow (map pos (targets_from row 1 size)))
+row_shallow Sparse row = omega (arith, moves_shallow row)
+
+rows_shallow : (format : RowFormat) (rows : List Moves) → places_nesting (rows_places format rows) ≤ 2
+rows_shallow format [] = omega arith
+rows_shallow format (row ∷ rows) = max-le (row_shallow format row) (rows_shallow format rows)
 
 letters_shallow : (names : List (List ℕ)) → fields_nesting (names_fields names) ≤ 1
 letters_shallow names = max-le (omega arith) (max-le (omega arith) (max-le (omega arith) (max-le (omega (arith, names_shallow names)) (omega arith))))
@@ -97,17 +116,17 @@ alphabet_shallow (Plain n) names = omega (arith, letters_shallow names)
 alphabet_shallow (Pair n) names =
     max-le (omega arith) (max-le (omega arith) (max-le (omega arith) (max-le (omega arith) (max-le (omega (arith, letters_shallow names)) (omega arith)))))
 
-table_shallow : (size : ℕ) (rows : List Moves) → fields_nesting (table_fields size rows) ≤ 2
-table_shallow size rows = max-le (omega arith) (max-le (omega arith) (max-le (omega (arith, rows_shallow size rows)) (omega arith)))
+table_shallow : (format : RowFormat) (rows : List Moves) → fields_nesting (table_fields format rows) ≤ 3
+table_shallow format rows = max-le (omega arith) (max-le (omega arith) (max-le (omega (arith, rows_shallow format rows)) (omega arith)))
 
 accepting_shallow : (marks : List Bool) → value_nesting (accepting_value marks) ≤ 1
 accepting_shallow marks = accepting_by (λ v. value_nesting v ≤ 1) marks (omega arith) (list_shallow (map pos (accepting_from 1 marks)))
 
-fields_shallow : (names : List (List ℕ)) (automaton : Automaton) → fields_nesting (tree_of names automaton).fields ≤ 3
+fields_shallow : (names : List (List ℕ)) (automaton : Automaton) → fields_nesting (tree_of names automaton).fields ≤ 4
 fields_shallow names automaton =
     max-le (omega arith) (max-le (omega (arith, alphabet_shallow automaton.alphabet names)) (max-le (omega arith) (max-le (omega arith) (max-le (omega arith)
     (max-le (omega (arith, accepting_shallow automaton.table.accepting))
-    (max-le (omega (arith, table_shallow (symbols automaton.alphabet) automaton.table.rows)) (omega arith)))))))
+    (max-le (omega (arith, table_shallow (format_of automaton.alphabet) automaton.table.rows)) (omega arith)))))))
 
 pub tree_shallow : (names : List (List ℕ)) (automaton : Automaton) → text_nesting (tree_of names automaton) ≤ deepest
 tree_shallow names automaton = omega (arith, fields_shallow names automaton)
@@ -129,9 +148,17 @@ numbers_once : (numbers : List ℤ) (name : List ℕ) → SomePlaceHasTwice (lis
 numbers_once [] name f = f
 numbers_once (z ∷ numbers) name f = none_of nothing (numbers_once numbers name) f
 
-rows_once : (size : ℕ) (rows : List Moves) (name : List ℕ) → SomePlaceHasTwice (dense_rows size rows) name → ⊥
-rows_once size [] name f = f
-rows_once size (row ∷ rows) name f = none_of (numbers_once (map pos (targets_from row 1 size)) name) (rows_once size rows name) f
+moves_once : (row : Moves) (name : List ℕ) → SomePlaceHasTwice (list_of_moves row) name → ⊥
+moves_once [] name f = f
+moves_once (move ∷ row) name f = none_of (none_of nothing (none_of nothing nothing)) (moves_once row name) f
+
+row_once : (format : RowFormat) (row : Moves) (name : List ℕ) → SomePlaceHasTwice (row_places format row) name → ⊥
+row_once (Dense size) row name f = numbers_once (map pos (targets_from row 1 size)) name f
+row_once Sparse row name f = moves_once row name f
+
+rows_once : (format : RowFormat) (rows : List Moves) (name : List ℕ) → SomePlaceHasTwice (rows_places format rows) name → ⊥
+rows_once format [] name f = f
+rows_once format (row ∷ rows) name f = none_of (row_once format row name) (rows_once format rows name) f
 
 letters_once : (names : List (List ℕ)) (name : List ℕ) → HasFieldTwice (record_value (names_fields names)) name → ⊥
 letters_once names name f =
@@ -149,9 +176,9 @@ states_once count name f = none_of (none_stands_twice (field_names (states_field
 flags_once : (name : List ℕ) → HasFieldTwice flags_value name → ⊥
 flags_once name f = none_of nothing (none_of nothing (none_of nothing (none_of nothing (none_of nothing nothing)))) f
 
-table_once : (size : ℕ) (rows : List Moves) (name : List ℕ) → HasFieldTwice (record_value (table_fields size rows)) name → ⊥
-table_once size rows name f =
-    none_of (none_stands_twice (field_names (table_fields size rows)) name refl) (none_of nothing (none_of nothing (none_of (rows_once size rows name) nothing))) f
+table_once : (format : RowFormat) (rows : List Moves) (name : List ℕ) → HasFieldTwice (record_value (table_fields format rows)) name → ⊥
+table_once format rows name f =
+    none_of (none_stands_twice (field_names (table_fields format rows)) name refl) (none_of nothing (none_of nothing (none_of (rows_once format rows name) nothing))) f
 
 accepting_once : (marks : List Bool) (name : List ℕ) → HasFieldTwice (accepting_value marks) name → ⊥
 accepting_once marks name = accepting_by (λ v. HasFieldTwice v name → ⊥) marks nothing (numbers_once (map pos (accepting_from 1 marks)) name)
@@ -161,7 +188,7 @@ tree_once names automaton name f =
     none_of (none_stands_twice (field_names (tree_of names automaton).fields) name refl)
     (none_of nothing (none_of (alphabet_once automaton.alphabet names name) (none_of (states_once (length automaton.table.rows) name)
     (none_of (flags_once name) (none_of (numbers_once (map pos (1 ∷ [])) name) (none_of (accepting_once automaton.table.accepting name)
-    (none_of (table_once (symbols automaton.alphabet) automaton.table.rows name) nothing))))))) f
+    (none_of (table_once (format_of automaton.alphabet) automaton.table.rows name) nothing))))))) f
 
 -- ---- names, strings and numbers are spelled
 
@@ -179,18 +206,43 @@ targets_spelled row count symbol (suc columns) small within =
     let bound = target_within row symbol count within in
     (short (target row symbol) (omega (arith, small, bound)), targets_spelled row count (suc symbol) columns small within)
 
-rows_spelled : (size count : ℕ) (rows : List Moves) → count < 1000000000000000000 → All (All (λ (move : ℕ × ℕ). move.1 ≤ count)) rows → AreSpelledPlaces (dense_rows size rows)
-rows_spelled size count [] small within = tt
-rows_spelled size count (row ∷ rows) small within =
-    let P : Moves → Type 0 = λ r. All (λ (move : ℕ × ℕ). move.1 ≤ count) r in
-    (targets_spelled row count 1 size small (All-head P row rows within), rows_spelled size count rows small (All-tail P row rows within))
+moves_spelled : (row : Moves) (size count : ℕ) → size < 1000000000000000000 → count < 1000000000000000000 → All (λ (move : ℕ × ℕ). move.0 ≤ size) row
+    → All (λ (move : ℕ × ℕ). move.1 ≤ count) row → AreSpelledPlaces (list_of_moves row)
+moves_spelled [] size count small few symbols targets = tt
+moves_spelled (move ∷ row) size count small few symbols targets =
+    let S : ℕ × ℕ → Type 0 = λ m. m.0 ≤ size in
+    let T : ℕ × ℕ → Type 0 = λ m. m.1 ≤ count in
+    let symbol = All-head S move row symbols in
+    let to = All-head T move row targets in (
+      (short move.0 (omega (arith, small, symbol)), (short move.1 (omega (arith, few, to)), tt)),
+      moves_spelled row size count small few (All-tail S move row symbols) (All-tail T move row targets),
+    )
+
+row_spelled : (format : RowFormat) (row : Moves) (size count : ℕ) → size < 1000000000000000000 → count < 1000000000000000000
+    → All (λ (move : ℕ × ℕ). move.0 ≤ size) row → All (λ (move : ℕ × ℕ). move.1 ≤ count) row → AreSpelledPlaces (row_places format row)
+row_spelled (Dense columns) row size count small few symbols targets = targets_spelled row count 1 columns few targets
+row_spelled Sparse row size count small few symbols targets = moves_spelled row size count small few symbols targets
+
+rows_spelled : (format : RowFormat) (rows : List Moves) (size count : ℕ) → size < 1000000000000000000 → count < 1000000000000000000
+    → All (All (λ (move : ℕ × ℕ). move.0 ≤ size)) rows → All (All (λ (move : ℕ × ℕ). move.1 ≤ count)) rows → AreSpelledPlaces (rows_places format rows)
+rows_spelled format [] size count small few symbols targets = tt
+rows_spelled format (row ∷ rows) size count small few symbols targets =
+    let S : Moves → Type 0 = λ r. All (λ (move : ℕ × ℕ). move.0 ≤ size) r in
+    let T : Moves → Type 0 = λ r. All (λ (move : ℕ × ℕ). move.1 ≤ count) r in (
+      row_spelled format row size count small few (All-head S row rows symbols) (All-head T row rows targets),
+      rows_spelled format rows size count small few (All-tail S row rows symbols) (All-tail T row rows targets),
+    )
+
+format_spelled : (format : RowFormat) → AllByRecursion IsStringByte (format_name format)
+format_spelled (Dense size) = string_bytes (codes "dense deterministic") refl
+format_spelled Sparse = string_bytes (codes "sparse") refl
 
 accepting_spelled : (state : ℕ) (marks : List Bool) → state + length marks < 1000000000000000000 → AreSpelledPlaces (list_of_numbers (map pos (accepting_from state marks)))
 accepting_spelled state [] small = tt
 accepting_spelled state (true ∷ marks) small = (short state (omega (arith, small)), accepting_spelled (suc state) marks (omega (arith, small)))
 accepting_spelled state (false ∷ marks) small = accepting_spelled (suc state) marks (omega (arith, small))
 
-letters_spelled : (names : List (List ℕ)) → All IsName names → length names ≤ 126 → AreSpelledFields (names_fields names)
+letters_spelled : (names : List (List ℕ)) → All IsName names → length names ≤ most_generators → AreSpelledFields (names_fields names)
 letters_spelled names each few = (
   word_is_name (codes "type") refl,
   string_bytes (codes "identifiers") refl,
@@ -205,13 +257,13 @@ letters_spelled names each few = (
   ),
 )
 
-few_symbols : (alphabet : Alphabet) → generators alphabet ≤ 126 → symbols alphabet ≤ 16128
+few_symbols : (alphabet : Alphabet) → generators alphabet ≤ most_generators → symbols alphabet ≤ 1002000
 few_symbols (Plain n) few = omega (arith, few)
 few_symbols (Pair n) few =
-    let square : (n + 1) * (n + 1) ≤ 16129 = mul-le (n + 1) (n + 1) 127 127 (omega (arith, few)) (omega (arith, few)) in
+    let square : (n + 1) * (n + 1) ≤ 1002001 = mul-le (n + 1) (n + 1) 1001 1001 (omega (arith, few)) (omega (arith, few)) in
     omega (arith, square)
 
-alphabet_spelled : (alphabet : Alphabet) (names : List (List ℕ)) → All IsName names → length names ≤ 126 → symbols alphabet ≤ 16128
+alphabet_spelled : (alphabet : Alphabet) (names : List (List ℕ)) → All IsName names → length names ≤ most_generators → symbols alphabet ≤ 1002000
     → AreSpelledFields (alphabet_fields alphabet names)
 alphabet_spelled (Plain n) names each few small = letters_spelled names each few
 alphabet_spelled (Pair n) names each few small = (
@@ -257,24 +309,25 @@ count_of_moves size (row ∷ rows) are within =
     let product = ap (λ n. n * size) count in
     omega (arith, first, rest, whole, product)
 
-moves_short : (size : ℕ) (table : Table) → IsTable table → HasSymbols size table → size ≤ 16128 → move_count table.rows < 1000000000000000000
+moves_short : (size : ℕ) (table : Table) → IsTable table → HasSymbols size table → size ≤ 1002000 → move_count table.rows < 1000000000000000000
 moves_short size table is within small =
     let moves = count_of_moves size table.rows is.rows within in
-    let bound : length table.rows * size ≤ 4294967296 * 16128 = mul-le (length table.rows) size 4294967296 16128 (omega (arith, is.size)) small in
+    let bound : length table.rows * size ≤ 4294967296 * 1002000 = mul-le (length table.rows) size 4294967296 1002000 (omega (arith, is.size)) small in
     omega (arith, moves, bound)
 
-table_spelled : (size : ℕ) (table : Table) → IsTable table → HasSymbols size table → size ≤ 16128 → AreSpelledFields (table_fields size table.rows)
-table_spelled size table is within small = (
+table_spelled : (format : RowFormat) (size : ℕ) (table : Table) → IsTable table → HasSymbols size table → size ≤ 1002000
+    → AreSpelledFields (table_fields format table.rows)
+table_spelled format size table is within small = (
   word_is_name (codes "format") refl,
-  string_bytes (codes "dense deterministic") refl,
+  format_spelled format,
   (
     word_is_name (codes "numTransitions") refl,
     short (move_count table.rows) (moves_short size table is within small),
-    (word_is_name (codes "transitions") refl, rows_spelled size (length table.rows) table.rows (omega (arith, is.size)) is.targets, tt),
+    (word_is_name (codes "transitions") refl, rows_spelled format table.rows size (length table.rows) (omega (arith, small)) (omega (arith, is.size)) within is.targets, tt),
   ),
 )
 
-pub tree_spelled : (names : List (List ℕ)) (automaton : Automaton) → IsAutomaton automaton → All IsName names → length names ≤ 126 → length names ≡ generators automaton.alphabet
+pub tree_spelled : (names : List (List ℕ)) (automaton : Automaton) → IsAutomaton automaton → All IsName names → length names ≤ most_generators → length names ≡ generators automaton.alphabet
     → AreSpelledFields (tree_of names automaton).fields
 tree_spelled names automaton is each few counted = (
   word_is_name (codes "isFSA") refl,
@@ -308,7 +361,7 @@ tree_spelled names automaton is each few counted = (
             word_is_name (codes "accepting") refl,
             accepting_by IsSpelledValue automaton.table.accepting (short 1 (omega arith), short (length automaton.table.accepting) (omega (arith, marks, is.table.size)))
                 (accepting_spelled 1 automaton.table.accepting (omega (arith, marks, is.table.size))),
-            (word_is_name (codes "table") refl, table_spelled (symbols automaton.alphabet) automaton.table is.table is.symbols small, tt),
+            (word_is_name (codes "table") refl, table_spelled (format_of automaton.alphabet) (symbols automaton.alphabet) automaton.table is.table is.symbols small, tt),
           ),
         ),
       ),
@@ -316,7 +369,7 @@ tree_spelled names automaton is each few counted = (
   ),
 )
   where
-    small : symbols automaton.alphabet ≤ 16128
+    small : symbols automaton.alphabet ≤ 1002000
     small = few_symbols automaton.alphabet (omega (arith, few, counted))
 
     marks : length automaton.table.accepting ≡ length automaton.table.rows

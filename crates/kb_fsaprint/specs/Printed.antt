@@ -7,8 +7,10 @@ use Rattle.kb_fields.specs.Fields.{bare_name, list_of_names}
 use Rattle.kb_fsa.specs.declared.alphabet.Alphabet.{Alphabet}
 use Rattle.kb_fsa.specs.declared.alphabet.Alphabet.TheVariants.{Plain, Pair}
 use Rattle.kb_fsa.specs.Table.{Moves, target}
-use Rattle.kb_fsa.specs.Language.{Automaton, symbols}
-use Rattle.kb_fsaprint.specs.Values.{count_value, list_of_numbers}
+use Rattle.kb_fsa.specs.Language.{Automaton, generators, symbols}
+use Rattle.kb_fsaprint.specs.Values.{count_value, list_of_numbers, list_of_entries}
+use Rattle.kb_fsaprint.specs.declared.format.RowFormat.{RowFormat}
+use Rattle.kb_fsaprint.specs.declared.format.RowFormat.TheVariants.{Dense, Sparse}
 
 abbrev pub numbers_value : List ℕ → Value
 numbers_value numbers = list_value (list_of_numbers (map pos numbers))
@@ -18,10 +20,28 @@ abbrev pub targets_from : Moves → ℕ → ℕ → List ℕ
 targets_from row symbol zero = []
 targets_from row symbol (suc columns) = target row symbol ∷ targets_from row (suc symbol) columns
 
--- the dense rows over so many symbols
-abbrev pub dense_rows : ℕ → List Moves → Places
-dense_rows size [] = no_places
-dense_rows size (row ∷ rows) = place (numbers_value (targets_from row 1 size)) (dense_rows size rows)
+-- how rows are printed over an alphabet: dense over at most 126 names, and sparse over more
+abbrev pub format_of : Alphabet → RowFormat
+format_of alphabet = if nat_le (generators alphabet) 126 then Dense (symbols alphabet) else Sparse
+
+-- what a format is called
+abbrev pub format_name : RowFormat → List ℕ
+format_name (Dense size) = codes "dense deterministic"
+format_name Sparse = codes "sparse"
+
+-- the moves, each as the list of its symbol and its target
+abbrev pub list_of_moves : Moves → Places
+list_of_moves row = list_of_entries (map (λ (move : ℕ × ℕ). (pos move.0, pos move.1)) row)
+
+-- a row: the targets by all symbols in order, or the moves
+abbrev pub row_places : RowFormat → Moves → Places
+row_places (Dense size) row = list_of_numbers (map pos (targets_from row 1 size))
+row_places Sparse row = list_of_moves row
+
+-- the rows in a format
+abbrev pub rows_places : RowFormat → List Moves → Places
+rows_places format [] = no_places
+rows_places format (row ∷ rows) = place (list_value (row_places format row)) (rows_places format rows)
 
 -- how many moves there are
 abbrev pub move_count : List Moves → ℕ
@@ -71,11 +91,11 @@ flags_value = list_value
     (place (string_value (codes "accessible"))
     (place (string_value (codes "trim")) no_places)))))
 
-abbrev pub table_fields : ℕ → List Moves → Fields
-table_fields size rows =
-    field (codes "format") (string_value (codes "dense deterministic"))
+abbrev pub table_fields : RowFormat → List Moves → Fields
+table_fields format rows =
+    field (codes "format") (string_value (format_name format))
     (field (codes "numTransitions") (count_value (move_count rows))
-    (field (codes "transitions") (list_value (dense_rows size rows)) no_fields))
+    (field (codes "transitions") (list_value (rows_places format rows)) no_fields))
 
 -- the tree of a canonical automaton, whose initial state is 1
 abbrev pub tree_of : List (List ℕ) → Automaton → TextTree
@@ -88,7 +108,7 @@ tree_of names automaton = record {
       (field (codes "flags") flags_value
       (field (codes "initial") (numbers_value (1 ∷ []))
       (field (codes "accepting") (accepting_value automaton.table.accepting)
-      (field (codes "table") (record_value (table_fields (symbols automaton.alphabet) automaton.table.rows)) no_fields))))));
+      (field (codes "table") (record_value (table_fields (format_of automaton.alphabet) automaton.table.rows)) no_fields))))));
 }
 
 -- the one printed text of a canonical automaton

@@ -8,9 +8,10 @@ ghost use Rattle.kb_fsa.specs.Language.{generators};
 ghost use Rattle.kb_fsa.specs.Canonical.{IsCanonical};
 ghost use Rattle.kb_fsa.specs.declared.alphabet.Alphabet.TheVariants.{Pair};
 ghost use Rattle.kb_fsaprint.specs.Printed as printed;
-ghost use Rattle.kb_fsaprint.specs.Printed.{text_of_automaton, alphabet_fields, names_fields, table_fields, numbers_value, accepting_from, accepting_value, targets_from, dense_rows};
-ghost use Rattle.kb_fsaprint.specs.Writing.{number_text};
+ghost use Rattle.kb_fsaprint.specs.Printed.{text_of_automaton, alphabet_fields, names_fields, table_fields, numbers_value, accepting_from, accepting_value, targets_from, list_of_moves, row_places, rows_places};
+ghost use Rattle.kb_fsaprint.specs.Writing.{number_text, move_text};
 
+use crate::format::RowFormat;
 use kb_fsa::{Alphabet, Fsa, Row, Table, split_at_symbol};
 use kb_record::{print_indent, print_number};
 use kb_word::{Memory, Names};
@@ -44,7 +45,7 @@ fn write_automaton(names: &Names, fsa: &Fsa, out: &mut Vec<u8>) -> Result<(), Me
     out.extend_from_slice(b"],\n  accepting := ")?;
     write_accepting(fsa.table().accepting(), out)?;
     out.extend_from_slice(b",\n  table := ")?;
-    write_table(fsa.table(), alphabet.symbols(), out)?;
+    write_table(fsa.table(), RowFormat::of_alphabet(alphabet), out)?;
     out.extend_from_slice(b"\n);\n")?;
     Ok(())
 }
@@ -159,16 +160,17 @@ fn write_accepting_list(accepting: &[bool], out: &mut Vec<u8>) -> Result<(), Mem
     Ok(())
 }
 
-/// Appends the record of the table, whose rows have a target for each of so many symbols.
-fn write_table(table: &Table, symbols: u32, out: &mut Vec<u8>) -> Result<(), Memory>
-    requires symbols { symbols < 2 ^ 32 - 1 }
-    requires some { table.now.rows ≢ [] }
-    ensures { OnOk result (out.new.items ≡ out.old.items ++ text_of_value 1 (record_value (table_fields symbols table.now.rows))) }
+/// Appends the record of the table, with its rows in a format.
+fn write_table(table: &Table, format: RowFormat, out: &mut Vec<u8>) -> Result<(), Memory>
+    requires { table.now.rows ≢ [] }
+    ensures { OnOk result (out.new.items ≡ out.old.items ++ text_of_value 1 (record_value (table_fields format table.now.rows))) }
 {
-    out.extend_from_slice(b"rec(\n    format := \"dense deterministic\",\n    numTransitions := ")?;
+    out.extend_from_slice(b"rec(\n    format := \"")?;
+    out.extend_from_slice(format.name().as_bytes())?;
+    out.extend_from_slice(b"\",\n    numTransitions := ")?;
     write_move_count(table.rows(), out)?;
     out.extend_from_slice(b",\n    transitions := ")?;
-    write_rows(table.rows(), symbols, out)?;
+    write_rows(table.rows(), format, out)?;
     out.extend_from_slice(b"\n  )")?;
     Ok(())
 }
@@ -192,38 +194,73 @@ fn move_count(rows: &[Row]) -> Result<i64, Memory>
 }
 
 /// Appends the rows, each on a line of its own.
-fn write_rows(rows: &[Row], symbols: u32, out: &mut Vec<u8>) -> Result<(), Memory>
-    requires symbols { symbols < 2 ^ 32 - 1 }
-    requires some { rows.now ≢ [] }
-    ensures { OnOk result (out.new.items ≡ out.old.items ++ text_of_value 2 (list_value (dense_rows symbols rows.now))) }
+fn write_rows(rows: &[Row], format: RowFormat, out: &mut Vec<u8>) -> Result<(), Memory>
+    requires { rows.now ≢ [] }
+    ensures { OnOk result (out.new.items ≡ out.old.items ++ text_of_value 2 (list_value (rows_places format rows.now))) }
 {
     out.push(b'[')?;
     let mut before: &[u8] = b"\n";
     for row in rows {
         out.extend_from_slice(before)?;
         print_indent(3, out)?;
-        write_row(row, symbols, out)?;
+        write_row(row, format, out)?;
         before = b",\n";
     }
     out.extend_from_slice(b"\n    ]")?;
     Ok(())
 }
 
-/// Appends the row: a target for each of so many symbols, 0 where there is no move.
-fn write_row(row: &Row, symbols: u32, out: &mut Vec<u8>) -> Result<(), Memory>
-    requires { symbols < 2 ^ 32 - 1 }
+/// Appends the row.
+fn write_row(row: &Row, format: RowFormat, out: &mut Vec<u8>) -> Result<(), Memory>
+    ensures { OnOk result (out.new.items ≡ out.old.items ++ line_of (list_value (row_places format row.now))) }
+{
+    match format {
+        RowFormat::Dense(symbols) => write_targets(row, symbols, out),
+        RowFormat::Sparse => write_moves(row.as_slice(), out),
+    }
+}
+
+/// Appends a target for each of so many symbols, 0 where there is no move.
+fn write_targets(row: &Row, symbols: u32, out: &mut Vec<u8>) -> Result<(), Memory>
     ensures { OnOk result (out.new.items ≡ out.old.items ++ line_of (numbers_value (targets_from row.now 1 symbols))) }
 {
     out.push(b'[')?;
     let mut before: &[u8] = b"";
     let mut left = row.as_slice();
-    for symbol in 1..symbols + 1 {
+    for place in 0..symbols {
         out.extend_from_slice(before)?;
-        let (target, later) = split_at_symbol(left, symbol);
+        let (target, later) = split_at_symbol(left, place + 1);
         write_number(target, out)?;
         before = b",";
         left = later;
     }
+    out.push(b']')?;
+    Ok(())
+}
+
+/// Appends the moves, each with its symbol and its target.
+fn write_moves(moves: &[(u32, u32)], out: &mut Vec<u8>) -> Result<(), Memory>
+    ensures { OnOk result (out.new.items ≡ out.old.items ++ line_of (list_value (list_of_moves moves.now))) }
+{
+    out.push(b'[')?;
+    let mut before: &[u8] = b"";
+    for entry in moves {
+        out.extend_from_slice(before)?;
+        write_move(entry.0, entry.1, out)?;
+        before = b",";
+    }
+    out.push(b']')?;
+    Ok(())
+}
+
+/// Appends the symbol and the target of a move.
+fn write_move(symbol: u32, target: u32, out: &mut Vec<u8>) -> Result<(), Memory>
+    ensures { OnOk result (out.new.items ≡ out.old.items ++ move_text (symbol, target)) }
+{
+    out.push(b'[')?;
+    write_number(symbol, out)?;
+    out.push(b',')?;
+    write_number(target, out)?;
     out.push(b']')?;
     Ok(())
 }

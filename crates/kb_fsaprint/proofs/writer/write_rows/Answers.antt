@@ -8,4 +8,4 @@ returns c =
     let rows = c.args.rows.now in
     pieces_end _ _ _ rows _ _ _ _ c.loop-row.row-index c.extend_from_slice-2.new.self.items c.loop-row.invariant (omega arith)
     c.in_ok-extend_from_slice-2.ensures.items
-    ∙ ap (λ t. c.args.out.now.items ++ t) (row_lines c.args.symbols rows c.requires.some)
+    ∙ ap (λ t. c.args.out.now.items ++ t) (row_lines c.args.format rows c.requires)

@@ -6,5 +6,5 @@ use Rattle.kb_fsaprint.proofs.writer.write_rows.Given as goal
 
 abbrev pub invariant-loop-row : goal.invariant-loop-row
 invariant-loop-row l =
-    IsPrintedUpTo (row_text l.symbols) (codes ",\n") (codes "\n    ]") l.rows
-    (codes "[" ++ (pieces (row_text l.symbols) (codes "\n") (codes ",\n") l.rows ++ codes "\n    ]")) l.fn.out.items l.row-index l.before l.out.items
+    IsPrintedUpTo (row_text l.format) (codes ",\n") (codes "\n    ]") l.rows
+    (codes "[" ++ (pieces (row_text l.format) (codes "\n") (codes ",\n") l.rows ++ codes "\n    ]")) l.fn.out.items l.row-index l.before l.out.items

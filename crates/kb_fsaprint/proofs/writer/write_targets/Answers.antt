@@ -6,38 +6,38 @@ use Rattle.kb_fsa.specs.Table.{Moves}
 use Rattle.kb_fsaprint.specs.Printed.{targets_from}
 use Rattle.kb_fsaprint.specs.Writing.{number_text, IsRowPrinted}
 use Rattle.kb_fsaprint.proofs.Writings.{number_pieces, pieces_done, row_begun, row_next}
-use Rattle.kb_fsaprint.proofs.writer.write_row.Goals as goal
+use Rattle.kb_fsaprint.proofs.writer.write_targets.Goals as goal
 
-pub loop-symbol-init : goal.loop-symbol-init
-loop-symbol-init c =
+pub loop-place-init : goal.loop-place-init
+loop-place-init c =
     let row = c.args.row.now in
     let symbols = c.args.symbols in
     let old = c.args.out.now.items in
     let whole = codes "[" ++ (pieces number_text [] (codes ",") (targets_from row 1 symbols) ++ codes "]") in
     let begun = row_begun row symbols whole old [] c.push.new.self.items c.as_slice-left.ensures.row
     (pieces_start number_text [] (codes ",") (codes "]") (targets_from row 1 symbols) old (codes "[") c.push.new.self.items c.in_ok-push.ensures.items) in
-    let same : symbols ≡ symbols + 1 - 1 = omega arith in
-    subst (λ (left : Moves). IsRowPrinted row 1 (symbols + 1 - 1) left whole old [] c.push.new.self.items) (sym c.as_slice-left.ensures.moves)
+    let same : symbols ≡ symbols - 0 = omega arith in
+    subst (λ (left : Moves). IsRowPrinted row 1 (symbols - 0) left whole old [] c.push.new.self.items) (sym c.as_slice-left.ensures.moves)
     (subst (λ (columns : ℕ). IsRowPrinted row 1 columns row whole old [] c.push.new.self.items) same begun)
 
-pub loop-symbol-preserved : goal.loop-symbol-preserved
-loop-symbol-preserved c =
+pub loop-place-preserved : goal.loop-place-preserved
+loop-place-preserved c =
     let row = c.args.row.now in
     let symbols = c.args.symbols in
-    let symbol = c.loop-symbol.symbol in
+    let place = c.loop-place.place in
     let old = c.args.out.now.items in
     let whole = codes "[" ++ (pieces number_text [] (codes ",") (targets_from row 1 symbols) ++ codes "]") in
-    let more : symbols + 1 - symbol ≡ suc (symbols + 1 - (symbol + 1)) = omega arith in
+    let more : symbols - place ≡ suc (symbols - (place + 1)) = omega arith in
     row_next c.extend_from_slice.new.self.items c.write_number.new.out.items
-    (subst (λ (columns : ℕ). IsRowPrinted row symbol columns c.loop-symbol.left.now whole old c.loop-symbol.before.now c.loop-symbol.out.items) more
-    c.loop-symbol.invariant)
+    (subst (λ (columns : ℕ). IsRowPrinted row (place + 1) columns c.loop-place.left.now whole old c.loop-place.before.now c.loop-place.out.items) more
+    c.loop-place.invariant)
     c.split_at_symbol-target.ensures c.in_ok-extend_from_slice.ensures.items c.in_ok-write_number.ensures
 
 pub returns : goal.returns
 returns c =
     let row = c.args.row.now in
     let symbols = c.args.symbols in
-    let symbol = c.loop-symbol.symbol in
-    let none : symbols + 1 - symbol ≡ 0 = omega arith in
-    pieces_done c.push-2.new.self.items c.loop-symbol.invariant.printed (ap (targets_from row symbol) none) c.in_ok-push-2.ensures.items
+    let place = c.loop-place.place in
+    let none : symbols - place ≡ 0 = omega arith in
+    pieces_done c.push-2.new.self.items c.loop-place.invariant.printed (ap (targets_from row (place + 1)) none) c.in_ok-push-2.ensures.items
     ∙ ap (λ t. c.args.out.now.items ++ t) (number_pieces (targets_from row 1 symbols))
