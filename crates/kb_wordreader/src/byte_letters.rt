@@ -1,6 +1,6 @@
 //! The letters whose names have one byte.
 
-ghost use Rattle.std.specs.Prelude.{◌≡◌, ◌<◌, IfOk, length};
+ghost use Rattle.std.specs.Prelude.{◌≡◌, ◌<◌, [], ◌∷◌, IfOk};
 ghost use Rattle.kb_wordreader.specs.Letters.{AreByteLetters, letter_of};
 
 use kb_word::{Letter, Memory, Names};
@@ -22,6 +22,8 @@ fn byte_letter(names: &Names, byte: u8) -> Option<Letter>
     ensures { byte < 128 → result ≡ letter_of names.now (byte ∷ []) }
 {
     let bytes = [byte];
-    let name = std::str::from_utf8(&bytes).ok()?;
+    let Ok(name) = std::str::from_utf8(&bytes) else {
+        return None;
+    };
     names.number_of(name)
 }

@@ -18,6 +18,7 @@
 #![tactic(auto)]
 
 mod byte_letters;
+mod plain_product;
 mod product;
 mod reader;
 

@@ -1,11 +1,11 @@
 //! The reader of words.
 
-ghost use Rattle.std.specs.Prelude.{◌≡◌, IfOk, IfErr, IfSome, Ok, Err};
+ghost use Rattle.std.specs.Prelude.{◌≡◌, IfOk, IfErr, Ok};
 ghost use Rattle.kb_record.specs.Faults.{HasWordFault, Meaning};
+ghost use Rattle.kb_wordreader.specs.Letters.{AreByteLetters};
 
 use crate::byte_letters::byte_letters;
-use crate::product::add_name;
-use kb_lexing::{behind_gap, first_name};
+use crate::plain_product::plain_product;
 use kb_record::{WordError, parse_word};
 use kb_word::{Letter, Memory, Presentation, Word};
 use std::alloc::Global;
@@ -16,6 +16,7 @@ pub struct WordReader {
     /// The presentation, by whose names words are read.
     pub presentation: Presentation,
     byte_letters: Vec<Option<Letter>>,
+    ghost are_byte_letters: { AreByteLetters presentation.names byte_letters.items },
 }
 
 impl WordReader {
@@ -42,42 +43,11 @@ impl WordReader {
         ensures fault { IfErr result
             (HasWordFault bytes.now self.now.presentation.names self.now.presentation.inv) }
     {
-        match self.plain_product(alloc, bytes)? {
-            Some(word) => Ok(word),
-            None => parse_word(alloc, bytes, &self.presentation),
+        let names = &self.presentation.names;
+        match plain_product(alloc, names, &self.byte_letters, bytes) {
+            Ok(Some(word)) => Ok(word),
+            Ok(None) => parse_word(alloc, bytes, &self.presentation),
+            Err(fault) => Err(fault),
         }
-    }
-
-    /// The word of a plain product, or its first fault, and `None` for other bytes.
-    fn plain_product(&self, alloc: Global, bytes: &[u8]) -> Result<Option<Word>, WordError>
-    {
-        let mut word = Word::new(alloc);
-        let mut fault = None;
-        let mut rest = bytes;
-        loop {
-            let Some((name, behind)) = first_name(behind_gap(rest)) else {
-                return Ok(None);
-            };
-            if fault.is_none() {
-                fault = self.add_name(alloc, name, &mut word).err();
-            }
-            match behind_gap(behind) {
-                [] => return product(word, fault),
-                [b'*', next @ ..] => rest = next,
-                _ => return Ok(None),
-            }
-        }
-    }
-
-    fn add_name(&self, alloc: Global, name: &[u8], word: &mut Word) -> Result<(), WordError> {
-        add_name(alloc, &self.presentation.names, &self.byte_letters, name, word)
-    }
-}
-
-/// The word, or the fault that it has.
-fn product(word: Word, fault: Option<WordError>) -> Result<Option<Word>, WordError> {
-    match fault {
-        None => Ok(Some(word)),
-        Some(fault) => Err(fault),
     }
 }
