@@ -6,3 +6,4 @@ pub mod Lexings
 pub mod TokenFronts
 pub mod Begun
 pub mod FrontTokens
+pub mod NameFronts

@@ -2,13 +2,14 @@
 
 use kb_lines::Answerer;
 use kb_rules::{Reducer, Scan};
-use kb_word::{Memory, Presentation, Word};
+use kb_word::{Memory, Word};
+use kb_wordreader::WordReader;
 use std::alloc::Global;
 
 /// Answers a word of a presentation with its normal form by rules.
 #[derive(Drop)]
 pub(crate) struct NormalForms {
-    pub(crate) presentation: Presentation,
+    pub(crate) reader: WordReader,
     pub(crate) scan: Scan,
 }
 
@@ -16,12 +17,12 @@ impl Answerer for NormalForms {
     ghost use Rattle.kb_word.specs.Presentations.{parts_of};
     ghost use Rattle.kb_word.specs.Rewriting.{NormalForm};
 
-    ghost parts = { λ it. parts_of it.presentation };
+    ghost parts = { λ it. parts_of it.reader.presentation };
 
     ghost answers = { λ it. NormalForm it.scan.rules };
 
-    fn presentation(&self) -> &Presentation {
-        &self.presentation
+    fn reader(&self) -> &WordReader {
+        &self.reader
     }
 
     fn answer(&self, alloc: Global, word: &Word) -> Result<Word, Memory> {

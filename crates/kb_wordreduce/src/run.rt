@@ -23,6 +23,7 @@ use kb_lines::{Stop, answer_lines};
 use kb_rules::{Reducer, Rules, Scan};
 use kb_task::{Cert, Refusal, Status, Task, Which, load_presentation, print_line};
 use kb_word::{Memory, Names, Presentation, Word, print_word};
+use kb_wordreader::WordReader;
 use std::alloc::Global;
 
 impl Task for WordReduce {
@@ -115,7 +116,10 @@ fn answer_all<I: Source, O: Sink>(
     oriented_relations_keep_the_congruence();
     normal_forms_by_confluent_rules_are_least();
     least_by_the_same_congruence();
-    let normal_forms = NormalForms { presentation, scan };
+    let Ok(reader) = WordReader::new(alloc, presentation) else {
+        return Status::Memory;
+    };
+    let normal_forms = NormalForms { reader, scan };
     match answer_lines(alloc, &normal_forms, input, out) {
         Ok(()) => Status::Yes,
         Err(stop) => status_of(stop),
