@@ -1,14 +1,16 @@
-use Rattle.std.proofs.Common.{List, ℕ}
+use Rattle.std.proofs.Common.{◌≡◌, List, ℕ, ap, subst}
+use Rattle.kb_io.specs.Outside.{outside}
 use Rattle.kb_word.specs.Presentations.{PresentationParts, parts_of}
 use Rattle.kb_word.specs.Rewriting.{NormalForm}
 use Rattle.kb_lines.specs.Streams.{Streams, streams}
+use Rattle.kb_lines.specs.Answered.{AllAnswered, Stops}
 use Rattle.kb_lines.proofs.WiderLemmas.{answered-wider, stops-wider}
 use Rattle.kb_wordreduce.specs.Confluence.{relations, IsLeastIn}
-use Rattle.kb_wordreduce.proofs.RunLemmas.{answered-run, stop-run}
+use Rattle.kb_wordreduce.proofs.RunLemmas.{answered-run, nothing-run, stop-run}
 use Rattle.kb_wordreduce.proofs.run.answer_all.Goals as goal
 
-pub returns-in-Ok : goal.returns-in-Ok
-returns-in-Ok g c = λ shelf.
+pub returns-in-Ok-2 : goal.returns-in-Ok-2
+returns-in-Ok-2 g c = λ shelf.
     let parts : PresentationParts = parts_of c.args.presentation in
     let order = c.args.presentation.order in
     let rules = c.args.rules.now.rules in
@@ -19,10 +21,13 @@ returns-in-Ok g c = λ shelf.
     (rw c.requires.scan at normal)) in
     let before : Streams = streams (g.I.Source.state c.args.input.now) (g.O.Sink.state c.args.out.now) in
     let after : Streams = streams (g.I.Source.state c.answer_lines.new.input) (g.O.Sink.state c.answer_lines.new.out) in
+    let same : parts_of c.in-Ok.reader.presentation ≡ parts = ap parts_of c.in-Ok.ensures in
+    let By : PresentationParts → Type 0 = λ p. AllAnswered p (NormalForm c.args.scan.rules) before after in
     answered-run parts shelf before after
     (record { rules = rules; oriented = c.requires.oriented; confluent = c.requires.confluent })
     c.answer_lines.ensures.goes_on
-    (λ told. answered-wider parts (NormalForm c.args.scan.rules) (IsLeastIn parts) among {before = before} {after = after} (c.in-Ok.ensures.answered told))
+    (λ told. answered-wider parts (NormalForm c.args.scan.rules) (IsLeastIn parts) among {before = before} {after = after}
+    (subst By same (c.in-Ok-2.ensures.answered told)))
 
 pub returns : goal.returns
 returns g c = λ shelf.
@@ -36,8 +41,11 @@ returns g c = λ shelf.
     (rw c.requires.scan at normal)) in
     let before : Streams = streams (g.I.Source.state c.args.input.now) (g.O.Sink.state c.args.out.now) in
     let after : Streams = streams (g.I.Source.state c.answer_lines.new.input) (g.O.Sink.state c.answer_lines.new.out) in
+    let same : parts_of c.in-Ok.reader.presentation ≡ parts = ap parts_of c.in-Ok.ensures in
+    let By : PresentationParts → Type 0 = λ p. Stops p (NormalForm c.args.scan.rules) before after c.in-Err.stop in
     stop-run parts shelf before after
     c.in-Err.stop c.status_of.result c.status_of.ensures
     (record { rules = rules; oriented = c.requires.oriented; confluent = c.requires.confluent })
     c.answer_lines.ensures.goes_on c.in-Err.ensures.counted
-    (λ told. stops-wider parts (NormalForm c.args.scan.rules) (IsLeastIn parts) among {before = before} {after = after} (c.in-Err.ensures.stops told))
+    (λ told. stops-wider parts (NormalForm c.args.scan.rules) (IsLeastIn parts) among {before = before} {after = after}
+    (subst By same (c.in-Err.ensures.stops told)))
