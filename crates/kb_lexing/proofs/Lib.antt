@@ -4,3 +4,4 @@ pub mod DigitValues
 pub mod OneToken
 pub mod Lexings
 pub mod TokenFronts
+pub mod NameFronts

@@ -4,7 +4,8 @@
 //!
 //! [`lex`] returns the tokens that the bytes have (`TokensOf` of `specs/Spelling.antt`), each as long as possible, or
 //! those up to the first byte that belongs to none. The front up to the end of each token has the tokens up to
-//! it. [`is_blank`] tells whether bytes are blanks and comments alone. The laws are [`a_text_has_one_list_of_tokens`],
+//! it. [`is_blank`] tells whether bytes are blanks and comments alone. [`behind_gap`] and [`first_name`] pass what
+//! stands at the front of a text, for a reader that keeps no tokens. The laws are [`a_text_has_one_list_of_tokens`],
 //! and [`a_front_ending_in_a_bracket_keeps_its_tokens`], by which what is read of a front stays so.
 //!
 //! [`syntax_place`] is the length of the longest front of the bytes with which some text begins. Whole runs
@@ -18,16 +19,19 @@
 //! - `proofs/DigitValues.antt`: the values of digits, and how large they are.
 //! - `proofs/OneToken.antt`: a text begins with one token at most, and has one list of tokens.
 //! - `proofs/Lexings.antt`: the tokens of a text as they are read one by one.
+//! - `proofs/NameFronts.antt`: the name with which a text begins.
 //! - `proofs/TokenFronts.antt`: where the last token of a front is a bracket, the whole text begins with its tokens.
 //!
-//! Nothing stands below but `std`. Above stands `kb_record`, which reads trees from the tokens.
+//! Nothing stands below but `std`. Above stand `kb_record`, which reads trees from the tokens, and `kb_wordreader`.
 #![tactic(auto)]
 
+mod fronts;
 mod laws;
 mod lexer;
 mod place;
 mod token;
 
+pub use fronts::{behind_gap, first_name};
 pub use laws::{a_front_ending_in_a_bracket_keeps_its_tokens, a_text_has_one_list_of_tokens};
 pub use lexer::{Lexed, is_blank, lex};
 pub use place::{Expected, syntax_place};

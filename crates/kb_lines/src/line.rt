@@ -7,7 +7,7 @@ ghost use Rattle.kb_record.specs.declared.error.WordError.TheVariants as word_er
 ghost use Rattle.kb_lines.specs.WordLines.{IsOneLine, LineHasFault, AddsGiven};
 
 use crate::answerer::Answerer;
-use kb_record::{WordError, is_blank, parse_word};
+use kb_record::{WordError, is_blank};
 use kb_word::{Memory, Names, Word, print_word};
 use std::alloc::Global;
 
@@ -37,10 +37,10 @@ pub(crate) fn answer_line<A: Answerer>(
     if is_blank(line) {
         return Ok(());
     }
-    let presentation = answerer.presentation();
-    let word = parse_word(alloc, line, presentation)?;
+    let reader = answerer.reader();
+    let word = reader.parse(alloc, line)?;
     let answer = answerer.answer(alloc, &word)?;
-    print_answer(&presentation.names, &answer, pending)?;
+    print_answer(&reader.presentation.names, &answer, pending)?;
     Ok(())
 }
 

@@ -13,9 +13,9 @@ pub returns-clause-given : goal.returns-clause-given
 returns-clause-given g c =
     let some : after_gap c.args.line.now ≢ [] = search rules in
     subst (λ (parts : PresentationParts). AddsGiven parts (g.A.Answerer.answers c.args.answerer.now) c.args.line.now c.args.pending.now.items c.print_answer.new.pending.items)
-    c.presentation-presentation.ensures
+    c.reader-reader.ensures
     (record {
-      given = text_of_word c.presentation-presentation.result.now.names c.in_ok-answer.answer ++ newline ∷ [];
+      given = text_of_word c.reader-reader.result.now.presentation.names c.in_ok-answer.answer ++ newline ∷ [];
       gives = word some c.in_ok-word.ensures.read c.in_ok-answer.ensures;
       added = c.in_ok-print_answer.ensures.printed;
     })

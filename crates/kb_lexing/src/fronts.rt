@@ -1,0 +1,38 @@
+//! What stands at the front of a text: a gap, or a name.
+
+ghost use Rattle.std.specs.Prelude.{◌≡◌, ◌↔◌, ◌<◌, ℕ, List, IsTrue, IfSome, IfNone};
+ghost use Rattle.std.specs.List.{AllByRecursion};
+ghost use Rattle.kb_lexing.specs.Token.{name};
+ghost use Rattle.kb_lexing.specs.Spelling.{BeginsNames, FirstToken, after_gap};
+
+use crate::lexer::{gap_end, name_rest_len};
+
+/// The text behind the blanks and comments at its front.
+pub fn behind_gap(text: &[u8]) -> &[u8]
+    ensures { result.now ≡ after_gap text.now }
+{
+    &text[gap_end(text, 0)..]
+}
+
+/// The name with which a text begins and what stands behind it, and `None` exactly where it begins with none.
+pub fn first_name(text: &[u8]) -> Option<(&[u8], &[u8])>
+    ensures some { IfSome result (λ found. FirstToken text.now (name found.0.now) found.1.now) }
+    ensures ascii { IfSome result (λ found. AllByRecursion (λ byte. byte < 128) found.0.now) }
+    ensures none { IfNone result ((spelling rest : List ℕ) → ¬ FirstToken text.now (name spelling) rest) }
+{
+    if !begins_names(*text.first()?) {
+        return None;
+    }
+    let (spelling, rest) = text.split_at(1 + name_rest_len(&text[1..]));
+    if spelling == b"rec".as_slice() {
+        return None;
+    }
+    Some((spelling, rest))
+}
+
+/// Whether names begin with this byte.
+fn begins_names(byte: u8) -> bool
+    ensures { IsTrue result ↔ BeginsNames byte }
+{
+    byte.is_ascii_alphabetic() || byte == b'_'
+}

@@ -1,0 +1,168 @@
+-- The pass over a plain product: what is read, and what is still to come.
+use Rattle.std.proofs.Common.{◌≡◌, ℕ, ◌-◌, ◌+◌, ◌<◌, ◌≤◌, max, take, drop, get_or, length-append, List, [], ◌∷◌, ◌++◌, length, Option, None, Some, Ok, Err, inl, inr, refl, sym, ap, ◌∙◌, subst, arith}
+use Rattle.std.specs.Prelude.{Result, IfOk, IfErr, IfSome}
+use Rattle.std.proofs.lemmas.List.{take_rest}
+use Rattle.kb_lexing.proofs.Lexings.{gap_front}
+use Rattle.kb_lexing.specs.Token.{Token, name, star}
+use Rattle.kb_lexing.specs.Spelling.{FirstToken, TokensOf, after_gap}
+use Rattle.kb_lexing.proofs.FirstTokens.{Kind, word, digits, negative, quoted, assigns, ranges, single, first_from}
+use Rattle.kb_record.specs.Tree.{Factors, named, no_factors, factor}
+use Rattle.kb_record.specs.Grammar.{WordOf, IsWord, AreFactorTrees, word_tokens, more_factors}
+use Rattle.kb_record.specs.Nesting.{deepest, word_nesting}
+use Rattle.kb_record.specs.Faults.{Meaning, HasWordFault, Evaluates}
+use Rattle.kb_record.specs.Meaning.{WordFault, unknown_generator, no_inverse, too_long, and_then, product_meaning, word_meaning}
+use Rattle.kb_record.specs.declared.error.WordError.{WordError}
+use Rattle.kb_record.specs.declared.error.WordError.TheVariants.{Syntax, TooDeep, UnknownGenerator, NoInverse, WordTooLong, Memory}
+use Rattle.kb_wordreader.specs.Products.{starred, before, times_name, Takes}
+use Rattle.kb_wordreader.proofs.ProductLemmas.{product_step, first_fault}
+
+-- `*` is never longer
+star_alone : (other : List ℕ) → Kind 42 other → length other ≤ 0
+star_alone other (word at goes) = absurd (omega arith)
+star_alone other (digits at each few) = absurd (omega arith)
+star_alone other (negative at each some few) = absurd (omega arith)
+star_alone other (quoted text at whole each) = absurd (omega arith)
+star_alone other (assigns at whole) = absurd (omega arith)
+star_alone other (ranges at whole) = absurd (omega arith)
+star_alone other (single at whole) = omega (arith, ap length whole)
+
+star_first : (rest : List ℕ) → FirstToken (42 ∷ rest) star rest
+star_first rest = first_from star 42 [] rest rest refl refl (λ other back kind e. star_alone other kind)
+
+starred_more : (texts : List (List ℕ)) (text : List ℕ) (tokens : List Token) → starred texts ++ (name text ∷ star ∷ tokens) ≡ starred (texts ++ text ∷ []) ++ tokens
+starred_more [] text tokens = refl
+starred_more (first ∷ texts) text tokens = ap (λ ts. name first ∷ star ∷ ts) (starred_more texts text tokens)
+
+before_more : (texts : List (List ℕ)) (text : List ℕ) (others : Factors) → before texts (factor (named text None) others) ≡ before (texts ++ text ∷ []) others
+before_more [] text others = refl
+before_more (first ∷ texts) text others = ap (factor (named first None)) (before_more texts text others)
+
+-- the tree of names joined by `*`
+abbrev pub tree : List (List ℕ) → List ℕ → Factors
+tree texts last = before texts (factor (named last None) no_factors)
+
+star_before : (texts : List (List ℕ)) (last : List ℕ) → more_factors (tree texts last) ≡ star ∷ word_tokens (tree texts last)
+star_before [] last = refl
+star_before (first ∷ texts) last = refl
+
+tree_tokens : (texts : List (List ℕ)) (last : List ℕ) → word_tokens (tree texts last) ≡ starred texts ++ name last ∷ []
+tree_tokens [] last = refl
+tree_tokens (first ∷ texts) last = ap (λ ts. name first ∷ ts) (star_before texts last ∙ ap (λ ts. star ∷ ts) (tree_tokens texts last))
+
+trees : (texts : List (List ℕ)) (last : List ℕ) → AreFactorTrees (tree texts last)
+trees [] last = (tt, tt)
+trees (first ∷ texts) last = (tt, trees texts last)
+
+is_word : (texts : List (List ℕ)) (last : List ℕ) → IsWord (tree texts last)
+is_word [] last = (tt, tt)
+is_word (first ∷ texts) last = (tt, trees texts last)
+
+flat : (texts : List (List ℕ)) (last : List ℕ) → word_nesting (tree texts last) ≡ 0
+flat [] last = refl
+flat (first ∷ texts) last = ap (max 0) (flat texts last)
+
+word_of_names : (bytes : List ℕ) (texts : List (List ℕ)) (last : List ℕ) → TokensOf bytes (starred texts ++ name last ∷ []) → WordOf bytes (tree texts last)
+word_of_names bytes texts last h = record { tokens = starred texts ++ name last ∷ []; spelled = h; formed = (is_word texts last, sym (tree_tokens texts last)) }
+
+shallow : (texts : List (List ℕ)) (last : List ℕ) → word_nesting (tree texts last) ≤ deepest
+shallow texts last = let none = flat texts last in omega arith
+
+-- what the whole means where others are still to come: what they mean behind the word so far, or the fault that was met
+abbrev pub SoFar : List (List ℕ) → List (Option ℕ) → List ℕ → Factors → Result (List ℕ) WordFault → Option WordError → Type 0
+SoFar names inverses w others whole None = whole ≡ product_meaning names inverses w others
+SoFar names inverses w others whole (Some fault) = Evaluates whole (Err fault)
+
+-- names, each with `*` behind it, were read of the bytes
+pub record Passed (names : List (List ℕ)) (bytes rest w : List ℕ) (fault : Option WordError) : Type 0 where
+  pub texts : List (List ℕ)
+  pub onward : (tokens : List Token) → TokensOf rest tokens → TokensOf bytes (starred texts ++ tokens)
+  pub means : (inverses : List (Option ℕ)) (others : Factors) → SoFar names inverses w others (product_meaning names inverses [] (before texts others)) fault
+
+pub passed_none : (names : List (List ℕ)) (bytes : List ℕ) → Passed names bytes bytes [] None
+passed_none names bytes = record { texts = []; onward = λ tokens h. h; means = λ inverses others. refl }
+
+evaluates_as : (r s : Result (List ℕ) WordFault) (fault : WordError) → r ≡ s → Evaluates s (Err fault) → Evaluates r (Err fault)
+evaluates_as r s fault e h = subst (λ x. Evaluates x (Err fault)) (sym e) h
+
+-- one more name
+taken : (names : List (List ℕ)) (inverses : List (Option ℕ)) (so_far text w : List ℕ) (others : Factors) (whole : Result (List ℕ) WordFault) (old new : Option WordError)
+    → SoFar names inverses so_far (factor (named text None) others) whole old → Takes names so_far text old w new → SoFar names inverses w others whole new
+taken names inverses so_far text w others whole None None h t =
+    h ∙ product_step names inverses so_far text others ∙ ap (λ r. and_then r (λ v. product_meaning names inverses v others)) t
+taken names inverses so_far text w others whole None (Some fault) h t =
+    evaluates_as whole _ fault (h ∙ product_step names inverses so_far text others) (first_fault (times_name names so_far text) (λ v. product_meaning names inverses v others) fault t)
+taken names inverses so_far text w others whole (Some fault) new h t = subst (λ f. SoFar names inverses w others whole f) (sym t) h
+
+module _ (names : List (List ℕ)) (bytes rest behind so_far text w : List ℕ) (old new : Option WordError) (passed : Passed names bytes rest so_far old)
+    (first : FirstToken (after_gap rest) (name text) behind) (takes : Takes names so_far text old w new) where
+  means_more : (inverses : List (Option ℕ)) (others : Factors) → SoFar names inverses w others (product_meaning names inverses [] (before passed.texts (factor (named text None) others))) new
+  means_more inverses others = taken names inverses so_far text w others _ old new (passed.means inverses (factor (named text None) others)) takes
+
+  pub passed_more : (next : List ℕ) → after_gap behind ≡ 42 ∷ next → Passed names bytes next w new
+  passed_more next at = record {
+    texts = passed.texts ++ text ∷ [];
+    onward = λ tokens h.
+        let star_at : FirstToken (after_gap behind) star next = subst (λ x. FirstToken x star next) (sym at) (star_first next) in
+        subst (λ ts. TokensOf bytes ts) (starred_more passed.texts text tokens) (passed.onward (name text ∷ star ∷ tokens) (behind, first, (next, star_at, h)));
+    means = λ inverses others.
+        subst (λ fs. SoFar names inverses w others (product_meaning names inverses [] fs) new) (before_more passed.texts text others) (means_more inverses others);
+  }
+
+  ends : after_gap behind ≡ [] → WordOf bytes (tree passed.texts text)
+  ends at = word_of_names bytes passed.texts text (passed.onward (name text ∷ []) (behind, first, at))
+
+  pub passed_word : after_gap behind ≡ [] → new ≡ None → (inverses : List (Option ℕ)) → Meaning bytes names inverses (Ok w)
+  passed_word at none inverses = record {
+    factors = tree passed.texts text;
+    formed = ends at;
+    shallow = shallow passed.texts text;
+    means = subst (λ f. SoFar names inverses w no_factors (word_meaning names inverses (tree passed.texts text)) f) none (means_more inverses no_factors);
+  }
+
+  meant : after_gap behind ≡ [] → (inverses : List (Option ℕ)) (fault : WordFault) → word_meaning names inverses (tree passed.texts text) ≡ Err fault → Meaning bytes names inverses (Err fault)
+  meant at inverses fault is = record { factors = tree passed.texts text; formed = ends at; shallow = shallow passed.texts text; means = is }
+
+  faulty : after_gap behind ≡ [] → (inverses : List (Option ℕ)) (fault : WordError) → Evaluates (word_meaning names inverses (tree passed.texts text)) (Err fault) → HasWordFault bytes names inverses fault
+  faulty at inverses (UnknownGenerator text) h = meant at inverses (unknown_generator text) h
+  faulty at inverses (NoInverse text) h = meant at inverses (no_inverse text) h
+  faulty at inverses WordTooLong h = meant at inverses too_long h
+  faulty at inverses Memory h = tt
+  faulty at inverses (Syntax place) h = absurd h
+  faulty at inverses (TooDeep place) h = absurd h
+
+  pub passed_fault : after_gap behind ≡ [] → (fault : WordError) → new ≡ Some fault → (inverses : List (Option ℕ)) → HasWordFault bytes names inverses fault
+  passed_fault at fault is inverses =
+      faulty at inverses fault (subst (λ f. SoFar names inverses w no_factors (word_meaning names inverses (tree passed.texts text)) f) is (means_more inverses no_factors))
+
+-- ---- one turn
+
+pub no_bytes : (bytes : List ℕ) → length bytes < 1 → bytes ≡ []
+no_bytes [] few = refl
+no_bytes (b ∷ bytes) few = absurd (omega arith)
+
+pub star_split : (bytes : List ℕ) → 1 ≤ length bytes → get_or bytes 0 0 ≡ 42 → bytes ≡ 42 ∷ take (length bytes - 1) (drop 1 bytes)
+star_split [] some e = absurd (omega arith)
+star_split (b ∷ bytes) some e = rw (take_rest (b ∷ bytes) 1) (ap (λ x. x ∷ bytes) e)
+
+gap_length : (text : List ℕ) → length (after_gap text) ≤ length text
+gap_length text =
+    let gap = gap_front text in
+    let whole = ap length gap.whole in
+    omega (arith, whole, length-append gap.front (after_gap text))
+
+pub shorter : (rest behind next : List ℕ) (token : Token) → FirstToken (after_gap rest) token behind → after_gap behind ≡ 42 ∷ next → length next < length rest
+shorter rest behind next token first at =
+    let whole = ap length first.whole in
+    let one = ap length at in
+    omega (arith, whole, one, length-append first.spelling behind, gap_length rest, gap_length behind)
+
+-- what the end of the pass returns
+pub ends_ok : (r : Result (Option (List ℕ)) WordError) (w : List ℕ) (fault : Option WordError) (P : List ℕ → Type 0) → IfOk r (λ product. (fault ≡ None) × (product ≡ Some w)) → (fault ≡ None → P w)
+    → IfOk r (λ product. IfSome product P)
+ends_ok (Ok product) w fault P h p = subst (λ x. IfSome x P) (sym h.1) (p h.0)
+ends_ok (Err error) w fault P h p = tt
+
+pub ends_err : (r : Result (Option (List ℕ)) WordError) (fault : Option WordError) (P : WordError → Type 0) → IfErr r (λ error. fault ≡ Some error) → ((error : WordError) → fault ≡ Some error → P error)
+    → IfErr r P
+ends_err (Ok product) fault P h p = tt
+ends_err (Err error) fault P h p = p error h

@@ -1,0 +1,53 @@
+//! The reader of words.
+
+ghost use Rattle.std.specs.Prelude.{◌≡◌, IfOk, IfErr, Ok};
+ghost use Rattle.kb_record.specs.Faults.{HasWordFault, Meaning};
+ghost use Rattle.kb_wordreader.specs.Letters.{AreByteLetters};
+
+use crate::byte_letters::byte_letters;
+use crate::plain_product::plain_product;
+use kb_record::{WordError, parse_word};
+use kb_word::{Letter, Memory, Presentation, Word};
+use std::alloc::Global;
+
+/// Reads words of a presentation.
+#[derive(Drop)]
+pub struct WordReader {
+    /// The presentation, by whose names words are read.
+    pub presentation: Presentation,
+    byte_letters: Vec<Option<Letter>>,
+    ghost are_byte_letters: { AreByteLetters presentation.names byte_letters.items },
+}
+
+impl WordReader {
+    /// The reader of this presentation's words.
+    pub fn new(alloc: Global, presentation: Presentation) -> Result<WordReader, Memory>
+        ensures { IfOk result (λ reader. reader.presentation ≡ presentation) }
+    {
+        let byte_letters = byte_letters(alloc, &presentation.names)?;
+        Ok(WordReader {
+            presentation,
+            byte_letters,
+        })
+    }
+
+    /// Reads a word: the word that the bytes stand for, or the refusal of the bytes, or of the first fault of the
+    /// word that is met from the left.
+    ///
+    /// By `a_word_that_is_read_has_no_fault` the bytes are refused exactly where they have a fault, but for want of
+    /// memory. No clause says which of two faults of the bytes is named, nor what `at` is.
+    pub fn parse(&self, alloc: Global, bytes: &[u8]) -> Result<Word, WordError>
+        ensures read { IfOk result
+            (λ word. Meaning bytes.now self.now.presentation.names self.now.presentation.inv
+            (Ok word)) }
+        ensures fault { IfErr result
+            (HasWordFault bytes.now self.now.presentation.names self.now.presentation.inv) }
+    {
+        let names = &self.presentation.names;
+        match plain_product(alloc, names, &self.byte_letters, bytes) {
+            Ok(Some(word)) => Ok(word),
+            Ok(None) => parse_word(alloc, bytes, &self.presentation),
+            Err(fault) => Err(fault),
+        }
+    }
+}
