@@ -22,9 +22,10 @@
 //! - `proofs/Lexings.antt`: the tokens of a text as they are read one by one.
 //! - `proofs/Begun.antt`: with which token a text begins, if it begins with one; `proofs/FrontTokens.antt`: the tokens
 //!   that stand first in a text, up to its end or to the first byte that belongs to none.
+//! - `proofs/NameFronts.antt`: the name with which a text begins.
 //! - `proofs/TokenFronts.antt`: where the last token of a front is a bracket, the whole text begins with its tokens.
 //!
-//! Nothing stands below but `std`. Above stands `kb_record`, which reads trees from the tokens.
+//! Nothing stands below but `std`. Above stand `kb_record`, which reads trees from the tokens, and `kb_wordreader`.
 #![tactic(auto)]
 
 mod fronts;

@@ -8,10 +8,10 @@
 //! A line is answered, and its answer sent, before a byte past those that have come is needed. What
 //! is held is the line that has begun, one buffer of input, and the answers that aren't sent yet.
 //!
-//! - `answerer` is what answers a word, and `stop` why the lines aren't answered to the end.
+//! - `answerer` is what answers a word, with the reader of words, and `stop` why the lines aren't answered to the end.
 //! - `line` is one line, `progress` what is held between two reads, and `lines` the reading.
 //!
-//! Below are kb_word, kb_record and kb_io; above are the commands that answer word lines.
+//! Below are kb_word, kb_record, kb_wordreader and kb_io; above are the commands that answer word lines.
 #![tactic(auto)]
 
 mod answerer;

@@ -1,7 +1,6 @@
 -- Products of names.
 use Rattle.std.specs.Prelude.{◌≡◌, ℕ, List, [], ◌∷◌, ◌++◌, Option, None, Some, Result, Ok, Err}
 use Rattle.kb_lexing.specs.Token.{Token, name, star}
-use Rattle.kb_lexing.specs.Spelling.{TokensOf}
 use Rattle.kb_record.specs.Tree.{named, Factors, no_factors, factor}
 use Rattle.kb_record.specs.Faults.{Evaluates}
 use Rattle.kb_record.specs.declared.error.WordError.{WordError}
@@ -20,10 +19,6 @@ before (text ∷ texts) others = factor (named text None) (before texts others)
 -- a name behind the product so far
 abbrev pub times_name : List (List ℕ) → List ℕ → List ℕ → Result (List ℕ) WordFault
 times_name names so_far text = and_then (name_meaning names text) (product so_far)
-
--- the bytes are names joined by `*`
-abbrev pub IsPlainProduct : List ℕ → Type 0
-IsPlainProduct bytes = (texts : List (List ℕ)) × (last : List ℕ) × TokensOf bytes (starred texts ++ name last ∷ [])
 
 -- a name was taken: the word goes on with it where there was no fault, and the first fault stays
 abbrev pub Takes : List (List ℕ) → List ℕ → List ℕ → Option WordError → List ℕ → Option WordError → Type 0

@@ -12,7 +12,13 @@
 //! something else, the bytes are read by their tree.
 //!
 //! - `byte_letters` is the table of the letters whose names have one byte.
-//! - `reader` is the pass, and what is done where the bytes are no plain product.
+//! - `product` adds the letter of one more name, and keeps the first fault.
+//! - `plain_product` is the pass, and `reader` falls back to the tree where the bytes are no plain product.
+//!
+//! # Where the proofs are
+//!
+//! - `proofs/NameLemmas.antt`: letters of names. `ProductLemmas`: a name behind the product so far.
+//! - `proofs/PassLemmas.antt`: what the pass has read, in front of what is still to come; its tree and its meaning.
 //!
 //! Below stand `kb_lexing`, `kb_record` and `kb_word`; above stands `kb_lines`.
 #![tactic(auto)]

@@ -1,4 +1,4 @@
-use Rattle.std.proofs.Common.{◌≡◌, ◌<◌, ℕ, []  , ◌∷◌, length, Some}
+use Rattle.std.proofs.Common.{◌≡◌, ◌<◌, ℕ, [], ◌∷◌, length, Some}
 use Rattle.std.specs.Prelude.{slice_get}
 use Rattle.kb_wordreader.specs.Letters.{letter_of}
 use Rattle.kb_wordreader.proofs.byte_letters.byte_letters.Given as goal
