@@ -2,8 +2,8 @@
 
 use kb_rules::{Reducer, Rule, Rules, Scan};
 use kb_word::{
-    Equations, Inverses, Letter, Memory, Names, Order, Presentation, Word, WordOrder,
-    copy_pairs, factor_at, less,
+    Equations, Inverses, Letter, Memory, Names, Order, Presentation, Word, WordOrder, copy_pairs,
+    factor_at, less,
 };
 use std::alloc::Global;
 use std::process::Abort;

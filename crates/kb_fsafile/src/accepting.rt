@@ -11,6 +11,7 @@ ghost use Rattle.kb_fsafile.specs.Reading.{IsAcceptingState, StandsForStates, Ha
 use crate::error::{Field, FsaError};
 use crate::fields::needed_value;
 use crate::values::{number_within, range_of};
+use kb_fields::numbers_listed;
 use kb_record::Value;
 use kb_word::Memory;
 use std::alloc::Global;

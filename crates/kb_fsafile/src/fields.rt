@@ -11,7 +11,7 @@ ghost use Rattle.kb_fsafile.specs.Reading.{HasRecords, HasLists, HasStrings, Has
 
 use crate::error::{Field, FsaError};
 use crate::values::string_of;
-use kb_fields::{field_named, repeated_name};
+use kb_fields::{field_named, number_of, repeated_name};
 use kb_record::Value;
 use std::alloc::Global;
 

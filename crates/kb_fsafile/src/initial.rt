@@ -8,6 +8,7 @@ ghost use Rattle.kb_fsafile.specs.Faults.{HasFieldFault};
 use crate::error::{Field, FsaError};
 use crate::fields::needed_value;
 use crate::values::number_within;
+use kb_fields::numbers_listed;
 use kb_record::Value;
 use std::alloc::Global;
 

@@ -14,6 +14,7 @@ ghost use Rattle.kb_fsafile.specs.declared.format.Format.TheVariants.{Dense, Spa
 use crate::error::{Field, FsaError};
 use crate::format::Format;
 use crate::values::{entries_listed, number_within, target_within};
+use kb_fields::numbers_listed;
 use kb_fsa::Row;
 use kb_record::Value;
 use kb_word::Memory;
