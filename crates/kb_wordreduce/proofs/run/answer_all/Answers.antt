@@ -1,16 +1,15 @@
 use Rattle.std.proofs.Common.{◌≡◌, List, ℕ, ap, subst}
-use Rattle.kb_io.specs.Outside.{outside}
 use Rattle.kb_word.specs.Presentations.{PresentationParts, parts_of}
 use Rattle.kb_word.specs.Rewriting.{NormalForm}
 use Rattle.kb_lines.specs.Streams.{Streams, streams}
 use Rattle.kb_lines.specs.Answered.{AllAnswered, Stops}
 use Rattle.kb_lines.proofs.WiderLemmas.{answered-wider, stops-wider}
 use Rattle.kb_wordreduce.specs.Confluence.{relations, IsLeastIn}
-use Rattle.kb_wordreduce.proofs.RunLemmas.{answered-run, nothing-run, stop-run}
+use Rattle.kb_wordreduce.proofs.RunLemmas.{answered-run, stop-run}
 use Rattle.kb_wordreduce.proofs.run.answer_all.Goals as goal
 
-pub returns-in-Ok-2 : goal.returns-in-Ok-2
-returns-in-Ok-2 g c = λ shelf.
+pub returns-in-Ok-answer_lines : goal.returns-in-Ok-answer_lines
+returns-in-Ok-answer_lines g c = λ shelf.
     let parts : PresentationParts = parts_of c.args.presentation in
     let order = c.args.presentation.order in
     let rules = c.args.rules.now.rules in
@@ -27,7 +26,7 @@ returns-in-Ok-2 g c = λ shelf.
     (record { rules = rules; oriented = c.requires.oriented; confluent = c.requires.confluent })
     c.answer_lines.ensures.goes_on
     (λ told. answered-wider parts (NormalForm c.args.scan.rules) (IsLeastIn parts) among {before = before} {after = after}
-    (subst By same (c.in-Ok-2.ensures.answered told)))
+    (subst By same (c.in-Ok-answer_lines.ensures.answered told)))
 
 pub returns : goal.returns
 returns g c = λ shelf.
