@@ -80,7 +80,7 @@ pub enum FsaError {
     /// A letter's name stands twice, or is `IdWord` or `_`.
     #[error("E8 NameTaken {name}")]
     NameTaken { name: OwnedText },
-    /// More than 126 letters.
+    /// More than 1,000 letters.
     #[error("E9 TooManyGenerators")]
     TooManyGenerators,
     /// The states are of another type, the rows are not one for each state, or a dense row has another length.

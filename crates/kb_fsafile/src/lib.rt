@@ -4,7 +4,7 @@
 //! others are read and ignored.
 //!
 //! - `isFSA`: the Name `true`.
-//! - `alphabet`: a record. Its `type` is `"identifiers"`, with `names`, a list of at most 126 Names, none of them
+//! - `alphabet`: a record. Its `type` is `"identifiers"`, with `names`, a list of at most 1,000 Names, none of them
 //!   twice and none `IdWord` or `_`, their number `size`, and `format` `"dense"` or absent; or `"product"`, with
 //!   `arity` 2, `base`, a record of the first type, and `size`, which is (n + 1)^2 - 1 or (n + 1)^2 for n names.
 //!   Then the automaton reads pairs of words as padded texts.
