@@ -20,7 +20,7 @@ mod trial;
 use anyhow::{Context, ensure};
 use std::fs;
 
-/// The file with the names of the files of cases, each on a line.
+/// The file with the names of the files of cases, one on each line.
 const LIST: &str = "cases.list";
 
 fn main(rt: HostRuntime) -> anyhow::Result<()> {

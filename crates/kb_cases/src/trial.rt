@@ -158,14 +158,25 @@ pub(crate) fn differences<R: Wait>(
     let mut err = MemSink::new(alloc, rt, piece, case.devices.messages.clone()?);
     let words = case.words.as_slice();
     let status = status_of_run(alloc, words, &mut shelf, &mut input, &mut out, &mut err);
+    compared(alloc, case, &status, &shelf, out.written(), err.written())
+}
+
+/// Compares what came of a run with what was wanted.
+fn compared(
+    alloc: Global,
+    case: &Case,
+    status: &Status,
+    shelf: &MemShelf,
+    out: &[u8],
+    err: &[u8],
+) -> Result<Vec<Difference>, AllocError> {
     let mut comparison = Comparison {
         alloc,
         found: Vec::new(alloc),
     };
-    comparison.compare_status(&case.wanted, &status)?;
-    let wanted_out = case.wanted.out.as_slice();
-    comparison.compare("out", Some(wanted_out), Some(out.written()))?;
-    comparison.compare_err(&case.wanted, err.written())?;
-    comparison.compare_files(case, &shelf)?;
+    comparison.compare_status(&case.wanted, status)?;
+    comparison.compare("out", Some(case.wanted.out.as_slice()), Some(out))?;
+    comparison.compare_err(&case.wanted, err)?;
+    comparison.compare_files(case, shelf)?;
     Ok(comparison.found)
 }
