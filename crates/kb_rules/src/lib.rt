@@ -1,11 +1,11 @@
 //! Rules, and the normal forms that they compute.
 //!
-//! A rule replaces its left side by its right side, which is less in the shortlex order. The crate has one
+//! A rule replaces its left side by its right side, which is less by the order that its list holds. The crate has one
 //! public contract for all programs that reduce words: [`Reducer::nf`] gives *the* normal form, to which
 //! first rewrites lead. That it exists and is the only one are laws, [`normal_forms_exist`] and
 //! [`normal_forms_are_unique`], so that two reducers of the same rules always agree.
 //!
-//! Below is `kb_word`, with words, the order and the definitions of rewriting; above are the crates that test
+//! Below is `kb_word`, with words, their orders and the definitions of rewriting; above are the crates that test
 //! confluence and reduce words.
 #![tactic(auto)]
 
