@@ -1,10 +1,11 @@
 -- The views of values, a level at a time.
-use Rattle.std.proofs.Common.{◌≡◌, ℕ, List, [], ◌∷◌, map, refl, ap, rules, Option, Vec, Global}
+use Rattle.std.proofs.Common.{◌≡◌, ℕ, List, [], ◌∷◌, map, refl, ap, rules, Option, Some, None, ℤ, Vec, Global, sym, ◌∙◌}
 use Rattle.std.specs.Borrow.{Bor}
-use Rattle.kb_record.specs.Tree.{field, record_value, list_value}
-use Rattle.kb_record.specs.View.{value_view, fields_of, places_view}
+use Rattle.kb_record.specs.Tree.{field, record_value, list_value, Value as ValueTree}
+use Rattle.kb_record.specs.View.{value_view, fields_of, places_of, places_view, number_place, row_place, entries_place}
 use Rattle.kb_record.specs.Reading.{fields_from, field_view}
-use Rattle.kb_record.specs.declared.tree.Value.{Value, Record, List as Listed, the_lemmas}
+use Rattle.kb_record.specs.Listed.{places_in, listed, HasPlaces}
+use Rattle.kb_record.specs.declared.tree.Value.{Value, Record, List as Listed, Numbers, Rows, Entries, the_lemmas}
 
 -- the fields in two ways
 pub fields_alike : (fs : List (Bor (List ℕ) × Value)) → fields_from (map field_view fs) ≡ fields_of (map (λ (f : Bor (List ℕ) × Value). (f.0, value_view f.1)) fs)
@@ -16,3 +17,24 @@ view-Record v = search (rules, the_lemmas)
 
 pub view-List : (v : Vec (Option Value) Global) → value_view (Listed v) ≡ list_value (places_view v.items)
 view-List v = search (rules, the_lemmas)
+
+pub view-Numbers : (v : Vec ℤ Global) → HasPlaces (value_view (Numbers v)) (map number_place v.items)
+view-Numbers v = search (rules, the_lemmas)
+
+pub view-Rows : (rows : List (List ℤ)) → HasPlaces (value_view (Rows rows)) (map row_place rows)
+view-Rows rows = search (rules, the_lemmas)
+
+pub view-Entries : (rows : List (List (ℤ × ℤ))) → HasPlaces (value_view (Entries rows)) (map entries_place rows)
+view-Entries rows = search (rules, the_lemmas)
+
+-- the places of a list are those that it was made of
+pub places_in-of : (ps : List (Option ValueTree)) → places_in (places_of ps) ≡ ps
+places_in-of [] = refl
+places_in-of (None ∷ ps) = ap (λ qs. None ∷ qs) (places_in-of ps)
+places_in-of (Some v ∷ ps) = ap (λ qs. Some v ∷ qs) (places_in-of ps)
+
+pub listed-is : (value : ValueTree) (ps : List (Option ValueTree)) → HasPlaces value ps → listed value ≡ ps
+listed-is value ps e = ap listed e ∙ places_in-of ps
+
+pub has_its_places : (value : ValueTree) (ps : List (Option ValueTree)) → HasPlaces value ps → HasPlaces value (listed value)
+has_its_places value ps e = e ∙ ap (λ qs. list_value (places_of qs)) (sym (listed-is value ps e))

@@ -5,6 +5,7 @@ pub mod Grammar
 pub mod Meaning
 pub mod Nesting
 pub mod View
+pub mod Listed
 pub use Rattle.kb_lexing.specs.Lexemes
 pub mod Faults
 pub mod Reading

@@ -1,5 +1,5 @@
 -- The trees of `specs/Tree.antt` that the types of the code stand for.
-use Rattle.std.specs.Prelude.{ℕ, List, [], ◌∷◌, Option, Some, None, map}
+use Rattle.std.specs.Prelude.{ℕ, ℤ, List, [], ◌∷◌, Option, Some, None, map}
 use Rattle.std.specs.Borrow.{Bor}
 use Rattle.std.specs.Option.{option_map}
 use Rattle.kb_record.specs.Tree.{Factor as FactorTree, named, grouped, Factors, no_factors, factor, Value as ValueTree, number_value, string_value, record_value, list_value, range_value, word_value, Fields, no_fields, field, Places, no_places, place, empty_place, TextTree}
@@ -38,11 +38,27 @@ places_of [] = no_places
 places_of (None ∷ ps) = empty_place (places_of ps)
 places_of (Some v ∷ ps) = place v (places_of ps)
 
+-- a number, a row of numbers, an entry of two numbers and a row of entries as places of a list
+abbrev pub number_place : ℤ → Option ValueTree
+number_place z = Some (number_value z)
+
+abbrev pub row_place : List ℤ → Option ValueTree
+row_place row = Some (list_value (places_of (map number_place row)))
+
+abbrev pub entry_place : ℤ × ℤ → Option ValueTree
+entry_place entry = row_place (entry.0 ∷ entry.1 ∷ [])
+
+abbrev pub entries_place : List (ℤ × ℤ) → Option ValueTree
+entries_place entries = Some (list_value (places_of (map entry_place entries)))
+
 abbrev pub value_step : Value-F ValueTree → ValueTree
 value_step (Value-F.Number z) = number_value z
 value_step (Value-F.String text) = string_value text.now
 value_step (Value-F.Record fields) = record_value (fields_of fields.items)
 value_step (Value-F.List places) = list_value (places_of places.items)
+value_step (Value-F.Numbers numbers) = list_value (places_of (map number_place numbers.items))
+value_step (Value-F.Rows rows) = list_value (places_of (map row_place rows))
+value_step (Value-F.Entries rows) = list_value (places_of (map entries_place rows))
 value_step (Value-F.Range from to) = range_value from to
 value_step (Value-F.Word word) = word_value (word_view word)
 

@@ -65,6 +65,8 @@
 mod cursor;
 mod error;
 mod laws;
+mod listed;
+mod longer;
 mod meaning;
 mod parser;
 mod printing;
@@ -80,6 +82,7 @@ pub use laws::{
     a_word_that_is_read_has_no_fault, a_word_that_is_read_is_not_refused,
     what_is_read_can_be_printed,
 };
+pub use listed::Place;
 pub use meaning::word_of;
 pub use parser::{parse, parse_expr, parse_word};
 pub use printing::{print, print_indent, print_number};

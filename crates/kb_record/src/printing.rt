@@ -48,6 +48,9 @@ fn print_value(level: usize, value: &Value<'_>, out: &mut Vec<u8>) -> Result<(),
     match value {
         Value::Record(fields) => print_record(level, fields.as_slice(), out),
         Value::List(places) => print_list(level, places.as_slice(), out),
+        Value::Numbers(_) => Err(Memory),
+        Value::Rows(_) => Err(Memory),
+        Value::Entries(_) => Err(Memory),
         _ => print_on_line(value, out),
     }
 }
@@ -134,6 +137,9 @@ fn is_list(place: &Option<Value<'_>>) -> bool
 {
     match place {
         Some(Value::List(_)) => true,
+        Some(Value::Numbers(_)) => true,
+        Some(Value::Rows(_)) => true,
+        Some(Value::Entries(_)) => true,
         Some(_) => false,
         None => false,
     }
@@ -204,6 +210,9 @@ fn print_on_line(value: &Value<'_>, out: &mut Vec<u8>) -> Result<(), Memory>
         Value::String(text) => print_string(text, out),
         Value::Record(fields) => print_record_on_line(fields.as_slice(), out),
         Value::List(places) => print_list_on_line(places.as_slice(), out),
+        Value::Numbers(_) => Err(Memory),
+        Value::Rows(_) => Err(Memory),
+        Value::Entries(_) => Err(Memory),
         Value::Range(from, to) => print_range(*from, *to, out),
         Value::Word(word) => print_word(word.factors.as_slice(), out),
     }

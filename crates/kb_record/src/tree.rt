@@ -1,5 +1,7 @@
 //! The trees of words and records. Names and strings borrow from the text.
 
+use kb_ragged::Ragged;
+
 /// A factor of a word: a name or a group in brackets, each with its power where it has one.
 #[derive(Debug, Drop)]
 pub enum Factor<'a> {
@@ -25,8 +27,15 @@ pub enum Value<'a> {
     String(&'a str),
     /// `rec( .. )`, its fields in the order of the text
     Record(Vec<(&'a str, Value<'a>)>),
-    /// `[ .. ]`, its places in order, of which some may be empty
+    /// `[ .. ]`, its places in order, of which some may be empty. It may be any list; a long list is one of the
+    /// next three where it can be.
     List(Vec<Option<Value<'a>>>),
+    /// `[1,2]`, a list of numbers
+    Numbers(Vec<i64>),
+    /// `[[1,2],[3]]`, a list of lists of numbers
+    Rows(Ragged<i64>),
+    /// `[[[1,2],[3,4]],[]]`, a list of lists of two numbers each
+    Entries(Ragged<(i64, i64)>),
     /// `[m..n]`
     Range(i64, i64),
     /// a word; a bare name is a word of one factor
