@@ -28,3 +28,7 @@ place_view (variants.Value value) = Some (value_view value.now)
 place_view (variants.Number z) = number_place z
 place_view (variants.Numbers numbers) = row_place numbers.now
 place_view (variants.Entries entries) = entries_place entries.now
+
+-- a pair of numbers as a row
+abbrev pub pair_row : ℤ × ℤ → List ℤ
+pair_row pair = pair.0 ∷ pair.1 ∷ []
