@@ -1,8 +1,9 @@
 //! What stands at the front of a text: a gap, or a name.
 
-ghost use Rattle.std.specs.Prelude.{◌≡◌, ◌↔◌, ◌<◌, ℕ, List, IsTrue, IfSome, IfNone};
+ghost use Rattle.std.specs.Prelude.{◌≡◌, ◌↔◌, ◌<◌, ℕ, List, [], ◌∷◌, IsTrue, IfSome, IfNone};
 ghost use Rattle.std.specs.List.{AllByRecursion};
 ghost use Rattle.kb_lexing.specs.Token.{name};
+ghost use Rattle.kb_lexing.specs.Lexemes.{GoesOnAt};
 ghost use Rattle.kb_lexing.specs.Spelling.{BeginsNames, FirstToken, after_gap};
 
 use crate::lexer::{gap_end, name_rest_len};
@@ -28,6 +29,31 @@ pub fn first_name(text: &[u8]) -> Option<(&[u8], &[u8])>
         return None;
     }
     Some((spelling, rest))
+}
+
+/// The name of one byte with which a text begins, and what stands behind it: `*`, `^`, `)` or nothing.
+///
+/// It is what [`first_name`] finds behind the gap, which is empty, in a few instructions.
+pub fn short_name(text: &[u8]) -> Option<(u8, &[u8])>
+    ensures some { IfSome result
+        (λ found. FirstToken (after_gap text.now) (name (found.0 ∷ [])) found.1.now) }
+    ensures ascii { IfSome result (λ found. found.0 < 128) }
+{
+    let [byte, rest @ ..] = text else {
+        return None;
+    };
+    if begins_names(*byte) && ends_name(rest) {
+        Some((*byte, rest))
+    } else {
+        None
+    }
+}
+
+/// Whether a text that stands behind a name byte ends the name at once: nothing, or `*`, `^` or `)`.
+fn ends_name(text: &[u8]) -> bool
+    ensures { IsTrue result → ¬ GoesOnAt text.now }
+{
+    matches!(text, [] | [b'*' | b'^' | b')', ..])
 }
 
 /// Whether names begin with this byte.

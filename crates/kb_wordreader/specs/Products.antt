@@ -1,6 +1,7 @@
 -- Products of names.
 use Rattle.std.specs.Prelude.{◌≡◌, ℕ, List, [], ◌∷◌, ◌++◌, Option, None, Some, Result, Ok, Err}
 use Rattle.kb_lexing.specs.Token.{Token, name, star}
+use Rattle.kb_lexing.specs.Spelling.{FirstToken, after_gap}
 use Rattle.kb_record.specs.Tree.{named, Factors, no_factors, factor}
 use Rattle.kb_record.specs.Faults.{Evaluates}
 use Rattle.kb_record.specs.declared.error.WordError.{WordError}
@@ -25,3 +26,9 @@ abbrev pub Takes : List (List ℕ) → List ℕ → List ℕ → Option WordErro
 Takes names so_far text None w None = times_name names so_far text ≡ Ok w
 Takes names so_far text None w (Some fault) = Evaluates (times_name names so_far text) (Err fault)
 Takes names so_far text (Some fault) w next = next ≡ Some fault
+
+-- the name at the front of a text was taken
+pub record TakesFirst (names : List (List ℕ)) (text rest old : List ℕ) (before : Option WordError) (new : List ℕ) (after : Option WordError) : Type 0 where
+  pub spelling : List ℕ
+  pub first : FirstToken (after_gap text) (name spelling) rest
+  pub takes : Takes names old spelling before new after

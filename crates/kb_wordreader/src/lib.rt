@@ -24,6 +24,7 @@
 #![tactic(auto)]
 
 mod byte_letters;
+mod first;
 mod plain_product;
 mod product;
 mod reader;
