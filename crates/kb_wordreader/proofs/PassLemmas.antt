@@ -4,8 +4,8 @@ use Rattle.std.specs.Prelude.{Result, IfOk, IfErr, IfSome}
 use Rattle.std.proofs.lemmas.List.{take_rest}
 use Rattle.kb_lexing.proofs.Lexings.{gap_front}
 use Rattle.kb_lexing.specs.Token.{Token, name, star}
-use Rattle.kb_lexing.specs.Spelling.{FirstToken, TokensOf, after_gap}
-use Rattle.kb_lexing.proofs.FirstTokens.{Kind, word, digits, negative, quoted, assigns, ranges, single, first_from}
+use Rattle.kb_lexing.specs.Spelling.{Spells, FirstToken, TokensOf, after_gap}
+use Rattle.kb_lexing.proofs.FirstTokens.{IsSingle, Kind, word, digits, negative, quoted, assigns, ranges, single, first_from}
 use Rattle.kb_record.specs.Tree.{Factors, named, no_factors, factor}
 use Rattle.kb_record.specs.Grammar.{WordOf, IsWord, AreFactorTrees, word_tokens, more_factors}
 use Rattle.kb_record.specs.Nesting.{deepest, word_nesting}
@@ -16,18 +16,21 @@ use Rattle.kb_record.specs.declared.error.WordError.TheVariants.{Syntax, TooDeep
 use Rattle.kb_wordreader.specs.Products.{starred, before, times_name, Takes}
 use Rattle.kb_wordreader.proofs.ProductLemmas.{product_step, first_fault}
 
--- `*` is never longer
-star_alone : (other : List ℕ) → Kind 42 other → length other ≤ 0
-star_alone other (word at goes) = absurd (omega arith)
-star_alone other (digits at each few) = absurd (omega arith)
-star_alone other (negative at each some few) = absurd (omega arith)
-star_alone other (quoted text at whole each) = absurd (omega arith)
-star_alone other (assigns at whole) = absurd (omega arith)
-star_alone other (ranges at whole) = absurd (omega arith)
-star_alone other (single at whole) = omega (arith, ap length whole)
+-- a mark of one byte is never longer
+alone : (b : ℕ) (other : List ℕ) → IsSingle b → Kind b other → length other ≤ 0
+alone b other h (word at goes) = absurd (omega arith)
+alone b other h (digits at each few) = absurd (omega arith)
+alone b other h (negative at each some few) = absurd (omega arith)
+alone b other h (quoted text at whole each) = absurd (omega arith)
+alone b other h (assigns at whole) = absurd (omega arith)
+alone b other h (ranges at whole) = absurd (omega arith)
+alone b other h (single at whole) = omega (arith, ap length whole)
+
+pub mark_first : (token : Token) (b : ℕ) (rest : List ℕ) → IsSingle b → Spells token (b ∷ []) → FirstToken (b ∷ rest) token rest
+mark_first token b rest at spelled = first_from token b [] rest rest spelled refl (λ other back kind e. alone b other at kind)
 
 star_first : (rest : List ℕ) → FirstToken (42 ∷ rest) star rest
-star_first rest = first_from star 42 [] rest rest refl refl (λ other back kind e. star_alone other kind)
+star_first rest = mark_first star 42 rest (omega arith) refl
 
 starred_more : (texts : List (List ℕ)) (text : List ℕ) (tokens : List Token) → starred texts ++ (name text ∷ star ∷ tokens) ≡ starred (texts ++ text ∷ []) ++ tokens
 starred_more [] text tokens = refl
@@ -140,11 +143,12 @@ pub no_bytes : (bytes : List ℕ) → length bytes < 1 → bytes ≡ []
 no_bytes [] few = refl
 no_bytes (b ∷ bytes) few = absurd (omega arith)
 
-pub star_split : (bytes : List ℕ) → 1 ≤ length bytes → get_or bytes 0 0 ≡ 42 → bytes ≡ 42 ∷ take (length bytes - 1) (drop 1 bytes)
-star_split [] some e = absurd (omega arith)
-star_split (b ∷ bytes) some e = rw (take_rest (b ∷ bytes) 1) (ap (λ x. x ∷ bytes) e)
+-- the byte with which a text begins, and what stands behind it
+pub mark_split : (mark : ℕ) (bytes : List ℕ) → 1 ≤ length bytes → get_or bytes 0 0 ≡ mark → bytes ≡ mark ∷ take (length bytes - 1) (drop 1 bytes)
+mark_split mark [] some e = absurd (omega arith)
+mark_split mark (b ∷ bytes) some e = rw (take_rest (b ∷ bytes) 1) (ap (λ x. x ∷ bytes) e)
 
-gap_length : (text : List ℕ) → length (after_gap text) ≤ length text
+pub gap_length : (text : List ℕ) → length (after_gap text) ≤ length text
 gap_length text =
     let gap = gap_front text in
     let whole = ap length gap.whole in

@@ -12,13 +12,13 @@ use Rattle.kb_record.proofs.WordMeanings.{name_known, name_unknown}
 use Rattle.kb_wordreader.specs.Letters.{letter_of}
 use Rattle.kb_wordreader.specs.Products.{times_name}
 
-not_more : (most n : ℕ) → n ≤ most → nat_lt most n ≡ false
+pub not_more : (most n : ℕ) → n ≤ most → nat_lt most n ≡ false
 not_more most n h = grind (arith, nat_tests)
 
 more : (most n : ℕ) → most < n → nat_lt most n ≡ true
 more most n h = grind (arith, nat_tests)
 
-product_fits : (so_far w : List ℕ) → length so_far + length w ≤ most_letters → product so_far w ≡ Ok (so_far ++ w)
+pub product_fits : (so_far w : List ℕ) → length so_far + length w ≤ most_letters → product so_far w ≡ Ok (so_far ++ w)
 product_fits so_far w h = rw (not_more most_letters (length so_far + length w) h) refl
 
 product_long : (so_far w : List ℕ) → most_letters < length so_far + length w → product so_far w ≡ Err too_long

@@ -3,7 +3,7 @@ use Rattle.kb_lexing.specs.Token.{name}
 use Rattle.kb_lexing.specs.Spelling.{FirstToken, after_gap}
 use Rattle.kb_record.specs.Faults.{HasWordFault, Meaning}
 use Rattle.std.specs.Prelude.{Ok}
-use Rattle.kb_wordreader.proofs.PassLemmas.{passed_more, passed_word, passed_fault, no_bytes, star_split, shorter, ends_ok, ends_err}
+use Rattle.kb_wordreader.proofs.PassLemmas.{passed_more, passed_word, passed_fault, no_bytes, mark_split, shorter, ends_ok, ends_err}
 use Rattle.kb_wordreader.proofs.plain_product.plain_product.Goals as goal
 
 pub returns-in-empty-clause-word : goal.returns-in-empty-clause-word
@@ -34,7 +34,7 @@ loop-name-smaller c =
     let text = c.behind_gap-in-loop-name.result.now in
     let first : FirstToken (after_gap l.rest.now) (name c.in-Some.name.now) c.in-Some.behind.now = subst (λ x. FirstToken x (name c.in-Some.name.now) c.in-Some.behind.now) c.behind_gap.ensures c.in-Some.ensures.some in
     let begun : get_or text 0 0 ≡ 42 = search rules in
-    let at : after_gap c.in-Some.behind.now ≡ 42 ∷ take (length text - 1) (drop 1 text) = sym c.behind_gap-in-loop-name.ensures ∙ star_split text (omega (arith, c.in-42.len_at_least)) begun in
+    let at : after_gap c.in-Some.behind.now ≡ 42 ∷ take (length text - 1) (drop 1 text) = sym c.behind_gap-in-loop-name.ensures ∙ mark_split 42 text (omega (arith, c.in-42.len_at_least)) begun in
     shorter l.rest.now c.in-Some.behind.now _ _ first at
 
 pub loop-name-preserved : goal.loop-name-preserved
@@ -46,7 +46,7 @@ loop-name-preserved c =
     let text = c.behind_gap-in-loop-name.result.now in
     let first : FirstToken (after_gap l.rest.now) (name c.in-Some.name.now) c.in-Some.behind.now = subst (λ x. FirstToken x (name c.in-Some.name.now) c.in-Some.behind.now) c.behind_gap.ensures c.in-Some.ensures.some in
     let begun : get_or text 0 0 ≡ 42 = search rules in
-    let at : after_gap c.in-Some.behind.now ≡ 42 ∷ take (length text - 1) (drop 1 text) = sym c.behind_gap-in-loop-name.ensures ∙ star_split text (omega (arith, c.in-42.len_at_least)) begun in
+    let at : after_gap c.in-Some.behind.now ≡ 42 ∷ take (length text - 1) (drop 1 text) = sym c.behind_gap-in-loop-name.ensures ∙ mark_split 42 text (omega (arith, c.in-42.len_at_least)) begun in
     record {
       passed = passed_more names bytes l.rest.now c.in-Some.behind.now l.word c.in-Some.name.now w l.fault c.take_name.new.fault l.invariant.passed first c.take_name.ensures.takes (take (length text - 1) (drop 1 text)) at;
       few = c.take_name.ensures.few;
