@@ -1,17 +1,18 @@
 -- What stands at the front of a text, step by step.
-use Rattle.std.proofs.Common.{◌≡◌, ℕ, suc, ◌+◌, ◌<◌, ◌≤◌, ◌⊎◌, inl, inr, Bool, true, false, if◌then◌else◌, nat_lt, max, take, drop, ℤ, List, [], ◌∷◌, ◌++◌, length, length-append, append_assoc, append-nil, Option, None, Some, Result, Ok, Err, refl, sym, ap, ◌∙◌, subst, arith}
-use Rattle.std.proofs.lemmas.List.{take_at, drop_at}
-use Rattle.kb_lexing.specs.Token.{Token, name, number, open_round, close_round, star, caret}
+use Rattle.std.proofs.Common.{◌≡◌, ℕ, suc, ◌+◌, ◌<◌, ◌≤◌, Bool, true, false, if◌then◌else◌, nat_lt, take, drop, ℤ, List, [], ◌∷◌, ◌++◌, length, length-append, append_assoc, append-nil, Option, None, Some, Result, Ok, Err, refl, sym, ap, ◌∙◌, subst, arith}
+use Rattle.std.specs.Prelude.{IfSome}
+use Rattle.std.proofs.lemmas.List.{take-append-drop, take_at, drop_at}
+use Rattle.kb_lexing.specs.Token.{Token, number, open_round, close_round, star, caret}
 use Rattle.kb_lexing.specs.Spelling.{Spells, FirstToken, TokensOf, after_gap}
 use Rattle.kb_lexing.proofs.FirstTokens.{spells_some}
 use Rattle.kb_record.specs.Tree.{Factor, named, grouped, Factors, no_factors, factor}
-use Rattle.kb_record.specs.Grammar.{WordOf, IsWord, AreFactorTrees, IsFactorTree, power_tokens, word_tokens, factor_tokens, more_factors}
-use Rattle.kb_record.specs.Nesting.{deepest, word_nesting, factor_nesting}
+use Rattle.kb_record.specs.Grammar.{IsWord, AreFactorTrees, power_tokens, word_tokens, factor_tokens, more_factors}
+use Rattle.kb_record.specs.Nesting.{deepest, word_nesting}
 use Rattle.kb_record.specs.Faults.{Meaning}
 use Rattle.kb_record.specs.Meaning.{WordFault, too_long, most_letters, and_then, name_meaning, power_meaning, factor_meaning, product, product_meaning}
 use Rattle.kb_wordreader.specs.Products.{TakesFirst}
 use Rattle.kb_wordreader.specs.Factors.{Adds, NameFront, PowerFront, BaseFront, FactorFront, FactorsFront, GroupFront}
-use Rattle.kb_wordreader.proofs.PassLemmas.{mark_first, gap_length}
+use Rattle.kb_wordreader.proofs.PassLemmas.{star_first, caret_first, open_first, close_first, gap_length}
 use Rattle.kb_wordreader.proofs.ProductLemmas.{product_fits}
 
 -- ---- names
@@ -50,14 +51,17 @@ mark_at token b text rest at first = subst (λ x. FirstToken x token rest) (sym 
 module _ (names : List (List ℕ)) (inverses : List (Option ℕ)) where
   -- ---- powers
 
-  pub no_power : (text base : List ℕ) → PowerFront names inverses text text base base
+  no_power : (text base : List ℕ) → PowerFront names inverses text text base base
   no_power text base = record { power = None; onward = λ tokens h. h; means = refl }
+
+  pub no_power_added : (text old : List ℕ) (start : ℕ) → Adds (PowerFront names inverses text text (drop start old)) (take start old) old
+  no_power_added text old start = record { letters = drop start old; is_read = no_power text (drop start old); grown = sym (take-append-drop start old) }
 
   pub some_power : (text behind rest base letters : List ℕ) (z : ℤ) → after_gap text ≡ 94 ∷ behind → FirstToken (after_gap behind) (number z) rest
       → power_meaning names inverses (Some z) base ≡ Ok letters → PowerFront names inverses text rest base letters
   some_power text behind rest base letters z at first means = record {
     power = Some z;
-    onward = λ tokens h. (behind, mark_at caret 94 text behind at (mark_first caret 94 behind (omega arith) refl), (rest, first, h));
+    onward = λ tokens h. (behind, mark_at caret 94 text behind at (caret_first behind), (rest, first, h));
     means = means;
   }
 
@@ -79,10 +83,10 @@ module _ (names : List (List ℕ)) (inverses : List (Option ℕ)) where
     formed = λ power. h.formed;
     shallow = λ power. let less = h.shallow in omega arith;
     onward = λ power tokens more. (
-          inside,
-          mark_at open_round 40 text inside at (mark_first open_round 40 inside (omega arith) refl),
-          subst (λ ts. TokensOf inside ts) (sym (append_assoc (word_tokens h.tree) (close_round ∷ power_tokens power) tokens)) (h.onward (power_tokens power ++ tokens) more),
-        );
+      inside,
+      mark_at open_round 40 text inside at (open_first inside),
+      subst (λ ts. TokensOf inside ts) (sym (append_assoc (word_tokens h.tree) (close_round ∷ power_tokens power) tokens)) (h.onward (power_tokens power ++ tokens) more),
+    );
     means = λ power. ap (λ r. and_then r (power_meaning names inverses power)) h.means;
   }
 
@@ -92,7 +96,7 @@ module _ (names : List (List ℕ)) (inverses : List (Option ℕ)) where
     tree = h.tree;
     formed = h.formed;
     shallow = let most = h.shallow in omega arith;
-    onward = λ tokens more. h.onward (close_round ∷ tokens) (behind, mark_at close_round 41 rest behind at (mark_first close_round 41 behind (omega arith) refl), more);
+    onward = λ tokens more. h.onward (close_round ∷ tokens) (behind, mark_at close_round 41 rest behind at (close_first behind), more);
     means = h.means;
   }
 
@@ -166,7 +170,7 @@ module _ (names : List (List ℕ)) (inverses : List (Option ℕ)) where
         shallow = lead.shallow;
         onward = λ tokens h.
             let read : TokensOf rest (factor_tokens f.tree ++ (star ∷ (word_tokens others ++ tokens))) =
-            f.onward (star ∷ (word_tokens others ++ tokens)) (next, mark_at star 42 behind next at (mark_first star 42 next (omega arith) refl), h) in
+            f.onward (star ∷ (word_tokens others ++ tokens)) (next, mark_at star 42 behind next at (star_first next), h) in
             lead.onward tokens (subst (λ ts. TokensOf rest ts) (tokens_more (factor_tokens f.tree) (word_tokens others) tokens ∙ ap (λ ts. (factor_tokens f.tree ++ ts) ++ tokens) (sym (starred others formed))) read);
         means = lead.means ∙ step letters more f.tree others f.means few;
       }
@@ -224,3 +228,7 @@ module _ (names : List (List ℕ)) (inverses : List (Option ℕ)) where
 -- what is read of a name is read of a factor
 pub adds_as : (P Q : List ℕ → Type 0) (old new : List ℕ) → ((letters : List ℕ) → P letters → Q letters) → Adds P old new → Adds Q old new
 adds_as P Q old new f h = record { letters = h.letters; is_read = f h.letters h.is_read; grown = h.grown }
+
+pub if_some : {A : Type 0} (found : Option A) (P Q : A → Type 0) → ((x : A) → P x → Q x) → IfSome found P → IfSome found Q
+if_some None P Q f h = tt
+if_some (Some x) P Q f h = f x h

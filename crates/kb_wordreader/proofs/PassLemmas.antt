@@ -1,9 +1,9 @@
 -- The pass over a plain product: what is read, and what is still to come.
-use Rattle.std.proofs.Common.{◌≡◌, ℕ, ◌-◌, ◌+◌, ◌<◌, ◌≤◌, max, take, drop, get_or, length-append, List, [], ◌∷◌, ◌++◌, length, Option, None, Some, Ok, Err, inl, inr, refl, sym, ap, ◌∙◌, subst, arith}
+use Rattle.std.proofs.Common.{◌≡◌, ℕ, ◌-◌, ◌<◌, ◌≤◌, max, take, drop, get_or, length-append, List, [], ◌∷◌, ◌++◌, length, Option, None, Some, Ok, Err, inl, inr, refl, sym, ap, ◌∙◌, subst, arith}
 use Rattle.std.specs.Prelude.{Result, IfOk, IfErr, IfSome}
 use Rattle.std.proofs.lemmas.List.{take_rest}
 use Rattle.kb_lexing.proofs.Lexings.{gap_front}
-use Rattle.kb_lexing.specs.Token.{Token, name, star}
+use Rattle.kb_lexing.specs.Token.{Token, name, star, caret, open_round, close_round}
 use Rattle.kb_lexing.specs.Spelling.{Spells, FirstToken, TokensOf, after_gap}
 use Rattle.kb_lexing.proofs.FirstTokens.{IsSingle, Kind, word, digits, negative, quoted, assigns, ranges, single, first_from}
 use Rattle.kb_record.specs.Tree.{Factors, named, no_factors, factor}
@@ -26,11 +26,20 @@ alone b other h (assigns at whole) = absurd (omega arith)
 alone b other h (ranges at whole) = absurd (omega arith)
 alone b other h (single at whole) = omega (arith, ap length whole)
 
-pub mark_first : (token : Token) (b : ℕ) (rest : List ℕ) → IsSingle b → Spells token (b ∷ []) → FirstToken (b ∷ rest) token rest
+mark_first : (token : Token) (b : ℕ) (rest : List ℕ) → IsSingle b → Spells token (b ∷ []) → FirstToken (b ∷ rest) token rest
 mark_first token b rest at spelled = first_from token b [] rest rest spelled refl (λ other back kind e. alone b other at kind)
 
-star_first : (rest : List ℕ) → FirstToken (42 ∷ rest) star rest
-star_first rest = mark_first star 42 rest (omega arith) refl
+pub star_first : (rest : List ℕ) → FirstToken (42 ∷ rest) star rest
+star_first rest = mark_first star 42 rest (inr (inr (inr (inr (inr (inr (inl refl))))))) refl
+
+pub caret_first : (rest : List ℕ) → FirstToken (94 ∷ rest) caret rest
+caret_first rest = mark_first caret 94 rest (inr (inr (inr (inr (inr (inr (inr refl))))))) refl
+
+pub open_first : (rest : List ℕ) → FirstToken (40 ∷ rest) open_round rest
+open_first rest = mark_first open_round 40 rest (inl refl) refl
+
+pub close_first : (rest : List ℕ) → FirstToken (41 ∷ rest) close_round rest
+close_first rest = mark_first close_round 41 rest (inr (inl refl)) refl
 
 starred_more : (texts : List (List ℕ)) (text : List ℕ) (tokens : List Token) → starred texts ++ (name text ∷ star ∷ tokens) ≡ starred (texts ++ text ∷ []) ++ tokens
 starred_more [] text tokens = refl

@@ -1,8 +1,8 @@
 -- A word whose end is repeated, letter by letter.
-use Rattle.std.proofs.Common.{◌≡◌, ℕ, zero, suc, ◌+◌, ◌-◌, ◌*◌, ◌<◌, ◌≤◌, Bool, true, false, nat_lt, take, drop, get_or, List, [], ◌∷◌, ◌++◌, length, length-append, length-drop, append_assoc, append-nil, Ok, Err, refl, sym, ap, ◌∙◌, subst, arith}
-use Rattle.std.proofs.lemmas.List.{take-append-drop, take_all, take_more, take_at, get_or-take, get_or_append_left, get_or-append-add}
+use Rattle.std.proofs.Common.{◌≡◌, ℕ, zero, suc, ◌+◌, ◌-◌, ◌*◌, ◌<◌, ◌≤◌, take, drop, get_or, List, [], ◌∷◌, ◌++◌, length, length-append, length-take, length-drop, min, append_assoc, append-nil, Ok, refl, sym, ap, ◌∙◌, subst, arith}
+use Rattle.std.proofs.lemmas.List.{take-append-drop, length-take-le, take_all, take_more, take_at, get_or-take, get_or_append_left, get_or-append-add}
 use Rattle.kb_record.proofs.WordMeanings.{repeated_more}
-use Rattle.kb_record.specs.Meaning.{WordFault, most_letters, repeated, repetition}
+use Rattle.kb_record.specs.Meaning.{most_letters, repeated, repetition}
 use Rattle.kb_wordreader.specs.Factors.{Adds}
 use Rattle.kb_wordreader.proofs.ProductLemmas.{not_more}
 
@@ -33,6 +33,11 @@ again base w (suc n) place from h =
     let behind : place + length w ≡ length base + (length w + i) = omega arith in
     ap (λ k. get_or (base ++ repeated (suc n) w) k 0) behind ∙ get_or-append-add base (repeated (suc n) w) (length w + i) 0 ∙ periodic n w i (omega arith)
     ∙ sym (ap (λ k. get_or (base ++ repeated (suc n) w) k 0) at ∙ get_or-append-add base (repeated (suc n) w) i 0)
+
+-- a place before the last of the parts is behind a part
+part_some : (start n place part : ℕ) → start ≤ place → place < start + n * part - part → 0 < part
+part_some start n place zero from below = let none : n * 0 ≡ 0 = omega arith in absurd (omega (arith, none, below))
+part_some start n place (suc part) from below = omega arith
 
 -- the power of the word's end, from the place on
 abbrev pub power_of_end : List ℕ → ℕ → ℕ → List ℕ
@@ -71,7 +76,7 @@ module _ (old : List ℕ) (start n : ℕ) (within : start ≤ length old) where
       let end = length old - start in
       let whole = power_of_end old start n in
       let tail : length (drop start old) ≡ end = length-drop start old in
-      let some : 0 < end = omega arith in
+      let some : 0 < end = part_some start n place end from below in
       let inside : place + end < length whole = omega (arith, power_length) in
       let same : get_or w place 0 ≡ get_or whole place 0 = ap (λ v. get_or v place 0) is ∙ get_or-take (place + end) whole place 0 (omega arith) in
       let next : get_or whole (place + end) 0 ≡ get_or whole place 0 =
@@ -86,3 +91,20 @@ module _ (old : List ℕ) (start n : ℕ) (within : start ≤ length old) where
     is_read = repetition_fits n (drop start old) (rw (length-drop start old) few);
     grown = is ∙ take_all (place + (length old - start)) (power_of_end old start n) (omega (arith, power_length));
   }
+
+  -- the place is in the word
+  pub place_within : (w : List ℕ) (place : ℕ) → w ≡ take (place + (length old - start)) (power_of_end old start n) → start ≤ place
+      → place < start + n * (length old - start) - (length old - start) → place < length w
+  place_within w place is from below =
+      let end = length old - start in
+      let some : 0 < end = part_some start n place end from below in
+      let cut_length : length (take (place + end) (power_of_end old start n)) ≡ place + end = length-take-le (place + end) (power_of_end old start n) (omega (arith, power_length)) in
+      omega (arith, ap length is, cut_length, some)
+
+  pub all_few : (w : List ℕ) (place : ℕ) → w ≡ take (place + (length old - start)) (power_of_end old start n) → start + n * (length old - start) ≤ most_letters → length w ≤ most_letters
+  all_few w place is few = omega (arith, ap length is, length-take (place + (length old - start)) (power_of_end old start n), power_length, few)
+
+-- a length that isn't cut
+pub saturated : (start count part times len : ℕ) → times ≡ min (count * part) 18446744073709551615 → len ≡ min (start + times) 18446744073709551615 → len ≤ most_letters
+    → len ≡ start + count * part
+saturated start count part times len product sum few = omega (arith, product, sum, few)

@@ -1,11 +1,11 @@
 -- A name behind the product so far.
-use Rattle.std.proofs.Common.{◌≡◌, ℕ, ◌+◌, ◌<◌, ◌≤◌, true, false, Bool, List, [], ◌∷◌, ◌++◌, length, Option, None, Some, Ok, Err, nat_eq, nat_lt, refl, sym, ap, ◌∙◌, subst, arith, append-nil}
+use Rattle.std.proofs.Common.{◌≡◌, ℕ, ◌+◌, ◌<◌, ◌≤◌, true, false, List, [], ◌∷◌, ◌++◌, length, Option, None, Some, Ok, Err, nat_eq, nat_lt, refl, ap, ◌∙◌, arith, append-nil}
 use Rattle.std.specs.Prelude.{codes, Result}
 use Rattle.std.specs.Cmp.Lexicographic.{pointwise}
 use Rattle.std.proofs.lemmas.Bool.Decides.{nat_tests}
 use Rattle.kb_record.specs.Tree.{Factors, named, factor}
 use Rattle.kb_record.specs.Faults.{Evaluates}
-use Rattle.kb_record.specs.Meaning.{WordFault, unknown_generator, too_long, most_letters, and_then, product, name_meaning, power_meaning, factor_meaning, product_meaning}
+use Rattle.kb_record.specs.Meaning.{WordFault, unknown_generator, too_long, most_letters, and_then, product, name_meaning, product_meaning}
 use Rattle.kb_record.specs.declared.error.WordError.{WordError}
 use Rattle.kb_record.specs.declared.error.WordError.TheVariants.{Syntax, TooDeep, UnknownGenerator, NoInverse, WordTooLong, Memory}
 use Rattle.kb_record.proofs.WordMeanings.{name_known, name_unknown}

@@ -1,8 +1,8 @@
 -- Products of names.
-use Rattle.std.specs.Prelude.{◌≡◌, ℕ, List, [], ◌∷◌, ◌++◌, Option, None, Some, Result, Ok, Err}
+use Rattle.std.specs.Prelude.{◌≡◌, ℕ, List, [], ◌∷◌, Option, None, Some, Result, Ok, Err}
 use Rattle.kb_lexing.specs.Token.{Token, name, star}
 use Rattle.kb_lexing.specs.Spelling.{FirstToken, after_gap}
-use Rattle.kb_record.specs.Tree.{named, Factors, no_factors, factor}
+use Rattle.kb_record.specs.Tree.{named, Factors, factor}
 use Rattle.kb_record.specs.Faults.{Evaluates}
 use Rattle.kb_record.specs.declared.error.WordError.{WordError}
 use Rattle.kb_record.specs.Meaning.{WordFault, and_then, name_meaning, product}

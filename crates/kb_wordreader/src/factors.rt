@@ -28,14 +28,7 @@ pub(crate) fn product_of_powers(
         (λ word. Meaning bytes.now presentation.now.names presentation.now.inv (Ok word)) }
 {
     let mut word = Word::new(alloc);
-    let rest = take_factors(
-        alloc,
-        presentation,
-        byte_letters,
-        bytes,
-        DEEPEST,
-        &mut word,
-    )?;
+    let rest = take_factors(alloc, presentation, byte_letters, bytes, DEEPEST, &mut word)?;
     if !is_blank(rest) {
         return None;
     }

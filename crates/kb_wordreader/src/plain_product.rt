@@ -27,7 +27,8 @@ pub(crate) fn plain_product(
     let mut fault = None;
     let mut rest = bytes;
     loop {
-        let Some(behind) = take_first(alloc, names, byte_letters, rest, &mut word, &mut fault) else {
+        let Some(behind) = take_first(alloc, names, byte_letters, rest, &mut word, &mut fault)
+        else {
             return Ok(None);
         };
         match behind_gap(behind) {

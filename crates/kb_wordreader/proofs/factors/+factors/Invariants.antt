@@ -1,4 +1,4 @@
-use Rattle.std.proofs.Common.{◌≡◌, ℕ, ◌+◌, ◌*◌, ◌<◌, ◌≤◌, length}
+use Rattle.std.proofs.Common.{◌+◌, ◌*◌, ◌≤◌, length}
 use Rattle.kb_record.specs.Meaning.{most_letters}
 use Rattle.kb_wordreader.specs.Factors.{Adds}
 use Rattle.kb_wordreader.proofs.FactorLemmas.{Going}
