@@ -1,12 +1,13 @@
 //! What stands at the front of a text: a gap, or a name.
 
-ghost use Rattle.std.specs.Prelude.{◌≡◌, ◌↔◌, ◌<◌, ℕ, List, [], ◌∷◌, IsTrue, IfSome, IfNone};
+ghost use Rattle.std.specs.Prelude.{◌≡◌, ◌↔◌, ◌<◌, ℕ, List, [], ◌∷◌, IsTrue, Some, IfSome, IfNone};
 ghost use Rattle.std.specs.List.{AllByRecursion};
-ghost use Rattle.kb_lexing.specs.Token.{name};
-ghost use Rattle.kb_lexing.specs.Lexemes.{GoesOnAt};
+ghost use Rattle.kb_lexing.specs.Token.{name, number};
+ghost use Rattle.kb_lexing.specs.Lexemes.{GoesOnAt, IsFirst};
 ghost use Rattle.kb_lexing.specs.Spelling.{BeginsNames, FirstToken, after_gap};
 
-use crate::lexer::{gap_end, name_rest_len};
+use crate::lexer::{gap_end, name_rest_len, negative_number, number};
+use crate::token::Token;
 
 /// The text behind the blanks and comments at its front.
 pub fn behind_gap(text: &[u8]) -> &[u8]
@@ -46,6 +47,27 @@ pub fn short_name(text: &[u8]) -> Option<(u8, &[u8])>
         Some((*byte, rest))
     } else {
         None
+    }
+}
+
+/// The number with which a text begins and what stands behind it.
+pub fn first_number(text: &[u8]) -> Option<(i64, &[u8])>
+    ensures some { IfSome result (λ found. FirstToken text.now (number found.0) found.1.now) }
+{
+    match number_token(text)? {
+        (Token::Number(value), len) => Some((value, &text[len..])),
+        _ => None,
+    }
+}
+
+/// The number at the front of a text as a token, and how many bytes spell it.
+fn number_token<'a>(text: &'a [u8]) -> Option<(Token<'a>, usize)>
+    ensures { IfSome result (λ found. IsFirst text.now (Some found)) }
+{
+    match text.first()? {
+        b'0'..=b'9' => number(text),
+        b'-' => negative_number(text),
+        _ => None,
     }
 }
 
