@@ -13,7 +13,7 @@ use Rattle.kb_record.specs.Faults.{Meaning, HasWordFault, Evaluates}
 use Rattle.kb_record.specs.Meaning.{WordFault, unknown_generator, no_inverse, too_long, and_then, product_meaning, word_meaning}
 use Rattle.kb_record.specs.declared.error.WordError.{WordError}
 use Rattle.kb_record.specs.declared.error.WordError.TheVariants.{Syntax, TooDeep, UnknownGenerator, NoInverse, WordTooLong, Memory}
-use Rattle.kb_wordreader.specs.Products.{starred, before, times_name, Takes}
+use Rattle.kb_wordreader.specs.Products.{starred, before, times_name, Takes, TakesFirst, SoFar, Passed, BehindName}
 use Rattle.kb_wordreader.proofs.ProductLemmas.{product_step, first_fault}
 
 -- a mark of one byte is never longer
@@ -79,17 +79,6 @@ word_of_names bytes texts last h = record { tokens = starred texts ++ name last 
 shallow : (texts : List (List ℕ)) (last : List ℕ) → word_nesting (tree texts last) ≤ deepest
 shallow texts last = let none = flat texts last in omega arith
 
--- what the whole means where others are still to come: what they mean behind the word so far, or the fault that was met
-abbrev pub SoFar : List (List ℕ) → List (Option ℕ) → List ℕ → Factors → Result (List ℕ) WordFault → Option WordError → Type 0
-SoFar names inverses w others whole None = whole ≡ product_meaning names inverses w others
-SoFar names inverses w others whole (Some fault) = Evaluates whole (Err fault)
-
--- names, each with `*` behind it, were read of the bytes
-pub record Passed (names : List (List ℕ)) (bytes rest w : List ℕ) (fault : Option WordError) : Type 0 where
-  pub texts : List (List ℕ)
-  pub onward : (tokens : List Token) → TokensOf rest tokens → TokensOf bytes (starred texts ++ tokens)
-  pub means : (inverses : List (Option ℕ)) (others : Factors) → SoFar names inverses w others (product_meaning names inverses [] (before texts others)) fault
-
 pub passed_none : (names : List (List ℕ)) (bytes : List ℕ) → Passed names bytes bytes [] None
 passed_none names bytes = record { texts = []; onward = λ tokens h. h; means = λ inverses others. refl }
 
@@ -119,6 +108,9 @@ module _ (names : List (List ℕ)) (bytes rest behind so_far text w : List ℕ) 
     means = λ inverses others.
         subst (λ fs. SoFar names inverses w others (product_meaning names inverses [] fs) new) (before_more passed.texts text others) (means_more inverses others);
   }
+
+  pub name_taken : BehindName names bytes behind w new
+  name_taken = record { rest = rest; so_far = so_far; earlier = old; passed = passed; spelling = text; first = first; takes = takes }
 
   ends : after_gap behind ≡ [] → WordOf bytes (tree passed.texts text)
   ends at = word_of_names bytes passed.texts text (passed.onward (name text ∷ []) (behind, first, at))
@@ -163,12 +155,6 @@ gap_length text =
     let whole = ap length gap.whole in
     omega (arith, whole, length-append gap.front (after_gap text))
 
-pub shorter : (rest behind next : List ℕ) (token : Token) → FirstToken (after_gap rest) token behind → after_gap behind ≡ 42 ∷ next → length next < length rest
-shorter rest behind next token first at =
-    let whole = ap length first.whole in
-    let one = ap length at in
-    omega (arith, whole, one, length-append first.spelling behind, gap_length rest, gap_length behind)
-
 -- what the end of the pass returns
 pub ends_ok : (r : Result (Option (List ℕ)) WordError) (w : List ℕ) (fault : Option WordError) (P : List ℕ → Type 0) → IfOk r (λ product. (fault ≡ None) × (product ≡ Some w)) → (fault ≡ None → P w)
     → IfOk r (λ product. IfSome product P)
@@ -179,3 +165,9 @@ pub ends_err : (r : Result (Option (List ℕ)) WordError) (fault : Option WordEr
     → IfErr r P
 ends_err (Ok product) fault P h p = tt
 ends_err (Err error) fault P h p = p error h
+
+-- `*` and a name more
+pub one_more_name : (names : List (List ℕ)) (bytes behind w rest new : List ℕ) (fault : Option WordError) → BehindName names bytes (42 ∷ behind) w None
+    → TakesFirst names behind rest w None new fault → BehindName names bytes rest new fault
+one_more_name names bytes behind w rest new fault b t =
+    name_taken names bytes behind rest w t.spelling new None fault (passed_more names bytes b.rest (42 ∷ behind) b.so_far b.spelling w b.earlier None b.passed b.first b.takes behind refl) t.first t.takes

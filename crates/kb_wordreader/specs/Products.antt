@@ -1,11 +1,11 @@
 -- Products of names.
-use Rattle.std.specs.Prelude.{◌≡◌, ℕ, List, [], ◌∷◌, Option, None, Some, Result, Ok, Err}
+use Rattle.std.specs.Prelude.{◌≡◌, ℕ, List, [], ◌∷◌, ◌++◌, Option, None, Some, Result, Ok, Err}
 use Rattle.kb_lexing.specs.Token.{Token, name, star}
-use Rattle.kb_lexing.specs.Spelling.{FirstToken, after_gap}
+use Rattle.kb_lexing.specs.Spelling.{FirstToken, TokensOf, after_gap}
 use Rattle.kb_record.specs.Tree.{named, Factors, factor}
 use Rattle.kb_record.specs.Faults.{Evaluates}
 use Rattle.kb_record.specs.declared.error.WordError.{WordError}
-use Rattle.kb_record.specs.Meaning.{WordFault, and_then, name_meaning, product}
+use Rattle.kb_record.specs.Meaning.{WordFault, and_then, name_meaning, product, product_meaning}
 
 -- names, each with `*` behind it
 abbrev pub starred : List (List ℕ) → List Token
@@ -32,3 +32,24 @@ pub record TakesFirst (names : List (List ℕ)) (text rest old : List ℕ) (befo
   pub spelling : List ℕ
   pub first : FirstToken (after_gap text) (name spelling) rest
   pub takes : Takes names old spelling before new after
+
+-- what the whole means where others are still to come: what they mean behind the word so far, or the fault that was met
+abbrev pub SoFar : List (List ℕ) → List (Option ℕ) → List ℕ → Factors → Result (List ℕ) WordFault → Option WordError → Type 0
+SoFar names inverses w others whole None = whole ≡ product_meaning names inverses w others
+SoFar names inverses w others whole (Some fault) = Evaluates whole (Err fault)
+
+-- names, each with `*` behind it, were read of the bytes
+pub record Passed (names : List (List ℕ)) (bytes rest w : List ℕ) (fault : Option WordError) : Type 0 where
+  pub texts : List (List ℕ)
+  pub onward : (tokens : List Token) → TokensOf rest tokens → TokensOf bytes (starred texts ++ tokens)
+  pub means : (inverses : List (Option ℕ)) (others : Factors) → SoFar names inverses w others (product_meaning names inverses [] (before texts others)) fault
+
+-- a name was taken behind these
+pub record BehindName (names : List (List ℕ)) (bytes behind w : List ℕ) (fault : Option WordError) : Type 0 where
+  pub rest : List ℕ
+  pub so_far : List ℕ
+  pub earlier : Option WordError
+  pub passed : Passed names bytes rest so_far earlier
+  pub spelling : List ℕ
+  pub first : FirstToken (after_gap rest) (name spelling) behind
+  pub takes : Takes names so_far spelling earlier w fault

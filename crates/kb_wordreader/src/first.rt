@@ -3,7 +3,7 @@
 ghost use Rattle.std.specs.Prelude.{◌≡◌, ◌≤◌, List, ℕ, length, IfSome, IfNone, None};
 ghost use Rattle.kb_record.specs.Meaning.{most_letters};
 ghost use Rattle.kb_wordreader.specs.Letters.{AreByteLetters};
-ghost use Rattle.kb_wordreader.specs.Products.{TakesFirst};
+ghost use Rattle.kb_wordreader.specs.Products.{TakesFirst, BehindName};
 
 use crate::product::{MOST_LETTERS, take_name};
 use kb_lexing::{behind_gap, first_name, short_name};
@@ -59,4 +59,32 @@ fn take_short<'a>(
     }
     word.push(letter).ok()?;
     Some(rest)
+}
+
+/// Behind a name takes more names of one byte, each directly behind a `*`, and returns what stands behind them. Where
+/// there is a fault it takes none.
+pub(crate) fn take_short_names<'a>(
+    names: &Names,
+    byte_letters: &[Option<Letter>],
+    text: &'a [u8],
+    word: &mut Word,
+    fault: &Option<WordError>,
+) -> &'a [u8]
+    requires letters { AreByteLetters names.now byte_letters.now }
+    requires few { length word.old ≤ most_letters }
+    ensures takes { (bytes : List ℕ) → BehindName names.now bytes text.now word.old fault.now
+        → BehindName names.now bytes result.now word.new fault.now }
+    ensures few { length word.new ≤ most_letters }
+    ensures shorter { length result.now ≤ length text.now }
+{
+    if fault.is_some() {
+        return text;
+    }
+    let mut text = text;
+    while let [b'*', next @ ..] = text
+        && let Some(rest) = take_short(names, byte_letters, next, word)
+    {
+        text = rest;
+    }
+    text
 }

@@ -1,14 +1,12 @@
 //! Powers of a word's end.
 
 ghost use Rattle.std.specs.Prelude.{◌≡◌, ℕ, List, Option, ◌≤◌, length, take, drop, IfSome, Ok, Some};
-ghost use Rattle.kb_lexing.specs.Token.{number};
-ghost use Rattle.kb_lexing.specs.Spelling.{FirstToken, after_gap};
 ghost use Rattle.kb_word.specs.Relations.{inverse_word};
 ghost use Rattle.kb_record.specs.Meaning.{most_letters, repetition, power_meaning};
 ghost use Rattle.kb_wordreader.specs.Factors.{Adds, PowerFront};
 
 use crate::product::MOST_LETTERS;
-use kb_lexing::{Lexeme, Token, behind_gap, first_lexeme};
+use kb_lexing::{behind_gap, first_number};
 use kb_word::{Presentation, Word};
 use std::alloc::Global;
 
@@ -33,25 +31,9 @@ pub(crate) fn take_power<'a>(
     let [b'^', behind @ ..] = behind_gap(text) else {
         return Some(text);
     };
-    let (exponent, rest) = first_number(behind)?;
+    let (exponent, rest) = first_number(behind_gap(behind))?;
     raise_end(alloc, presentation, word, start, exponent)?;
     Some(rest)
-}
-
-/// The number with which a text begins, and what stands behind it.
-fn first_number(text: &[u8]) -> Option<(i64, &[u8])>
-    ensures some { IfSome result
-        (λ found. FirstToken (after_gap text.now) (number found.0) found.1.now) }
-    ensures shorter { IfSome result (λ found. length found.1.now ≤ length text.now) }
-{
-    match first_lexeme(text)? {
-        Lexeme {
-            token: Token::Number(number),
-            rest,
-            ..
-        } => Some((number, rest)),
-        _ => None,
-    }
 }
 
 /// Raises the word's end, from the place on, to a power.

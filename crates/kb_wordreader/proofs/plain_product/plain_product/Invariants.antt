@@ -1,6 +1,6 @@
 use Rattle.std.proofs.Common.{◌≤◌, length}
 use Rattle.kb_record.specs.Meaning.{most_letters}
-use Rattle.kb_wordreader.proofs.PassLemmas.{Passed}
+use Rattle.kb_wordreader.specs.Products.{Passed}
 use Rattle.kb_wordreader.proofs.plain_product.plain_product.Given as goal
 
 abbrev pub invariant-loop-behind : goal.invariant-loop-behind
