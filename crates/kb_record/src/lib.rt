@@ -64,6 +64,7 @@
 
 mod cursor;
 mod error;
+mod flat;
 mod laws;
 mod listed;
 mod longer;
