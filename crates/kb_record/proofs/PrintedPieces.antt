@@ -1,7 +1,9 @@
 -- Texts that are printed piece by piece, and the printed texts as pieces.
 use Rattle.std.proofs.Common.{◌≡◌, ℕ, suc, ◌+◌, ◌<◌, ◌≤◌, ◌*◌, List, [], ◌∷◌, ◌++◌, length, get_or, drop, replicate, Option, Some, None, option_map, ℤ, map, true, false, Result, Ok, Err, OnOk, OnErr, refl, sym, ap, ◌∙◌, arith, append_assoc, append-nil}
-use Rattle.std.specs.Prelude.{codes}
+use Rattle.std.specs.Prelude.{codes, slice_get}
 use Rattle.std.specs.Borrow.{Bor}
+use Rattle.std.specs.Option.{IsSome}
+use Rattle.std.proofs.lemmas.Option.{slice_get_within, get_or_from_slice_get, slice_get-get_or, none-some}
 use Rattle.std.proofs.lemmas.List.{drop_more, drop_all, replicate-append-replicate}
 use Rattle.kb_record.specs.Tree.{Value as ValueTree, number_value, string_value, record_value, list_value, range_value, word_value, Places, no_places, place, empty_place}
 use Rattle.kb_record.specs.View.{factor_view, factors_view, value_view, fields_view, places_of, number_place}
@@ -61,6 +63,24 @@ pieces_go text between ending xs whole old before now index x mid next h inside 
           ∙ sym (append_assoc h.done (before ++ text x) (left ++ ending));
     }
 
+-- the same where the piece was read at its place
+pub pieces_go_at : {A : Type 0} (text : A → List ℕ) (between ending : List ℕ) (xs : List A) (whole old before now : List ℕ) (index : ℕ) (x : A) (mid next : List ℕ)
+    → IsPrintedUpTo text between ending xs whole old index before now → slice_get xs index ≡ Some x → mid ≡ now ++ before → next ≡ mid ++ text x
+    → IsPrintedUpTo text between ending xs whole old (index + 1) between next
+pieces_go_at text between ending xs whole old before now index x mid next h is =
+    pieces_go text between ending xs whole old before now index x mid next h (slice_get_within xs index x is) (sym (get_or_from_slice_get xs index x x is))
+
+-- a list that was read at its place
+pub list_at : {A : Type 0} (lists : List (List A)) (index : ℕ) (found : Option (Bor (List A))) (list : Bor (List A))
+    → slice_get lists index ≡ option_map (λ (x : Bor (List A)). x.now) found → found ≡ Some list → slice_get lists index ≡ Some list.now
+list_at lists index found list e is = e ∙ ap (option_map (λ (x : Bor (List _)). x.now)) is
+
+-- there is one at each place
+pub list_there : {A : Type 0} (lists : List (List A)) (index : ℕ) (found : Option (Bor (List A)))
+    → slice_get lists index ≡ option_map (λ (x : Bor (List A)). x.now) found → index < length lists → IsSome found
+list_there lists index None e inside = absurd (none-some _ (sym e ∙ slice_get-get_or lists index [] inside))
+list_there lists index (Some list) e inside = refl
+
 -- behind the last piece
 pub pieces_end : {A : Type 0} (text : A → List ℕ) (between ending : List ℕ) (xs : List A) (whole old before now : List ℕ) (index : ℕ) (mid : List ℕ)
     → IsPrintedUpTo text between ending xs whole old index before now → length xs ≤ index → mid ≡ now ++ ending → mid ≡ old ++ whole
@@ -114,8 +134,21 @@ place_pieces seen (x ∷ xs) =
     first None ps = refl
     first (Some v) ps = refl
 
-pub list_pieces : {A : Type 0} (seen : A → Option ValueTree) (xs : List A) → codes "[" ++ (pieces (line_of_place seen) [] (codes ",") xs ++ codes "]") ≡ line_of (list_of seen xs)
+list_pieces : {A : Type 0} (seen : A → Option ValueTree) (xs : List A) → codes "[" ++ (pieces (line_of_place seen) [] (codes ",") xs ++ codes "]") ≡ line_of (list_of seen xs)
 list_pieces seen xs = ap (λ t. codes "[" ++ (t ++ codes "]")) (place_pieces seen xs)
+
+-- a list of items on one line, printed up to a place
+abbrev pub IsListUpTo : {A : Type 0} → (A → Option ValueTree) → List A → List ℕ → ℕ → List ℕ → List ℕ → Type 0
+IsListUpTo seen xs old index before now =
+    IsPrintedUpTo (line_of_place seen) (codes ",") (codes "]") xs (codes "[" ++ (pieces (line_of_place seen) [] (codes ",") xs ++ codes "]")) old index before now
+
+pub list_start : {A : Type 0} (seen : A → Option ValueTree) (xs : List A) (old now : List ℕ) → now ≡ old ++ codes "[" → IsListUpTo seen xs old 0 [] now
+list_start seen xs old now e = pieces_start (line_of_place seen) [] (codes ",") (codes "]") xs old (codes "[") now e
+
+pub list_end : {A : Type 0} (seen : A → Option ValueTree) (xs : List A) (old before now : List ℕ) (index : ℕ) (mid : List ℕ)
+    → IsListUpTo seen xs old index before now → length xs ≤ index → mid ≡ now ++ codes "]" → mid ≡ old ++ line_of (list_of seen xs)
+list_end seen xs old before now index mid h all e =
+    pieces_end _ _ _ _ _ _ _ _ _ _ h all e ∙ ap (λ t. old ++ t) (list_pieces seen xs)
 
 pub place_some : (p : Option Value) (v : Value) (half mid : List ℕ) → p ≡ Some v → mid ≡ half ++ line_of (value_view v) → mid ≡ half ++ line_of_place (option_map value_view) p
 place_some p v half mid is e = e ∙ ap (λ q. half ++ line_of_place (option_map value_view) q) (sym is)
@@ -182,7 +215,7 @@ seen_rows : {A : Type 0} (level : ℕ) (seen : A → Option ValueTree) (before b
 seen_rows level seen before between [] = refl
 seen_rows level seen before between (x ∷ xs) = ap (λ t. before ++ (row_at level (seen x) ++ t)) (seen_rows level seen between between xs)
 
-pub table_rows : {A : Type 0} (level : ℕ) (seen : A → Option ValueTree) (xs : List A) → is_table (places_of (map seen xs)) ≡ true
+table_rows : {A : Type 0} (level : ℕ) (seen : A → Option ValueTree) (xs : List A) → is_table (places_of (map seen xs)) ≡ true
     → codes "[" ++ (pieces (row_of_place (suc level) seen) (codes "\n") (codes ",\n") xs ++ (codes "\n" ++ (indent level ++ codes "]"))) ≡ text_of_value level (list_of seen xs)
 table_rows level seen xs e =
     let places = places_of (map seen xs) in
@@ -196,6 +229,22 @@ table_rows level seen xs e =
     each no_places h = absurd cc
     each (place v others) h = h
     each (empty_place others) h = h
+
+-- a list at a level, printed up to a place, each place on a line of its own
+abbrev pub IsTableUpTo : {A : Type 0} → ℕ → (A → Option ValueTree) → List A → List ℕ → ℕ → List ℕ → List ℕ → Type 0
+IsTableUpTo level seen xs old index before now =
+    IsPrintedUpTo (row_of_place (suc level) seen) (codes ",\n") (codes "\n" ++ (indent level ++ codes "]")) xs
+    (codes "[" ++ (pieces (row_of_place (suc level) seen) (codes "\n") (codes ",\n") xs ++ (codes "\n" ++ (indent level ++ codes "]")))) old index before now
+
+pub table_start : {A : Type 0} (level : ℕ) (seen : A → Option ValueTree) (xs : List A) (old now : List ℕ) → now ≡ old ++ codes "[" → IsTableUpTo level seen xs old 0 (codes "\n") now
+table_start level seen xs old now e =
+    pieces_start (row_of_place (suc level) seen) (codes "\n") (codes ",\n") (codes "\n" ++ (indent level ++ codes "]")) xs old (codes "[") now e
+
+pub table_end : {A : Type 0} (level : ℕ) (seen : A → Option ValueTree) (xs : List A) (old before now : List ℕ) (index : ℕ) (mid : List ℕ)
+    → is_table (places_of (map seen xs)) ≡ true → IsTableUpTo level seen xs old index before now → length xs ≤ index
+    → mid ≡ now ++ (codes "\n" ++ (indent level ++ codes "]")) → mid ≡ old ++ text_of_value level (list_of seen xs)
+table_end level seen xs old before now index mid table h all e =
+    pieces_end _ _ _ _ _ _ _ _ _ _ h all e ∙ ap (λ t. old ++ t) (table_rows level seen xs table)
 
 -- a list is on one line where it is no table
 pub no_table : {A : Type 0} (level : ℕ) (seen : A → Option ValueTree) (xs : List A) → is_table (places_of (map seen xs)) ≡ false → text_of_value level (list_of seen xs) ≡ line_of (list_of seen xs)
