@@ -240,6 +240,10 @@ pub table_start : {A : Type 0} (level : ℕ) (seen : A → Option ValueTree) (xs
 table_start level seen xs old now e =
     pieces_start (row_of_place (suc level) seen) (codes "\n") (codes ",\n") (codes "\n" ++ (indent level ++ codes "]")) xs old (codes "[") now e
 
+pub table_go : {A : Type 0} (level : ℕ) (seen : A → Option ValueTree) (xs : List A) (old before now : List ℕ) (index : ℕ) (x : A) (mid next : List ℕ)
+    → IsTableUpTo level seen xs old index before now → slice_get xs index ≡ Some x → mid ≡ now ++ before → next ≡ mid ++ row_of_place (suc level) seen x → IsTableUpTo level seen xs old (index + 1) (codes ",\n") next
+table_go level seen xs old before now index x mid next h is e f = pieces_go_at _ _ _ _ _ _ _ _ index x mid next h is e f
+
 pub table_end : {A : Type 0} (level : ℕ) (seen : A → Option ValueTree) (xs : List A) (old before now : List ℕ) (index : ℕ) (mid : List ℕ)
     → is_table (places_of (map seen xs)) ≡ true → IsTableUpTo level seen xs old index before now → length xs ≤ index
     → mid ≡ now ++ (codes "\n" ++ (indent level ++ codes "]")) → mid ≡ old ++ text_of_value level (list_of seen xs)

@@ -1,4 +1,5 @@
-//! The one printed text of the lists that keep numbers side by side.
+//! The printed texts of the lists that keep their numbers side by side. Where memory runs out, a part of a text may
+//! have been appended.
 
 ghost use Rattle.std.specs.Prelude.{◌≡◌, ◌++◌, OnOk, OnErr, Option};
 ghost use Rattle.kb_record.specs.Tree as tree;
@@ -10,10 +11,9 @@ use crate::printing::{one_level_in, print_blanks, print_close, print_number};
 use kb_ragged::Ragged;
 use kb_word::Memory;
 
-/// What such a list holds: a number, or an entry of two numbers. Each function below may have appended a part of the
-/// text where memory runs out.
+/// What such a list holds: a number, or an entry of two numbers.
 pub(crate) trait Item: Copy {
-    /// The place of a tree that holds the item.
+    /// The place of a tree that the item stands for.
     ghost seen: { Self → Option tree.Value };
 
     /// Appends the item on one line.

@@ -136,14 +136,10 @@ fn is_table(places: &[Option<Value<'_>>]) -> bool
 fn is_list(place: &Option<Value<'_>>) -> bool
     ensures { result ≡ holds_list (option_map value_view place.now) }
 {
-    match place {
-        Some(Value::List(_)) => true,
-        Some(Value::Numbers(_)) => true,
-        Some(Value::Rows(_)) => true,
-        Some(Value::Entries(_)) => true,
-        Some(_) => false,
-        None => false,
-    }
+    matches!(
+        place,
+        Some(Value::List(_) | Value::Numbers(_) | Value::Rows(_) | Value::Entries(_))
+    )
 }
 
 /// The level of what stands within a value. Beyond the last level no memory has room for the text.

@@ -1,4 +1,4 @@
-use Rattle.std.proofs.Common.{◌++◌, ◌∙◌, [], sym, append-nil}
+use Rattle.std.proofs.Common.{◌∙◌, [], sym, append-nil}
 use Rattle.kb_record.proofs.PrintedPieces.{on_err, list_start, list_end, pieces_kept, pieces_kept_within, pieces_go}
 use Rattle.kb_record.proofs.flat.print_items.Goals as goal
 

@@ -1,6 +1,6 @@
 use Rattle.std.proofs.Common.{◌++◌, ◌∙◌, [], ap, sym, append-nil, arith}
 use Rattle.kb_record.specs.Printing.{list_place, row_of_place}
-use Rattle.kb_record.proofs.PrintedPieces.{on_err, ok_then, err_then, table_start, table_end, lists_are_table, list_at, list_there, kept_behind, both_behind, pieces_kept, pieces_kept_within, pieces_go_at}
+use Rattle.kb_record.proofs.PrintedPieces.{on_err, ok_then, err_then, table_start, table_go, table_end, lists_are_table, list_at, list_there, kept_behind, both_behind, pieces_kept, pieces_kept_within}
 use Rattle.kb_record.proofs.flat.print_lists.Goals as goal
 
 pub loop-place-init : goal.loop-place-init
@@ -25,7 +25,7 @@ returns-in_err-print_items-clause-kept g c =
 pub loop-place-preserved : goal.loop-place-preserved
 loop-place-preserved g c =
     let row = both_behind _ _ _ _ _ c.in_ok-print_blanks.ensures.printed c.in_ok-print_items.ensures.printed in
-    pieces_go_at _ _ _ _ _ _ _ _ _ _ _ _ c.loop-place.invariant (list_at c.args.lists.now c.loop-place.place _ _ c.get.ensures c.unwrap.ensures) c.in_ok-extend_from_slice.ensures.items
+    table_go c.args.level (list_place g.T.Item.seen) _ _ _ _ _ _ _ _ c.loop-place.invariant (list_at c.args.lists.now c.loop-place.place _ _ c.get.ensures c.unwrap.ensures) c.in_ok-extend_from_slice.ensures.items
     (row ∙ ap (λ n. c.extend_from_slice.new.self.items ++ row_of_place n (list_place g.T.Item.seen) c.unwrap.result.now) c.in_ok-inside.ensures)
 
 pub returns-clause-printed : goal.returns-clause-printed

@@ -1,4 +1,4 @@
-use Rattle.std.proofs.Common.{◌++◌, ◌∙◌, [], sym, append-nil, arith}
+use Rattle.std.proofs.Common.{◌∙◌, [], sym, append-nil, arith}
 use Rattle.kb_record.specs.Printing.{list_place}
 use Rattle.kb_record.proofs.PrintedPieces.{on_err, list_start, list_end, pieces_kept, pieces_kept_within, pieces_go_at, list_at}
 use Rattle.kb_record.proofs.flat.print_lists_on_line.Goals as goal

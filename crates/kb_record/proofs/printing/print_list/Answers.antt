@@ -1,6 +1,4 @@
-use Rattle.std.proofs.Common.{◌++◌, ◌∙◌, suc, [], option_map, sym, ap, append-nil}
-use Rattle.std.specs.Prelude.{codes}
-use Rattle.kb_record.specs.Layout.{indent}
+use Rattle.std.proofs.Common.{◌++◌, ◌∙◌, [], option_map, sym, ap, append-nil}
 use Rattle.kb_record.specs.View.{value_view}
 use Rattle.kb_record.specs.Printing.{row_of_place}
 use Rattle.kb_record.proofs.PrintedPieces.{on_err, ok_then, err_then, table_start, table_end, pieces_kept, pieces_kept_within, pieces_go}
