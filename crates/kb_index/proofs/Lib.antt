@@ -1,0 +1,4 @@
+pub mod Suffixes
+pub mod Words
+pub mod States
+pub mod Steps
