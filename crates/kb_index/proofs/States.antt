@@ -105,6 +105,11 @@ pub same_state : (edges : List Edge) → AreEdges edges → (a b : ℕ) → a �
 same_state edges rise a b in_a in_b same =
     same_below (a + 1) edges rise a b (omega arith) in_a in_b same (from_edge a) (from_edge b)
 
+pub same_edge : (e f : Edge) → e.parent ≡ f.parent → e.letter ≡ f.letter → e ≡ f
+same_edge e f parents letters =
+    let by : ℕ → ℕ → Edge = λ p l. record { parent = p; letter = l } in
+    ap (λ (p : ℕ). by p e.letter) parents ∙ ap (λ (l : ℕ). by f.parent l) letters
+
 -- the edge is added
 pub followed_new : (edges : List Edge) (edge : Edge) → AreEdges edges → edge.parent ≤ length edges → edge.letter < 65536
     → ((i : ℕ) → i < length edges → rank (edge_at edges i) < rank edge) → Follows edges edge (edges ++ edge ∷ [])
@@ -112,6 +117,7 @@ followed_new edges edge rise parent letter below =
     record {
       edges_rise = rise_push edges edge rise parent letter below;
       longer = omega (arith, length_push edges edge);
+      same = edge_old edges edge;
       keeps = word_old edges edge;
       last = record { place = length edges; count = length_push edges edge; is = get_or_push edges edge no_edge (length edges) refl };
       spells = ap (word (edges ++ edge ∷ [])) (length_push edges edge) ∙ word_new edges edge;
@@ -126,6 +132,7 @@ followed_same edges edge rise below last =
     record {
       edges_rise = rise;
       longer = omega arith;
+      same = λ i within. refl;
       keeps = λ state within. refl;
       last = last;
       spells =
@@ -147,7 +154,7 @@ after_all edges edge rise letter below other i within =
     let apart : rank e ≢ rank edge = λ same.
     let parents : e.parent ≡ edge.parent = omega arith in
     let letters : e.letter ≡ edge.letter = omega arith in
-    other (record { place = last; count = omega arith; is = cc (parents, letters) }) in
+    other (record { place = last; count = omega arith; is = same_edge e edge parents letters }) in
     let upto : rank (edge_at edges i) ≤ rank e = elim (cases_lt i last) [
       | inl before ↦ let up = rise.rising i last before in_last in omega arith
       | inr late ↦ let same : i ≡ last = omega arith in omega (arith, ap (λ (k : ℕ). rank (edge_at edges k)) same)

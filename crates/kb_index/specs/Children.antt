@@ -3,13 +3,16 @@ use Rattle.std.specs.Prelude.{◌≡◌, ℕ, ◌+◌, ◌<◌, ◌≤◌, List,
 use Rattle.kb_index.specs.declared.edge.Edge.{Edge}
 use Rattle.kb_index.specs.Edges.{edge_at}
 
--- for each state, and for the one after the last, how many edges lead from earlier states
+-- the number of edges that lead from states before this one, which come first
+pub record IsFirst (edges : List Edge) (state first : ℕ) : Type 0 where
+  pub within : first ≤ length edges
+  pub earlier : (i : ℕ) → i < first → (edge_at edges i).parent < state
+  pub later : (i : ℕ) → first ≤ i → i < length edges → state ≤ (edge_at edges i).parent
+
+-- that number for each state, and for one after the last
 pub record AreFirsts (edges : List Edge) (firsts : List ℕ) : Type 0 where
   pub count : length firsts ≡ length edges + 2
-  pub within : (state : ℕ) → state < length firsts → get_or firsts state 0 ≤ length edges
-  pub earlier : (state i : ℕ) → state < length firsts → i < get_or firsts state 0 → (edge_at edges i).parent < state
-  pub later : (state i : ℕ) → state < length firsts → get_or firsts state 0 ≤ i → i < length edges
-    → state ≤ (edge_at edges i).parent
+  pub each : (state : ℕ) → state < length firsts → IsFirst edges state (get_or firsts state 0)
 
 -- an edge by the letter leads from the state to the child
 pub record IsChild (edges : List Edge) (state letter child : ℕ) : Type 0 where

@@ -43,6 +43,7 @@ waits rules depth state rule =
 pub record Follows (before : List Edge) (edge : Edge) (after : List Edge) : Type 0 where
   pub edges_rise : AreEdges after
   pub longer : length before ≤ length after
+  pub same : (i : ℕ) → i < length before → edge_at after i ≡ edge_at before i
   pub keeps : (state : ℕ) → state ≤ length before → word after state ≡ word before state
   pub last : IsLast after edge
   pub spells : word after (length after) ≡ word before edge.parent ++ edge.letter ∷ []

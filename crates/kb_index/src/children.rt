@@ -14,8 +14,12 @@ pub fn firsts_of(alloc: Global, edges: &[Edge]) -> Result<Vec<usize>, Memory>
     ensures { IfOk result (λ firsts. AreFirsts edges.now firsts.items) }
 {
     let mut firsts = Vec::new(alloc);
+    let mut first = 0;
     for state in 0..edges.len() + 2 {
-        firsts.push(edges.partition_point(|edge| edge.parent < state))?;
+        while first < edges.len() && edges[first].parent < state {
+            first += 1;
+        }
+        firsts.push(first)?;
     }
     Ok(firsts)
 }

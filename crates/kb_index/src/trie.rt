@@ -1,9 +1,8 @@
 //! The trie of the left sides, made level by level.
 
-ghost use Rattle.std.specs.Prelude.{◌≡◌, ℕ, List, IsTrue, not, ◌<◌, ◌≤◌, ◌+◌, ◌^◌, ◌++◌, IfOk, OnOk, All, length};
+ghost use Rattle.std.specs.Prelude.{◌≡◌, ℕ, IsTrue, not, ◌<◌, ◌≤◌, ◌+◌, ◌^◌, [], ◌++◌, IfOk, OnOk, All, length};
 ghost use Rattle.std.specs.List.Sorted.{IsNonDecreasingBy};
 ghost use Rattle.kb_index.specs.Edges.{AreEdges, IsLast, edge_at, rank};
-ghost use Rattle.kb_index.specs.declared.edge.Edge.{Edge as EdgeValue};
 ghost use Rattle.kb_index.specs.Tries.{IsTrie, left_at};
 ghost use Rattle.kb_index.specs.Growing.{AreWaiting, Follows, IsGrown, rank_of, waits};
 
@@ -48,8 +47,7 @@ fn longest(rules: &[Rule]) -> usize
 
 /// All rules but those with an empty left side, at the root.
 fn wait_at_root(alloc: Global, rules: &[Rule]) -> Result<Vec<Waiting>, Memory>
-    ensures { IfOk result (λ waiting. (edges : List EdgeValue) → length edges ≡ 0
-        → AreWaiting rules.now edges 0 waiting.items) }
+    ensures { IfOk result (λ waiting. AreWaiting rules.now [] 0 waiting.items) }
 {
     let mut waiting = Vec::new(alloc);
     for rule in 0..rules.len() {
