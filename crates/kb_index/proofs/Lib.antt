@@ -6,3 +6,4 @@ pub mod Steps
 pub mod Growth
 pub mod Linking
 pub mod Owning
+pub mod Fronts

@@ -1,6 +1,6 @@
 //! The trie of the left sides, made level by level.
 
-ghost use Rattle.std.specs.Prelude.{◌≡◌, ℕ, IsTrue, not, ◌<◌, ◌≤◌, ◌+◌, ◌^◌, [], ◌++◌, IfOk, OnOk, All, length};
+ghost use Rattle.std.specs.Prelude.{◌≡◌, ℕ, IsTrue, false, ◌<◌, ◌≤◌, ◌+◌, ◌^◌, [], ◌++◌, IfOk, OnOk, All, length};
 ghost use Rattle.std.specs.List.Sorted.{IsNonDecreasingBy};
 ghost use Rattle.kb_index.specs.Edges.{AreEdges, IsLast, edge_at, rank};
 ghost use Rattle.kb_index.specs.Tries.{IsTrie, left_at};
@@ -123,7 +123,7 @@ fn follow(edges: &mut Vec<Edge>, edge: Edge) -> Result<(), Memory>
 /// Whether this is the last edge.
 fn is_last(edges: &[Edge], edge: Edge) -> bool
     ensures yes { IsTrue result → IsLast edges.now edge }
-    ensures no { IsTrue (not result) → ¬ IsLast edges.now edge }
+    ensures no { result ≡ false → ¬ IsLast edges.now edge }
 {
     match edges.last() {
         Some(last) => last.is(edge),
