@@ -136,3 +136,29 @@ pub ending_none : (rules : List Pair) (edges : List Edge) → IsTrie rules edges
 ending_none rules edges trie state place owner None is =
     owner_none rules edges trie state place owner (none_past rules place is)
 ending_none rules edges trie state place owner (Some rule) is = tt
+
+-- the same, where the states are named otherwise
+pub letter_stands : (edges : List Edge) → AreEdges edges → (w : List ℕ) (states given : List ℕ) (x state : ℕ) → given ≡ states
+    → AreStates edges w states → state ≤ length edges
+    → IsLongestSuffix edges (word edges (get_or given (length given - 1) 0) ++ x ∷ []) (word edges state)
+    → StandsFor edges (w ++ x ∷ []) state
+letter_stands edges rise w states given x state same are within stepped =
+    let P : List ℕ → Type 0 = λ ss. IsLongestSuffix edges (word edges (get_or ss (length ss - 1) 0) ++ x ∷ []) (word edges state) in
+    states_next edges rise w states x state are within (subst P same stepped)
+
+states_same : (edges : List Edge) (v w : List ℕ) (ss ts : List ℕ) → v ≡ w → ss ≡ ts → AreStates edges w ts → AreStates edges v ss
+states_same edges v w ss ts words states are =
+    let P : List ℕ → Type 0 = λ u. AreStates edges u ts in
+    subst (AreStates edges v) (sym states) (subst P (sym words) are)
+
+-- the letter has joined the front
+pub front_pushed : (edges : List Edge) (w w' : List ℕ) (states states' : List ℕ) (x state : ℕ) → AreStates edges w states
+    → StandsFor edges (w ++ x ∷ []) state → w' ≡ w ++ x ∷ [] → states' ≡ states ++ state ∷ [] → AreStates edges w' states'
+front_pushed edges w w' states states' x state are stands words pushed =
+    states_same edges w' (w ++ x ∷ []) states' (states ++ state ∷ []) words pushed (states_push edges w states x state are stands)
+
+-- and the front has been cut
+pub front_cut : (edges : List Edge) (w v : List ℕ) (states rest : List ℕ) (kept : ℕ) → kept ≤ length w → AreStates edges w states
+    → v ≡ take kept w → rest ≡ take (kept + 1) states → AreStates edges v rest
+front_cut edges w v states rest kept fits are words cut =
+    states_same edges v (take kept w) rest (take (kept + 1) states) words cut (states_cut edges w states kept fits are)
