@@ -40,7 +40,8 @@ impl Item for (i64, i64) {
 
 /// Appends a list of items on one line.
 pub(crate) fn print_items<T: Item>(items: &[T], out: &mut Vec<u8>) -> Result<(), Memory>
-    ensures printed { OnOk result (out.new.items ≡ out.old.items ++ line_of (list_of T.seen items.now)) }
+    ensures printed { OnOk result
+        (out.new.items ≡ out.old.items ++ line_of (list_of T.seen items.now)) }
     ensures kept { OnErr result (Appended out.old.items out.new.items) }
 {
     out.push(b'[')?;
