@@ -1,5 +1,5 @@
-//! The printed texts of the lists that keep their numbers side by side. Where memory runs out, a part of a text may
-//! have been appended.
+//! The printed texts of the lists that keep their numbers side by side. Where memory runs out, a
+//! part of a text may have been appended.
 
 ghost use Rattle.std.specs.Prelude.{◌≡◌, ◌++◌, OnOk, OnErr, Option};
 ghost use Rattle.kb_record.specs.Tree as tree;
@@ -18,7 +18,8 @@ pub(crate) trait Item: Copy {
 
     /// Appends the item on one line.
     fn print(&self, out: &mut Vec<u8>) -> Result<(), Memory>
-        ensures printed { OnOk result (out.new.items ≡ out.old.items ++ line_of_place seen self.now) }
+        ensures printed { OnOk result
+            (out.new.items ≡ out.old.items ++ line_of_place seen self.now) }
         ensures kept { OnErr result (Appended out.old.items out.new.items) };
 }
 
@@ -40,7 +41,8 @@ impl Item for (i64, i64) {
 
 /// Appends a list of items on one line.
 pub(crate) fn print_items<T: Item>(items: &[T], out: &mut Vec<u8>) -> Result<(), Memory>
-    ensures printed { OnOk result (out.new.items ≡ out.old.items ++ line_of (list_of T.seen items.now)) }
+    ensures printed { OnOk result
+        (out.new.items ≡ out.old.items ++ line_of (list_of T.seen items.now)) }
     ensures kept { OnErr result (Appended out.old.items out.new.items) }
 {
     out.push(b'[')?;

@@ -110,7 +110,8 @@ fn print_list(level: usize, places: &[Option<Value<'_>>], out: &mut Vec<u8>) -> 
 
 /// Appends the value of a place at a level, on one line.
 fn print_row(level: usize, place: &Option<Value<'_>>, out: &mut Vec<u8>) -> Result<(), Memory>
-    ensures printed { OnOk result (out.new.items ≡ out.old.items ++ row_of_place level (option_map value_view) place.now) }
+    ensures printed { OnOk result (out.new.items
+        ≡ out.old.items ++ row_of_place level (option_map value_view) place.now) }
     ensures kept { OnErr result (Appended out.old.items out.new.items) }
 {
     print_blanks(level, out)?;
