@@ -1,8 +1,7 @@
 -- The places of lists.
-use Rattle.std.specs.Prelude.{◌≡◌, ℕ, ℤ, List, [], ◌∷◌, ◌++◌, Option, Some, None, map}
-use Rattle.kb_record.specs.Tree.{Value as ValueTree, number_value, list_value, Places, no_places, place, empty_place}
+use Rattle.std.specs.Prelude.{◌≡◌, ℤ, List, [], ◌∷◌, Option, Some, None}
+use Rattle.kb_record.specs.Tree.{Value as ValueTree, list_value, Places, no_places, place, empty_place}
 use Rattle.kb_record.specs.View.{value_view, places_of, number_place, row_place, entries_place}
-use Rattle.kb_record.specs.declared.tree.Value.{Value}
 use Rattle.kb_record.specs.declared.listed.Place.{Place}
 use Rattle.kb_record.specs.declared.listed.Place.TheVariants as variants
 

@@ -1,9 +1,7 @@
-use Rattle.std.proofs.Common.{◌≡◌, ◌++◌, ◌∷◌, [], List, ℤ, Some, option_map, map, rules, refl, sym, ap, ◌∙◌, slice_get}
-use Rattle.kb_record.specs.Tree.{list_value}
-use Rattle.kb_record.specs.View.{value_view, row_place, entry_place, entries_place, places_of}
-use Rattle.kb_record.specs.Listed.{pair_row}
+use Rattle.std.proofs.Common.{◌≡◌, ◌++◌, ◌∷◌, [], Some, option_map, rules, sym, ap, slice_get}
+use Rattle.kb_record.specs.View.{value_view, entries_place}
 use Rattle.kb_record.specs.declared.tree.Value.{Rows}
-use Rattle.kb_record.proofs.Views.{view-Rows, view-pairs}
+use Rattle.kb_record.proofs.Views.{view-pairs}
 use Rattle.kb_record.proofs.Taken.{kept-more}
 use Rattle.kb_record.proofs.longer.entries_apart.Goals as goal
 

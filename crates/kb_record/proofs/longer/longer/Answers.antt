@@ -1,7 +1,7 @@
-use Rattle.std.proofs.Common.{◌≡◌, ◌++◌, ◌∷◌, [], List, Option, IfOk, option_map, map, subst, sym, ap, ◌∙◌}
+use Rattle.std.proofs.Common.{◌++◌, ◌∷◌, [], List, Option, IfOk, option_map, subst, sym, ap, ◌∙◌}
 use Rattle.kb_record.specs.Tree.{Value as ValueTree}
-use Rattle.kb_record.specs.View.{value_view, number_place, row_place, entries_place}
-use Rattle.kb_record.specs.Listed.{listed, HasPlaces}
+use Rattle.kb_record.specs.View.{value_view}
+use Rattle.kb_record.specs.Listed.{HasPlaces}
 use Rattle.kb_record.proofs.Views.{view-List, view-Numbers, view-Rows, view-Entries, listed-is}
 use Rattle.kb_record.proofs.longer.longer.Goals as goal
 

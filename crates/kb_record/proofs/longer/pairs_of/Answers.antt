@@ -1,9 +1,7 @@
-use Rattle.std.proofs.Common.{◌≡◌, List, ℤ, Option, Some, None, Result, Ok, Err, IfOk, IfSome, Vec, Global, rules, arith, refl, sym, ap, ◌∙◌, map, [], ◌∷◌}
+use Rattle.std.proofs.Common.{Option, Some, None, Result, Ok, Err, IfOk, IfSome, sym, ap, ◌∙◌, map}
 use Rattle.std.specs.Option.{option_map}
 use Rattle.kb_record.specs.Tree.{list_value}
-use Rattle.kb_record.specs.View.{value_view, entry_place, entries_place, places_of}
-use Rattle.kb_record.specs.Listed.{pair_row}
-use Rattle.kb_record.specs.declared.tree.Value.{Rows}
+use Rattle.kb_record.specs.View.{value_view, entry_place, places_of}
 use Rattle.kb_record.proofs.Views.{view-pairs, view-List}
 use Rattle.kb_record.proofs.longer.pairs_of.Goals as goal
 

@@ -1,4 +1,4 @@
-use Rattle.std.proofs.Common.{◌≡◌, ℕ, ◌+◌, ◌*◌, ◌<◌, ◌≤◌, suc, map, length, option_map}
+use Rattle.std.proofs.Common.{◌≡◌, ℕ, ◌+◌, ◌*◌, ◌<◌, ◌≤◌, suc, map, length}
 use Rattle.kb_record.specs.Reading.{remaining, passes_comma, joined, read_value, place_with, field_with, field_view}
 use Rattle.kb_record.specs.View.{value_view}
 use Rattle.kb_record.specs.Listed.{listed, HasPlaces}
