@@ -1,11 +1,11 @@
 //! The rows of a table.
 
-ghost use Rattle.std.specs.Prelude.{◌≡◌, ◌≢◌, ◌<◌, ◌^◌, ◌++◌, ℕ, ℤ, List, [], ◌∷◌, length, All, Some, IfOk, IfErr, OnOk, IsSome, IfSome, IfNone};
+ghost use Rattle.std.specs.Prelude.{◌≡◌, ◌<◌, ◌++◌, ℕ, [], ◌∷◌, length, All, Some, IfOk, IfErr, OnOk, IsSome};
 ghost use Rattle.std.specs.BTreeMap.{get};
 ghost use Rattle.std.specs.Ordering.{nat_cmp};
-ghost use Rattle.std.specs.Option.{option_map};
 ghost use Rattle.kb_record.specs.Tree.{list_value};
 ghost use Rattle.kb_record.specs.View.{value_view};
+ghost use Rattle.kb_record.specs.Listed.{place_view};
 ghost use Rattle.kb_fsa.specs.Table.{Ascends};
 ghost use Rattle.kb_fsafile.specs.Kinds.{list_of_numbers, list_of_entries};
 ghost use Rattle.kb_fsafile.specs.RowsRead.{moves_among, IsRowAt, IsFaultOfRow, AreRowTargets, HasEntries, IsSparseRow};
@@ -16,21 +16,21 @@ use crate::format::Format;
 use crate::values::{entries_listed, number_within, target_within};
 use kb_fields::numbers_listed;
 use kb_fsa::Row;
-use kb_record::Value;
+use kb_record::{Place, Value};
 use kb_word::Memory;
 use std::alloc::Global;
 use std::collections::BTreeMap;
 
 /// The row at a place of a table over so many symbols and of so many states.
-pub fn read_row<'a>(
+pub fn read_row(
     alloc: Global,
-    place: &Option<Value<'a>>,
+    place: Place<'_, '_>,
     format: Format,
     size: u32,
     count: u32,
 ) -> Result<Row, FsaError>
-    ensures read { IfOk result (IsRowAt size count format (option_map value_view place.now)) }
-    ensures fault { IfErr result (IsFaultOfRow format size count (option_map value_view place.now)) }
+    ensures read { IfOk result (IsRowAt size count format (place_view place.entry)) }
+    ensures fault { IfErr result (IsFaultOfRow format size count (place_view place.entry)) }
 {
     match format {
         Format::Dense => read_dense_row(alloc, place, size, count),
@@ -39,35 +39,47 @@ pub fn read_row<'a>(
 }
 
 /// The row at a place that lists a target for each symbol.
-fn read_dense_row<'a>(
+fn read_dense_row(
     alloc: Global,
-    place: &Option<Value<'a>>,
+    place: Place<'_, '_>,
     size: u32,
     count: u32,
 ) -> Result<Row, FsaError>
-    ensures read { IfOk result (IsRowAt size count Dense (option_map value_view place.now)) }
-    ensures fault { IfErr result (IsFaultOfRow Dense size count (option_map value_view place.now)) }
+    ensures read { IfOk result (IsRowAt size count Dense (place_view place.entry)) }
+    ensures fault { IfErr result (IsFaultOfRow Dense size count (place_view place.entry)) }
 {
-    let Some(numbers) = numbers_at(alloc, place)? else {
+    match place {
+        Place::Numbers(numbers) => whole_row(alloc, numbers, size, count),
+        Place::Entries([]) => whole_row(alloc, &[], size, count),
+        Place::Value(value) => listed_row(alloc, value, size, count),
+        _ => Err(FsaError::WrongKind {
+            field: Field::Transitions,
+        }),
+    }
+}
+
+/// The row of a value that lists a target for each symbol.
+fn listed_row<'a>(alloc: Global, value: &Value<'a>, size: u32, count: u32) -> Result<Row, FsaError>
+    ensures read { IfOk result (IsRowAt size count Dense (Some (value_view value.now))) }
+    ensures fault { IfErr result (IsFaultOfRow Dense size count (Some (value_view value.now))) }
+{
+    let Some(numbers) = numbers_listed(alloc, value)? else {
         return Err(FsaError::WrongKind {
             field: Field::Transitions,
         });
     };
+    whole_row(alloc, numbers.as_slice(), size, count)
+}
+
+/// The row with these targets, one for each symbol.
+fn whole_row(alloc: Global, numbers: &[i64], size: u32, count: u32) -> Result<Row, FsaError>
+    ensures read { IfOk result (IsRowAt size count Dense (Some (list_value (list_of_numbers numbers.now)))) }
+    ensures fault { IfErr result (IsFaultOfRow Dense size count (Some (list_value (list_of_numbers numbers.now)))) }
+{
     if numbers.len() != size as usize {
         return Err(FsaError::StatesWrong);
     }
-    dense_row(alloc, numbers.as_slice(), size, count)
-}
-
-/// The numbers at a place that holds a list of numbers.
-fn numbers_at<'a>(alloc: Global, place: &Option<Value<'a>>) -> Result<Option<Vec<i64>>, Memory>
-    ensures listed { IfOk result (λ numbers. IfSome numbers (λ numbers. option_map value_view place.now ≡ Some (list_value (list_of_numbers numbers.items)))) }
-    ensures other { IfOk result (λ numbers. IfNone numbers ((numbers : List ℤ) → option_map value_view place.now ≢ Some (list_value (list_of_numbers numbers)))) }
-{
-    match place {
-        Some(value) => numbers_listed(alloc, value),
-        None => Ok(None),
-    }
+    dense_row(alloc, numbers, size, count)
 }
 
 /// The row with these targets for the symbols in order; 0 is none.
@@ -76,7 +88,8 @@ fn dense_row(alloc: Global, numbers: &[i64], size: u32, count: u32) -> Result<Ro
     ensures read { IfOk result (AreRowTargets count numbers.now) }
     ensures fault { IfErr result (IsFaultOfRow Dense size count (Some (list_value (list_of_numbers numbers.now)))) }
 {
-    let mut moves = Vec::new(alloc);
+    let room = numbers.iter().filter(|number| **number != 0).count();
+    let mut moves = Vec::with_capacity(alloc, room)?;
     let mut symbol = 0;
     for number in numbers {
         symbol += 1;
@@ -99,35 +112,41 @@ fn keep(moves: &mut Vec<(u32, u32)>, symbol: u32, target: u32) -> Result<(), Mem
 }
 
 /// The row at a place that lists symbols, each with its target.
-fn read_sparse_row<'a>(
+fn read_sparse_row(
     alloc: Global,
-    place: &Option<Value<'a>>,
+    place: Place<'_, '_>,
     size: u32,
     count: u32,
 ) -> Result<Row, FsaError>
-    ensures read { IfOk result (IsRowAt size count Sparse (option_map value_view place.now)) }
-    ensures fault { IfErr result (IsFaultOfRow Sparse size count (option_map value_view place.now)) }
+    ensures read { IfOk result (IsRowAt size count Sparse (place_view place.entry)) }
+    ensures fault { IfErr result (IsFaultOfRow Sparse size count (place_view place.entry)) }
 {
-    let Some(entries) = entries_at(alloc, place)? else {
+    match place {
+        Place::Entries(entries) => sparse_row(alloc, entries, size, count),
+        Place::Numbers([]) => sparse_row(alloc, &[], size, count),
+        Place::Value(value) => listed_sparse_row(alloc, value, size, count),
+        _ => Err(FsaError::WrongKind {
+            field: Field::Transitions,
+        }),
+    }
+}
+
+/// The row of a value that lists symbols, each with its target.
+fn listed_sparse_row<'a>(
+    alloc: Global,
+    value: &Value<'a>,
+    size: u32,
+    count: u32,
+) -> Result<Row, FsaError>
+    ensures read { IfOk result (IsRowAt size count Sparse (Some (value_view value.now))) }
+    ensures fault { IfErr result (IsFaultOfRow Sparse size count (Some (value_view value.now))) }
+{
+    let Some(entries) = entries_listed(alloc, value)? else {
         return Err(FsaError::WrongKind {
             field: Field::Transitions,
         });
     };
     sparse_row(alloc, entries.as_slice(), size, count)
-}
-
-/// The pairs of numbers at a place that holds a list of pairs of numbers.
-fn entries_at<'a>(
-    alloc: Global,
-    place: &Option<Value<'a>>,
-) -> Result<Option<Vec<(i64, i64)>>, Memory>
-    ensures listed { IfOk result (λ entries. IfSome entries (λ entries. option_map value_view place.now ≡ Some (list_value (list_of_entries entries.items)))) }
-    ensures other { IfOk result (λ entries. IfNone entries ((entries : List (ℤ × ℤ)) → option_map value_view place.now ≢ Some (list_value (list_of_entries entries)))) }
-{
-    match place {
-        Some(value) => entries_listed(alloc, value),
-        None => Ok(None),
-    }
 }
 
 /// The row with these entries.
