@@ -1,16 +1,14 @@
 -- Lists of names, element by element, and that they are determined by their values.
-use Rattle.std.proofs.Common.{◌≡◌, ℕ, zero, suc, List, [], ◌∷◌, ◌<◌, ◌≤◌, map, length, get_or, take, Vec, Global, Option, Some, None, refl, ap, sym, ◌∙◌}
-use Rattle.std.specs.Option.{option_map}
+use Rattle.std.proofs.Common.{◌≡◌, ℕ, zero, suc, ◌+◌, List, [], ◌∷◌, ◌++◌, ◌≤◌, map, length, get_or, take, Option, Some, None, refl, ap, sym, ◌∙◌}
 use Rattle.std.specs.List.{slice_get}
 use Rattle.std.specs.Borrow.{Bor}
-use Rattle.std.proofs.lemmas.List.{take_all}
-use Rattle.std.proofs.lemmas.Option.{slice_get-map, slice_get_read}
+use Rattle.std.proofs.lemmas.List.{take_all, take_more, map-append}
+use Rattle.std.proofs.lemmas.Option.{slice_get_within, get_or_from_slice_get}
 use Rattle.kb_record.specs.Tree.{Value, list_value, Fields, Places, place, empty_place}
-use Rattle.kb_record.specs.View.{places_of, value_view}
-use Rattle.kb_record.specs.declared.tree.Value as code
-use Rattle.kb_record.specs.declared.tree.Value.TheVariants.{List as Listed}
+use Rattle.kb_record.specs.View.{places_of}
+use Rattle.kb_record.specs.Listed.{listed, HasPlaces}
+use Rattle.kb_record.proofs.Views.{listed-is}
 use Rattle.kb_fields.specs.Fields.{bare_name, list_of_names, IsListOf, value_of}
-use Rattle.kb_fields.proofs.ViewLemmas.{view-List}
 
 pub list_of_names-places_of : (names : List (List ℕ)) → list_of_names names ≡ places_of (map (λ (name : List ℕ). Some (bare_name name)) names)
 list_of_names-places_of [] = refl
@@ -49,22 +47,25 @@ not_mapped f (y ∷ ys) k x at other [] e = cc
 not_mapped f (y ∷ ys) zero x at other (a ∷ texts) e = other a cc
 not_mapped f (y ∷ ys) (suc k) x at other (a ∷ texts) e = not_mapped f ys k x at other texts cc
 
+-- lists whose places are of a form
 module _ {A : Type 0} (f : A → Option Value) (list_of : List A → Places) (as_places : (texts : List A) → list_of texts ≡ places_of (map f texts)) where
   -- a value is the list of what its places are
-  pub value_listed : (value : code.Value) (places : Vec (Option code.Value) Global) → value ≡ Listed places → (texts : List A)
-      → map (option_map value_view) places.items ≡ map f texts → value_view value ≡ list_value (list_of texts)
-  value_listed value places is texts e =
-      ap value_view is ∙ (view-List places ∙ ap list_value (ap places_of e ∙ sym (as_places texts)))
+  pub value_listed : (value : Value) (ps : List (Option Value)) → HasPlaces value ps → (texts : List A) → ps ≡ map f texts → value ≡ list_value (list_of texts)
+  value_listed value ps is texts e = is ∙ ap list_value (ap places_of e ∙ sym (as_places texts))
 
   -- a value with a place of another form is no list of the form
-  pub value_other : (value : code.Value) (places : Vec (Option code.Value) Global) → value ≡ Listed places
-      → (items : List (Option code.Value)) → items ≡ places.items → (k : ℕ) (x : Option code.Value) → k < length items → x ≡ get_or items k x
-      → ((a : A) → option_map value_view x ≡ f a → ⊥) → (texts : List A) → value_view value ≡ list_value (list_of texts) → ⊥
-  value_other value places is items same k x within at other texts e =
-      let stands = slice_get-map (option_map value_view) items k ∙ ap (option_map (option_map value_view)) (slice_get_read items (length items) k x refl within at) in
-      let whole = list_same (sym (ap value_view is ∙ view-List places) ∙ e) ∙ as_places texts in
-      not_mapped f (map (option_map value_view) items) k (option_map value_view x) stands other texts
-      (ap (map (option_map value_view)) same ∙ places_of-injective (map (option_map value_view) places.items) (map f texts) whole)
+  pub value_other : (value : Value) (k : ℕ) (x : Option Value) → slice_get (listed value) k ≡ Some x → ((a : A) → x ≡ f a → ⊥)
+      → (texts : List A) → value ≡ list_value (list_of texts) → ⊥
+  value_other value k x at other texts e =
+      not_mapped f (listed value) k x at other texts (listed-is value (map f texts) (e ∙ ap list_value (as_places texts)))
+
+-- one place more that is of the form
+pub one_place_more : {A : Type 0} (f : A → Option Value) (ps : List (Option Value)) (k : ℕ) (p : Option Value) → slice_get ps k ≡ Some p
+    → (texts more : List A) (a : A) → take k ps ≡ map f texts → p ≡ f a → more ≡ texts ++ a ∷ [] → take (k + 1) ps ≡ map f more
+one_place_more f ps k p at texts more a before is longer =
+    let inside = slice_get_within ps k p at in
+    let here = get_or_from_slice_get ps k p p at ∙ is in
+    take_more ps k p inside ∙ ap (λ qs. qs ++ get_or ps k p ∷ []) before ∙ ap (λ q. map f texts ++ q ∷ []) here ∙ sym (map-append f texts (a ∷ [])) ∙ ap (map f) (sym longer)
 
 pub map_now : (names : List (Bor (List ℕ))) → map (λ (name : Bor (List ℕ)). Some (bare_name name.now)) names ≡ map (λ (name : List ℕ). Some (bare_name name)) (map (λ (name : Bor (List ℕ)). name.now) names)
 map_now [] = refl

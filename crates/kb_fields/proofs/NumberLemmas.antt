@@ -1,6 +1,6 @@
 -- Lists of numbers, element by element.
 use Rattle.std.proofs.Common.{◌≡◌, ℤ, List, [], ◌∷◌, map, Some, refl, ap}
-use Rattle.kb_record.specs.Tree.{Value, Places, number_value, list_value, place, no_places}
+use Rattle.kb_record.specs.Tree.{Places, number_value, list_value, place}
 use Rattle.kb_record.specs.View.{places_of}
 use Rattle.kb_fields.specs.Fields.{list_of_numbers}
 use Rattle.kb_fields.proofs.ListingLemmas.{list_same}

@@ -2,8 +2,9 @@
 use Rattle.std.proofs.Common.{◌≡◌, ℕ, zero, suc, ◌<◌, List, [], ◌∷◌, map, length, slice_get, Option, Some, None, refl, ap, ◌∙◌, arith}
 use Rattle.std.specs.Option.{option_map}
 use Rattle.std.proofs.lemmas.List.{length-map}
-use Rattle.kb_record.specs.Tree.{Value}
+use Rattle.kb_record.specs.Tree.{Value, list_value, place, no_places}
 use Rattle.kb_record.specs.View.{places_of, value_view}
+use Rattle.kb_record.specs.Listed.{listed, HasPlaces}
 use Rattle.kb_record.specs.declared.tree.Value as code
 use Rattle.kb_fields.specs.Fields.{places_view, value_at, place_count}
 
@@ -20,10 +21,24 @@ value_at-places_of (None ∷ ps) zero p e = (inner e, omega arith)
 value_at-places_of (Some v ∷ ps) (suc k) p e = let rest = value_at-places_of ps k p e in (rest.0, omega (arith, rest.1))
 value_at-places_of (None ∷ ps) (suc k) p e = let rest = value_at-places_of ps k p e in (rest.0, omega (arith, rest.1))
 
-count_places : (ps : List (Option Value)) → place_count (places_of ps) ≡ length ps
+pub count_places : (ps : List (Option Value)) → place_count (places_of ps) ≡ length ps
 count_places [] = refl
 count_places (Some v ∷ ps) = ap suc (count_places ps)
 count_places (None ∷ ps) = ap suc (count_places ps)
 
 pub count_view : (ps : List (Option code.Value)) → place_count (places_view ps) ≡ length ps
 count_view ps = count_places (map (option_map value_view) ps) ∙ length-map ps (option_map value_view)
+
+two_in : (ps : List (Option Value)) (v w : Option Value) → length ps ≡ 2 → slice_get ps 0 ≡ Some v → slice_get ps 1 ≡ Some w → ps ≡ v ∷ w ∷ []
+two_in [] v w two first second = absurd (omega (arith, two))
+two_in (p ∷ []) v w two first second = absurd (omega (arith, two))
+two_in (p ∷ (q ∷ [])) v w two first second = let same_first = inner first in let same_second = inner second in cc
+  where
+    inner : {a b : Option Value} → Some a ≡ Some b → a ≡ b
+    inner h = cc
+two_in (p ∷ (q ∷ (r ∷ ps))) v w two first second = absurd (omega (arith, two))
+
+-- a list with two places
+pub two_listed : (value v w : Value) → HasPlaces value (listed value) → length (listed value) ≡ 2 → slice_get (listed value) 0 ≡ Some (Some v)
+    → slice_get (listed value) 1 ≡ Some (Some w) → value ≡ list_value (place v (place w no_places))
+two_listed value v w is two first second = is ∙ ap (λ ps. list_value (places_of ps)) (two_in (listed value) (Some v) (Some w) two first second)

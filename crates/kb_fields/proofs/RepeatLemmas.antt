@@ -1,5 +1,5 @@
 -- Names that stand twice among the fields of records, field by field.
-use Rattle.std.proofs.Common.{◌≡◌, ℕ, zero, suc, ◌+◌, ◌<◌, ◌≤◌, Bool, true, false, not, cond, List, [], ◌∷◌, map, length, get_or, slice_get, Option, Some, None, Ordering, ◌⊎◌, inl, inr, refl, sym, ap, subst, ◌∙◌, arith}
+use Rattle.std.proofs.Common.{◌≡◌, ℕ, zero, suc, ◌+◌, ◌<◌, ◌≤◌, ℤ, Bool, true, false, not, cond, List, [], ◌∷◌, map, length, get_or, slice_get, Option, Some, None, Ordering, ◌⊎◌, inl, inr, refl, sym, ap, subst, ◌∙◌, arith}
 use Rattle.std.specs.Borrow.{Bor}
 use Rattle.std.specs.BTreeSet.{BTreeSet, contains, Updates}
 use Rattle.std.specs.Ordering.{nat_cmp}
@@ -12,7 +12,7 @@ use Rattle.std.proofs.lemmas.Bool.{cases_lt, false≢true}
 use Rattle.std.proofs.lemmas.Slice.Eq.{bytes_eq-Decides}
 use Rattle.std.proofs.lemmas.Map.Text.{is_eq-slice_cmp}
 use Rattle.kb_record.specs.Tree.{record_value, list_value}
-use Rattle.kb_record.specs.View.{value_view}
+use Rattle.kb_record.specs.View.{value_view, places_of, number_place, row_place, entry_place, entries_place}
 use Rattle.kb_record.specs.declared.tree.Value as code
 use Rattle.kb_fields.specs.Fields.{fields_view, places_view, field_names, StandsTwice, HasFieldTwice, SomeFieldHasTwice, SomePlaceHasTwice}
 
@@ -225,3 +225,24 @@ at_value p u is none v other q twice =
   where
     some_value : {a b : code.Value} → Some a ≡ Some b → a ≡ b
     some_value e = cc
+
+-- numbers, and lists of them, hold no records
+pub no_number_twice : (numbers : List ℤ) (q : List ℕ) → SomePlaceHasTwice (places_of (map number_place numbers)) q → ⊥
+no_number_twice [] q e = absurd e
+no_number_twice (z ∷ numbers) q (inl here) = absurd here
+no_number_twice (z ∷ numbers) q (inr later) = no_number_twice numbers q later
+
+pub no_row_twice : (rows : List (List ℤ)) (q : List ℕ) → SomePlaceHasTwice (places_of (map row_place rows)) q → ⊥
+no_row_twice [] q e = absurd e
+no_row_twice (row ∷ rows) q (inl here) = no_number_twice row q here
+no_row_twice (row ∷ rows) q (inr later) = no_row_twice rows q later
+
+no_entry_twice : (entries : List (ℤ × ℤ)) (q : List ℕ) → SomePlaceHasTwice (places_of (map entry_place entries)) q → ⊥
+no_entry_twice [] q e = absurd e
+no_entry_twice (entry ∷ entries) q (inl here) = no_number_twice (entry.0 ∷ entry.1 ∷ []) q here
+no_entry_twice (entry ∷ entries) q (inr later) = no_entry_twice entries q later
+
+pub no_entries_twice : (rows : List (List (ℤ × ℤ))) (q : List ℕ) → SomePlaceHasTwice (places_of (map entries_place rows)) q → ⊥
+no_entries_twice [] q e = absurd e
+no_entries_twice (row ∷ rows) q (inl here) = no_entry_twice row q here
+no_entries_twice (row ∷ rows) q (inr later) = no_entries_twice rows q later

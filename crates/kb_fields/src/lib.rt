@@ -50,5 +50,5 @@ pub use error::NamesFault;
 pub use fields::{field_named, repeated_name};
 pub use generators::names_of;
 pub use laws::names_of_generators_have_no_fault;
-pub use numbers::{number_of, numbers_listed};
+pub use numbers::{number_at, number_of, numbers_listed};
 pub use values::bare_name;

@@ -1,13 +1,13 @@
 //! Values that are Names, and lists of Names.
 
 ghost use Rattle.std.specs.Prelude.{◌≡◌, ◌≢◌, ℕ, List, map, Some, None, IfOk, IfSome, IfNone};
-ghost use Rattle.std.specs.Option.{option_map};
 ghost use Rattle.kb_record.specs.Tree.{named};
 ghost use Rattle.kb_record.specs.View.{factor_view, value_view};
+ghost use Rattle.kb_record.specs.Listed.{place_view};
 ghost use Rattle.kb_fields.specs.Fields.{IsListOf};
 ghost use Rattle.kb_fields.specs.Fields as kinds;
 
-use kb_record::{Factor, Value};
+use kb_record::{Factor, Place, Value};
 use kb_word::Memory;
 use std::alloc::Global;
 
@@ -48,12 +48,12 @@ pub(crate) fn names_listed<'a>(
         (λ names. IfNone names
         ((names : List (List ℕ)) → ¬ IsListOf names (value_view value.now))) }
 {
-    let Value::List(places) = value else {
+    let Some(count) = value.place_count() else {
         return Ok(None);
     };
-    let mut names = Vec::with_capacity(alloc, places.len())?;
-    for place in places {
-        let Some(name) = name_at(place) else {
+    let mut names = Vec::with_capacity(alloc, count)?;
+    for place in 0..count {
+        let Some(name) = name_at(value.place(place)) else {
             return Ok(None);
         };
         names.push(name)?;
@@ -62,11 +62,14 @@ pub(crate) fn names_listed<'a>(
 }
 
 /// The Name at a place of a list.
-fn name_at<'a>(place: &Option<Value<'a>>) -> Option<&'a str>
+fn name_at<'a>(place: Place<'_, 'a>) -> Option<&'a str>
     ensures found { IfSome result
-        (λ name. option_map value_view place.now ≡ Some (kinds.bare_name name.now)) }
+        (λ name. place_view place.entry ≡ Some (kinds.bare_name name.now)) }
     ensures none { IfNone result
-        ((name : List ℕ) → option_map value_view place.now ≢ Some (kinds.bare_name name)) }
+        ((name : List ℕ) → place_view place.entry ≢ Some (kinds.bare_name name)) }
 {
-    place.as_ref().and_then(bare_name)
+    match place {
+        Place::Value(value) => bare_name(value),
+        _ => None,
+    }
 }

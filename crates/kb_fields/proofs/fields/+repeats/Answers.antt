@@ -1,14 +1,14 @@
-use Rattle.std.proofs.Common.{◌≡◌, ℕ, List, map, Option, Some, false, refl, sym, ap, subst, ◌∙◌, arith}
+use Rattle.std.proofs.Common.{◌≡◌, ℕ, List, map, Option, Some, false, refl, sym, ap, subst, ◌∙◌, arith, rules}
 use Rattle.std.specs.Borrow.{Bor}
 use Rattle.std.proofs.lemmas.Option.{slice_get_read, IfSome_then, MatchOption-at_some, MatchOption-at_none}
 use Rattle.kb_record.specs.Tree as tree
 use Rattle.kb_record.specs.Tree.{record_value, list_value}
 use Rattle.kb_record.specs.View.{value_view}
-use Rattle.kb_record.specs.declared.tree.Value.{Value}
+use Rattle.kb_record.specs.declared.tree.Value.{Value, the_lemmas}
 use Rattle.kb_fields.specs.Fields.{fields_view, places_view, HasFieldTwice}
 use Rattle.kb_fields.proofs.ViewLemmas.{view-Record, view-List}
-use Rattle.kb_fields.proofs.Outcomes.{IfOk_then}
-use Rattle.kb_fields.proofs.RepeatLemmas.{has, not_false, not_true, again, field_at, name_at, field_twice, none_twice, seen_more, within_more, some_place, no_place_twice, places_more, at_value}
+use Rattle.kb_fields.proofs.Outcomes.{IfOk_then, IfNone_then}
+use Rattle.kb_fields.proofs.RepeatLemmas.{has, not_false, not_true, again, field_at, name_at, field_twice, none_twice, seen_more, within_more, some_place, no_place_twice, places_more, at_value, no_number_twice, no_row_twice, no_entries_twice}
 use Rattle.kb_fields.proofs.fields.+repeats.Goals as goal
 use Rattle.kb_fields.proofs.fields.+repeats.Goals.{repeated_within-in-Some+in_ok-name-in-List+in_default-2, repeated_within-in_default-place}
 
@@ -78,3 +78,14 @@ repeated_within-returns-after-loop-place-clause-none t c =
     let P : List (Option Value) → Type 0 = λ ps. (q : List ℕ) → HasFieldTwice (list_value (places_view ps)) q → ⊥ in
     let Q : tree.Value → Type 0 = λ v. (q : List ℕ) → HasFieldTwice v q → ⊥ in
     subst Q (sym seen) (subst P c.deref-place-items.ensures.value none)
+
+pub repeated_within-returns-in-Record-clause-none : goal.repeated_within-returns-in-Record-clause-none
+repeated_within-returns-in-Record-clause-none t c =
+    let seen : value_view c.args.value.now ≡ record_value (fields_view c.in-Record.fields.items) = ap value_view c.in-Record.is ∙ view-Record c.in-Record.fields in
+    IfOk_then c.repeated_name.result c.repeated_name.ensures.none (λ found none. IfNone_then found none (λ once.
+    let P : List (Bor (List ℕ) × Value) → Type 0 = λ fs. (q : List ℕ) → HasFieldTwice (record_value (fields_view fs)) q → ⊥ in
+    let Q : tree.Value → Type 0 = λ v. (q : List ℕ) → HasFieldTwice v q → ⊥ in
+    subst Q (sym seen) (subst P c.as_slice.ensures.value once)))
+
+pub repeated_within-returns-in_default : goal.repeated_within-returns-in_default
+repeated_within-returns-in_default t c = search (rules, the_lemmas, no_number_twice, no_row_twice, no_entries_twice)

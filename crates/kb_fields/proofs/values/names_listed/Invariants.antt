@@ -1,11 +1,10 @@
-use Rattle.std.proofs.Common.{◌≡◌, take, map, Some}
+use Rattle.std.proofs.Common.{◌≡◌, ℕ, List, take, map, Some}
 use Rattle.std.specs.Borrow.{Bor}
-use Rattle.std.proofs.Common.{ℕ, List}
-use Rattle.std.specs.Option.{option_map}
 use Rattle.kb_record.specs.View.{value_view}
+use Rattle.kb_record.specs.Listed.{listed}
 use Rattle.kb_fields.specs.Fields.{bare_name}
 use Rattle.kb_fields.proofs.values.names_listed.Given as goal
 
 abbrev pub invariant-loop-place : goal.invariant-loop-place
 invariant-loop-place l =
-    map (option_map value_view) (take l.place-index l.place-items) ≡ map (λ (name : Bor (List ℕ)). Some (bare_name name.now)) l.names.items
+    take l.place (listed (value_view l.value)) ≡ map (λ (name : Bor (List ℕ)). Some (bare_name name.now)) l.names.items
