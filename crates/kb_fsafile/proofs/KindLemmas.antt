@@ -1,10 +1,14 @@
 -- Lists of numbers and of entries, element by element.
-use Rattle.std.proofs.Common.{◌≡◌, ℤ, List, [], ◌∷◌, map, length, slice_get, Option, Some, refl, sym, ap, ◌∙◌, arith}
+use Rattle.std.proofs.Common.{◌≡◌, ℤ, List, [], ◌∷◌, map, length, slice_get, Option, Some, refl, sym, ap, ◌∙◌}
+use Rattle.std.specs.Borrow.{Bor}
 use Rattle.std.proofs.lemmas.Option.{same_Some}
 use Rattle.kb_record.specs.Tree.{Value, number_value, list_value, Places, place}
 use Rattle.kb_record.specs.View.{places_of, row_place, entries_place}
-use Rattle.kb_record.specs.Listed.{listed, HasPlaces}
-use Rattle.kb_fields.proofs.NumberLemmas.{list_of_numbers-places_of}
+use Rattle.kb_record.specs.Listed.{listed, place_view}
+use Rattle.kb_record.specs.declared.tree.Value as code
+use Rattle.kb_record.specs.declared.listed.Place.{Place}
+use Rattle.kb_record.specs.declared.listed.Place.TheVariants as variants
+use Rattle.kb_fields.proofs.NumberLemmas.{list_of_numbers-places_of, one_list_of_numbers}
 use Rattle.kb_fsafile.specs.Kinds.{list_of_numbers, entry_value, list_of_entries}
 
 pub list_of_entries-places_of : (entries : List (ℤ × ℤ)) → list_of_entries entries ≡ places_of (map (λ (e : ℤ × ℤ). Some (entry_value e)) entries)
@@ -18,17 +22,50 @@ place_of_numbers numbers = ap (λ (ps : Places). Some (list_value ps)) (sym (lis
 pub place_of_entries : (entries : List (ℤ × ℤ)) → entries_place entries ≡ Some (list_value (list_of_entries entries))
 place_of_entries entries = ap (λ (ps : Places). Some (list_value ps)) (sym (list_of_entries-places_of entries))
 
-two_are : {A : Type 0} (ps : List A) (p q : A) → length ps ≡ 2 → slice_get ps 0 ≡ Some p → slice_get ps 1 ≡ Some q → ps ≡ p ∷ q ∷ []
-two_are [] p q n a b = cc
-two_are (x ∷ []) p q n a b = cc
-two_are (x ∷ (y ∷ [])) p q n a b = cc
-two_are (x ∷ (y ∷ (z ∷ ps))) p q n a b = absurd (omega (arith, n))
+-- an entry is a list of two numbers
+pub numbers_of_entry : (numbers : List ℤ) (entry : ℤ × ℤ) → row_place numbers ≡ Some (entry_value entry) → numbers ≡ entry.0 ∷ entry.1 ∷ []
+numbers_of_entry numbers entry e = one_list_of_numbers numbers (entry.0 ∷ entry.1 ∷ []) (same_Some _ _ (sym (place_of_numbers numbers) ∙ e))
 
--- a list of two places with numbers
-pub two_listed : (value : Value) (x y : ℤ) → HasPlaces value (listed value) → length (listed value) ≡ 2
-    → slice_get (listed value) 0 ≡ Some (Some (number_value x)) → slice_get (listed value) 1 ≡ Some (Some (number_value y)) → value ≡ entry_value (x, y)
-two_listed value x y is two first second =
-    is ∙ ap (λ (ps : List (Option Value)). list_value (places_of ps)) (two_are (listed value) _ _ two first second)
+-- of a list of lists only the empty one is a list of numbers, and of a list of numbers only the empty one a list of entries
+pub entries_of_numbers : (entries : List (ℤ × ℤ)) (numbers : List ℤ) → entries_place entries ≡ Some (list_value (list_of_numbers numbers)) → entries ≡ []
+entries_of_numbers [] numbers e = refl
+entries_of_numbers (x ∷ entries) [] e = cc
+entries_of_numbers (x ∷ entries) (z ∷ numbers) e = cc
+
+pub numbers_of_entries : (numbers : List ℤ) (entries : List (ℤ × ℤ)) → row_place numbers ≡ Some (list_value (list_of_entries entries)) → numbers ≡ []
+numbers_of_entries [] entries e = refl
+numbers_of_entries (z ∷ numbers) [] e = cc
+numbers_of_entries (z ∷ numbers) (x ∷ entries) e = cc
+
+-- Places that are no values and no flat lists hold none of these.
+module _ (p : Place) (other : (value : Bor code.Value) → p ≡ variants.Value value → ⊥) (not_flat : (numbers : Bor (List ℤ)) → p ≡ variants.Numbers numbers → ⊥) where
+  -- an entry
+  pub no_entry_at : (entry : ℤ × ℤ) → place_view p ≡ Some (entry_value entry) → ⊥
+  no_entry_at entry e = go p other not_flat e
+    where
+      none : (entries : List (ℤ × ℤ)) → entries_place entries ≡ Some (entry_value entry) → ⊥
+      none [] h = cc
+      none (x ∷ entries) h = cc
+
+      go : (q : Place) → ((value : Bor code.Value) → q ≡ variants.Value value → ⊥) → ((numbers : Bor (List ℤ)) → q ≡ variants.Numbers numbers → ⊥)
+          → place_view q ≡ Some (entry_value entry) → ⊥
+      go variants.Empty v n h = cc
+      go (variants.Value value) v n h = v value refl
+      go (variants.Number z) v n h = cc
+      go (variants.Numbers numbers) v n h = n numbers refl
+      go (variants.Entries entries) v n h = none entries.now h
+
+  -- a list
+  pub no_list_at : ((entries : Bor (List (ℤ × ℤ))) → p ≡ variants.Entries entries → ⊥) → (places : Places) → place_view p ≡ Some (list_value places) → ⊥
+  no_list_at no_rows places e = go p other not_flat no_rows e
+    where
+      go : (q : Place) → ((value : Bor code.Value) → q ≡ variants.Value value → ⊥) → ((numbers : Bor (List ℤ)) → q ≡ variants.Numbers numbers → ⊥)
+          → ((entries : Bor (List (ℤ × ℤ))) → q ≡ variants.Entries entries → ⊥) → place_view q ≡ Some (list_value places) → ⊥
+      go variants.Empty v n r h = cc
+      go (variants.Value value) v n r h = v value refl
+      go (variants.Number z) v n r h = cc
+      go (variants.Numbers numbers) v n r h = n numbers refl
+      go (variants.Entries entries) v n r h = r entries refl
 
 -- an entry has two places, and a number at each
 pub entry_count : (value : Value) (entry : ℤ × ℤ) → value ≡ entry_value entry → length (listed value) ≡ 2

@@ -1,5 +1,5 @@
 -- Rows at the places of a table, and their faults.
-use Rattle.std.proofs.Common.{◌≡◌, ℕ, suc, ◌+◌, ◌<◌, ◌≤◌, ◌^◌, ℤ, pos, List, [], ◌∷◌, ◌++◌, length, map, take, get_or, slice_get, Option, Some, None, refl, sym, ap, ◌∙◌, subst, arith}
+use Rattle.std.proofs.Common.{◌≡◌, ℕ, ◌+◌, ◌<◌, ◌≤◌, ◌^◌, ℤ, pos, List, [], ◌∷◌, ◌++◌, length, map, take, get_or, slice_get, Option, Some, None, refl, sym, ap, ◌∙◌, subst, arith}
 use Rattle.std.specs.List.{All}
 use Rattle.std.proofs.lemmas.List.{length-map, length-take, length_push, take_more}
 use Rattle.std.proofs.lemmas.Option.{slice_get_within, get_or_from_slice_get}
@@ -8,7 +8,7 @@ use Rattle.kb_record.specs.Tree.{Value, list_value, Fields, Places}
 use Rattle.kb_record.specs.View.{places_of}
 use Rattle.kb_fields.specs.Fields.{value_of, value_at, place_count}
 use Rattle.kb_fields.proofs.ListingLemmas.{list_same}
-use Rattle.kb_fields.proofs.PlaceLemmas.{value_at-places_of}
+use Rattle.kb_fields.proofs.PlaceLemmas.{value_at-places_of, count_places}
 use Rattle.kb_fsa.specs.Table.{Moves, IsRow, lookup, target}
 use Rattle.kb_fsa.proofs.Lookups.{lookup_at, entry_from_lookup, lookup_from_target, target_some}
 use Rattle.kb_fsafile.specs.Kinds.{list_of_numbers, list_of_entries, numbered_from}
@@ -89,11 +89,6 @@ holds_push size count format [] (r ∷ rows) value row holds here = cc
 holds_push size count format (Some v ∷ ps) [] value row holds here = absurd holds
 holds_push size count format (Some v ∷ ps) (r ∷ rows) value row holds here = (holds.0, holds_push size count format ps rows value row holds.1 here)
 holds_push size count format (None ∷ ps) rows value row holds here = absurd holds
-
-count_places : (ps : List (Option Value)) → place_count (places_of ps) ≡ length ps
-count_places [] = refl
-count_places (Some v ∷ ps) = ap suc (count_places ps)
-count_places (None ∷ ps) = ap suc (count_places ps)
 
 -- one more row
 pub rows_more : (size count : ℕ) (format : Format) (ps : List (Option Value)) (k : ℕ) (p : Option Value) (rows : List Moves) (row : Moves)

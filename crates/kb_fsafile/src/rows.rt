@@ -4,12 +4,14 @@ ghost use Rattle.std.specs.Prelude.{◌≡◌, ◌<◌, ◌++◌, ℕ, [], ◌�
 ghost use Rattle.std.specs.BTreeMap.{get};
 ghost use Rattle.std.specs.Ordering.{nat_cmp};
 ghost use Rattle.kb_record.specs.Tree.{list_value};
-ghost use Rattle.kb_record.specs.View.{value_view};
+ghost use Rattle.kb_record.specs.View.{value_view, row_place, entries_place};
 ghost use Rattle.kb_record.specs.Listed.{place_view};
 ghost use Rattle.kb_fsa.specs.Table.{Ascends};
 ghost use Rattle.kb_fsafile.specs.Kinds.{list_of_numbers, list_of_entries};
 ghost use Rattle.kb_fsafile.specs.RowsRead.{moves_among, IsRowAt, IsFaultOfRow, AreRowTargets, HasEntries, IsSparseRow};
 ghost use Rattle.kb_fsafile.specs.declared.format.Format.TheVariants.{Dense, Sparse};
+ghost use Rattle.kb_fsafile.specs.declared.error.Field.TheVariants.{Transitions};
+ghost use Rattle.kb_fsafile.specs.declared.error.FsaError.TheVariants.{WrongKind};
 
 use crate::error::{Field, FsaError};
 use crate::format::Format;
@@ -38,6 +40,15 @@ pub fn read_row(
     }
 }
 
+/// The refusal of a place that holds no row of the table's format.
+fn no_row() -> FsaError
+    ensures { result ≡ WrongKind Transitions }
+{
+    FsaError::WrongKind {
+        field: Field::Transitions,
+    }
+}
+
 /// The row at a place that lists a target for each symbol.
 fn read_dense_row(
     alloc: Global,
@@ -50,11 +61,9 @@ fn read_dense_row(
 {
     match place {
         Place::Numbers(numbers) => whole_row(alloc, numbers, size, count),
-        Place::Entries([]) => whole_row(alloc, &[], size, count),
+        Place::Entries(entries) => row_without_targets(alloc, entries, size, count),
         Place::Value(value) => listed_row(alloc, value, size, count),
-        _ => Err(FsaError::WrongKind {
-            field: Field::Transitions,
-        }),
+        _ => Err(no_row()),
     }
 }
 
@@ -64,11 +73,25 @@ fn listed_row<'a>(alloc: Global, value: &Value<'a>, size: u32, count: u32) -> Re
     ensures fault { IfErr result (IsFaultOfRow Dense size count (Some (value_view value.now))) }
 {
     let Some(numbers) = numbers_listed(alloc, value)? else {
-        return Err(FsaError::WrongKind {
-            field: Field::Transitions,
-        });
+        return Err(no_row());
     };
     whole_row(alloc, numbers.as_slice(), size, count)
+}
+
+/// The row of a list of entries, which is a list of targets only where it is empty.
+fn row_without_targets(
+    alloc: Global,
+    entries: &[(i64, i64)],
+    size: u32,
+    count: u32,
+) -> Result<Row, FsaError>
+    ensures read { IfOk result (IsRowAt size count Dense (entries_place entries.now)) }
+    ensures fault { IfErr result (IsFaultOfRow Dense size count (entries_place entries.now)) }
+{
+    if !entries.is_empty() {
+        return Err(no_row());
+    }
+    whole_row(alloc, &[], size, count)
 }
 
 /// The row with these targets, one for each symbol.
@@ -123,11 +146,9 @@ fn read_sparse_row(
 {
     match place {
         Place::Entries(entries) => sparse_row(alloc, entries, size, count),
-        Place::Numbers([]) => sparse_row(alloc, &[], size, count),
+        Place::Numbers(numbers) => row_without_entries(alloc, numbers, size, count),
         Place::Value(value) => listed_sparse_row(alloc, value, size, count),
-        _ => Err(FsaError::WrongKind {
-            field: Field::Transitions,
-        }),
+        _ => Err(no_row()),
     }
 }
 
@@ -142,11 +163,25 @@ fn listed_sparse_row<'a>(
     ensures fault { IfErr result (IsFaultOfRow Sparse size count (Some (value_view value.now))) }
 {
     let Some(entries) = entries_listed(alloc, value)? else {
-        return Err(FsaError::WrongKind {
-            field: Field::Transitions,
-        });
+        return Err(no_row());
     };
     sparse_row(alloc, entries.as_slice(), size, count)
+}
+
+/// The row of a list of numbers, which is a list of entries only where it is empty.
+fn row_without_entries(
+    alloc: Global,
+    numbers: &[i64],
+    size: u32,
+    count: u32,
+) -> Result<Row, FsaError>
+    ensures read { IfOk result (IsRowAt size count Sparse (row_place numbers.now)) }
+    ensures fault { IfErr result (IsFaultOfRow Sparse size count (row_place numbers.now)) }
+{
+    if !numbers.is_empty() {
+        return Err(no_row());
+    }
+    sparse_row(alloc, &[], size, count)
 }
 
 /// The row with these entries.
