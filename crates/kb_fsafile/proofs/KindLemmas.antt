@@ -1,5 +1,6 @@
 -- Lists of numbers and of entries, element by element.
-use Rattle.std.proofs.Common.{◌≡◌, ℤ, List, [], ◌∷◌, map, length, slice_get, Option, Some, refl, sym, ap, ◌∙◌}
+use Rattle.std.proofs.Common.{◌≡◌, ℤ, true, false, nat_eq, List, [], ◌∷◌, map, length, slice_get, Option, Some, refl, sym, ap, ◌∙◌, eqb-true, arith}
+use Rattle.std.proofs.lemmas.Bool.{false≢true}
 use Rattle.std.specs.Borrow.{Bor}
 use Rattle.std.proofs.lemmas.Option.{same_Some}
 use Rattle.kb_record.specs.Tree.{Value, number_value, list_value, Places, place}
@@ -36,6 +37,14 @@ pub numbers_of_entries : (numbers : List ℤ) (entries : List (ℤ × ℤ)) → 
 numbers_of_entries [] entries e = refl
 numbers_of_entries (z ∷ numbers) [] e = cc
 numbers_of_entries (z ∷ numbers) (x ∷ entries) e = cc
+
+-- a list that is said to be empty, and one that is said not to be
+pub empty_list : {A : Type 0} (xs : List A) → true ≡ nat_eq (length xs) 0 → xs ≡ []
+empty_list [] e = refl
+empty_list (x ∷ xs) e = let none = eqb-true (length (x ∷ xs)) 0 (sym e) in absurd (omega (arith, none))
+
+pub no_empty_list : {A : Type 0} (xs : List A) → false ≡ nat_eq (length xs) 0 → xs ≡ [] → ⊥
+no_empty_list {A = A} xs e none = false≢true (e ∙ ap (λ (ys : List A). nat_eq (length ys) 0) none)
 
 -- Places that are no values and no flat lists hold none of these.
 module _ (p : Place) (other : (value : Bor code.Value) → p ≡ variants.Value value → ⊥) (not_flat : (numbers : Bor (List ℤ)) → p ≡ variants.Numbers numbers → ⊥) where
