@@ -1,13 +1,13 @@
 //! The rows of a table.
 
-ghost use Rattle.std.specs.Prelude.{◌≡◌, ◌<◌, ◌++◌, ℕ, [], ◌∷◌, length, All, Some, IfOk, IfErr, OnOk, IsSome};
+ghost use Rattle.std.specs.Prelude.{◌≡◌, ◌<◌, ◌≤◌, ◌⊎◌, ◌++◌, ℕ, pos, [], ◌∷◌, length, All, Some, IfOk, IfErr, OnOk, IsSome, IfSome, IfNone};
 ghost use Rattle.std.specs.BTreeMap.{get};
 ghost use Rattle.std.specs.Ordering.{nat_cmp};
 ghost use Rattle.kb_record.specs.Tree.{list_value};
 ghost use Rattle.kb_record.specs.View.{value_view, row_place, entries_place};
 ghost use Rattle.kb_record.specs.Listed.{place_view};
 ghost use Rattle.kb_fsa.specs.Table.{Ascends};
-ghost use Rattle.kb_fsafile.specs.Kinds.{list_of_numbers, list_of_entries};
+ghost use Rattle.kb_fsafile.specs.Kinds.{list_of_numbers, list_of_entries, IsNumberOf, IsTargetOf};
 ghost use Rattle.kb_fsafile.specs.RowsRead.{moves_among, IsRowAt, IsFaultOfRow, AreRowTargets, HasEntries, IsSparseRow};
 ghost use Rattle.kb_fsafile.specs.declared.format.Format.TheVariants.{Dense, Sparse};
 ghost use Rattle.kb_fsafile.specs.declared.error.Field.TheVariants.{Transitions};
@@ -189,6 +189,54 @@ fn sparse_row(alloc: Global, pairs: &[(i64, i64)], size: u32, count: u32) -> Res
     ensures read { IfOk result (IsSparseRow size count pairs.now) }
     ensures fault { IfErr result (IsFaultOfRow Sparse size count (Some (list_value (list_of_entries pairs.now)))) }
 {
+    match ascending_row(alloc, pairs, size, count)? {
+        Some(row) => Ok(row),
+        None => sorted_row(alloc, pairs, size, count),
+    }
+}
+
+/// The row with these entries where their symbols ascend; `None` where they don't.
+fn ascending_row(
+    alloc: Global,
+    pairs: &[(i64, i64)],
+    size: u32,
+    count: u32,
+) -> Result<Option<Row>, FsaError>
+    ensures read { IfOk result (λ row. IfSome row (IsSparseRow size count pairs.now)) }
+    ensures fault { IfErr result (IsFaultOfRow Sparse size count (Some (list_value (list_of_entries pairs.now)))) }
+{
+    let mut moves = Vec::with_capacity(alloc, pairs.len())?;
+    let mut last = 0;
+    for pair in pairs {
+        let Some((symbol, target)) = entry_within(pair, size, count) else {
+            return Err(FsaError::TargetOutOfRange);
+        };
+        if symbol <= last {
+            return Ok(None);
+        }
+        keep(&mut moves, symbol, target)?;
+        last = symbol;
+    }
+    Ok(Some(Row::from_vec(moves)))
+}
+
+/// The entry that the pair of numbers is, of so many symbols and states.
+fn entry_within(pair: &(i64, i64), size: u32, count: u32) -> Option<(u32, u32)>
+    ensures is { IfSome result (λ entry. pair.now ≡ (pos entry.0, pos entry.1)) }
+    ensures symbol { IfSome result (λ entry. (0 < entry.0) × (entry.0 ≤ size)) }
+    ensures target { IfSome result (λ entry. entry.1 ≤ count) }
+    ensures none { IfNone result ((¬ IsNumberOf size pair.now.0) ⊎ (¬ IsTargetOf count pair.now.1)) }
+{
+    let symbol = number_within(pair.0, u64::from(size))?;
+    let target = target_within(pair.1, u64::from(count))?;
+    Some((symbol as u32, target as u32))
+}
+
+/// The row with these entries, whatever the order of their symbols is.
+fn sorted_row(alloc: Global, pairs: &[(i64, i64)], size: u32, count: u32) -> Result<Row, FsaError>
+    ensures read { IfOk result (IsSparseRow size count pairs.now) }
+    ensures fault { IfErr result (IsFaultOfRow Sparse size count (Some (list_value (list_of_entries pairs.now)))) }
+{
     let entries = by_symbol(alloc, pairs, size, count)?;
     Ok(row_of(alloc, &entries)?)
 }
@@ -205,13 +253,10 @@ fn by_symbol(
 {
     let mut entries = BTreeMap::new(alloc);
     for pair in pairs {
-        let Some(symbol) = number_within(pair.0, u64::from(size)) else {
+        let Some((symbol, target)) = entry_within(pair, size, count) else {
             return Err(FsaError::TargetOutOfRange);
         };
-        let Some(target) = target_within(pair.1, u64::from(count)) else {
-            return Err(FsaError::TargetOutOfRange);
-        };
-        if entries.insert(symbol as u32, target as u32)?.is_some() {
+        if entries.insert(symbol, target)?.is_some() {
             return Err(FsaError::NotDeterministic);
         }
     }

@@ -11,7 +11,7 @@ pub loop-place-preserved : goal.loop-place-preserved
 loop-place-preserved c =
     let places = listed (value_view c.args.list.now) in
     let P : List Moves → Type 0 = λ rows. AreRowsAt c.args.size c.args.count c.args.format (places_of (take (c.loop-place.place + 1) (listed (value_view c.args.list.now)))) rows in
-    subst P (sym c.in_ok-push.ensures.items)
+    subst P (sym {A = List Moves} c.in_ok-push.ensures.items)
     (rows_more c.args.size c.args.count c.args.format places c.loop-place.place _ c.loop-place.rows.items c.in_ok-read_row.field-0 c.place.ensures
     c.loop-place.invariant c.in_ok-read_row.ensures.read)
 
