@@ -1,14 +1,15 @@
 -- Lists of numbers and of entries, element by element.
-use Rattle.std.proofs.Common.{◌≡◌, ℤ, true, false, nat_eq, List, [], ◌∷◌, map, length, slice_get, Option, Some, refl, sym, ap, ◌∙◌, eqb-true, arith}
+use Rattle.std.proofs.Common.{◌≡◌, ℤ, true, false, nat_eq, List, [], ◌∷◌, map, length, slice_get, Option, Some, Vec, Global, refl, sym, ap, ◌∙◌, eqb-true, arith}
 use Rattle.std.proofs.lemmas.Bool.{false≢true}
 use Rattle.std.specs.Borrow.{Bor}
 use Rattle.std.proofs.lemmas.Option.{same_Some}
 use Rattle.kb_record.specs.Tree.{Value, number_value, list_value, Places, place}
-use Rattle.kb_record.specs.View.{places_of, row_place, entries_place}
+use Rattle.kb_record.specs.View.{value_view, places_of, row_place, entries_place}
 use Rattle.kb_record.specs.Listed.{listed, place_view}
 use Rattle.kb_record.specs.declared.tree.Value as code
 use Rattle.kb_record.specs.declared.listed.Place.{Place}
 use Rattle.kb_record.specs.declared.listed.Place.TheVariants as variants
+use Rattle.kb_record.proofs.Views.{view-Numbers}
 use Rattle.kb_fields.proofs.NumberLemmas.{list_of_numbers-places_of, one_list_of_numbers}
 use Rattle.kb_fsafile.specs.Kinds.{list_of_numbers, entry_value, list_of_entries}
 
@@ -22,6 +23,10 @@ place_of_numbers numbers = ap (λ (ps : Places). Some (list_value ps)) (sym (lis
 
 pub place_of_entries : (entries : List (ℤ × ℤ)) → entries_place entries ≡ Some (list_value (list_of_entries entries))
 place_of_entries entries = ap (λ (ps : Places). Some (list_value ps)) (sym (list_of_entries-places_of entries))
+
+-- a value that is kept as a list of numbers
+pub value_of_numbers : (numbers : Vec ℤ Global) → value_view (code.Numbers numbers) ≡ list_value (list_of_numbers numbers.items)
+value_of_numbers numbers = view-Numbers numbers ∙ ap list_value (sym (list_of_numbers-places_of numbers.items))
 
 -- an entry is a list of two numbers
 pub numbers_of_entry : (numbers : List ℤ) (entry : ℤ × ℤ) → row_place numbers ≡ Some (entry_value entry) → numbers ≡ entry.0 ∷ entry.1 ∷ []
