@@ -53,6 +53,18 @@ def reading(bench):
     """What each command begins with: the words of no letters are asked for."""
     for width, sizes in ((2, (5_000, 50_000, 500_000, 820_000)), (126, (79, 794, 7_937, 23_000))):
         bench.series(f"read, {width} letters", "fsaenumerate 0 0 A", "moves", at_random(width, sizes))
+    bench.series(
+        "read, 1 letter",
+        "fsaenumerate 0 0 A",
+        "moves",
+        ((states, [data.chain(states + 1)]) for states in (10_000, 100_000, 1_600_000)),
+    )
+    bench.series(
+        "read, sparse, 8 of 1,000 letters",
+        "fsaenumerate 0 0 A",
+        "moves",
+        ((8 * states, [data.sparse_at_random(states, 1_000, 8)]) for states in (1_250, 12_500, 160_000)),
+    )
 
 
 def minimising(bench):

@@ -60,6 +60,18 @@ def at_random(states, width):
     yield from dense(words_over(width), states, accepting, rows)
 
 
+def sparse_at_random(states, width, moves):
+    """Each state has so many moves, of symbols of so many letters, which lead anywhere; half of the states accept."""
+    chance = random.Random(SEED)
+    accepting = some(states, chance)
+
+    def row():
+        symbols = sorted(chance.sample(range(1, width + 1), moves))
+        return [(symbol, int(chance.random() * states) + 1) for symbol in symbols]
+
+    yield from sparse(words_over(width), states, accepting, (row() for _ in range(states)))
+
+
 def pairs_at_random(states, width):
     """The same of pairs of words of one length."""
     chance = random.Random(SEED)

@@ -31,6 +31,48 @@ def word_lines(names, size, most=64):
     return "".join(lines).encode() + b"#" * (rest - 1) + b"\n"
 
 
+def reduced_lines(names, inverses, size, least=20, most=200):
+    """Lines of words with no generator beside its inverse, of so many letters, at most so many bytes together."""
+    chance = random.Random(SEED)
+
+    def reduced():
+        letters = [chance.choice(names)]
+        for _ in range(chance.randint(least, most) - 1):
+            letters.append(chance.choice([name for name in names if name != inverses[letters[-1]]]))
+        return "*".join(letters) + "\n"
+
+    return repeated([reduced() for _ in range(1024)], size, chance)
+
+
+def power_lines(names, size):
+    """Lines of names and groups, some of them with powers, at most so many bytes together."""
+    chance = random.Random(SEED)
+
+    def factor():
+        group = chance.random() < 0.5
+        text = f"({word(names, chance.randint(2, 3), chance)})" if group else chance.choice(names)
+        return text + chance.choice(("", "^2", "^3"))
+
+    stock = ["*".join(factor() for _ in range(chance.randint(2, 12))) + "\n" for _ in range(1024)]
+    return repeated(stock, size, chance)
+
+
+def repeated(stock, size, chance):
+    """Lines of the stock at random, at most so many bytes together."""
+    lines, length = [], 0
+    while True:
+        line = chance.choice(stock)
+        length += len(line)
+        if length > size:
+            return "".join(lines).encode()
+        lines.append(line)
+
+
+def one_line(text, size):
+    """One line of so many bytes, of the text again and again."""
+    return (text * (size // len(text))).encode() + b"\n"
+
+
 def longest_word(names, length=65_535):
     """One line with the longest word that is read."""
     return (word(names, length, random.Random(SEED)) + "\n").encode()

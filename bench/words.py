@@ -27,6 +27,17 @@ def measure_words(program, room, examples):
         for size in (1, 4, 16, 64) if example == LINES else (1,):
             what = f"{example}: {size} MiB of word lines"
             reduce(what, file, lambda: data.word_lines(names, size * MIB), rate=(size, "MiB"))
+    free, symmetric = f"{examples}/free-2", f"{examples}/{LINES}"
+    inverses = {"a": "A", "A": "a", "b": "B", "B": "b"}
+    for size in (1, 16, 60):
+        what = f"free-2: {size} MiB of reduced words"
+        reduce(what, free, lambda: data.reduced_lines("aAbB", inverses, size * MIB), rate=(size, "MiB"))
+    for size in (1, 16):
+        what = f"{LINES}: {size} MiB of powers and brackets"
+        reduce(what, symmetric, lambda: data.power_lines("ab", size * MIB), rate=(size, "MiB"))
+    for what, text, wanted in (("a*a*..*a", "a*", 4), ("brackets that open alone", "(", 4)):
+        what = f"{LINES}: one line of 30 MiB, {what}"
+        reduce(what, symmetric, lambda: data.one_line(text, 30 * MIB), wanted=wanted)
     for rank in (3, 23, 32, 46):
         file = f"{room}/commutative"
         presentation = data.free_commutative(rank)

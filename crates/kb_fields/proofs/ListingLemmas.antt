@@ -1,8 +1,8 @@
--- Lists of names, element by element, and that they are determined by their values.
-use Rattle.std.proofs.Common.{◌≡◌, ℕ, zero, suc, ◌+◌, List, [], ◌∷◌, ◌++◌, ◌≤◌, map, length, get_or, take, Option, Some, None, refl, ap, sym, ◌∙◌}
+-- Lists place by place, and that lists of names are determined by their values.
+use Rattle.std.proofs.Common.{◌≡◌, ℕ, zero, suc, ◌+◌, List, [], ◌∷◌, ◌++◌, map, get_or, take, Option, Some, None, refl, ap, sym, ◌∙◌}
 use Rattle.std.specs.List.{slice_get}
 use Rattle.std.specs.Borrow.{Bor}
-use Rattle.std.proofs.lemmas.List.{take_all, take_more, map-append}
+use Rattle.std.proofs.lemmas.List.{take_more, map-append}
 use Rattle.std.proofs.lemmas.Option.{slice_get_within, get_or_from_slice_get}
 use Rattle.kb_record.specs.Tree.{Value, list_value, Fields, Places, place, empty_place}
 use Rattle.kb_record.specs.View.{places_of}
@@ -70,10 +70,6 @@ one_place_more f ps k p at texts more a before is longer =
 pub map_now : (names : List (Bor (List ℕ))) → map (λ (name : Bor (List ℕ)). Some (bare_name name.now)) names ≡ map (λ (name : List ℕ). Some (bare_name name)) (map (λ (name : Bor (List ℕ)). name.now) names)
 map_now [] = refl
 map_now (n ∷ ns) = ap (λ (ps : List (Option Value)). Some (bare_name n.now) ∷ ps) (map_now ns)
-
--- at the end of a loop all is taken
-pub all_taken : {A : Type 0} (items whole : List A) (k : ℕ) → items ≡ whole → length items ≤ k → take k items ≡ whole
-all_taken items whole k same past = take_all k items past ∙ same
 
 pub bare_name-injective : {a b : List ℕ} → bare_name a ≡ bare_name b → a ≡ b
 bare_name-injective e = cc

@@ -1,12 +1,9 @@
 -- Places of lists, by number.
-use Rattle.std.proofs.Common.{◌≡◌, ℕ, zero, suc, ◌<◌, List, [], ◌∷◌, map, length, slice_get, Option, Some, None, refl, ap, ◌∙◌, arith}
-use Rattle.std.specs.Option.{option_map}
-use Rattle.std.proofs.lemmas.List.{length-map}
+use Rattle.std.proofs.Common.{◌≡◌, ℕ, zero, suc, ◌<◌, List, [], ◌∷◌, length, slice_get, Option, Some, None, refl, ap, ◌∙◌, arith}
 use Rattle.kb_record.specs.Tree.{Value, list_value, place, no_places}
-use Rattle.kb_record.specs.View.{places_of, value_view}
+use Rattle.kb_record.specs.View.{places_of}
 use Rattle.kb_record.specs.Listed.{listed, HasPlaces}
-use Rattle.kb_record.specs.declared.tree.Value as code
-use Rattle.kb_fields.specs.Fields.{places_view, value_at, place_count}
+use Rattle.kb_fields.specs.Fields.{value_at, place_count}
 
 pub value_at-places_of : (ps : List (Option Value)) (k : ℕ) (p : Option Value) → slice_get ps k ≡ Some p → (value_at (places_of ps) k ≡ p) × (k < place_count (places_of ps))
 value_at-places_of [] k p e = cc
@@ -25,9 +22,6 @@ pub count_places : (ps : List (Option Value)) → place_count (places_of ps) ≡
 count_places [] = refl
 count_places (Some v ∷ ps) = ap suc (count_places ps)
 count_places (None ∷ ps) = ap suc (count_places ps)
-
-pub count_view : (ps : List (Option code.Value)) → place_count (places_view ps) ≡ length ps
-count_view ps = count_places (map (option_map value_view) ps) ∙ length-map ps (option_map value_view)
 
 two_in : (ps : List (Option Value)) (v w : Option Value) → length ps ≡ 2 → slice_get ps 0 ≡ Some v → slice_get ps 1 ≡ Some w → ps ≡ v ∷ w ∷ []
 two_in [] v w two first second = absurd (omega (arith, two))

@@ -1,43 +1,14 @@
--- The trees of the code's values, variant by variant.
-use Rattle.std.proofs.Common.{◌≡◌, ℕ, ℤ, List, [], ◌∷◌, map, length, get_or, Option, Some, None, Vec, Global, sym, refl, ap, ◌∙◌, arith}
+-- The trees of words of one factor.
+use Rattle.std.proofs.Common.{◌≡◌, ℕ, List, [], ◌∷◌, map, length, get_or, None, sym, refl, ap, ◌∙◌, arith}
 use Rattle.std.proofs.Math.ListN.{length-map}
-use Rattle.std.specs.Borrow.{Bor}
-use Rattle.std.specs.Option.{option_map}
-use Rattle.kb_record.specs.Tree.{Factor, named, Factors, no_factors, factor, Value, number_value, string_value, record_value, list_value, word_value}
-use Rattle.kb_record.specs.View.{factor_view, factors_view, factors_of, word_view, value_step, value_view, places_of}
+use Rattle.kb_record.specs.Tree.{Factor, named, Factors, no_factors, factor, Value, word_value}
+use Rattle.kb_record.specs.View.{factor_view, factors_view, factors_of, word_view, value_step, value_view}
 use Rattle.kb_record.specs.declared.tree.Expr.{Expr}
 use Rattle.kb_record.specs.declared.tree.Factor as code_factor
 use Rattle.kb_record.specs.declared.tree.Value as code
 use Rattle.kb_record.specs.declared.tree.Value.{Value-F, fold-roll-Value}
-use Rattle.kb_record.specs.declared.tree.Value.TheVariants.{Number, String, Record, List as Listed, Word, rolls-Number, rolls-String, rolls-Record, rolls-List, rolls-Word}
-use Rattle.kb_fields.specs.Fields.{fields_view, places_view, bare_name}
-
-pub view-Number : (z : ℤ) → value_view (Number z) ≡ number_value z
-view-Number z = ap value_view (sym (rolls-Number z)) ∙ fold-roll-Value Value value_step (Value-F.Number z)
-
-pub view-String : (text : Bor (List ℕ)) → value_view (String text) ≡ string_value text.now
-view-String text = ap value_view (sym (rolls-String text)) ∙ fold-roll-Value Value value_step (Value-F.String text)
-
-pub view-Record : (fields : Vec (Bor (List ℕ) × code.Value) Global) → value_view (Record fields) ≡ record_value (fields_view fields.items)
-view-Record fields = ap value_view (sym (rolls-Record fields)) ∙ fold-roll-Value Value value_step (Value-F.Record fields)
-
--- two functions with the same values see a list of places alike
-places_same : (f g : Option code.Value → Option Value) → f None ≡ g None → ((v : code.Value) → f (Some v) ≡ g (Some v)) → (ps : List (Option code.Value))
-    → list_value (places_of (map f ps)) ≡ list_value (places_of (map g ps))
-places_same f g none some ps = ap (λ (qs : List (Option Value)). list_value (places_of qs)) (map_same ps)
-  where
-    same : (p : Option code.Value) → f p ≡ g p
-    same None = none
-    same (Some v) = some v
-
-    map_same : (ps : List (Option code.Value)) → map f ps ≡ map g ps
-    map_same [] = refl
-    map_same (p ∷ ps) = let head = same p in let tail = map_same ps in cc
-
-pub view-List : (places : Vec (Option code.Value) Global) → value_view (Listed places) ≡ list_value (places_view places.items)
-view-List places =
-    ap value_view (sym (rolls-List places)) ∙ (fold-roll-Value Value value_step (Value-F.List places)
-    ∙ places_same _ (option_map value_view) refl (λ v. refl) places.items)
+use Rattle.kb_record.specs.declared.tree.Value.TheVariants.{Word, rolls-Word}
+use Rattle.kb_fields.specs.Fields.{bare_name}
 
 pub view-Word : (word : Expr) → value_view (Word word) ≡ word_value (word_view word)
 view-Word word = ap value_view (sym (rolls-Word word)) ∙ fold-roll-Value Value value_step (Value-F.Word word)

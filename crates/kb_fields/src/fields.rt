@@ -49,7 +49,7 @@ pub fn repeated_name<'a>(
     Ok(None)
 }
 
-/// The name of a field that stands twice in a record in the value.
+/// The name of a field that stands twice in a record in the value. Lists of numbers hold no records.
 #[cycle(repeats)]
 fn repeated_within<'a>(alloc: Global, value: &Value<'a>) -> Result<Option<OwnedText>, Memory>
     ensures some { IfOk result (λ found. IfSome found (HasFieldTwice (value_view value.now))) }

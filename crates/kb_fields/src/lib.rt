@@ -5,7 +5,9 @@
 //! - [`field_named`] looks a field up. Where a name stands twice, "the value of the field" is that of the first.
 //! - [`repeated_name`] answers the name of a field that stands twice in some record, nested ones too, and none
 //!   where no name does.
-//! - [`bare_name`] takes a value that is a Name, and answers none for any other.
+//! - [`bare_name`] takes a value that is a Name, [`number_of`] one that is a number and [`numbers_listed`] one that is
+//!   a list of numbers, and they answer none for any other. [`number_at`] takes a place of a list, as [`number_of`] a
+//!   value.
 //! - [`names_of`] answers the names of generators that a value lists: at most 1,000 Names, none of them twice and
 //!   none `IdWord` or `_`. A refusal names a fault that the value has (`HasNamesFault` of
 //!   `specs/Generators.antt`), and by the law [`names_of_generators_have_no_fault`] a value that lists such names
@@ -20,6 +22,7 @@
 //! - `fields` looks up fields, and finds names that stand twice by a set of the names seen. It recurses into
 //!   values, whose nesting the parser bounds.
 //! - `values` tells Names and lists of Names apart from other values, and `numbers` numbers and lists of numbers.
+//!   Lists are read place by place, in whichever form they are kept; one kept as numbers is copied at once.
 //! - `generators` joins them to names of generators: each name is pushed in turn, and one that was there is taken.
 //!
 //! Definitions speak of the tree of the text (`specs/Tree.antt` of `kb_record`): `specs/Fields.antt` of fields and
@@ -29,8 +32,9 @@
 //!
 //! These serve the crates above too.
 //!
-//! - `proofs/ViewLemmas.antt`: the trees of the code's values, variant by variant.
-//! - `proofs/PlaceLemmas.antt`, `proofs/ListingLemmas.antt`: places of lists, and lists that are taken whole.
+//! - `proofs/ViewLemmas.antt`: the trees of words of one factor.
+//! - `proofs/PlaceLemmas.antt`, `proofs/ListingLemmas.antt`, `proofs/NumberLemmas.antt`: places of lists, and lists
+//!   whose places are all of one form.
 //! - `proofs/RepeatLemmas.antt`, `proofs/TakenLemmas.antt`: names that stand twice in a record, and taken names.
 //! - `proofs/NameFaults.antt`: names of generators have no fault.
 //! - `proofs/Outcomes.antt`: what follows from a clause on an outcome.

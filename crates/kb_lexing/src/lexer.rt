@@ -142,7 +142,7 @@ fn ascii<'a>(bytes: &'a [u8]) -> &'a str
 }
 
 /// The number that begins with the text's digit.
-fn number<'a>(text: &'a [u8]) -> Option<(Token<'a>, usize)>
+pub(crate) fn number<'a>(text: &'a [u8]) -> Option<(Token<'a>, usize)>
     requires { IsDigit (slice_index text.now 0) }
     ensures { IsFirst text.now result }
 {
@@ -151,7 +151,7 @@ fn number<'a>(text: &'a [u8]) -> Option<(Token<'a>, usize)>
 }
 
 /// The number that begins with the text's `-`, if there is one.
-fn negative_number<'a>(text: &'a [u8]) -> Option<(Token<'a>, usize)>
+pub(crate) fn negative_number<'a>(text: &'a [u8]) -> Option<(Token<'a>, usize)>
     requires { slice_index text.now 0 ≡ 45 }
     ensures { IsFirst text.now result }
 {

@@ -1,36 +1,39 @@
 -- Pairs of words, and faults of sides, of equations and of lists of equations.
-use Rattle.std.proofs.Common.{◌≡◌, ℕ, zero, suc, ◌+◌, ◌<◌, List, [], ◌∷◌, ◌++◌, map, length, take, get_or, Option, Some, None, Ok, ◌⊎◌, inl, inr, refl, sym, ap, subst, ◌∙◌, arith}
-use Rattle.std.specs.Option.{option_map}
-use Rattle.std.proofs.lemmas.List.{length-map, map-append, map_more}
-use Rattle.std.proofs.lemmas.Option.{slice_get-map, slice_get_read}
+use Rattle.std.proofs.Common.{◌≡◌, ℕ, zero, suc, ◌+◌, ◌<◌, ℤ, List, [], ◌∷◌, ◌++◌, map, take, slice_get, Option, Some, Ok, ◌⊎◌, inl, inr, refl, sym, ap, subst, ◌∙◌, arith}
+use Rattle.std.specs.Borrow.{Bor}
 use Rattle.kb_word.specs.Words.{Pair}
 use Rattle.kb_record.specs.Meaning.{word_meaning}
 use Rattle.kb_record.specs.Tree.{Factors, Value, list_value, Fields, Places, no_places, place}
-use Rattle.kb_record.specs.View.{places_of, value_view}
+use Rattle.kb_record.specs.View.{places_of, row_place, entries_place}
+use Rattle.kb_record.specs.Listed.{place_view}
+use Rattle.kb_record.specs.declared.listed.Place.{Place}
+use Rattle.kb_record.specs.declared.listed.Place.TheVariants as places
 use Rattle.kb_record.specs.declared.tree.Value as code
-use Rattle.kb_fields.specs.Fields.{value_of, places_view, value_at, place_count}
-use Rattle.kb_presfile.specs.Kinds.{two_places, equation_value, list_of_equations}
+use Rattle.kb_fields.specs.Fields.{value_of, value_at, place_count}
+use Rattle.kb_presfile.specs.Kinds.{equation_value, list_of_equations}
 use Rattle.kb_presfile.specs.Holds.{IsEquation, AreMeanings, AreEquations, HasNames, HasInverses}
 use Rattle.kb_presfile.specs.Faults.{name_of, SidesHaveFault, PlaceHasFault, PlacesOfEquationsHaveFault, IsOfKind, HasFieldFault}
-use Rattle.kb_fields.proofs.ListingLemmas.{places_of-injective, list_same}
+use Rattle.kb_fields.proofs.ListingLemmas.{places_of-injective, list_same, one_place_more}
 use Rattle.kb_fields.proofs.PlaceLemmas.{value_at-places_of}
 use Rattle.kb_presfile.specs.declared.error.Field.TheVariants as kinds
 use Rattle.kb_presfile.specs.declared.error.PresError.{PresError}
 use Rattle.kb_presfile.specs.declared.error.PresError.TheVariants as errors
 
--- a list with two places
-pub count_two : (ps : List (Option Value)) (a b : Value) → places_of ps ≡ place a (place b no_places) → length ps ≡ 2
-count_two [] a b e = cc
-count_two (Some v ∷ []) a b e = cc
-count_two (None ∷ ps) a b e = cc
-count_two (Some v ∷ (None ∷ ps)) a b e = cc
-count_two (Some v ∷ (Some w ∷ [])) a b e = refl
-count_two (Some v ∷ (Some w ∷ (None ∷ ps))) a b e = cc
-count_two (Some v ∷ (Some w ∷ (Some x ∷ ps))) a b e = cc
+-- numbers, and lists of them, are no equation
+no_row : (row : List ℤ) (sides : Factors × Factors) → row_place row ≡ Some (equation_value sides) → ⊥
+no_row [] sides e = cc
+no_row (z ∷ row) sides e = cc
 
--- another number of places than two are no two words
-pub are_no_two_words : (places : List (Option code.Value)) → (length places ≡ 2 → ⊥) → (sides : Factors × Factors) → places_view places ≡ two_places sides → ⊥
-are_no_two_words places other sides e = other (sym (length-map places (option_map value_view)) ∙ count_two (map (option_map value_view) places) _ _ e)
+no_entries : (entries : List (ℤ × ℤ)) (sides : Factors × Factors) → entries_place entries ≡ Some (equation_value sides) → ⊥
+no_entries [] sides e = cc
+no_entries (entry ∷ entries) sides e = cc
+
+pub no_equation : (p : Place) → ((v : Bor code.Value) → p ≡ places.Value v → ⊥) → (sides : Factors × Factors) → place_view p ≡ Some (equation_value sides) → ⊥
+no_equation places.Empty other sides e = cc
+no_equation (places.Value v) other sides e = absurd (other v refl)
+no_equation (places.Number z) other sides e = cc
+no_equation (places.Numbers numbers) other sides e = no_row numbers.now sides e
+no_equation (places.Entries entries) other sides e = no_entries entries.now sides e
 
 -- a side's fault is the equation's
 pub side_fault : (names : List (List ℕ)) (inverses : List (Option ℕ)) (here : Option Value) (sides : Factors × Factors) (error : PresError)
@@ -41,12 +44,11 @@ side_fault names inverses here sides errors.Memory is fault = tt
 side_fault names inverses here sides error is fault = (sides, is, fault)
 
 -- a place's fault is the list's
-pub place_fault : (names : List (List ℕ)) (inverses : List (Option ℕ)) (ps : List (Option code.Value)) (k : ℕ) (p : Option code.Value) (error : PresError)
-    → k < length ps → p ≡ get_or ps k p → PlaceHasFault names inverses (option_map value_view p) error → PlacesOfEquationsHaveFault names inverses (places_view ps) error
-place_fault names inverses ps k p errors.Memory within at fault = tt
-place_fault names inverses ps k p error within at fault =
-    let stands = slice_get-map (option_map value_view) ps k ∙ ap (option_map (option_map value_view)) (slice_get_read ps (length ps) k p refl within at) in
-    let seen = value_at-places_of (map (option_map value_view) ps) k (option_map value_view p) stands in
+pub place_fault : (names : List (List ℕ)) (inverses : List (Option ℕ)) (ps : List (Option Value)) (k : ℕ) (p : Option Value) (error : PresError)
+    → slice_get ps k ≡ Some p → PlaceHasFault names inverses p error → PlacesOfEquationsHaveFault names inverses (places_of ps) error
+place_fault names inverses ps k p errors.Memory at fault = tt
+place_fault names inverses ps k p error at fault =
+    let seen = value_at-places_of ps k p at in
     let P : Option Value → Type 0 = λ v. PlaceHasFault names inverses v error in
     record { at = k; within = seen.1; fault = subst P (sym seen.0) fault }
 
@@ -67,28 +69,19 @@ pub no_equations : (names : List (List ℕ)) (inverses : List (Option ℕ)) → 
 no_equations names inverses = record { sides = []; listed = refl; meanings = refl }
 
 -- one more place, and its equation
-pub equations_more : (names : List (List ℕ)) (inverses : List (Option ℕ)) (ps : List (Option code.Value)) (k : ℕ) (p : Option code.Value) (equations : List Pair) (pair : Pair)
-    → k < length ps → p ≡ get_or ps k p → AreEquations names inverses (places_view (take k ps)) equations
-    → IsEquation names inverses (option_map value_view p) pair → AreEquations names inverses (places_view (take (k + 1) ps)) (equations ++ pair ∷ [])
-equations_more names inverses ps k p equations pair within at are is = record {
-  sides = are.sides ++ is.sides ∷ [];
-  listed = ap places_of whole ∙ sym (list_of_equations-places_of (are.sides ++ is.sides ∷ []));
-  meanings = meanings_more names inverses are.sides equations is.sides pair are.meanings is.left is.right;
-}
-  where
-    seen : List (Option Value)
-    seen = map (option_map value_view) (take k ps)
-
-    first : seen ≡ map (λ (s : Factors × Factors). Some (equation_value s)) are.sides
-    first = places_of-injective seen (map (λ (s : Factors × Factors). Some (equation_value s)) are.sides) (are.listed ∙ list_of_equations-places_of are.sides)
-
-    last : option_map value_view (get_or ps k p) ≡ Some (equation_value is.sides)
-    last = ap (option_map value_view) (sym at) ∙ is.stands
-
-    whole : map (option_map value_view) (take (k + 1) ps) ≡ map (λ (s : Factors × Factors). Some (equation_value s)) (are.sides ++ is.sides ∷ [])
-    whole = map_more (option_map value_view) ps k p within
-        ∙ (ap (λ (v : Option Value). seen ++ v ∷ []) last ∙ (ap (λ (vs : List (Option Value)). vs ++ Some (equation_value is.sides) ∷ []) first
-        ∙ sym (map-append (λ (s : Factors × Factors). Some (equation_value s)) are.sides (is.sides ∷ []))))
+pub equations_more : (names : List (List ℕ)) (inverses : List (Option ℕ)) (ps : List (Option Value)) (k : ℕ) (p : Option Value) (equations more : List Pair)
+    (pair : Pair) → slice_get ps k ≡ Some p → AreEquations names inverses (places_of (take k ps)) equations → IsEquation names inverses p pair
+    → more ≡ equations ++ pair ∷ [] → AreEquations names inverses (places_of (take (k + 1) ps)) more
+equations_more names inverses ps k p equations more pair at are is longer =
+    let stands : Factors × Factors → Option Value = λ s. Some (equation_value s) in
+    let before = places_of-injective (take k ps) (map stands are.sides) (are.listed ∙ list_of_equations-places_of are.sides) in
+    let whole = one_place_more stands ps k p at are.sides (are.sides ++ is.sides ∷ []) is.sides before is.stands refl in
+    let AreMeant : List Pair → Type 0 = λ pairs. AreMeanings names inverses (are.sides ++ is.sides ∷ []) pairs in
+    record {
+      sides = are.sides ++ is.sides ∷ [];
+      listed = ap places_of whole ∙ sym (list_of_equations-places_of (are.sides ++ is.sides ∷ []));
+      meanings = subst AreMeant (sym longer) (meanings_more names inverses are.sides equations is.sides pair are.meanings is.left is.right);
+    }
 
 -- what stands at a place of a list of equations is one
 pub record IsEquationAt (list : Places) (k : ℕ) : Type 0 where

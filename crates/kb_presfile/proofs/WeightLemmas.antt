@@ -1,5 +1,5 @@
 -- Numbers that are weights, and numbers that are none.
-use Rattle.std.proofs.Common.{◌≡◌, ◌≢◌, ℕ, ◌+◌, ◌<◌, ◌≤◌, ℤ, pos, List, ◌∷◌, [], ◌++◌, length, map, take, get_or, All, sym, ap, ◌∙◌, subst, arith}
+use Rattle.std.proofs.Common.{◌≡◌, ◌≢◌, ℕ, ◌+◌, ◌<◌, ◌≤◌, ℤ, pos, List, ◌∷◌, [], ◌++◌, length, map, take, get_or, All, sym, ap, ◌∙◌, arith}
 use Rattle.std.proofs.lemmas.List.{length-map, get_or-map, take_all, take_more, map-append}
 use Rattle.kb_word.specs.Weights.{IsWeight}
 use Rattle.kb_word.specs.WordOrders.{WeighsEach}

@@ -1,16 +1,16 @@
 //! The field `equations`: pairs of words that are equal.
 
-ghost use Rattle.std.specs.Prelude.{IfOk, IfErr};
-ghost use Rattle.std.specs.Option.{option_map};
-ghost use Rattle.kb_record.specs.View.{value_view};
-ghost use Rattle.kb_fields.specs.Fields.{fields_view, places_view};
+ghost use Rattle.std.specs.Prelude.{◌≡◌, length, IfOk, IfErr};
+ghost use Rattle.kb_record.specs.View.{value_view, places_of};
+ghost use Rattle.kb_record.specs.Listed.{listed, place_view};
+ghost use Rattle.kb_fields.specs.Fields.{fields_view};
 ghost use Rattle.kb_presfile.specs.Holds.{HasNames, HasInverses, HasEquations, AreEquations, IsEquation};
 ghost use Rattle.kb_presfile.specs.Faults.{PlaceHasFault, PlacesOfEquationsHaveFault, HasFieldFault};
 
 use crate::error::{Field, PresError};
 use crate::fields::needed;
 use crate::values::sides_at;
-use kb_record::{Value, word_of};
+use kb_record::{Place, Value, word_of};
 use kb_word::{Equations, Presentation, Word};
 use std::alloc::Global;
 
@@ -30,47 +30,50 @@ pub fn read_equations<'a>(
         (HasEquations (fields_view fields.now) presentation.now.names presentation.now.inv) }
     ensures fault { IfErr result (HasFieldFault (fields_view fields.now)) }
 {
-    let Value::List(places) = needed(fields, Field::Equations)? else {
+    let list = needed(fields, Field::Equations)?;
+    let Some(count) = list.place_count() else {
         return Err(PresError::WrongKind {
             field: Field::Equations,
         });
     };
-    if places.len() > MOST_EQUATIONS {
+    if count > MOST_EQUATIONS {
         return Err(PresError::TooManyEquations);
     }
-    equations_at(alloc, places.as_slice(), presentation)
+    equations_in(alloc, list, count, presentation)
 }
 
-/// The equations at the places of a list, each with its sides' words before the next.
-fn equations_at<'a>(
+/// The equations of a list of so many places, each with its sides' words before the next.
+fn equations_in<'a>(
     alloc: Global,
-    places: &[Option<Value<'a>>],
+    list: &Value<'a>,
+    count: usize,
     presentation: &Presentation,
 ) -> Result<Equations, PresError>
+    requires { length (listed (value_view list.now)) ≡ count }
     ensures read { IfOk result
-        (AreEquations presentation.now.names presentation.now.inv (places_view places.now)) }
+        (AreEquations presentation.now.names presentation.now.inv
+        (places_of (listed (value_view list.now)))) }
     ensures fault { IfErr result
         (PlacesOfEquationsHaveFault presentation.now.names presentation.now.inv
-        (places_view places.now)) }
+        (places_of (listed (value_view list.now)))) }
 {
-    let mut equations = Vec::with_capacity(alloc, places.len())?;
-    for place in places {
-        equations.push(read_equation(alloc, place, presentation)?)?;
+    let mut equations = Vec::with_capacity(alloc, count)?;
+    for place in 0..count {
+        equations.push(equation_at(alloc, list.place(place), presentation)?)?;
     }
     Ok(Equations::from_vec(equations))
 }
 
 /// The equation at a place of the list, its left side first.
-fn read_equation<'a>(
+fn equation_at(
     alloc: Global,
-    place: &Option<Value<'a>>,
+    place: Place<'_, '_>,
     presentation: &Presentation,
 ) -> Result<(Word, Word), PresError>
     ensures read { IfOk result
-        (IsEquation presentation.now.names presentation.now.inv (option_map value_view place.now)) }
+        (IsEquation presentation.now.names presentation.now.inv (place_view place.entry)) }
     ensures fault { IfErr result
-        (PlaceHasFault presentation.now.names presentation.now.inv
-        (option_map value_view place.now)) }
+        (PlaceHasFault presentation.now.names presentation.now.inv (place_view place.entry)) }
 {
     let Some((left, right)) = sides_at(place) else {
         return Err(PresError::WrongKind {

@@ -12,6 +12,7 @@ pub mod ReadRows
 pub mod Unique
 pub mod ValueForms
 pub mod Views
+pub mod Taken
 pub mod TokensToBytes
 pub mod OpenBrackets
 pub mod Shallow

@@ -1,12 +1,14 @@
 -- Texts that are printed piece by piece, and the printed texts as pieces.
-use Rattle.std.proofs.Common.{◌≡◌, ℕ, suc, ◌+◌, ◌<◌, ◌≤◌, ◌*◌, List, [], ◌∷◌, ◌++◌, length, get_or, drop, replicate, Option, Some, None, true, Result, Ok, Err, OnOk, OnErr, refl, sym, ap, ◌∙◌, arith, append_assoc, append-nil}
-use Rattle.std.specs.Prelude.{codes}
+use Rattle.std.proofs.Common.{◌≡◌, ℕ, suc, ◌+◌, ◌<◌, ◌≤◌, ◌*◌, List, [], ◌∷◌, ◌++◌, length, get_or, drop, replicate, Option, Some, None, option_map, ℤ, map, true, false, Result, Ok, Err, OnOk, OnErr, refl, sym, ap, ◌∙◌, arith, append_assoc, append-nil}
+use Rattle.std.specs.Prelude.{codes, slice_get}
 use Rattle.std.specs.Borrow.{Bor}
+use Rattle.std.specs.Option.{IsSome}
+use Rattle.std.proofs.lemmas.Option.{slice_get_within, get_or_from_slice_get, slice_get-get_or, none-some}
 use Rattle.std.proofs.lemmas.List.{drop_more, drop_all, replicate-append-replicate}
 use Rattle.kb_record.specs.Tree.{Value as ValueTree, number_value, string_value, record_value, list_value, range_value, word_value, Places, no_places, place, empty_place}
-use Rattle.kb_record.specs.View.{factor_view, factors_view, value_view, fields_view, places_view}
+use Rattle.kb_record.specs.View.{factor_view, factors_view, value_view, fields_view, places_of, number_place}
 use Rattle.kb_record.specs.Layout.{word_text, factor_text, more_factors_text, line_of, line_of_fields, line_of_more_fields, line_of_places, line_of_more_places, indent, text_of_value, text_of_fields, lines_of_places, are_lists, is_table}
-use Rattle.kb_record.specs.Printing.{pieces, IsPrintedUpTo, line_of_field, text_of_field, line_of_place, row_of_place}
+use Rattle.kb_record.specs.Printing.{pieces, IsPrintedUpTo, line_of_field, text_of_field, line_at, line_of_place, row_at, row_of_place, list_of, list_place}
 use Rattle.kb_record.specs.declared.tree.Factor.{Factor}
 use Rattle.kb_record.specs.declared.tree.Value.{Value}
 
@@ -61,6 +63,24 @@ pieces_go text between ending xs whole old before now index x mid next h inside 
           ∙ sym (append_assoc h.done (before ++ text x) (left ++ ending));
     }
 
+-- the same where the piece was read at its place
+pub pieces_go_at : {A : Type 0} (text : A → List ℕ) (between ending : List ℕ) (xs : List A) (whole old before now : List ℕ) (index : ℕ) (x : A) (mid next : List ℕ)
+    → IsPrintedUpTo text between ending xs whole old index before now → slice_get xs index ≡ Some x → mid ≡ now ++ before → next ≡ mid ++ text x
+    → IsPrintedUpTo text between ending xs whole old (index + 1) between next
+pieces_go_at text between ending xs whole old before now index x mid next h is =
+    pieces_go text between ending xs whole old before now index x mid next h (slice_get_within xs index x is) (sym (get_or_from_slice_get xs index x x is))
+
+-- a list that was read at its place
+pub list_at : {A : Type 0} (lists : List (List A)) (index : ℕ) (found : Option (Bor (List A))) (list : Bor (List A))
+    → slice_get lists index ≡ option_map (λ (x : Bor (List A)). x.now) found → found ≡ Some list → slice_get lists index ≡ Some list.now
+list_at lists index found list e is = e ∙ ap (option_map (λ (x : Bor (List _)). x.now)) is
+
+-- there is one at each place
+pub list_there : {A : Type 0} (lists : List (List A)) (index : ℕ) (found : Option (Bor (List A)))
+    → slice_get lists index ≡ option_map (λ (x : Bor (List A)). x.now) found → index < length lists → IsSome found
+list_there lists index None e inside = absurd (none-some _ (sym e ∙ slice_get-get_or lists index [] inside))
+list_there lists index (Some list) e inside = refl
+
 -- behind the last piece
 pub pieces_end : {A : Type 0} (text : A → List ℕ) (between ending : List ℕ) (xs : List A) (whole old before now : List ℕ) (index : ℕ) (mid : List ℕ)
     → IsPrintedUpTo text between ending xs whole old index before now → length xs ≤ index → mid ≡ now ++ ending → mid ≡ old ++ whole
@@ -97,23 +117,43 @@ field_pieces (f ∷ fs) =
 pub record_pieces : (fs : List (Bor (List ℕ) × Value)) → codes "rec(" ++ (pieces line_of_field [] (codes ",") fs ++ codes ")") ≡ line_of (record_value (fields_view fs))
 record_pieces fs = ap (λ t. codes "rec(" ++ (t ++ codes ")")) (field_pieces fs)
 
-more_place_pieces : (ps : List (Option Value)) → line_of_more_places (places_view ps) ≡ pieces line_of_place (codes ",") (codes ",") ps
-more_place_pieces [] = refl
-more_place_pieces (None ∷ ps) = ap (λ t. codes "," ++ t) (more_place_pieces ps)
-more_place_pieces (Some v ∷ ps) = ap (λ t. codes "," ++ (line_of (value_view v) ++ t)) (more_place_pieces ps)
+more_places : (p : Option ValueTree) (ps : List (Option ValueTree)) (t : List ℕ) → line_of_more_places (places_of ps) ≡ t → line_of_more_places (places_of (p ∷ ps)) ≡ codes "," ++ (line_at p ++ t)
+more_places None ps t e = ap (λ u. codes "," ++ u) e
+more_places (Some v) ps t e = ap (λ u. codes "," ++ (line_of v ++ u)) e
 
-place_pieces : (ps : List (Option Value)) → pieces line_of_place [] (codes ",") ps ≡ line_of_places (places_view ps)
-place_pieces [] = refl
-place_pieces (None ∷ ps) = sym (more_place_pieces ps)
-place_pieces (Some v ∷ ps) = ap (λ t. line_of (value_view v) ++ t) (sym (more_place_pieces ps))
+more_place_pieces : {A : Type 0} (seen : A → Option ValueTree) (xs : List A) → line_of_more_places (places_of (map seen xs)) ≡ pieces (line_of_place seen) (codes ",") (codes ",") xs
+more_place_pieces seen [] = refl
+more_place_pieces seen (x ∷ xs) = more_places (seen x) (map seen xs) _ (more_place_pieces seen xs)
 
-pub list_pieces : (ps : List (Option Value)) → codes "[" ++ (pieces line_of_place [] (codes ",") ps ++ codes "]") ≡ line_of (list_value (places_view ps))
-list_pieces ps = ap (λ t. codes "[" ++ (t ++ codes "]")) (place_pieces ps)
+place_pieces : {A : Type 0} (seen : A → Option ValueTree) (xs : List A) → pieces (line_of_place seen) [] (codes ",") xs ≡ line_of_places (places_of (map seen xs))
+place_pieces seen [] = refl
+place_pieces seen (x ∷ xs) =
+    ap (λ t. line_at (seen x) ++ t) (sym (more_place_pieces seen xs)) ∙ first (seen x) (map seen xs)
+  where
+    first : (p : Option ValueTree) (ps : List (Option ValueTree)) → line_at p ++ line_of_more_places (places_of ps) ≡ line_of_places (places_of (p ∷ ps))
+    first None ps = refl
+    first (Some v) ps = refl
 
-pub place_some : (p : Option Value) (v : Value) (half mid : List ℕ) → p ≡ Some v → mid ≡ half ++ line_of (value_view v) → mid ≡ half ++ line_of_place p
-place_some p v half mid is e = e ∙ ap (λ q. half ++ line_of_place q) (sym is)
+list_pieces : {A : Type 0} (seen : A → Option ValueTree) (xs : List A) → codes "[" ++ (pieces (line_of_place seen) [] (codes ",") xs ++ codes "]") ≡ line_of (list_of seen xs)
+list_pieces seen xs = ap (λ t. codes "[" ++ (t ++ codes "]")) (place_pieces seen xs)
 
-pub place_none : (p : Option Value) (half : List ℕ) → ((v : Value) → p ≡ Some v → ⊥) → half ≡ half ++ line_of_place p
+-- a list of items on one line, printed up to a place
+abbrev pub IsListUpTo : {A : Type 0} → (A → Option ValueTree) → List A → List ℕ → ℕ → List ℕ → List ℕ → Type 0
+IsListUpTo seen xs old index before now =
+    IsPrintedUpTo (line_of_place seen) (codes ",") (codes "]") xs (codes "[" ++ (pieces (line_of_place seen) [] (codes ",") xs ++ codes "]")) old index before now
+
+pub list_start : {A : Type 0} (seen : A → Option ValueTree) (xs : List A) (old now : List ℕ) → now ≡ old ++ codes "[" → IsListUpTo seen xs old 0 [] now
+list_start seen xs old now e = pieces_start (line_of_place seen) [] (codes ",") (codes "]") xs old (codes "[") now e
+
+pub list_end : {A : Type 0} (seen : A → Option ValueTree) (xs : List A) (old before now : List ℕ) (index : ℕ) (mid : List ℕ)
+    → IsListUpTo seen xs old index before now → length xs ≤ index → mid ≡ now ++ codes "]" → mid ≡ old ++ line_of (list_of seen xs)
+list_end seen xs old before now index mid h all e =
+    pieces_end _ _ _ _ _ _ _ _ _ _ h all e ∙ ap (λ t. old ++ t) (list_pieces seen xs)
+
+pub place_some : (p : Option Value) (v : Value) (half mid : List ℕ) → p ≡ Some v → mid ≡ half ++ line_of (value_view v) → mid ≡ half ++ line_of_place (option_map value_view) p
+place_some p v half mid is e = e ∙ ap (λ q. half ++ line_of_place (option_map value_view) q) (sym is)
+
+pub place_none : (p : Option Value) (half : List ℕ) → ((v : Value) → p ≡ Some v → ⊥) → half ≡ half ++ line_of_place (option_map value_view) p
 place_none None half none = sym (append-nil half)
 place_none (Some v) half none = absurd (none v refl)
 
@@ -153,31 +193,77 @@ lists_behind (record_value _) others e = cc
 lists_behind (range_value _ _) others e = cc
 lists_behind (word_value _) others e = cc
 
-some_rows : (level : ℕ) (v : Value) (ps : List (Option Value)) (after : List ℕ) → are_lists (places_view (Some v ∷ ps)) ≡ true
-    → row_of_place level (Some v) ++ (pieces (row_of_place level) (codes ",\n") (codes ",\n") ps ++ (codes "\n" ++ after)) ≡ lines_of_places level (places_view (Some v ∷ ps)) ++ after
+some_rows : (level : ℕ) (v : ValueTree) (ps : List (Option ValueTree)) (after : List ℕ) → are_lists (places_of (Some v ∷ ps)) ≡ true
+    → row_at level (Some v) ++ (pieces (row_at level) (codes ",\n") (codes ",\n") ps ++ (codes "\n" ++ after)) ≡ lines_of_places level (places_of (Some v ∷ ps)) ++ after
 some_rows level v [] after e = simp append_assoc
-some_rows level v (None ∷ ps) after e = let none = lists_behind (value_view v) (places_view (None ∷ ps)) e in absurd cc
+some_rows level v (None ∷ ps) after e = let none = lists_behind v (places_of (None ∷ ps)) e in absurd cc
 some_rows level v (Some w ∷ ps) after e =
-    let more = some_rows level w ps after (lists_behind (value_view v) (places_view (Some w ∷ ps)) e) in
-    let row = row_of_place level (Some v) in
-    let here : row ++ (codes ",\n" ++ (lines_of_places level (places_view (Some w ∷ ps)) ++ after)) ≡ lines_of_places level (places_view (Some v ∷ (Some w ∷ ps))) ++ after = simp append_assoc in
-    ap (λ t. row ++ (codes ",\n" ++ t)) (append_assoc (row_of_place level (Some w)) (pieces (row_of_place level) (codes ",\n") (codes ",\n") ps) (codes "\n" ++ after) ∙ more) ∙ here
+    let more = some_rows level w ps after (lists_behind v (places_of (Some w ∷ ps)) e) in
+    let row = row_at level (Some v) in
+    let here : row ++ (codes ",\n" ++ (lines_of_places level (places_of (Some w ∷ ps)) ++ after)) ≡ lines_of_places level (places_of (Some v ∷ (Some w ∷ ps))) ++ after = simp append_assoc in
+    ap (λ t. row ++ (codes ",\n" ++ t)) (append_assoc (row_at level (Some w)) (pieces (row_at level) (codes ",\n") (codes ",\n") ps) (codes "\n" ++ after) ∙ more) ∙ here
 
-rows : (level : ℕ) (ps : List (Option Value)) (after : List ℕ) → are_lists (places_view ps) ≡ true
-    → pieces (row_of_place level) (codes "\n") (codes ",\n") ps ++ (codes "\n" ++ after) ≡ codes "\n" ++ (lines_of_places level (places_view ps) ++ after)
+rows : (level : ℕ) (ps : List (Option ValueTree)) (after : List ℕ) → are_lists (places_of ps) ≡ true
+    → pieces (row_at level) (codes "\n") (codes ",\n") ps ++ (codes "\n" ++ after) ≡ codes "\n" ++ (lines_of_places level (places_of ps) ++ after)
 rows level [] after e = refl
 rows level (None ∷ ps) after e = absurd cc
 rows level (Some v ∷ ps) after e =
-    ap (λ t. codes "\n" ++ t) (append_assoc (row_of_place level (Some v)) (pieces (row_of_place level) (codes ",\n") (codes ",\n") ps) (codes "\n" ++ after) ∙ some_rows level v ps after e)
+    ap (λ t. codes "\n" ++ t) (append_assoc (row_at level (Some v)) (pieces (row_at level) (codes ",\n") (codes ",\n") ps) (codes "\n" ++ after) ∙ some_rows level v ps after e)
 
-pub table_rows : (level : ℕ) (ps : List (Option Value)) → is_table (places_view ps) ≡ true
-    → codes "[" ++ (pieces (row_of_place (suc level)) (codes "\n") (codes ",\n") ps ++ (codes "\n" ++ (indent level ++ codes "]"))) ≡ text_of_value level (list_value (places_view ps))
-table_rows level ps e =
-    ap (λ t. codes "[" ++ t) (rows (suc level) ps (indent level ++ codes "]") (each (places_view ps) e))
-    ∙ ap (λ t. codes "[\n" ++ t) (sym (append_assoc (lines_of_places (suc level) (places_view ps)) (indent level) (codes "]")))
+-- the pieces of items are those of the places that they are seen as
+seen_rows : {A : Type 0} (level : ℕ) (seen : A → Option ValueTree) (before between : List ℕ) (xs : List A) → pieces (row_of_place level seen) before between xs ≡ pieces (row_at level) before between (map seen xs)
+seen_rows level seen before between [] = refl
+seen_rows level seen before between (x ∷ xs) = ap (λ t. before ++ (row_at level (seen x) ++ t)) (seen_rows level seen between between xs)
+
+table_rows : {A : Type 0} (level : ℕ) (seen : A → Option ValueTree) (xs : List A) → is_table (places_of (map seen xs)) ≡ true
+    → codes "[" ++ (pieces (row_of_place (suc level) seen) (codes "\n") (codes ",\n") xs ++ (codes "\n" ++ (indent level ++ codes "]"))) ≡ text_of_value level (list_of seen xs)
+table_rows level seen xs e =
+    let places = places_of (map seen xs) in
+    let ending = codes "\n" ++ (indent level ++ codes "]") in
+    ap (λ t. codes "[" ++ (t ++ ending)) (seen_rows (suc level) seen (codes "\n") (codes ",\n") xs)
+    ∙ ap (λ t. codes "[" ++ t) (rows (suc level) (map seen xs) (indent level ++ codes "]") (each places e))
+    ∙ ap (λ t. codes "[\n" ++ t) (sym (append_assoc (lines_of_places (suc level) places) (indent level) (codes "]")))
     ∙ sym (rw e)
   where
     each : (places : Places) → is_table places ≡ true → are_lists places ≡ true
     each no_places h = absurd cc
     each (place v others) h = h
     each (empty_place others) h = h
+
+-- a list at a level, printed up to a place, each place on a line of its own
+abbrev pub IsTableUpTo : {A : Type 0} → ℕ → (A → Option ValueTree) → List A → List ℕ → ℕ → List ℕ → List ℕ → Type 0
+IsTableUpTo level seen xs old index before now =
+    IsPrintedUpTo (row_of_place (suc level) seen) (codes ",\n") (codes "\n" ++ (indent level ++ codes "]")) xs
+    (codes "[" ++ (pieces (row_of_place (suc level) seen) (codes "\n") (codes ",\n") xs ++ (codes "\n" ++ (indent level ++ codes "]")))) old index before now
+
+pub table_start : {A : Type 0} (level : ℕ) (seen : A → Option ValueTree) (xs : List A) (old now : List ℕ) → now ≡ old ++ codes "[" → IsTableUpTo level seen xs old 0 (codes "\n") now
+table_start level seen xs old now e =
+    pieces_start (row_of_place (suc level) seen) (codes "\n") (codes ",\n") (codes "\n" ++ (indent level ++ codes "]")) xs old (codes "[") now e
+
+pub table_go : {A : Type 0} (level : ℕ) (seen : A → Option ValueTree) (xs : List A) (old before now : List ℕ) (index : ℕ) (x : A) (mid next : List ℕ)
+    → IsTableUpTo level seen xs old index before now → slice_get xs index ≡ Some x → mid ≡ now ++ before → next ≡ mid ++ row_of_place (suc level) seen x → IsTableUpTo level seen xs old (index + 1) (codes ",\n") next
+table_go level seen xs old before now index x mid next h is e f = pieces_go_at _ _ _ _ _ _ _ _ index x mid next h is e f
+
+pub table_end : {A : Type 0} (level : ℕ) (seen : A → Option ValueTree) (xs : List A) (old before now : List ℕ) (index : ℕ) (mid : List ℕ)
+    → is_table (places_of (map seen xs)) ≡ true → IsTableUpTo level seen xs old index before now → length xs ≤ index
+    → mid ≡ now ++ (codes "\n" ++ (indent level ++ codes "]")) → mid ≡ old ++ text_of_value level (list_of seen xs)
+table_end level seen xs old before now index mid table h all e =
+    pieces_end _ _ _ _ _ _ _ _ _ _ h all e ∙ ap (λ t. old ++ t) (table_rows level seen xs table)
+
+-- a list is on one line where it is no table
+pub no_table : {A : Type 0} (level : ℕ) (seen : A → Option ValueTree) (xs : List A) → is_table (places_of (map seen xs)) ≡ false → text_of_value level (list_of seen xs) ≡ line_of (list_of seen xs)
+no_table level seen xs e = rw e
+
+-- a list of numbers is no table
+pub numbers_no_table : (numbers : List ℤ) → is_table (places_of (map number_place numbers)) ≡ false
+numbers_no_table [] = refl
+numbers_no_table (z ∷ numbers) = refl
+
+-- lists in a list are a table if there is one
+lists_are_lists : {A : Type 0} (seen : A → Option ValueTree) (lists : List (List A)) → are_lists (places_of (map (list_place seen) lists)) ≡ true
+lists_are_lists seen [] = refl
+lists_are_lists seen (xs ∷ lists) = lists_are_lists seen lists
+
+pub lists_are_table : {A : Type 0} (seen : A → Option ValueTree) (lists : List (List A)) → 0 < length lists → is_table (places_of (map (list_place seen) lists)) ≡ true
+lists_are_table seen [] some = absurd (omega (arith, some))
+lists_are_table seen (xs ∷ lists) some = lists_are_lists seen lists

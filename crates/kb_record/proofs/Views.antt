@@ -2,9 +2,9 @@
 use Rattle.std.proofs.Common.{◌≡◌, ℕ, List, [], ◌∷◌, map, refl, ap, rules, Option, Some, None, ℤ, Vec, Global, sym, ◌∙◌}
 use Rattle.std.specs.Borrow.{Bor}
 use Rattle.kb_record.specs.Tree.{field, record_value, list_value, Value as ValueTree}
-use Rattle.kb_record.specs.View.{value_view, fields_of, places_of, places_view, number_place, row_place, entries_place}
+use Rattle.kb_record.specs.View.{value_view, fields_of, places_of, places_view, number_place, row_place, entry_place, entries_place}
 use Rattle.kb_record.specs.Reading.{fields_from, field_view}
-use Rattle.kb_record.specs.Listed.{places_in, listed, HasPlaces}
+use Rattle.kb_record.specs.Listed.{places_in, listed, HasPlaces, pair_row}
 use Rattle.kb_record.specs.declared.tree.Value.{Value, Record, List as Listed, Numbers, Rows, Entries, the_lemmas}
 
 -- the fields in two ways
@@ -38,3 +38,11 @@ listed-is value ps e = ap listed e ∙ places_in-of ps
 
 pub has_its_places : (value : ValueTree) (ps : List (Option ValueTree)) → HasPlaces value ps → HasPlaces value (listed value)
 has_its_places value ps e = e ∙ ap (λ qs. list_value (places_of qs)) (sym (listed-is value ps e))
+
+-- rows of two numbers are entries
+pub row-pairs : (pairs : List (ℤ × ℤ)) → map row_place (map pair_row pairs) ≡ map entry_place pairs
+row-pairs [] = refl
+row-pairs (pair ∷ pairs) = ap (λ ps. entry_place pair ∷ ps) (row-pairs pairs)
+
+pub view-pairs : (rows : List (List ℤ)) (pairs : List (ℤ × ℤ)) → rows ≡ map pair_row pairs → value_view (Rows rows) ≡ list_value (places_of (map entry_place pairs))
+view-pairs rows pairs e = view-Rows rows ∙ ap (λ ps. list_value (places_of ps)) (ap (map row_place) e ∙ row-pairs pairs)

@@ -1,8 +1,7 @@
 -- The places of lists.
-use Rattle.std.specs.Prelude.{◌≡◌, ℕ, ℤ, List, [], ◌∷◌, ◌++◌, Option, Some, None, map}
-use Rattle.kb_record.specs.Tree.{Value as ValueTree, number_value, list_value, Places, no_places, place, empty_place}
+use Rattle.std.specs.Prelude.{◌≡◌, ℤ, List, [], ◌∷◌, Option, Some, None}
+use Rattle.kb_record.specs.Tree.{Value as ValueTree, list_value, Places, no_places, place, empty_place}
 use Rattle.kb_record.specs.View.{value_view, places_of, number_place, row_place, entries_place}
-use Rattle.kb_record.specs.declared.tree.Value.{Value}
 use Rattle.kb_record.specs.declared.listed.Place.{Place}
 use Rattle.kb_record.specs.declared.listed.Place.TheVariants as variants
 
@@ -28,3 +27,7 @@ place_view (variants.Value value) = Some (value_view value.now)
 place_view (variants.Number z) = number_place z
 place_view (variants.Numbers numbers) = row_place numbers.now
 place_view (variants.Entries entries) = entries_place entries.now
+
+-- a pair of numbers as a row
+abbrev pub pair_row : ℤ × ℤ → List ℤ
+pair_row pair = pair.0 ∷ pair.1 ∷ []

@@ -1,9 +1,9 @@
 -- Texts that are printed piece by piece.
-use Rattle.std.specs.Prelude.{◌≡◌, ℕ, List, [], ◌∷◌, ◌++◌, drop, codes, Bool, true, false, Option, Some, None}
+use Rattle.std.specs.Prelude.{◌≡◌, ℕ, List, [], ◌∷◌, ◌++◌, drop, codes, map, Bool, true, false, Option, Some, None}
 use Rattle.std.specs.Borrow.{Bor}
 use Rattle.kb_record.specs.Layout.{line_of, text_of_value, indent}
 use Rattle.kb_record.specs.Tree.{Value as ValueTree, list_value}
-use Rattle.kb_record.specs.View.{value_view}
+use Rattle.kb_record.specs.View.{value_view, places_of}
 use Rattle.kb_record.specs.declared.tree.Value.{Value}
 
 -- something, or nothing, stands behind what was there
@@ -29,14 +29,30 @@ line_of_field f = f.0.now ++ codes " := " ++ line_of (value_view f.1)
 abbrev pub text_of_field : ℕ → Bor (List ℕ) × Value → List ℕ
 text_of_field level f = indent level ++ f.0.now ++ codes " := " ++ text_of_value level (value_view f.1)
 
--- the value of a place on one line, or nothing
-abbrev pub line_of_place : Option Value → List ℕ
-line_of_place None = []
-line_of_place (Some v) = line_of (value_view v)
+-- what stands at a place on one line, or nothing
+abbrev pub line_at : Option ValueTree → List ℕ
+line_at None = []
+line_at (Some v) = line_of v
 
 -- the same on a line of its own
-abbrev pub row_of_place : ℕ → Option Value → List ℕ
-row_of_place level p = indent level ++ line_of_place p
+abbrev pub row_at : ℕ → Option ValueTree → List ℕ
+row_at level p = indent level ++ line_at p
+
+-- the place that an item is seen as, on one line
+abbrev pub line_of_place : {A : Type 0} → (A → Option ValueTree) → A → List ℕ
+line_of_place seen x = line_at (seen x)
+
+-- the same on a line of its own
+abbrev pub row_of_place : {A : Type 0} → ℕ → (A → Option ValueTree) → A → List ℕ
+row_of_place level seen x = row_at level (seen x)
+
+-- a list of items, each of which is seen as a place
+abbrev pub list_of : {A : Type 0} → (A → Option ValueTree) → List A → ValueTree
+list_of seen xs = list_value (places_of (map seen xs))
+
+-- and that list at a place
+abbrev pub list_place : {A : Type 0} → (A → Option ValueTree) → List A → Option ValueTree
+list_place seen xs = Some (list_of seen xs)
 
 -- the place has a value, a list
 abbrev pub holds_list : Option ValueTree → Bool

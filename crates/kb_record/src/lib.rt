@@ -40,7 +40,7 @@
 //!   grammar, `specs/Grammar.antt`, is proved in `proofs/`.
 //! - `meaning` evaluates the tree of a word.
 //! - `printing` goes down the tree of a record, and appends the pieces in order: `print_on_line` what stands on one
-//!   line, `print_value` what stands at a level.
+//!   line, `print_value` what stands at a level. `flat` appends the lists that keep their numbers side by side.
 //!
 //! # Where the proofs are
 //!
@@ -53,7 +53,8 @@
 //! - `proofs/TokensToBytes.antt`, with `TextFronts`: from what the tokens say to what the bytes say.
 //! - `proofs/WordMeanings.antt`, `proofs/WordFaults.antt`: names, repetitions and powers; bytes that mean a word have
 //!   no fault.
-//! - `proofs/PrintedPieces.antt`: texts that are printed piece by piece.
+//! - `proofs/PrintedPieces.antt`: texts that are printed piece by piece. A list is printed by its places, whatever
+//!   items they are kept as.
 //! - `proofs/PrintedTokens.antt`, with `TokenTexts` and `Numerals`: the tokens of a printed text are those of its tree.
 //!   `SpelledTrees`: the trees of texts can be spelled.
 //! - `proofs/ReadRows.antt`, `PassedMarks`, `Depths`, `Views`: one step of the functions and of the trees.
@@ -64,6 +65,7 @@
 
 mod cursor;
 mod error;
+mod flat;
 mod laws;
 mod listed;
 mod longer;

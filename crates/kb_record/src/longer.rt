@@ -1,12 +1,15 @@
 //! Lists that grow place by place, each in the smallest form that has room for it.
+//!
+//! A list of numbers, of lists of numbers or of lists of pairs of numbers stays in a form of its own while its places
+//! allow; a place that doesn't fit makes it a list of any values.
 
-ghost use Rattle.std.specs.Prelude.{◌≡◌, ◌++◌, ◌∷◌, [], List, Option, IfOk};
+ghost use Rattle.std.specs.Prelude.{◌≡◌, ◌++◌, ◌∷◌, [], map, Some, IfOk, IfSome};
 ghost use Rattle.std.specs.Option.{option_map};
-ghost use Rattle.kb_record.specs.Tree as tree;
-ghost use Rattle.kb_record.specs.View.{value_view};
-ghost use Rattle.kb_record.specs.Listed.{HasPlaces};
+ghost use Rattle.kb_record.specs.View.{value_view, number_place, row_place, entry_place, entries_place};
+ghost use Rattle.kb_record.specs.Listed.{listed, HasPlaces, pair_row};
 
 use crate::tree::Value;
+use kb_ragged::Ragged;
 use kb_word::Memory;
 use std::alloc::Global;
 
@@ -16,9 +19,256 @@ pub(crate) fn longer<'a>(
     list: Value<'a>,
     place: Option<Value<'a>>,
 ) -> Result<Value<'a>, Memory>
-    ensures { (before : List (Option tree.Value)) → HasPlaces (value_view list.entry) before
-        → IfOk result (λ longer. HasPlaces (value_view longer)
-        (before ++ option_map value_view place.entry ∷ [])) }
+    requires { HasPlaces (value_view list) (listed (value_view list)) }
+    ensures { IfOk result (λ longer. HasPlaces (value_view longer)
+        (listed (value_view list.entry) ++ option_map value_view place.entry ∷ [])) }
 {
-    Err(Memory)
+    match list {
+        Value::Numbers(numbers) => longer_numbers(alloc, numbers, place),
+        Value::Rows(rows) => longer_rows(alloc, rows, place),
+        Value::Entries(rows) => longer_entries(alloc, rows, place),
+        Value::List(places) => longer_any(alloc, places, place),
+        _ => unreachable!(),
+    }
+}
+
+/// A list of any values, or of none, with one place more.
+fn longer_any<'a>(
+    alloc: Global,
+    places: Vec<Option<Value<'a>>>,
+    place: Option<Value<'a>>,
+) -> Result<Value<'a>, Memory>
+    ensures { IfOk result (λ list. HasPlaces (value_view list)
+        (map (option_map value_view) places.entry.items
+        ++ option_map value_view place.entry ∷ [])) }
+{
+    if places.is_empty() {
+        return list_of_one(alloc, place);
+    }
+    longer_list(places, place)
+}
+
+/// A list of one place.
+fn list_of_one<'a>(alloc: Global, place: Option<Value<'a>>) -> Result<Value<'a>, Memory>
+    ensures { IfOk result
+        (λ list. HasPlaces (value_view list) (option_map value_view place.entry ∷ [])) }
+{
+    match place {
+        Some(Value::Number(number)) => longer_numbers_by(Vec::new(alloc), number),
+        Some(Value::Numbers(row)) => longer_rows_by(Ragged::new(alloc)?, row.as_slice()),
+        Some(value) => list_of_value(alloc, value),
+        None => longer_list(Vec::new(alloc), None),
+    }
+}
+
+/// A list of one place with a value.
+fn list_of_value<'a>(alloc: Global, value: Value<'a>) -> Result<Value<'a>, Memory>
+    ensures { IfOk result
+        (λ list. HasPlaces (value_view list) (Some (value_view value.entry) ∷ [])) }
+{
+    match pairs_of(alloc, &value)? {
+        Some(pairs) => longer_entries_by(Ragged::new(alloc)?, pairs.as_slice()),
+        None => longer_list(Vec::new(alloc), Some(value)),
+    }
+}
+
+/// A list of any values with one place more.
+fn longer_list<'a>(
+    places: Vec<Option<Value<'a>>>,
+    place: Option<Value<'a>>,
+) -> Result<Value<'a>, Memory>
+    ensures { IfOk result (λ list. HasPlaces (value_view list)
+        (map (option_map value_view) places.entry.items
+        ++ option_map value_view place.entry ∷ [])) }
+{
+    let mut places = places;
+    places.push(place)?;
+    Ok(Value::List(places))
+}
+
+/// A list of numbers with one place more.
+fn longer_numbers<'a>(
+    alloc: Global,
+    numbers: Vec<i64>,
+    place: Option<Value<'a>>,
+) -> Result<Value<'a>, Memory>
+    ensures { IfOk result (λ list. HasPlaces (value_view list)
+        (map number_place numbers.items ++ option_map value_view place.entry ∷ [])) }
+{
+    match place {
+        Some(Value::Number(number)) => longer_numbers_by(numbers, number),
+        place => longer_list(numbers_apart(alloc, numbers.as_slice())?, place),
+    }
+}
+
+/// A list of numbers with one number more.
+fn longer_numbers_by<'a>(numbers: Vec<i64>, number: i64) -> Result<Value<'a>, Memory>
+    ensures { IfOk result (λ list. HasPlaces (value_view list)
+        (map number_place numbers.items ++ number_place number ∷ [])) }
+{
+    let mut numbers = numbers;
+    numbers.push(number)?;
+    Ok(Value::Numbers(numbers))
+}
+
+/// A list of lists of numbers with one place more.
+fn longer_rows<'a>(
+    alloc: Global,
+    rows: Ragged<i64>,
+    place: Option<Value<'a>>,
+) -> Result<Value<'a>, Memory>
+    ensures { IfOk result (λ list. HasPlaces (value_view list)
+        (map row_place rows ++ option_map value_view place.entry ∷ [])) }
+{
+    match place {
+        Some(Value::Numbers(row)) => longer_rows_by(rows, row.as_slice()),
+        place => longer_list(rows_apart(alloc, &rows)?, place),
+    }
+}
+
+/// A list of lists of numbers with one such list more.
+fn longer_rows_by<'a>(rows: Ragged<i64>, row: &[i64]) -> Result<Value<'a>, Memory>
+    ensures { IfOk result (λ list. HasPlaces (value_view list)
+        (map row_place rows ++ row_place row.now ∷ [])) }
+{
+    let mut rows = rows;
+    rows.push(row)?;
+    Ok(Value::Rows(rows))
+}
+
+/// A list of lists of pairs with one place more.
+fn longer_entries<'a>(
+    alloc: Global,
+    rows: Ragged<(i64, i64)>,
+    place: Option<Value<'a>>,
+) -> Result<Value<'a>, Memory>
+    ensures { IfOk result (λ list. HasPlaces (value_view list)
+        (map entries_place rows ++ option_map value_view place.entry ∷ [])) }
+{
+    match pairs_at(alloc, &place)? {
+        Some(pairs) => longer_entries_by(rows, pairs.as_slice()),
+        None => longer_list(entries_apart(alloc, &rows)?, place),
+    }
+}
+
+/// A list of lists of pairs with one such list more.
+fn longer_entries_by<'a>(
+    rows: Ragged<(i64, i64)>,
+    pairs: &[(i64, i64)],
+) -> Result<Value<'a>, Memory>
+    ensures { IfOk result (λ list. HasPlaces (value_view list)
+        (map entries_place rows ++ entries_place pairs.now ∷ [])) }
+{
+    let mut rows = rows;
+    rows.push(pairs)?;
+    Ok(Value::Entries(rows))
+}
+
+/// The pairs at a place that holds a list of pairs of numbers.
+fn pairs_at<'a>(alloc: Global, place: &Option<Value<'a>>) -> Result<Option<Vec<(i64, i64)>>, Memory>
+    ensures { IfOk result (λ pairs. IfSome pairs
+        (λ pairs. option_map value_view place.now ≡ entries_place pairs.items)) }
+{
+    match place {
+        Some(value) => pairs_of(alloc, value),
+        None => Ok(None),
+    }
+}
+
+/// The pairs of a value that is a list of pairs of numbers.
+fn pairs_of<'a>(alloc: Global, value: &Value<'a>) -> Result<Option<Vec<(i64, i64)>>, Memory>
+    ensures { IfOk result (λ pairs. IfSome pairs
+        (λ pairs. Some (value_view value.now) ≡ entries_place pairs.items)) }
+{
+    match value {
+        Value::Rows(rows) => pairs_in(alloc, rows),
+        Value::List(places) => Ok(no_pairs(alloc, places.as_slice())),
+        _ => Ok(None),
+    }
+}
+
+/// No pairs, where the list has no places.
+fn no_pairs<'a>(alloc: Global, places: &[Option<Value<'a>>]) -> Option<Vec<(i64, i64)>>
+    ensures { IfSome result (λ pairs. (places.now ≡ []) × (pairs.items ≡ [])) }
+{
+    match places {
+        [] => Some(Vec::new(alloc)),
+        _ => None,
+    }
+}
+
+/// The rows as pairs, where each has two numbers.
+fn pairs_in(alloc: Global, rows: &Ragged<i64>) -> Result<Option<Vec<(i64, i64)>>, Memory>
+    ensures { IfOk result (λ pairs. IfSome pairs (λ pairs. rows.now ≡ map pair_row pairs.items)) }
+{
+    let mut pairs = Vec::with_capacity(alloc, rows.len())?;
+    for place in 0..rows.len() {
+        let Some(pair) = pair_of(rows.get(place).unwrap()) else {
+            return Ok(None);
+        };
+        pairs.push(pair)?;
+    }
+    Ok(Some(pairs))
+}
+
+/// The row as a pair, where it has two numbers.
+fn pair_of(row: &[i64]) -> Option<(i64, i64)>
+    ensures { IfSome result (λ pair. row.now ≡ pair_row pair) }
+{
+    match row {
+        [first, second] => Some((*first, *second)),
+        _ => None,
+    }
+}
+
+/// Numbers as values of their own.
+fn numbers_apart<'a>(alloc: Global, numbers: &[i64]) -> Result<Vec<Option<Value<'a>>>, Memory>
+    ensures { IfOk result
+        (λ places. map (option_map value_view) places.items ≡ map number_place numbers.now) }
+{
+    let mut places = Vec::with_capacity(alloc, numbers.len())?;
+    for number in numbers {
+        places.push(Some(Value::Number(*number)))?;
+    }
+    Ok(places)
+}
+
+/// Lists of numbers as values of their own.
+fn rows_apart<'a>(alloc: Global, rows: &Ragged<i64>) -> Result<Vec<Option<Value<'a>>>, Memory>
+    ensures { IfOk result
+        (λ places. map (option_map value_view) places.items ≡ map row_place rows.now) }
+{
+    let mut places = Vec::with_capacity(alloc, rows.len())?;
+    for place in 0..rows.len() {
+        let row = Vec::from_slice(alloc, rows.get(place).unwrap())?;
+        places.push(Some(Value::Numbers(row)))?;
+    }
+    Ok(places)
+}
+
+/// Lists of pairs as values of their own.
+fn entries_apart<'a>(
+    alloc: Global,
+    rows: &Ragged<(i64, i64)>,
+) -> Result<Vec<Option<Value<'a>>>, Memory>
+    ensures { IfOk result
+        (λ places. map (option_map value_view) places.items ≡ map entries_place rows.now) }
+{
+    let mut places = Vec::with_capacity(alloc, rows.len())?;
+    for place in 0..rows.len() {
+        let row = pairs_apart(alloc, rows.get(place).unwrap())?;
+        places.push(Some(Value::Rows(row)))?;
+    }
+    Ok(places)
+}
+
+/// Pairs as rows of two numbers.
+fn pairs_apart(alloc: Global, pairs: &[(i64, i64)]) -> Result<Ragged<i64>, Memory>
+    ensures { IfOk result (λ rows. rows ≡ map pair_row pairs.now) }
+{
+    let mut rows = Ragged::new(alloc)?;
+    for (first, second) in pairs {
+        rows.push(&[*first, *second])?;
+    }
+    Ok(rows)
 }

@@ -9,6 +9,7 @@ ghost use Rattle.kb_record.specs.Layout as layout;
 ghost use Rattle.std.specs.Option.{option_map};
 ghost use Rattle.kb_record.specs.Printing.{Appended, row_of_place, holds_list};
 
+use crate::flat::{print_items, print_lists, print_lists_on_line};
 use crate::tree::{Factor, Rec, Value};
 use itoa::Buffer;
 use kb_word::Memory;
@@ -48,9 +49,9 @@ fn print_value(level: usize, value: &Value<'_>, out: &mut Vec<u8>) -> Result<(),
     match value {
         Value::Record(fields) => print_record(level, fields.as_slice(), out),
         Value::List(places) => print_list(level, places.as_slice(), out),
-        Value::Numbers(_) => Err(Memory),
-        Value::Rows(_) => Err(Memory),
-        Value::Entries(_) => Err(Memory),
+        Value::Numbers(numbers) => print_items(numbers.as_slice(), out),
+        Value::Rows(rows) => print_lists(level, rows, out),
+        Value::Entries(rows) => print_lists(level, rows, out),
         _ => print_on_line(value, out),
     }
 }
@@ -109,7 +110,8 @@ fn print_list(level: usize, places: &[Option<Value<'_>>], out: &mut Vec<u8>) -> 
 
 /// Appends the value of a place at a level, on one line.
 fn print_row(level: usize, place: &Option<Value<'_>>, out: &mut Vec<u8>) -> Result<(), Memory>
-    ensures printed { OnOk result (out.new.items ≡ out.old.items ++ row_of_place level place.now) }
+    ensures printed { OnOk result (out.new.items
+        ≡ out.old.items ++ row_of_place level (option_map value_view) place.now) }
     ensures kept { OnErr result (Appended out.old.items out.new.items) }
 {
     print_blanks(level, out)?;
@@ -135,18 +137,14 @@ fn is_table(places: &[Option<Value<'_>>]) -> bool
 fn is_list(place: &Option<Value<'_>>) -> bool
     ensures { result ≡ holds_list (option_map value_view place.now) }
 {
-    match place {
-        Some(Value::List(_)) => true,
-        Some(Value::Numbers(_)) => true,
-        Some(Value::Rows(_)) => true,
-        Some(Value::Entries(_)) => true,
-        Some(_) => false,
-        None => false,
-    }
+    matches!(
+        place,
+        Some(Value::List(_) | Value::Numbers(_) | Value::Rows(_) | Value::Entries(_))
+    )
 }
 
 /// The level of what stands within a value. Beyond the last level no memory has room for the text.
-fn one_level_in(level: usize) -> Result<usize, Memory>
+pub(crate) fn one_level_in(level: usize) -> Result<usize, Memory>
     ensures { IfOk result (λ inside. inside ≡ suc level) }
 {
     level.checked_add(1).ok_or(Memory)
@@ -166,7 +164,7 @@ pub fn print_indent(level: usize, out: &mut Vec<u8>) -> Result<(), Memory>
 }
 
 /// Appends two blanks for each level.
-fn print_blanks(level: usize, out: &mut Vec<u8>) -> Result<(), Memory>
+pub(crate) fn print_blanks(level: usize, out: &mut Vec<u8>) -> Result<(), Memory>
     ensures printed { OnOk result (out.new.items ≡ out.old.items ++ indent level) }
     ensures kept { OnErr result (Appended out.old.items out.new.items) }
 {
@@ -187,7 +185,7 @@ fn print_name(name: &str, out: &mut Vec<u8>) -> Result<(), Memory>
 }
 
 /// Ends the last line, and appends a closing bracket on a line of its own.
-fn print_close(level: usize, bracket: u8, out: &mut Vec<u8>) -> Result<(), Memory>
+pub(crate) fn print_close(level: usize, bracket: u8, out: &mut Vec<u8>) -> Result<(), Memory>
     ensures printed { OnOk result
         (out.new.items ≡ out.old.items ++ (codes "\n" ++ indent level ++ bracket ∷ [])) }
     ensures kept { OnErr result (Appended out.old.items out.new.items) }
@@ -210,9 +208,9 @@ fn print_on_line(value: &Value<'_>, out: &mut Vec<u8>) -> Result<(), Memory>
         Value::String(text) => print_string(text, out),
         Value::Record(fields) => print_record_on_line(fields.as_slice(), out),
         Value::List(places) => print_list_on_line(places.as_slice(), out),
-        Value::Numbers(_) => Err(Memory),
-        Value::Rows(_) => Err(Memory),
-        Value::Entries(_) => Err(Memory),
+        Value::Numbers(numbers) => print_items(numbers.as_slice(), out),
+        Value::Rows(rows) => print_lists_on_line(rows, out),
+        Value::Entries(rows) => print_lists_on_line(rows, out),
         Value::Range(from, to) => print_range(*from, *to, out),
         Value::Word(word) => print_word(word.factors.as_slice(), out),
     }

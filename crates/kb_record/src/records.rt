@@ -2,13 +2,15 @@
 //!
 //! The clauses `shorter` are for the end of the recursion alone: what is read takes tokens.
 
-ghost use Rattle.std.specs.Prelude.{◌≡◌, ◌≤◌, length, map, OnOk, option_map};
+ghost use Rattle.std.specs.Prelude.{◌≡◌, ◌≤◌, length, map, OnOk, IfOk, option_map};
 ghost use Rattle.kb_record.specs.declared.cursor.Mark.TheVariants as marks;
 ghost use Rattle.kb_record.specs.Tree.{word_value};
 ghost use Rattle.kb_record.specs.Reading.{Reads, remaining, row, passes_comma, place_with, field_with, range_from, read_list, read_fields, read_record, read_word, reading_map, read_value, field_view};
 ghost use Rattle.kb_record.specs.View.{value_view};
+ghost use Rattle.kb_record.specs.Listed.{listed, HasPlaces};
 
 use crate::cursor::{Cursor, Mark, Stop};
+use crate::longer::longer;
 use crate::tree::{Expr, Value};
 use crate::words::word;
 use kb_lexing::Expected;
@@ -131,28 +133,25 @@ fn list<'a>(alloc: Global, tokens: &mut Cursor<'a>, depth: usize) -> Result<Valu
     if let Some(from) = tokens.begin_range() {
         return range(tokens, from);
     }
-    let places = places(alloc, tokens, depth - 1)?;
-    Ok(Value::List(places))
+    places(alloc, tokens, depth - 1)
 }
 
 /// Reads places joined by `,`, and the closing bracket.
 #[cycle(values)]
-fn places<'a>(
-    alloc: Global,
-    tokens: &mut Cursor<'a>,
-    depth: usize,
-) -> Result<Vec<Option<Value<'a>>>, Stop>
+fn places<'a>(alloc: Global, tokens: &mut Cursor<'a>, depth: usize) -> Result<Value<'a>, Stop>
     ensures reads { Reads
         (row (place_with (read_value depth)) (passes_comma marks.CloseSquare)
         (remaining tokens.old))
-        (λ places. map (option_map value_view) places.items) result (remaining tokens.new) }
+        (λ list. listed (value_view list)) result (remaining tokens.new) }
+    ensures list { IfOk result (λ list. HasPlaces (value_view list) (listed (value_view list))) }
     ensures shorter { OnOk result (length (remaining tokens.new) ≤ length (remaining tokens.old)) }
 {
-    let mut places = Vec::new(alloc);
+    let mut list = Value::List(Vec::new(alloc));
     loop {
-        places.push(place(alloc, tokens, depth)?)?;
+        let place = place(alloc, tokens, depth)?;
+        list = longer(alloc, list, place)?;
         if !tokens.passes_comma(Mark::CloseSquare)? {
-            return Ok(places);
+            return Ok(list);
         }
     }
 }

@@ -1,3 +1,5 @@
 pub mod NameLemmas
 pub mod ProductLemmas
 pub mod PassLemmas
+pub mod FactorLemmas
+pub mod PowerLemmas

@@ -1,11 +1,11 @@
 -- The pass over a plain product: what is read, and what is still to come.
-use Rattle.std.proofs.Common.{◌≡◌, ℕ, ◌-◌, ◌+◌, ◌<◌, ◌≤◌, max, take, drop, get_or, length-append, List, [], ◌∷◌, ◌++◌, length, Option, None, Some, Ok, Err, inl, inr, refl, sym, ap, ◌∙◌, subst, arith}
+use Rattle.std.proofs.Common.{◌≡◌, ℕ, ◌-◌, ◌<◌, ◌≤◌, max, take, drop, get_or, length-append, List, [], ◌∷◌, ◌++◌, length, Option, None, Some, Ok, Err, inl, inr, refl, sym, ap, ◌∙◌, subst, arith}
 use Rattle.std.specs.Prelude.{Result, IfOk, IfErr, IfSome}
 use Rattle.std.proofs.lemmas.List.{take_rest}
 use Rattle.kb_lexing.proofs.Lexings.{gap_front}
-use Rattle.kb_lexing.specs.Token.{Token, name, star}
-use Rattle.kb_lexing.specs.Spelling.{FirstToken, TokensOf, after_gap}
-use Rattle.kb_lexing.proofs.FirstTokens.{Kind, word, digits, negative, quoted, assigns, ranges, single, first_from}
+use Rattle.kb_lexing.specs.Token.{Token, name, star, caret, open_round, close_round}
+use Rattle.kb_lexing.specs.Spelling.{Spells, FirstToken, TokensOf, after_gap}
+use Rattle.kb_lexing.proofs.FirstTokens.{IsSingle, Kind, word, digits, negative, quoted, assigns, ranges, single, first_from}
 use Rattle.kb_record.specs.Tree.{Factors, named, no_factors, factor}
 use Rattle.kb_record.specs.Grammar.{WordOf, IsWord, AreFactorTrees, word_tokens, more_factors}
 use Rattle.kb_record.specs.Nesting.{deepest, word_nesting}
@@ -13,21 +13,33 @@ use Rattle.kb_record.specs.Faults.{Meaning, HasWordFault, Evaluates}
 use Rattle.kb_record.specs.Meaning.{WordFault, unknown_generator, no_inverse, too_long, and_then, product_meaning, word_meaning}
 use Rattle.kb_record.specs.declared.error.WordError.{WordError}
 use Rattle.kb_record.specs.declared.error.WordError.TheVariants.{Syntax, TooDeep, UnknownGenerator, NoInverse, WordTooLong, Memory}
-use Rattle.kb_wordreader.specs.Products.{starred, before, times_name, Takes}
+use Rattle.kb_wordreader.specs.Products.{starred, before, times_name, Takes, TakesFirst, SoFar, Passed, BehindName}
 use Rattle.kb_wordreader.proofs.ProductLemmas.{product_step, first_fault}
 
--- `*` is never longer
-star_alone : (other : List ℕ) → Kind 42 other → length other ≤ 0
-star_alone other (word at goes) = absurd (omega arith)
-star_alone other (digits at each few) = absurd (omega arith)
-star_alone other (negative at each some few) = absurd (omega arith)
-star_alone other (quoted text at whole each) = absurd (omega arith)
-star_alone other (assigns at whole) = absurd (omega arith)
-star_alone other (ranges at whole) = absurd (omega arith)
-star_alone other (single at whole) = omega (arith, ap length whole)
+-- a mark of one byte is never longer
+alone : (b : ℕ) (other : List ℕ) → IsSingle b → Kind b other → length other ≤ 0
+alone b other h (word at goes) = absurd (omega arith)
+alone b other h (digits at each few) = absurd (omega arith)
+alone b other h (negative at each some few) = absurd (omega arith)
+alone b other h (quoted text at whole each) = absurd (omega arith)
+alone b other h (assigns at whole) = absurd (omega arith)
+alone b other h (ranges at whole) = absurd (omega arith)
+alone b other h (single at whole) = omega (arith, ap length whole)
 
-star_first : (rest : List ℕ) → FirstToken (42 ∷ rest) star rest
-star_first rest = first_from star 42 [] rest rest refl refl (λ other back kind e. star_alone other kind)
+mark_first : (token : Token) (b : ℕ) (rest : List ℕ) → IsSingle b → Spells token (b ∷ []) → FirstToken (b ∷ rest) token rest
+mark_first token b rest at spelled = first_from token b [] rest rest spelled refl (λ other back kind e. alone b other at kind)
+
+pub star_first : (rest : List ℕ) → FirstToken (42 ∷ rest) star rest
+star_first rest = mark_first star 42 rest (inr (inr (inr (inr (inr (inr (inl refl))))))) refl
+
+pub caret_first : (rest : List ℕ) → FirstToken (94 ∷ rest) caret rest
+caret_first rest = mark_first caret 94 rest (inr (inr (inr (inr (inr (inr (inr refl))))))) refl
+
+pub open_first : (rest : List ℕ) → FirstToken (40 ∷ rest) open_round rest
+open_first rest = mark_first open_round 40 rest (inl refl) refl
+
+pub close_first : (rest : List ℕ) → FirstToken (41 ∷ rest) close_round rest
+close_first rest = mark_first close_round 41 rest (inr (inl refl)) refl
 
 starred_more : (texts : List (List ℕ)) (text : List ℕ) (tokens : List Token) → starred texts ++ (name text ∷ star ∷ tokens) ≡ starred (texts ++ text ∷ []) ++ tokens
 starred_more [] text tokens = refl
@@ -67,17 +79,6 @@ word_of_names bytes texts last h = record { tokens = starred texts ++ name last 
 shallow : (texts : List (List ℕ)) (last : List ℕ) → word_nesting (tree texts last) ≤ deepest
 shallow texts last = let none = flat texts last in omega arith
 
--- what the whole means where others are still to come: what they mean behind the word so far, or the fault that was met
-abbrev pub SoFar : List (List ℕ) → List (Option ℕ) → List ℕ → Factors → Result (List ℕ) WordFault → Option WordError → Type 0
-SoFar names inverses w others whole None = whole ≡ product_meaning names inverses w others
-SoFar names inverses w others whole (Some fault) = Evaluates whole (Err fault)
-
--- names, each with `*` behind it, were read of the bytes
-pub record Passed (names : List (List ℕ)) (bytes rest w : List ℕ) (fault : Option WordError) : Type 0 where
-  pub texts : List (List ℕ)
-  pub onward : (tokens : List Token) → TokensOf rest tokens → TokensOf bytes (starred texts ++ tokens)
-  pub means : (inverses : List (Option ℕ)) (others : Factors) → SoFar names inverses w others (product_meaning names inverses [] (before texts others)) fault
-
 pub passed_none : (names : List (List ℕ)) (bytes : List ℕ) → Passed names bytes bytes [] None
 passed_none names bytes = record { texts = []; onward = λ tokens h. h; means = λ inverses others. refl }
 
@@ -107,6 +108,9 @@ module _ (names : List (List ℕ)) (bytes rest behind so_far text w : List ℕ) 
     means = λ inverses others.
         subst (λ fs. SoFar names inverses w others (product_meaning names inverses [] fs) new) (before_more passed.texts text others) (means_more inverses others);
   }
+
+  pub name_taken : BehindName names bytes behind w new
+  name_taken = record { rest = rest; so_far = so_far; earlier = old; passed = passed; spelling = text; first = first; takes = takes }
 
   ends : after_gap behind ≡ [] → WordOf bytes (tree passed.texts text)
   ends at = word_of_names bytes passed.texts text (passed.onward (name text ∷ []) (behind, first, at))
@@ -140,21 +144,16 @@ pub no_bytes : (bytes : List ℕ) → length bytes < 1 → bytes ≡ []
 no_bytes [] few = refl
 no_bytes (b ∷ bytes) few = absurd (omega arith)
 
-pub star_split : (bytes : List ℕ) → 1 ≤ length bytes → get_or bytes 0 0 ≡ 42 → bytes ≡ 42 ∷ take (length bytes - 1) (drop 1 bytes)
-star_split [] some e = absurd (omega arith)
-star_split (b ∷ bytes) some e = rw (take_rest (b ∷ bytes) 1) (ap (λ x. x ∷ bytes) e)
+-- the byte with which a text begins, and what stands behind it
+pub mark_split : (mark : ℕ) (bytes : List ℕ) → 1 ≤ length bytes → get_or bytes 0 0 ≡ mark → bytes ≡ mark ∷ take (length bytes - 1) (drop 1 bytes)
+mark_split mark [] some e = absurd (omega arith)
+mark_split mark (b ∷ bytes) some e = rw (take_rest (b ∷ bytes) 1) (ap (λ x. x ∷ bytes) e)
 
-gap_length : (text : List ℕ) → length (after_gap text) ≤ length text
+pub gap_length : (text : List ℕ) → length (after_gap text) ≤ length text
 gap_length text =
     let gap = gap_front text in
     let whole = ap length gap.whole in
     omega (arith, whole, length-append gap.front (after_gap text))
-
-pub shorter : (rest behind next : List ℕ) (token : Token) → FirstToken (after_gap rest) token behind → after_gap behind ≡ 42 ∷ next → length next < length rest
-shorter rest behind next token first at =
-    let whole = ap length first.whole in
-    let one = ap length at in
-    omega (arith, whole, one, length-append first.spelling behind, gap_length rest, gap_length behind)
 
 -- what the end of the pass returns
 pub ends_ok : (r : Result (Option (List ℕ)) WordError) (w : List ℕ) (fault : Option WordError) (P : List ℕ → Type 0) → IfOk r (λ product. (fault ≡ None) × (product ≡ Some w)) → (fault ≡ None → P w)
@@ -166,3 +165,9 @@ pub ends_err : (r : Result (Option (List ℕ)) WordError) (fault : Option WordEr
     → IfErr r P
 ends_err (Ok product) fault P h p = tt
 ends_err (Err error) fault P h p = p error h
+
+-- `*` and a name more
+pub one_more_name : (names : List (List ℕ)) (bytes behind w rest new : List ℕ) (fault : Option WordError) → BehindName names bytes (42 ∷ behind) w None
+    → TakesFirst names behind rest w None new fault → BehindName names bytes rest new fault
+one_more_name names bytes behind w rest new fault b t =
+    name_taken names bytes behind rest w t.spelling new None fault (passed_more names bytes b.rest (42 ∷ behind) b.so_far b.spelling w b.earlier None b.passed b.first b.takes behind refl) t.first t.takes

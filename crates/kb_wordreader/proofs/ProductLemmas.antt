@@ -1,24 +1,24 @@
 -- A name behind the product so far.
-use Rattle.std.proofs.Common.{◌≡◌, ℕ, ◌+◌, ◌<◌, ◌≤◌, true, false, Bool, List, [], ◌∷◌, ◌++◌, length, Option, None, Some, Ok, Err, nat_eq, nat_lt, refl, sym, ap, ◌∙◌, subst, arith, append-nil}
+use Rattle.std.proofs.Common.{◌≡◌, ℕ, ◌+◌, ◌<◌, ◌≤◌, true, false, List, [], ◌∷◌, ◌++◌, length, Option, None, Some, Ok, Err, nat_eq, nat_lt, refl, ap, ◌∙◌, arith, append-nil}
 use Rattle.std.specs.Prelude.{codes, Result}
 use Rattle.std.specs.Cmp.Lexicographic.{pointwise}
 use Rattle.std.proofs.lemmas.Bool.Decides.{nat_tests}
 use Rattle.kb_record.specs.Tree.{Factors, named, factor}
 use Rattle.kb_record.specs.Faults.{Evaluates}
-use Rattle.kb_record.specs.Meaning.{WordFault, unknown_generator, too_long, most_letters, and_then, product, name_meaning, power_meaning, factor_meaning, product_meaning}
+use Rattle.kb_record.specs.Meaning.{WordFault, unknown_generator, too_long, most_letters, and_then, product, name_meaning, product_meaning}
 use Rattle.kb_record.specs.declared.error.WordError.{WordError}
 use Rattle.kb_record.specs.declared.error.WordError.TheVariants.{Syntax, TooDeep, UnknownGenerator, NoInverse, WordTooLong, Memory}
 use Rattle.kb_record.proofs.WordMeanings.{name_known, name_unknown}
 use Rattle.kb_wordreader.specs.Letters.{letter_of}
 use Rattle.kb_wordreader.specs.Products.{times_name}
 
-not_more : (most n : ℕ) → n ≤ most → nat_lt most n ≡ false
+pub not_more : (most n : ℕ) → n ≤ most → nat_lt most n ≡ false
 not_more most n h = grind (arith, nat_tests)
 
 more : (most n : ℕ) → most < n → nat_lt most n ≡ true
 more most n h = grind (arith, nat_tests)
 
-product_fits : (so_far w : List ℕ) → length so_far + length w ≤ most_letters → product so_far w ≡ Ok (so_far ++ w)
+pub product_fits : (so_far w : List ℕ) → length so_far + length w ≤ most_letters → product so_far w ≡ Ok (so_far ++ w)
 product_fits so_far w h = rw (not_more most_letters (length so_far + length w) h) refl
 
 product_long : (so_far w : List ℕ) → most_letters < length so_far + length w → product so_far w ≡ Err too_long

@@ -1,10 +1,11 @@
 -- Products of names.
 use Rattle.std.specs.Prelude.{◌≡◌, ℕ, List, [], ◌∷◌, ◌++◌, Option, None, Some, Result, Ok, Err}
 use Rattle.kb_lexing.specs.Token.{Token, name, star}
-use Rattle.kb_record.specs.Tree.{named, Factors, no_factors, factor}
+use Rattle.kb_lexing.specs.Spelling.{FirstToken, TokensOf, after_gap}
+use Rattle.kb_record.specs.Tree.{named, Factors, factor}
 use Rattle.kb_record.specs.Faults.{Evaluates}
 use Rattle.kb_record.specs.declared.error.WordError.{WordError}
-use Rattle.kb_record.specs.Meaning.{WordFault, and_then, name_meaning, product}
+use Rattle.kb_record.specs.Meaning.{WordFault, and_then, name_meaning, product, product_meaning}
 
 -- names, each with `*` behind it
 abbrev pub starred : List (List ℕ) → List Token
@@ -25,3 +26,30 @@ abbrev pub Takes : List (List ℕ) → List ℕ → List ℕ → Option WordErro
 Takes names so_far text None w None = times_name names so_far text ≡ Ok w
 Takes names so_far text None w (Some fault) = Evaluates (times_name names so_far text) (Err fault)
 Takes names so_far text (Some fault) w next = next ≡ Some fault
+
+-- the name at the front of a text was taken
+pub record TakesFirst (names : List (List ℕ)) (text rest old : List ℕ) (before : Option WordError) (new : List ℕ) (after : Option WordError) : Type 0 where
+  pub spelling : List ℕ
+  pub first : FirstToken (after_gap text) (name spelling) rest
+  pub takes : Takes names old spelling before new after
+
+-- what the whole means where others are still to come: what they mean behind the word so far, or the fault that was met
+abbrev pub SoFar : List (List ℕ) → List (Option ℕ) → List ℕ → Factors → Result (List ℕ) WordFault → Option WordError → Type 0
+SoFar names inverses w others whole None = whole ≡ product_meaning names inverses w others
+SoFar names inverses w others whole (Some fault) = Evaluates whole (Err fault)
+
+-- names, each with `*` behind it, were read of the bytes
+pub record Passed (names : List (List ℕ)) (bytes rest w : List ℕ) (fault : Option WordError) : Type 0 where
+  pub texts : List (List ℕ)
+  pub onward : (tokens : List Token) → TokensOf rest tokens → TokensOf bytes (starred texts ++ tokens)
+  pub means : (inverses : List (Option ℕ)) (others : Factors) → SoFar names inverses w others (product_meaning names inverses [] (before texts others)) fault
+
+-- a name was taken behind these
+pub record BehindName (names : List (List ℕ)) (bytes behind w : List ℕ) (fault : Option WordError) : Type 0 where
+  pub rest : List ℕ
+  pub so_far : List ℕ
+  pub earlier : Option WordError
+  pub passed : Passed names bytes rest so_far earlier
+  pub spelling : List ℕ
+  pub first : FirstToken (after_gap rest) (name spelling) behind
+  pub takes : Takes names so_far spelling earlier w fault

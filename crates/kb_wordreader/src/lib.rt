@@ -24,7 +24,10 @@
 #![tactic(auto)]
 
 mod byte_letters;
+mod factors;
+mod first;
 mod plain_product;
+mod power;
 mod product;
 mod reader;
 

@@ -12,7 +12,7 @@ use kb_word::{Letter, Names, OwnedText, Word};
 use std::alloc::Global;
 
 /// The most letters that a word may have.
-const MOST_LETTERS: usize = 65_535;
+pub(crate) const MOST_LETTERS: usize = 65_535;
 
 /// Adds the letter of a name to the word, where no fault was met, and keeps the first fault.
 pub(crate) fn take_name(

@@ -5,6 +5,7 @@ ghost use Rattle.kb_record.specs.Faults.{HasWordFault, Meaning};
 ghost use Rattle.kb_wordreader.specs.Letters.{AreByteLetters};
 
 use crate::byte_letters::byte_letters;
+use crate::factors::product_of_powers;
 use crate::plain_product::plain_product;
 use kb_record::{WordError, parse_word};
 use kb_word::{Letter, Memory, Presentation, Word};
@@ -46,8 +47,22 @@ impl WordReader {
         let names = &self.presentation.names;
         match plain_product(alloc, names, &self.byte_letters, bytes) {
             Ok(Some(word)) => Ok(word),
-            Ok(None) => parse_word(alloc, bytes, &self.presentation),
+            Ok(None) => self.parse_powers(alloc, bytes),
             Err(fault) => Err(fault),
+        }
+    }
+
+    /// Reads a word that is no plain product: in one pass, and by its tree where the pass gives up.
+    fn parse_powers(&self, alloc: Global, bytes: &[u8]) -> Result<Word, WordError>
+        ensures read { IfOk result
+            (λ word. Meaning bytes.now self.now.presentation.names self.now.presentation.inv
+            (Ok word)) }
+        ensures fault { IfErr result
+            (HasWordFault bytes.now self.now.presentation.names self.now.presentation.inv) }
+    {
+        match product_of_powers(alloc, &self.presentation, &self.byte_letters, bytes) {
+            Some(word) => Ok(word),
+            None => parse_word(alloc, bytes, &self.presentation),
         }
     }
 }

@@ -6,7 +6,7 @@ use Rattle.kb_record.specs.Tree.{record_value, list_value}
 use Rattle.kb_record.specs.View.{value_view}
 use Rattle.kb_record.specs.declared.tree.Value.{Value, the_lemmas}
 use Rattle.kb_fields.specs.Fields.{fields_view, places_view, HasFieldTwice}
-use Rattle.kb_fields.proofs.ViewLemmas.{view-Record, view-List}
+use Rattle.kb_record.proofs.Views.{view-Record, view-List}
 use Rattle.kb_fields.proofs.Outcomes.{IfOk_then, IfNone_then}
 use Rattle.kb_fields.proofs.RepeatLemmas.{has, not_false, not_true, again, field_at, name_at, field_twice, none_twice, seen_more, within_more, some_place, no_place_twice, places_more, at_value, no_number_twice, no_row_twice, no_entries_twice}
 use Rattle.kb_fields.proofs.fields.+repeats.Goals as goal

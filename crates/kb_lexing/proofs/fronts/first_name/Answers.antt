@@ -1,11 +1,11 @@
-use Rattle.std.proofs.Common.{◌≡◌, ℕ, ◌+◌, List, take, drop, get_or, sym, subst, ◌∙◌, rules, arith}
-use Rattle.std.specs.Prelude.{codes, IsTrue}
+use Rattle.std.proofs.Common.{◌≡◌, ◌+◌, take, get_or, sym, subst, ◌∙◌, rules}
+use Rattle.std.specs.Prelude.{codes}
 use Rattle.std.proofs.lemmas.List.{take_rest}
 use Rattle.std.proofs.lemmas.Slice.Eq.{bytes_eq-Decides}
 use Rattle.kb_lexing.specs.Spelling.{BeginsNames, GoesOnAsName}
 use Rattle.kb_lexing.specs.Lexemes.{IsLongestFront}
 use Rattle.kb_lexing.proofs.FirstTokens.{word_ascii}
-use Rattle.kb_lexing.proofs.NameFronts.{name_first, rec_first, no_name_first}
+use Rattle.kb_lexing.proofs.NameFronts.{rec_first}
 use Rattle.kb_lexing.proofs.fronts.first_name.Goals as goal
 
 pub returns-then-eq-clause-none : goal.returns-then-eq-clause-none

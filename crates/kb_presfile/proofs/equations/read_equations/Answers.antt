@@ -1,40 +1,42 @@
-use Rattle.std.proofs.Common.{◌≡◌, ◌<◌, ◌≤◌, List, Option, Some, ap, subst, ◌∙◌, arith}
-use Rattle.kb_record.specs.declared.tree.Value.{Value}
+use Rattle.std.proofs.Common.{◌≡◌, ◌<◌, ◌≤◌, Some, ap, ◌∙◌, arith}
 use Rattle.kb_record.specs.Tree.{list_value}
-use Rattle.kb_record.specs.View.{value_view}
-use Rattle.kb_fields.specs.Fields.{fields_view, places_view, place_count, value_of}
-use Rattle.kb_presfile.specs.Holds.{AreEquations}
-use Rattle.kb_presfile.specs.Faults.{name_of, PlacesOfEquationsHaveFault}
-use Rattle.kb_presfile.specs.declared.error.Field.TheVariants as kinds
-use Rattle.kb_fields.proofs.ViewLemmas.{view-List}
-use Rattle.kb_fields.proofs.PlaceLemmas.{count_view}
-use Rattle.kb_presfile.proofs.EquationLemmas.{list_fault}
+use Rattle.kb_record.specs.View.{value_view, places_of}
+use Rattle.kb_record.specs.Listed.{listed}
+use Rattle.kb_fields.specs.Fields.{fields_view, place_count, value_of}
 use Rattle.kb_fields.proofs.Outcomes.{IfErr_then, IfOk_then}
+use Rattle.kb_fields.proofs.PlaceLemmas.{count_places}
+use Rattle.kb_presfile.specs.Faults.{name_of}
+use Rattle.kb_presfile.specs.declared.error.Field.TheVariants as kinds
+use Rattle.kb_presfile.proofs.EquationLemmas.{list_fault}
 use Rattle.kb_presfile.proofs.equations.read_equations.Goals as goal
-use Rattle.kb_presfile.proofs.equations.read_equations.Goals.{In-List}
+use Rattle.kb_presfile.proofs.equations.read_equations.Goals.{In-Some}
 
-listed : (c : In-List) → value_of (fields_view c.args.fields.now) (name_of kinds.Equations) ≡ Some (list_value (places_view c.in-List.places.items))
-listed c = c.in_ok-places.ensures.found ∙ ap Some (ap value_view c.in-List.is ∙ view-List c.in-List.places)
+list_is : (c : In-Some) → value_of (fields_view c.args.fields.now) (name_of kinds.Equations) ≡ Some (list_value (places_of (listed (value_view c.in_ok-list.list.now))))
+list_is c = c.in_ok-list.ensures.found ∙ ap Some c.in-Some.ensures.list.0
 
-pub returns-then-len-gt-MOST_EQUATIONS-clause-fault : goal.returns-then-len-gt-MOST_EQUATIONS-clause-fault
-returns-then-len-gt-MOST_EQUATIONS-clause-fault c =
-    let count = count_view c.in-List.places.items in
-    let many : 65535 < place_count (places_view c.in-List.places.items) = omega (arith, count) in
-    (places_view c.in-List.places.items, listed (goal.at.returns-then-len-gt-MOST_EQUATIONS-clause-fault c).In-List, many)
+count_is : (c : In-Some) → place_count (places_of (listed (value_view c.in_ok-list.list.now))) ≡ c.in-Some.count
+count_is c = count_places (listed (value_view c.in_ok-list.list.now)) ∙ c.in-Some.ensures.list.1
+
+pub returns-then-count-gt-MOST_EQUATIONS-clause-fault : goal.returns-then-count-gt-MOST_EQUATIONS-clause-fault
+returns-then-count-gt-MOST_EQUATIONS-clause-fault c =
+    let here = (goal.at.returns-then-count-gt-MOST_EQUATIONS-clause-fault c).In-Some in
+    let places = places_of (listed (value_view c.in_ok-list.list.now)) in
+    let count = count_is here in
+    let many : 65535 < place_count places = omega (arith, count) in
+    (places, list_is here, many)
 
 pub returns-clause-read : goal.returns-clause-read
 returns-clause-read c =
-    let list = places_view c.in-List.places.items in
-    let count = count_view c.in-List.places.items in
-    let few : place_count list ≤ 65535 = omega (arith, count) in
-    IfOk_then c.equations_at.result c.equations_at.ensures.read (λ equations are.
-    let P : List (Option Value) → Type 0 = λ ps. AreEquations c.args.presentation.now.names c.args.presentation.now.inv (places_view ps) equations in
-    record { places = list; listed = listed (goal.at.returns-clause-read c).In-List; few = few; read = subst P c.as_slice.ensures.value are })
+    let here = (goal.at.returns-clause-read c).In-Some in
+    let places = places_of (listed (value_view c.in_ok-list.list.now)) in
+    let count = count_is here in
+    let few : place_count places ≤ 65535 = omega (arith, count) in
+    IfOk_then c.equations_in.result c.equations_in.ensures.read (λ equations are.
+    record { places = places; listed = list_is here; few = few; read = are })
 
 pub returns-clause-fault : goal.returns-clause-fault
 returns-clause-fault c =
-    let list = places_view c.in-List.places.items in
-    IfErr_then c.equations_at.result c.equations_at.ensures.fault (λ error fault.
-    let P : List (Option Value) → Type 0 = λ ps. PlacesOfEquationsHaveFault c.args.presentation.now.names c.args.presentation.now.inv (places_view ps) error in
-    list_fault (fields_view c.args.fields.now) c.args.presentation.now.names c.args.presentation.now.inv list error c.requires.named c.requires.inverted
-    (listed (goal.at.returns-clause-fault c).In-List) (subst P c.as_slice.ensures.value fault))
+    let here = (goal.at.returns-clause-fault c).In-Some in
+    IfErr_then c.equations_in.result c.equations_in.ensures.fault (λ error fault.
+    list_fault (fields_view c.args.fields.now) c.args.presentation.now.names c.args.presentation.now.inv
+    (places_of (listed (value_view c.in_ok-list.list.now))) error c.requires.named c.requires.inverted (list_is here) fault)

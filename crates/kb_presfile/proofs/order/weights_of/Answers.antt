@@ -1,9 +1,9 @@
-use Rattle.std.proofs.Common.{◌≡◌, ◌+◌, ◌<◌, ◌≤◌, ◌∷◌, [], ◌++◌, ℕ, ℤ, pos, List, All, length, map, take, get_or, sym, subst, w64, SFits, rules, arith}
+use Rattle.std.proofs.Common.{◌≡◌, ◌+◌, ◌<◌, ℕ, pos, List, All, length, map, take, get_or, sym, subst, w64, SFits, rules, arith}
 use Rattle.std.proofs.lemmas.Int.{to_z-of_z}
 use Rattle.std.proofs.lemmas.List.{get_or_default}
 use Rattle.std.proofs.lemmas.List.Elements.{All-push}
 use Rattle.kb_word.specs.Weights.{IsWeight}
-use Rattle.kb_presfile.proofs.WeightLemmas.{are_no_weights, weights_more, are_weights}
+use Rattle.kb_presfile.proofs.WeightLemmas.{are_no_weights, weights_more}
 use Rattle.kb_presfile.proofs.order.weights_of.Goals as goal
 
 pub returns-in_default-clause-none : goal.returns-in_default-clause-none

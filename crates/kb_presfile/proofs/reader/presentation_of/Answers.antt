@@ -1,6 +1,5 @@
 use Rattle.std.proofs.Common.{sym, ◌∙◌}
 use Rattle.kb_presfile.proofs.OverLemmas.{equations_over}
-use Rattle.kb_presfile.proofs.WeightLemmas.{order_weighs}
 use Rattle.kb_presfile.proofs.reader.presentation_of.Goals as goal
 
 pub new-requires-2 : goal.new-requires-2

@@ -1,4 +1,4 @@
-use Rattle.std.proofs.Common.{rules, arith, ◌≡◌, ◌<◌, ◌-◌, ℕ, zero, suc, length, slice_index_or, ap, ◌∙◌, sym}
+use Rattle.std.proofs.Common.{arith, ◌≡◌, ◌-◌, suc, ap, ◌∙◌, sym}
 use Rattle.kb_ragged.specs.Cuts.{begins_at}
 use Rattle.kb_ragged.proofs.RaggedLemmas.{begins_at-before}
 use Rattle.kb_ragged.proofs.ragged.beginning.Goals as goal

@@ -1,7 +1,7 @@
-use Rattle.std.proofs.Common.{rules, arith, ◌≡◌, ◌≤◌, length, slice_get, slice_index_or, ℕ, Some, None, ap, ◌∙◌, sym}
+use Rattle.std.proofs.Common.{arith, ◌≡◌, ◌≤◌, length, slice_get, slice_index_or, Some, ap, ◌∙◌, sym}
 use Rattle.std.specs.List.{slice_range}
 use Rattle.std.proofs.lemmas.Option.{slice_get_past, slice_get-get_or}
-use Rattle.kb_ragged.specs.Cuts.{cut, begins_at}
+use Rattle.kb_ragged.specs.Cuts.{cut}
 use Rattle.kb_ragged.proofs.RaggedLemmas.{length-cut, cut-at, end-after, end-within}
 use Rattle.kb_ragged.proofs.ragged.piece.Goals as goal
 

@@ -1,11 +1,11 @@
 use Rattle.std.proofs.Common.{◌≡◌, ◌++◌, ◌∙◌, suc, [], sym, ap, append-nil}
 use Rattle.std.specs.Prelude.{codes}
 use Rattle.kb_record.specs.Tree.{record_value, list_value}
-use Rattle.kb_record.specs.View.{value_view, fields_view, places_view}
-use Rattle.kb_record.specs.Layout.{indent}
-use Rattle.kb_record.specs.Printing.{text_of_field}
-use Rattle.kb_record.proofs.PrintedPieces.{on_err, ok_then, err_then, record_lines, pieces_start, pieces_kept, pieces_kept_within, pieces_go, pieces_end}
-use Rattle.kb_record.proofs.Views.{view-Record, view-List}
+use Rattle.kb_record.specs.View.{value_view, fields_view, places_view, number_place}
+use Rattle.kb_record.specs.Layout.{indent, line_of, text_of_value}
+use Rattle.kb_record.specs.Printing.{text_of_field, list_of}
+use Rattle.kb_record.proofs.PrintedPieces.{on_err, ok_then, err_then, record_lines, no_table, numbers_no_table, pieces_start, pieces_kept, pieces_kept_within, pieces_go, pieces_end}
+use Rattle.kb_record.proofs.Views.{view-Record, view-List, view-Numbers}
 use Rattle.kb_record.proofs.printing.+levels.Goals as goal
 
 pub print_record-loop-name-init : goal.print_record-loop-name-init
@@ -44,3 +44,11 @@ print_value-returns-in-List-clause-printed t c =
     let seen : value_view c.args.value.now ≡ list_value (places_view c.as_slice-in-List.result.now) =
     ap value_view c.in-List.is ∙ view-List c.in-List.places ∙ ap (λ ps. list_value (places_view ps)) (sym c.as_slice-in-List.ensures.value) in
     rw seen c.print_list.ensures.printed
+
+pub print_value-returns-in-Numbers-clause-printed : goal.print_value-returns-in-Numbers-clause-printed
+print_value-returns-in-Numbers-clause-printed t c =
+    let numbers = c.in-Numbers.numbers.items in
+    let seen : value_view c.args.value.now ≡ list_of number_place numbers = ap value_view c.in-Numbers.is ∙ view-Numbers c.in-Numbers.numbers in
+    let line = ap (text_of_value c.args.level) seen ∙ no_table c.args.level number_place numbers (numbers_no_table numbers) in
+    ok_then c.print_items.result c.print_items.ensures.printed (λ e. e ∙ ap (λ ns. c.args.out.now.items ++ line_of (list_of number_place ns)) c.as_slice-in-Numbers.ensures.value
+    ∙ ap (λ t. c.args.out.now.items ++ t) (sym line))

@@ -1,16 +1,16 @@
-use Rattle.std.proofs.Common.{◌≡◌, ◌++◌, ◌∙◌, ℕ, List, [], sym, ap, append-nil, Vec, Global}
+use Rattle.std.proofs.Common.{◌≡◌, ◌++◌, ◌∙◌, ℕ, List, [], option_map, sym, ap, append-nil, Vec, Global}
 use Rattle.std.specs.Prelude.{codes}
 use Rattle.kb_record.specs.Tree.{record_value}
 use Rattle.kb_record.specs.View.{value_view, fields_view}
-use Rattle.kb_record.specs.Printing.{line_of_field, line_of_place}
-use Rattle.kb_record.proofs.PrintedPieces.{on_err, record_pieces, list_pieces, pieces_start, pieces_kept, pieces_kept_within, pieces_go, pieces_end, kept_behind, both_behind, place_some, place_none}
+use Rattle.kb_record.specs.Printing.{line_of_field}
+use Rattle.kb_record.proofs.PrintedPieces.{on_err, record_pieces, list_start, list_end, pieces_start, pieces_kept, pieces_kept_within, pieces_go, pieces_end, kept_behind, both_behind, place_some, place_none}
 use Rattle.kb_record.proofs.Views.{view-Record}
 use Rattle.kb_record.proofs.printing.+lines.Goals as goal
 use Rattle.kb_record.proofs.printing.+lines.Goals.{print_list_on_line-in-Some+in_ok-print_on_line, print_list_on_line-in_default}
 
 pub print_list_on_line-loop-place-init : goal.print_list_on_line-loop-place-init
 print_list_on_line-loop-place-init t c =
-    pieces_start line_of_place [] (codes ",") (codes "]") c.args.places.now c.args.out.now.items (codes "[") c.push.new.self.items c.in_ok-push.ensures.items
+    list_start (option_map value_view) c.args.places.now c.args.out.now.items c.push.new.self.items c.in_ok-push.ensures.items
 
 pub print_list_on_line-returns-in_err-extend_from_slice-clause-kept : goal.print_list_on_line-returns-in_err-extend_from_slice-clause-kept
 print_list_on_line-returns-in_err-extend_from_slice-clause-kept t c =
@@ -22,7 +22,7 @@ print_list_on_line-returns-in_err-push-2-clause-kept t c =
 
 pub print_list_on_line-returns-clause-printed : goal.print_list_on_line-returns-clause-printed
 print_list_on_line-returns-clause-printed t c =
-    pieces_end _ _ _ _ _ _ _ _ _ _ c.loop-place.invariant c.loop-place-test.false c.in_ok-push-2.ensures.items ∙ ap (λ t. c.args.out.now.items ++ t) (list_pieces c.args.places.now)
+    list_end (option_map value_view) _ _ _ _ _ _ c.loop-place.invariant c.loop-place-test.false c.in_ok-push-2.ensures.items
 
 pub print_record_on_line-loop-name-init : goal.print_record_on_line-loop-name-init
 print_record_on_line-loop-name-init t c =

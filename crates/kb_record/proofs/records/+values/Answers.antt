@@ -1,62 +1,71 @@
-use Rattle.std.proofs.Common.{◌≡◌, ℕ, ◌-◌, List, [], ◌∷◌, ◌++◌, Option, Some, None, Err, map, Bool, true, false, option_map, sym, ap, ◌∙◌, arith, rules, Vec, Global}
+use Rattle.std.proofs.Common.{◌≡◌, ℕ, ◌-◌, List, [], ◌∷◌, ◌++◌, Some, None, Err, map, Bool, true, false, option_map, sym, ap, ◌∙◌, arith, rules, Vec, Global}
 use Rattle.std.specs.Borrow.{Bor}
 use Rattle.kb_record.specs.Tree.{record_value}
 use Rattle.kb_record.specs.Reading.{Reads, read, remaining, passes_comma, joined, reading_map, read_value, place_with, field_with, field_view, fields_from, read_fields, past, behind, begins_word, read_scalar}
 use Rattle.kb_record.specs.View.{value_view}
+use Rattle.kb_record.specs.Listed.{listed, HasPlaces}
 use Rattle.kb_record.specs.declared.tree.Value.{Value as ValueType}
 use Rattle.kb_record.specs.declared.cursor.Mark.TheVariants.{CloseRound, CloseSquare, Rec, OpenSquare}
 use Rattle.kb_record.proofs.ReadRows.{after_items, turn, last, item_fails, comma_fails, as_answered, map_one_more, comma-shorter}
 use Rattle.kb_record.proofs.Depths.{value-word, value-record, value-list, value-scalar, same_reading}
-use Rattle.kb_record.proofs.Views.{fields_alike, view-Record}
+use Rattle.kb_record.proofs.Views.{fields_alike, view-Record, listed-is, has_its_places}
 use Rattle.kb_record.proofs.records.+values.Goals as goal
 
 pub places-returns-in_err-place-clause-reads : goal.places-returns-in_err-place-clause-reads
 places-returns-in_err-place-clause-reads t c =
-    let l = c.loop-places in
+    let l = c.loop-list in
     let stop = c.in_err-place.field-0.0 in
     let rest = remaining c.place.new.tokens in
     let failed : Reads (place_with (read_value c.args.depth) (remaining l.tokens)) (option_map value_view) (Err stop) rest = c.in_err-place.ensures.reads in
     let answered : c.from_residual.result ≡ Err stop = search rules in
     as_answered _ _ _ _ stop rest l.invariant.3 answered
-    (item_fails (place_with (read_value c.args.depth)) (passes_comma CloseSquare) {D = Vec (Option ValueType) Global} (map (option_map value_view) l.places.items) l.invariant.0 (remaining l.tokens) rest (option_map value_view) (λ v. map (option_map value_view) v.items) stop (omega (arith, l.invariant.1)) failed)
+    (item_fails (place_with (read_value c.args.depth)) (passes_comma CloseSquare) {D = ValueType} (listed (value_view l.list)) l.invariant.0 (remaining l.tokens) rest (option_map value_view) (λ v. listed (value_view v)) stop (omega (arith, l.invariant.1)) failed)
 
 pub places-returns-in_err-passes_comma-clause-reads : goal.places-returns-in_err-passes_comma-clause-reads
 places-returns-in_err-passes_comma-clause-reads t c =
-    let l = c.loop-places in
-    let x = c.in_ok-place.field-0 in
+    let l = c.loop-list in
+    let x = c.in_ok-place.place in
     let stop = c.in_err-passes_comma.field-0.0 in
     let rest = remaining c.passes_comma.new.self in
     let item : place_with (read_value c.args.depth) (remaining l.tokens) ≡ read ((option_map value_view) x) (remaining c.place.new.tokens) = c.in_ok-place.ensures.reads in
     let failed : Reads (passes_comma CloseSquare (remaining c.place.new.tokens)) (λ more. more) (Err stop) rest = c.in_err-passes_comma.ensures in
     let answered : c.from_residual-in_err-passes_comma.result ≡ Err stop = search rules in
     as_answered _ _ _ _ stop rest l.invariant.3 answered
-    (comma_fails (place_with (read_value c.args.depth)) (passes_comma CloseSquare) {B = Bool} {D = Vec (Option ValueType) Global} (map (option_map value_view) l.places.items) l.invariant.0 (remaining l.tokens) (remaining c.place.new.tokens) rest ((option_map value_view) x) (λ more. more) (λ v. map (option_map value_view) v.items) stop (omega (arith, l.invariant.1)) item failed)
+    (comma_fails (place_with (read_value c.args.depth)) (passes_comma CloseSquare) {B = Bool} {D = ValueType} (listed (value_view l.list)) l.invariant.0 (remaining l.tokens) (remaining c.place.new.tokens) rest ((option_map value_view) x) (λ more. more) (λ v. listed (value_view v)) stop (omega (arith, l.invariant.1)) item failed)
 
 pub places-returns-then-not-branch-clause-reads : goal.places-returns-then-not-branch-clause-reads
 places-returns-then-not-branch-clause-reads t c =
-    let l = c.loop-places in
-    let x = c.in_ok-place.field-0 in
+    let l = c.loop-list in
+    let x = c.in_ok-place.place in
     let item : place_with (read_value c.args.depth) (remaining l.tokens) ≡ read ((option_map value_view) x) (remaining c.place.new.tokens) = c.in_ok-place.ensures.reads in
     let comma : passes_comma CloseSquare (remaining c.place.new.tokens) ≡ read false (remaining c.passes_comma.new.self) = c.in_ok-passes_comma.ensures ∙ ap (λ b. read b (remaining c.passes_comma.new.self)) c.if-not-branch.true in
-    let pushed : c.push.new.self.items ≡ l.places.items ++ x ∷ [] = search rules in
-    let read_all = last (place_with (read_value c.args.depth)) (passes_comma CloseSquare) (map (option_map value_view) l.places.items) l.invariant.0 (remaining l.tokens) (remaining c.place.new.tokens) (remaining c.passes_comma.new.self) ((option_map value_view) x) (omega (arith, l.invariant.1)) item comma in
-    l.invariant.3 ∙ read_all ∙ ap (λ fs. read fs (remaining c.passes_comma.new.self)) (map_one_more (option_map value_view) l.places.items _ x pushed)
+    let list = c.in_ok-list.list in
+    let grown : HasPlaces (value_view list) (listed (value_view l.list) ++ option_map value_view x ∷ []) = c.in_ok-list.ensures in
+    let longer = listed-is (value_view list) _ grown in
+    let read_all = last (place_with (read_value c.args.depth)) (passes_comma CloseSquare) (listed (value_view l.list)) l.invariant.0 (remaining l.tokens) (remaining c.place.new.tokens) (remaining c.passes_comma.new.self) ((option_map value_view) x) (omega (arith, l.invariant.1)) item comma in
+    l.invariant.3 ∙ read_all ∙ ap (λ fs. read fs (remaining c.passes_comma.new.self)) (sym longer)
 
-pub places-loop-places-preserved : goal.places-loop-places-preserved
-places-loop-places-preserved t c =
-    let l = c.loop-places in
-    let x = c.in_ok-place.field-0 in
+pub places-loop-list-preserved : goal.places-loop-list-preserved
+places-loop-list-preserved t c =
+    let l = c.loop-list in
+    let x = c.in_ok-place.place in
     let item : place_with (read_value c.args.depth) (remaining l.tokens) ≡ read ((option_map value_view) x) (remaining c.place.new.tokens) = c.in_ok-place.ensures.reads in
     let comma : passes_comma CloseSquare (remaining c.place.new.tokens) ≡ read true (remaining c.passes_comma.new.self) = c.in_ok-passes_comma.ensures ∙ ap (λ b. read b (remaining c.passes_comma.new.self)) c.if-not-branch.false in
-    let pushed : c.push.new.self.items ≡ l.places.items ++ x ∷ [] = search rules in
-    let next = turn (place_with (read_value c.args.depth)) (passes_comma CloseSquare) (map (option_map value_view) l.places.items) l.invariant.0 (remaining l.tokens) (remaining c.place.new.tokens) (remaining c.passes_comma.new.self) ((option_map value_view) x) (omega (arith, l.invariant.1)) item comma in
+    let list = c.in_ok-list.list in
+    let grown : HasPlaces (value_view list) (listed (value_view l.list) ++ option_map value_view x ∷ []) = c.in_ok-list.ensures in
+    let longer = listed-is (value_view list) _ grown in
+    let next = turn (place_with (read_value c.args.depth)) (passes_comma CloseSquare) (listed (value_view l.list)) l.invariant.0 (remaining l.tokens) (remaining c.place.new.tokens) (remaining c.passes_comma.new.self) ((option_map value_view) x) (omega (arith, l.invariant.1)) item comma in
     let shorter = comma-shorter CloseSquare (remaining c.place.new.tokens) (remaining c.passes_comma.new.self) true comma in
     let fewer = c.in_ok-place.ensures.shorter in (
       l.invariant.0 - 1,
       omega (arith, l.invariant.1),
       omega (arith, l.invariant.2),
-      l.invariant.3 ∙ next ∙ ap (λ fs. after_items fs (joined (place_with (read_value c.args.depth)) (passes_comma CloseSquare) (l.invariant.0 - 1) (remaining c.passes_comma.new.self))) (map_one_more (option_map value_view) l.places.items _ x pushed),
+      l.invariant.3 ∙ next ∙ ap (λ fs. after_items fs (joined (place_with (read_value c.args.depth)) (passes_comma CloseSquare) (l.invariant.0 - 1) (remaining c.passes_comma.new.self))) (sym longer),
+      has_its_places (value_view list) _ grown,
     )
+
+pub places-returns-then-not-branch-clause-list : goal.places-returns-then-not-branch-clause-list
+places-returns-then-not-branch-clause-list t c = has_its_places (value_view c.in_ok-list.list) _ c.in_ok-list.ensures
 
 pub some_fields-returns-in_err-field-clause-reads : goal.some_fields-returns-in_err-field-clause-reads
 some_fields-returns-in_err-field-clause-reads t c =

@@ -1,6 +1,7 @@
-use Rattle.std.proofs.Common.{◌≡◌, ℕ, ◌+◌, ◌*◌, ◌<◌, ◌≤◌, suc, map, length, option_map}
+use Rattle.std.proofs.Common.{◌≡◌, ℕ, ◌+◌, ◌*◌, ◌<◌, ◌≤◌, suc, map, length}
 use Rattle.kb_record.specs.Reading.{remaining, passes_comma, joined, read_value, place_with, field_with, field_view}
 use Rattle.kb_record.specs.View.{value_view}
+use Rattle.kb_record.specs.Listed.{listed, HasPlaces}
 use Rattle.kb_record.specs.declared.cursor.Mark.TheVariants.{CloseRound, CloseSquare}
 use Rattle.kb_record.proofs.ReadRows.{after_items}
 use Rattle.kb_record.proofs.records.+values.Given as goal
@@ -38,11 +39,12 @@ invariant-some_fields-loop-fields l =
 abbrev pub decreases-some_fields-loop-fields : goal.decreases-some_fields-loop-fields
 decreases-some_fields-loop-fields l = length (remaining l.tokens)
 
-abbrev pub invariant-places-loop-places : goal.invariant-places-loop-places
-invariant-places-loop-places l =
+abbrev pub invariant-places-loop-list : goal.invariant-places-loop-list
+invariant-places-loop-list l =
     (n : ℕ) × (length (remaining l.tokens) < n) × (length (remaining l.tokens) ≤ length (remaining l.initial.tokens))
     × (joined (place_with (read_value l.depth)) (passes_comma CloseSquare) (suc (length (remaining l.initial.tokens))) (remaining l.initial.tokens)
-    ≡ after_items (map (option_map value_view) l.places.items) (joined (place_with (read_value l.depth)) (passes_comma CloseSquare) n (remaining l.tokens)))
+    ≡ after_items (listed (value_view l.list)) (joined (place_with (read_value l.depth)) (passes_comma CloseSquare) n (remaining l.tokens)))
+    × HasPlaces (value_view l.list) (listed (value_view l.list))
 
-abbrev pub decreases-places-loop-places : goal.decreases-places-loop-places
-decreases-places-loop-places l = length (remaining l.tokens)
+abbrev pub decreases-places-loop-list : goal.decreases-places-loop-list
+decreases-places-loop-list l = length (remaining l.tokens)

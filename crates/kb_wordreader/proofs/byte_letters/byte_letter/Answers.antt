@@ -1,4 +1,4 @@
-use Rattle.std.proofs.Common.{◌≡◌, ◌∷◌, [], sym, ap, ◌∙◌}
+use Rattle.std.proofs.Common.{◌∷◌, [], ap, ◌∙◌}
 use Rattle.kb_wordreader.specs.Letters.{letter_of}
 use Rattle.kb_wordreader.proofs.NameLemmas.{number_is, ascii_utf8}
 use Rattle.kb_wordreader.proofs.byte_letters.byte_letter.Goals as goal

@@ -1,4 +1,4 @@
-use Rattle.std.proofs.Common.{rules, ◌≡◌, length, ℕ, ap, ◌∙◌, sym}
+use Rattle.std.proofs.Common.{rules, ◌≡◌, length, ap, ◌∙◌, sym}
 use Rattle.kb_ragged.proofs.RaggedLemmas.{length-cut}
 use Rattle.kb_ragged.proofs.ragged.Ragged.len.Goals as goal
 

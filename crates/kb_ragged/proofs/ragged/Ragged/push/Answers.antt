@@ -1,4 +1,4 @@
-use Rattle.std.proofs.Common.{rules, arith, ◌≡◌, ◌+◌, ◌++◌, ◌∷◌, [], length, ℕ, ap, subst, ◌∙◌, sym, length-append}
+use Rattle.std.proofs.Common.{rules, ◌≡◌, ◌+◌, ◌++◌, ◌∷◌, [], length, ap, subst, ◌∙◌, sym, length-append}
 use Rattle.kb_ragged.specs.Cuts.{cut, AreEnds}
 use Rattle.kb_ragged.proofs.RaggedLemmas.{ends-push, cut-push}
 use Rattle.kb_ragged.proofs.ragged.Ragged.push.Goals as goal

@@ -1,10 +1,10 @@
-use Rattle.std.proofs.Common.{rules, arith, ◌≡◌, ◌<◌, ◌≤◌, [], ◌∷◌, zero, suc, length, map, refl, ap, ◌∙◌, sym, subst, ℕ, ℤ, List, Option, Some, None, slice_get, option_map, to_z-of_z, w64, SFits}
+use Rattle.std.proofs.Common.{rules, arith, ◌≡◌, ◌<◌, ◌≤◌, [], ◌∷◌, zero, suc, length, map, refl, ap, ◌∙◌, sym, ℕ, List, Option, Some, None, slice_get, option_map, to_z-of_z, w64, SFits}
 use Rattle.std.specs.Option.{IsSome}
 use Rattle.std.proofs.lemmas.List.{length-map}
 use Rattle.std.proofs.lemmas.Option.{slice_get-map, slice_get_read}
 use Rattle.kb_record.specs.Tree.{Value as ValueTree}
 use Rattle.kb_record.specs.View.{value_view, number_place, row_place, entries_place}
-use Rattle.kb_record.specs.Listed.{listed, HasPlaces, place_view}
+use Rattle.kb_record.specs.Listed.{listed, HasPlaces}
 use Rattle.kb_record.proofs.Views.{view-List, view-Numbers, view-Rows, view-Entries, listed-is}
 use Rattle.kb_record.proofs.tree.Value.place.Goals as goal
 

@@ -1,4 +1,4 @@
-use Rattle.std.proofs.Common.{rules, arith, ◌≡◌, length, map, ap, ◌∙◌, sym, ℕ, List, Option, option_map}
+use Rattle.std.proofs.Common.{rules, ◌≡◌, length, map, ap, ◌∙◌, ℕ, List, Option, option_map}
 use Rattle.std.proofs.lemmas.List.{length-map}
 use Rattle.kb_record.specs.Tree.{Value as ValueTree}
 use Rattle.kb_record.specs.View.{value_view, number_place, row_place, entries_place}

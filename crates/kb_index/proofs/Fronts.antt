@@ -1,0 +1,164 @@
+-- What is read, its states, and the rule that the last state names.
+use Rattle.std.proofs.Common.{◌≡◌, ◌≢◌, ℕ, zero, suc, ◌+◌, ◌-◌, ◌<◌, ◌≤◌, ◌⊎◌, List, [], ◌∷◌, ◌++◌, length, get_or, take, slice_get, Option, Some, None, IfSome, IfNone, Bor, refl, sym, ap, ◌∙◌, subst, inl, inr, arith}
+use Rattle.std.specs.Option.{option_copied}
+use Rattle.std.proofs.lemmas.List.{get_or_append_left, get_or_push, length_push, take-append-le, take_all, take-take, length-take-le, get_or-take, get_or_read}
+use Rattle.std.proofs.lemmas.Option.{same_Some, none-some, slice_get_within, slice_get-get_or}
+use Rattle.std.proofs.lemmas.Bool.{cases_lt}
+use Rattle.kb_word.specs.Words.{Pair, OneOf, EndsWith}
+use Rattle.kb_rules.specs.Ending.{IsFirstEnding, NoneEnds}
+use Rattle.kb_index.specs.declared.edge.Edge.{Edge}
+use Rattle.kb_index.specs.Edges.{AreEdges, word}
+use Rattle.kb_index.specs.Tries.{IsTrie, left_at}
+use Rattle.kb_index.specs.Links.{IsLongestSuffix}
+use Rattle.kb_index.specs.Owners.{IsOwner}
+use Rattle.kb_index.specs.Automata.{AreStates, StandsFor}
+use Rattle.kb_index.proofs.Suffixes.{ends_within}
+use Rattle.kb_index.proofs.Steps.{longest_more}
+use Rattle.kb_index.proofs.Linking.{longest_nil}
+
+stands_along : (edges : List Edge) (v w : List ℕ) (s t : ℕ) → v ≡ w → s ≡ t → StandsFor edges v s → StandsFor edges w t
+stands_along edges v w s t words states stands =
+    let P : List ℕ → Type 0 = λ u. StandsFor edges u s in
+    subst (StandsFor edges w) states (subst P words stands)
+
+pub states_first : (edges : List Edge) → AreStates edges [] (0 ∷ [])
+states_first edges =
+    record {
+      count = omega arith;
+      each = λ i within.
+          let first : StandsFor edges [] 0 = record { within = omega arith; longest = longest_nil edges } in
+          let same : 0 ≡ i = omega arith in
+          let P : ℕ → Type 0 = λ k. StandsFor edges (take k []) (get_or (0 ∷ []) k 0) in
+          subst P same first;
+    }
+
+pub states_push : (edges : List Edge) (w : List ℕ) (states : List ℕ) (x state : ℕ) → AreStates edges w states
+    → StandsFor edges (w ++ x ∷ []) state → AreStates edges (w ++ x ∷ []) (states ++ state ∷ [])
+states_push edges w states x state are last =
+    record {
+      count = omega (arith, length_push w x, length_push states state, are.count);
+      each = λ i within.
+          elim (cases_lt i (length states)) [
+            | inl earlier ↦
+                let fits : i ≤ length w = omega (arith, are.count) in
+                stands_along edges (take i w) (take i (w ++ x ∷ [])) (get_or states i 0) (get_or (states ++ state ∷ []) i 0)
+                (sym (take-append-le i w (x ∷ []) fits)) (sym (get_or_append_left states (state ∷ []) 0 i earlier)) (are.each i fits)
+            | inr late ↦
+                let same : length states ≡ i = omega (arith, length_push w x, are.count) in
+                stands_along edges (w ++ x ∷ []) (take i (w ++ x ∷ [])) state (get_or (states ++ state ∷ []) i 0)
+                (sym (take_all i (w ++ x ∷ []) (omega (arith, length_push w x, are.count)))) (sym (get_or_push states state 0 i same)) last
+          ];
+    }
+
+pub states_cut : (edges : List Edge) (w : List ℕ) (states : List ℕ) (kept : ℕ) → kept ≤ length w → AreStates edges w states
+    → AreStates edges (take kept w) (take (kept + 1) states)
+states_cut edges w states kept fits are =
+    let long : length (take kept w) ≡ kept = length-take-le kept w fits in
+    record {
+      count = omega (arith, length-take-le (kept + 1) states (omega (arith, are.count)));
+      each = λ i within.
+          stands_along edges (take i w) (take i (take kept w)) (get_or states i 0) (get_or (take (kept + 1) states) i 0)
+          (sym (take-take i kept w (omega arith))) (sym (get_or-take (kept + 1) states i 0 (omega arith))) (are.each i (omega arith));
+    }
+
+-- the state after a letter more
+pub states_next : (edges : List Edge) → AreEdges edges → (w : List ℕ) (states : List ℕ) (x state : ℕ) → AreStates edges w states
+    → state ≤ length edges
+    → IsLongestSuffix edges (word edges (get_or states (length states - 1) 0) ++ x ∷ []) (word edges state)
+    → StandsFor edges (w ++ x ∷ []) state
+states_next edges rise w states x state are within stepped =
+    let last : ℕ = length states - 1 in
+    let same : last ≡ length w = omega (arith, are.count) in
+    let stands : StandsFor edges w (get_or states last 0) =
+    stands_along edges (take last w) w (get_or states last 0) (get_or states last 0) (take_all last w (omega arith)) refl (are.each last (omega arith)) in
+    record {
+      within = within;
+      longest = longest_more edges rise w (word edges (get_or states last 0)) (word edges state) x stands.longest stepped;
+    }
+
+pub last_within : (edges : List Edge) (w : List ℕ) (states : List ℕ) → AreStates edges w states
+    → get_or states (length states - 1) 0 ≤ length edges
+last_within edges w states are =
+    let stands = are.each (length states - 1) (omega (arith, are.count)) in stands.within
+
+at_left : (rules : List Pair) (place : ℕ) (rule : Pair) → slice_get rules place ≡ Some rule → left_at rules place ≡ rule.0
+at_left [] place rule is = absurd (none-some rule is)
+at_left (first ∷ rules) zero rule is = ap (λ (r : Pair). r.0) (same_Some first rule is)
+at_left (first ∷ rules) (suc place) rule is = at_left rules place rule is
+
+-- a left side that ends what is read ends the word of its state
+left_ends : (rules : List Pair) (edges : List Edge) → IsTrie rules edges → (read : List ℕ) (state place : ℕ) (rule : Pair)
+    → StandsFor edges read state → slice_get rules place ≡ Some rule → EndsWith read rule.0
+    → EndsWith (word edges state) (left_at rules place)
+left_ends rules edges trie read state place rule stands is ends =
+    let has = trie.complete place (slice_get_within rules place rule is) in
+    let P : List ℕ → Type 0 = λ v. EndsWith read v in
+    let Q : List ℕ → Type 0 = λ v. EndsWith (word edges state) v in
+    subst Q has.is (stands.longest.longest has.state has.within (subst P (sym (has.is ∙ at_left rules place rule is)) ends))
+
+pub owner_first : (rules : List Pair) (edges : List Edge) → IsTrie rules edges → (state place : ℕ) (rule : Pair)
+    → IsOwner rules (word edges state) place → slice_get rules place ≡ Some rule
+    → (read : List ℕ) → StandsFor edges read state → IsFirstEnding rules read rule
+owner_first rules edges trie state place rule owner is read stands =
+    let P : List ℕ → Type 0 = λ v. EndsWith read v in
+    let there : EndsWith (word edges state) (left_at rules place) = owner.ends (slice_get_within rules place rule is) in
+    record {
+      index = place;
+      is_rule = is;
+      ends = subst P (at_left rules place rule is) (ends_within read (word edges state) (left_at rules place) stands.longest.ends there);
+      first = λ earlier other less one ends.
+          owner.first earlier less (left_ends rules edges trie read state earlier other stands one ends);
+    }
+
+pub owner_none : (rules : List Pair) (edges : List Edge) → IsTrie rules edges → (state place : ℕ)
+    → IsOwner rules (word edges state) place → length rules ≤ place
+    → (read : List ℕ) → StandsFor edges read state → NoneEnds rules read
+owner_none rules edges trie state place owner past read stands pair one ends =
+    owner.first one.0 (omega (arith, slice_get_within rules one.0 pair one.1))
+    (left_ends rules edges trie read state one.0 pair stands one.1 ends)
+
+none_past : (rules : List Pair) (place : ℕ) → None ≡ slice_get rules place → length rules ≤ place
+none_past rules place is =
+    elim (cases_lt place (length rules)) [
+      | inl within ↦ absurd (none-some (get_or rules place ([], [])) (is ∙ slice_get-get_or rules place ([], []) within))
+      | inr past ↦ past
+    ]
+
+pub ending_some : (rules : List Pair) (edges : List Edge) → IsTrie rules edges → (state place : ℕ)
+    → IsOwner rules (word edges state) place → (found : Option (Bor Pair)) → option_copied found ≡ slice_get rules place
+    → IfSome found (λ rule. (read : List ℕ) → StandsFor edges read state → IsFirstEnding rules read rule.now)
+ending_some rules edges trie state place owner None is = tt
+ending_some rules edges trie state place owner (Some rule) is = owner_first rules edges trie state place rule.now owner (sym is)
+
+pub ending_none : (rules : List Pair) (edges : List Edge) → IsTrie rules edges → (state place : ℕ)
+    → IsOwner rules (word edges state) place → (found : Option (Bor Pair)) → option_copied found ≡ slice_get rules place
+    → IfNone found ((read : List ℕ) → StandsFor edges read state → NoneEnds rules read)
+ending_none rules edges trie state place owner None is =
+    owner_none rules edges trie state place owner (none_past rules place is)
+ending_none rules edges trie state place owner (Some rule) is = tt
+
+-- the same, where the states are named otherwise
+pub letter_stands : (edges : List Edge) → AreEdges edges → (w : List ℕ) (states given : List ℕ) (x state : ℕ) → given ≡ states
+    → AreStates edges w states → state ≤ length edges
+    → IsLongestSuffix edges (word edges (get_or given (length given - 1) 0) ++ x ∷ []) (word edges state)
+    → StandsFor edges (w ++ x ∷ []) state
+letter_stands edges rise w states given x state same are within stepped =
+    let P : List ℕ → Type 0 = λ ss. IsLongestSuffix edges (word edges (get_or ss (length ss - 1) 0) ++ x ∷ []) (word edges state) in
+    states_next edges rise w states x state are within (subst P same stepped)
+
+states_same : (edges : List Edge) (v w : List ℕ) (ss ts : List ℕ) → v ≡ w → ss ≡ ts → AreStates edges w ts → AreStates edges v ss
+states_same edges v w ss ts words states are =
+    let P : List ℕ → Type 0 = λ u. AreStates edges u ts in
+    subst (AreStates edges v) (sym states) (subst P (sym words) are)
+
+-- the letter has joined the front
+pub front_pushed : (edges : List Edge) (w w' : List ℕ) (states states' : List ℕ) (x state : ℕ) → AreStates edges w states
+    → StandsFor edges (w ++ x ∷ []) state → w' ≡ w ++ x ∷ [] → states' ≡ states ++ state ∷ [] → AreStates edges w' states'
+front_pushed edges w w' states states' x state are stands words pushed =
+    states_same edges w' (w ++ x ∷ []) states' (states ++ state ∷ []) words pushed (states_push edges w states x state are stands)
+
+-- and the front has been cut
+pub front_cut : (edges : List Edge) (w v : List ℕ) (states rest : List ℕ) (kept : ℕ) → kept ≤ length w → AreStates edges w states
+    → v ≡ take kept w → rest ≡ take (kept + 1) states → AreStates edges v rest
+front_cut edges w v states rest kept fits are words cut =
+    states_same edges v (take kept w) rest (take (kept + 1) states) words cut (states_cut edges w states kept fits are)

@@ -1,0 +1,27 @@
+-- The children of a state, as a run of edges.
+use Rattle.std.specs.Prelude.{◌≡◌, ℕ, ◌+◌, ◌<◌, ◌≤◌, List, length, get_or}
+use Rattle.kb_index.specs.declared.edge.Edge.{Edge}
+use Rattle.kb_index.specs.Edges.{edge_at}
+
+-- the number of edges that lead from states before this one, which come first
+pub record IsFirst (edges : List Edge) (state first : ℕ) : Type 0 where
+  pub within : first ≤ length edges
+  pub earlier : (i : ℕ) → i < first → (edge_at edges i).parent < state
+  pub later : (i : ℕ) → first ≤ i → i < length edges → state ≤ (edge_at edges i).parent
+
+-- that number for each state, and for one after the last
+pub record AreFirsts (edges : List Edge) (firsts : List ℕ) : Type 0 where
+  pub count : length firsts ≡ length edges + 2
+  pub each : (state : ℕ) → state < length firsts → IsFirst edges state (get_or firsts state 0)
+
+-- an edge by the letter leads from the state to the child
+pub record IsChild (edges : List Edge) (state letter child : ℕ) : Type 0 where
+  pub place : ℕ
+  pub within : place < length edges
+  pub is : child ≡ place + 1
+  pub parent : (edge_at edges place).parent ≡ state
+  pub letter_is : (edge_at edges place).letter ≡ letter
+
+-- no edge by the letter leads from the state
+abbrev pub IsNoChild : List Edge → ℕ → ℕ → Type 0
+IsNoChild edges state letter = (child : ℕ) → ¬ IsChild edges state letter child

@@ -1,0 +1,50 @@
+//! The children of a state.
+
+ghost use Rattle.std.specs.Prelude.{◌≡◌, ℕ, ◌<◌, ◌≤◌, ◌+◌, IfOk, IfSome, IfNone, length};
+ghost use Rattle.kb_index.specs.Edges.{AreEdges};
+ghost use Rattle.kb_index.specs.Children.{AreFirsts, IsChild, IsNoChild};
+
+use crate::edge::Edge;
+use kb_word::Memory;
+use std::alloc::Global;
+
+/// For each state, the first edge that leads from it or from a later state.
+pub fn firsts_of(alloc: Global, edges: &[Edge]) -> Result<Vec<usize>, Memory>
+    requires { AreEdges edges.now }
+    ensures { IfOk result (λ firsts. AreFirsts edges.now firsts.items) }
+{
+    let mut firsts = Vec::new(alloc);
+    let mut first = 0;
+    for state in 0..edges.len() + 2 {
+        while first < edges.len() && edges[first].parent < state {
+            first += 1;
+        }
+        firsts.push(first)?;
+    }
+    Ok(firsts)
+}
+
+/// The state to which the letter leads from a state.
+pub fn child(edges: &[Edge], firsts: &[usize], state: usize, letter: u16) -> Option<usize>
+    requires edges { AreEdges edges.now }
+    requires firsts { AreFirsts edges.now firsts.now }
+    requires state { state ≤ length edges.now }
+    ensures some { IfSome result (IsChild edges.now state letter) }
+    ensures none { IfNone result (IsNoChild edges.now state letter) }
+{
+    let (mut low, end) = (firsts[state], firsts[state + 1]);
+    let mut high = end;
+    while low < high {
+        let middle = low + (high - low) / 2;
+        if edges[middle].letter < letter {
+            low = middle + 1;
+        } else {
+            high = middle;
+        }
+    }
+    if low < end && edges[low].letter == letter {
+        Some(low + 1)
+    } else {
+        None
+    }
+}
