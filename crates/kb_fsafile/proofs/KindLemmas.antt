@@ -1,27 +1,92 @@
 -- Lists of numbers and of entries, element by element.
-use Rattle.std.proofs.Common.{◌≡◌, ℤ, List, [], ◌∷◌, map, length, Option, Some, None, refl, sym, ap, ◌∙◌}
-use Rattle.std.specs.Option.{option_map}
-use Rattle.std.proofs.lemmas.List.{length-map}
-use Rattle.kb_record.specs.Tree.{Value, number_value, place, no_places}
-use Rattle.kb_record.specs.View.{places_of, value_view}
+use Rattle.std.proofs.Common.{◌≡◌, ℤ, true, false, nat_eq, List, [], ◌∷◌, map, length, slice_get, Option, Some, Vec, Global, refl, sym, ap, ◌∙◌, eqb-true, arith}
+use Rattle.std.proofs.lemmas.Bool.{false≢true}
+use Rattle.std.specs.Borrow.{Bor}
+use Rattle.std.proofs.lemmas.Option.{same_Some}
+use Rattle.kb_record.specs.Tree.{Value, number_value, list_value, Places, place}
+use Rattle.kb_record.specs.View.{value_view, places_of, row_place, entries_place}
+use Rattle.kb_record.specs.Listed.{listed, place_view}
 use Rattle.kb_record.specs.declared.tree.Value as code
-use Rattle.kb_fields.specs.Fields.{places_view}
-use Rattle.kb_fsafile.specs.Kinds.{two_places, entry_value, list_of_entries}
+use Rattle.kb_record.specs.declared.listed.Place.{Place}
+use Rattle.kb_record.specs.declared.listed.Place.TheVariants as variants
+use Rattle.kb_record.proofs.Views.{view-Numbers}
+use Rattle.kb_fields.proofs.NumberLemmas.{list_of_numbers-places_of, one_list_of_numbers}
+use Rattle.kb_fsafile.specs.Kinds.{list_of_numbers, entry_value, list_of_entries}
 
 pub list_of_entries-places_of : (entries : List (ℤ × ℤ)) → list_of_entries entries ≡ places_of (map (λ (e : ℤ × ℤ). Some (entry_value e)) entries)
 list_of_entries-places_of [] = refl
 list_of_entries-places_of (e ∷ entries) = ap (place (entry_value e)) (list_of_entries-places_of entries)
 
--- a list with two places
-count_two : (ps : List (Option Value)) (a b : Value) → places_of ps ≡ place a (place b no_places) → length ps ≡ 2
-count_two [] a b e = cc
-count_two (Some v ∷ []) a b e = cc
-count_two (None ∷ ps) a b e = cc
-count_two (Some v ∷ (None ∷ ps)) a b e = cc
-count_two (Some v ∷ (Some w ∷ [])) a b e = refl
-count_two (Some v ∷ (Some w ∷ (None ∷ ps))) a b e = cc
-count_two (Some v ∷ (Some w ∷ (Some x ∷ ps))) a b e = cc
+-- what numbers and entries are at a place
+pub place_of_numbers : (numbers : List ℤ) → row_place numbers ≡ Some (list_value (list_of_numbers numbers))
+place_of_numbers numbers = ap (λ (ps : Places). Some (list_value ps)) (sym (list_of_numbers-places_of numbers))
 
--- another number of places than two are no two numbers
-pub are_no_two_numbers : (places : List (Option code.Value)) → (length places ≡ 2 → ⊥) → (entry : ℤ × ℤ) → places_view places ≡ two_places entry → ⊥
-are_no_two_numbers places other entry e = other (sym (length-map places (option_map value_view)) ∙ count_two (map (option_map value_view) places) _ _ e)
+pub place_of_entries : (entries : List (ℤ × ℤ)) → entries_place entries ≡ Some (list_value (list_of_entries entries))
+place_of_entries entries = ap (λ (ps : Places). Some (list_value ps)) (sym (list_of_entries-places_of entries))
+
+-- a value that is kept as a list of numbers
+pub value_of_numbers : (numbers : Vec ℤ Global) → value_view (code.Numbers numbers) ≡ list_value (list_of_numbers numbers.items)
+value_of_numbers numbers = view-Numbers numbers ∙ ap list_value (sym (list_of_numbers-places_of numbers.items))
+
+-- an entry is a list of two numbers
+pub numbers_of_entry : (numbers : List ℤ) (entry : ℤ × ℤ) → row_place numbers ≡ Some (entry_value entry) → numbers ≡ entry.0 ∷ entry.1 ∷ []
+numbers_of_entry numbers entry e = one_list_of_numbers numbers (entry.0 ∷ entry.1 ∷ []) (same_Some _ _ (sym (place_of_numbers numbers) ∙ e))
+
+-- of a list of lists only the empty one is a list of numbers, and of a list of numbers only the empty one a list of entries
+pub entries_of_numbers : (entries : List (ℤ × ℤ)) (numbers : List ℤ) → entries_place entries ≡ Some (list_value (list_of_numbers numbers)) → entries ≡ []
+entries_of_numbers [] numbers e = refl
+entries_of_numbers (x ∷ entries) [] e = cc
+entries_of_numbers (x ∷ entries) (z ∷ numbers) e = cc
+
+pub numbers_of_entries : (numbers : List ℤ) (entries : List (ℤ × ℤ)) → row_place numbers ≡ Some (list_value (list_of_entries entries)) → numbers ≡ []
+numbers_of_entries [] entries e = refl
+numbers_of_entries (z ∷ numbers) [] e = cc
+numbers_of_entries (z ∷ numbers) (x ∷ entries) e = cc
+
+-- a list that is said to be empty, and one that is said not to be
+pub empty_list : {A : Type 0} (xs : List A) → true ≡ nat_eq (length xs) 0 → xs ≡ []
+empty_list [] e = refl
+empty_list (x ∷ xs) e = let none = eqb-true (length (x ∷ xs)) 0 (sym e) in absurd (omega (arith, none))
+
+pub no_empty_list : {A : Type 0} (xs : List A) → false ≡ nat_eq (length xs) 0 → xs ≡ [] → ⊥
+no_empty_list {A = A} xs e none = false≢true (e ∙ ap (λ (ys : List A). nat_eq (length ys) 0) none)
+
+-- Places that are no values and no flat lists hold none of these.
+module _ (p : Place) (other : (value : Bor code.Value) → p ≡ variants.Value value → ⊥) (not_flat : (numbers : Bor (List ℤ)) → p ≡ variants.Numbers numbers → ⊥) where
+  -- an entry
+  pub no_entry_at : (entry : ℤ × ℤ) → place_view p ≡ Some (entry_value entry) → ⊥
+  no_entry_at entry e = go p other not_flat e
+    where
+      none : (entries : List (ℤ × ℤ)) → entries_place entries ≡ Some (entry_value entry) → ⊥
+      none [] h = cc
+      none (x ∷ entries) h = cc
+
+      go : (q : Place) → ((value : Bor code.Value) → q ≡ variants.Value value → ⊥) → ((numbers : Bor (List ℤ)) → q ≡ variants.Numbers numbers → ⊥)
+          → place_view q ≡ Some (entry_value entry) → ⊥
+      go variants.Empty v n h = cc
+      go (variants.Value value) v n h = v value refl
+      go (variants.Number z) v n h = cc
+      go (variants.Numbers numbers) v n h = n numbers refl
+      go (variants.Entries entries) v n h = none entries.now h
+
+  -- a list
+  pub no_list_at : ((entries : Bor (List (ℤ × ℤ))) → p ≡ variants.Entries entries → ⊥) → (places : Places) → place_view p ≡ Some (list_value places) → ⊥
+  no_list_at no_rows places e = go p other not_flat no_rows e
+    where
+      go : (q : Place) → ((value : Bor code.Value) → q ≡ variants.Value value → ⊥) → ((numbers : Bor (List ℤ)) → q ≡ variants.Numbers numbers → ⊥)
+          → ((entries : Bor (List (ℤ × ℤ))) → q ≡ variants.Entries entries → ⊥) → place_view q ≡ Some (list_value places) → ⊥
+      go variants.Empty v n r h = cc
+      go (variants.Value value) v n r h = v value refl
+      go (variants.Number z) v n r h = cc
+      go (variants.Numbers numbers) v n r h = n numbers refl
+      go (variants.Entries entries) v n r h = r entries refl
+
+-- an entry has two places, and a number at each
+pub entry_count : (value : Value) (entry : ℤ × ℤ) → value ≡ entry_value entry → length (listed value) ≡ 2
+entry_count value entry e = ap (λ (v : Value). length (listed v)) e
+
+pub entry_first : (value : Value) (p : Option Value) → slice_get (listed value) 0 ≡ Some p → (entry : ℤ × ℤ) → value ≡ entry_value entry → p ≡ Some (number_value entry.0)
+entry_first value p at entry e = same_Some _ _ (sym at ∙ ap (λ (v : Value). slice_get (listed v) 0) e)
+
+pub entry_second : (value : Value) (p : Option Value) → slice_get (listed value) 1 ≡ Some p → (entry : ℤ × ℤ) → value ≡ entry_value entry → p ≡ Some (number_value entry.1)
+entry_second value p at entry e = same_Some _ _ (sym at ∙ ap (λ (v : Value). slice_get (listed v) 1) e)

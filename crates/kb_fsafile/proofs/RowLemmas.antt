@@ -11,13 +11,13 @@ use Rattle.std.proofs.lemmas.Bool.{cases_eq}
 use Rattle.std.proofs.lemmas.Bool.Decides.{nat_tests}
 use Rattle.std.proofs.lemmas.Option.{slice_get-map, slice_get-get_or}
 use Rattle.std.proofs.lemmas.List.{length-map, length-take, get_or-map, take_more, map-append}
-use Rattle.std.proofs.lemmas.List.Elements.{All-nil, All-cons, All-push, All-contains, filter-append}
+use Rattle.std.proofs.lemmas.List.Elements.{All-nil, All-cons, All-push, All-weaker, All-contains, filter-append}
 use Rattle.std.proofs.lemmas.List.Quantifiers.{all_pairs_push}
 use Rattle.std.proofs.lemmas.Map.Keys.{below_from_sorted}
 use Rattle.kb_fsa.specs.Table.{Moves, IsRow, Ascends, lookup, target}
 use Rattle.kb_fsa.proofs.Lookups.{lookup_here, lookup_there, entry_from_lookup, lookup-push_same, lookup-push_other}
 use Rattle.kb_fsafile.specs.Kinds.{numbered_from}
-use Rattle.kb_fsafile.specs.RowsRead.{moves_among, AreRowTargets, HasEntries, IsSparseRow}
+use Rattle.kb_fsafile.specs.RowsRead.{moves_among, AreRowTargets, AreEntries, HasEntries, AreAscendingEntries, IsSparseRow}
 use Rattle.kb_fsafile.proofs.MoveLemmas.{target_among, row_among, numbered-append}
 
 -- one more target
@@ -60,25 +60,27 @@ at_other : (a b : ℕ) → (a ≡ b → ⊥) → is_eq (nat_cmp a b) ≡ false
 at_other a b n = grind (arith, nat_tests)
 
 -- one more entry, of a new symbol
+are_more : (size count : ℕ) (pairs : List (ℤ × ℤ)) (k : ℕ) (pair : ℤ × ℤ) (entries : List (ℕ × ℕ)) (symbol t : ℕ) → k < length pairs → pair ≡ get_or pairs k pair
+    → AreEntries size count (take k pairs) entries → pair ≡ (pos symbol, pos t) → (0 < symbol) × (symbol ≤ size) → t ≤ count
+    → All (λ (e : ℕ × ℕ). e.0 ≢ symbol) entries → AreEntries size count (take (k + 1) pairs) (entries ++ (symbol, t) ∷ [])
+are_more size count pairs k pair entries symbol t within at are is bounds small new = record {
+  same = take_more pairs k pair within ∙ (ap (λ (ps : List (ℤ × ℤ)). ps ++ get_or pairs k pair ∷ []) are.same
+      ∙ (ap (λ (p : ℤ × ℤ). map (λ (e : ℕ × ℕ). (pos e.0, pos e.1)) entries ++ p ∷ []) (sym at ∙ is)
+      ∙ sym (map-append (λ (e : ℕ × ℕ). (pos e.0, pos e.1)) entries ((symbol, t) ∷ []))));
+  apart = all_pairs_push (λ (e : ℕ × ℕ) (later : ℕ × ℕ). e.0 ≢ later.0) entries (symbol, t) are.apart new;
+  symbols = All-push (λ (e : ℕ × ℕ). (0 < e.0) × (e.0 ≤ size)) entries (symbol, t) are.symbols bounds;
+  targets = All-push (λ (e : ℕ × ℕ). e.1 ≤ count) entries (symbol, t) are.targets small;
+}
+
 pub entries_more : (size count : ℕ) (pairs : List (ℤ × ℤ)) (k : ℕ) (pair : ℤ × ℤ) (found new : BTreeMap ℕ ℕ) (symbol t : ℕ) → k < length pairs → pair ≡ get_or pairs k pair
-    → HasEntries size count (take k pairs) found → pair.0 ≡ pos symbol → pair.1 ≡ pos t → 0 < symbol → symbol ≤ size → t ≤ count
+    → HasEntries size count (take k pairs) found → pair ≡ (pos symbol, pos t) → (0 < symbol) × (symbol ≤ size) → t ≤ count
     → get nat_cmp found symbol ≡ None → Updates nat_cmp found new symbol (Some t) → HasEntries size count (take (k + 1) pairs) new
-entries_more size count pairs k pair found new symbol t within at has first second positive small target_small absent updates = record {
+entries_more size count pairs k pair found new symbol t within at has is bounds small absent updates = record {
   entries = has.entries ++ (symbol, t) ∷ [];
-  are = record {
-    same = take_more pairs k pair within ∙ (ap (λ (ps : List (ℤ × ℤ)). ps ++ get_or pairs k pair ∷ []) has.are.same
-        ∙ (ap (λ (p : ℤ × ℤ). map (λ (e : ℕ × ℕ). (pos e.0, pos e.1)) has.entries ++ p ∷ []) (sym at ∙ pair_same pair first second)
-        ∙ sym (map-append (λ (e : ℕ × ℕ). (pos e.0, pos e.1)) has.entries ((symbol, t) ∷ []))));
-    apart = all_pairs_push (λ (e : ℕ × ℕ) (later : ℕ × ℕ). e.0 ≢ later.0) has.entries (symbol, t) has.are.apart (lookup_absent has.entries symbol none);
-    symbols = All-push (λ (e : ℕ × ℕ). (0 < e.0) × (e.0 ≤ size)) has.entries (symbol, t) has.are.symbols (positive, small);
-    targets = All-push (λ (e : ℕ × ℕ). e.1 ≤ count) has.entries (symbol, t) has.are.targets target_small;
-  };
+  are = are_more size count pairs k pair has.entries symbol t within at has.are is bounds small (lookup_absent has.entries symbol none);
   each = λ q. updates.0 q ∙ go q (cases_eq symbol q);
 }
   where
-    pair_same : (p : ℤ × ℤ) → p.0 ≡ pos symbol → p.1 ≡ pos t → p ≡ (pos symbol, pos t)
-    pair_same (x, y) a b = cc
-
     none : lookup has.entries symbol ≡ None
     none = sym (has.each symbol) ∙ absent
 
@@ -89,6 +91,39 @@ entries_more size count pairs k pair found new symbol t within at has first seco
     go q (inr other) =
         ap (λ (b : Bool). cond b (Some t) (get nat_cmp found q)) (at_other symbol q other)
         ∙ (has.each q ∙ sym (lookup-push_other has.entries symbol t q (λ same. other (sym same))))
+
+-- one more entry, of a greater symbol
+pub ascending_more : (size count last : ℕ) (pairs : List (ℤ × ℤ)) (k : ℕ) (pair : ℤ × ℤ) (moves more : Moves) (symbol t : ℕ) → k < length pairs → pair ≡ get_or pairs k pair
+    → AreAscendingEntries size count last (take k pairs) moves → pair ≡ (pos symbol, pos t) → (0 < symbol) × (symbol ≤ size) → t ≤ count → last < symbol
+    → more ≡ moves ++ moves_among ((symbol, t) ∷ []) → AreAscendingEntries size count symbol (take (k + 1) pairs) more
+ascending_more size count last pairs k pair moves more symbol t within at has is bounds small above longer = record {
+  entries = has.entries ++ (symbol, t) ∷ [];
+  are = are_more size count pairs k pair has.entries symbol t within at has.are is bounds small
+      (All-weaker (λ (e : ℕ × ℕ). e.0 ≤ last) (λ (e : ℕ × ℕ). e.0 ≢ symbol) (λ e low same. omega (arith, low, same, above)) has.entries has.upto);
+  ascends = all_pairs_push (λ (e : ℕ × ℕ) (later : ℕ × ℕ). e.0 < later.0) has.entries (symbol, t) has.ascends
+      (All-weaker (λ (e : ℕ × ℕ). e.0 ≤ last) (λ (e : ℕ × ℕ). e.0 < symbol) (λ e low. omega (arith, low, above)) has.entries has.upto);
+  upto = All-push (λ (e : ℕ × ℕ). e.0 ≤ symbol) has.entries (symbol, t)
+      (All-weaker (λ (e : ℕ × ℕ). e.0 ≤ last) (λ (e : ℕ × ℕ). e.0 ≤ symbol) (λ e low. omega (arith, low, above)) has.entries has.upto) (omega arith);
+  kept = longer ∙ (ap (λ (ms : Moves). ms ++ moves_among ((symbol, t) ∷ [])) has.kept
+      ∙ sym (filter-append (λ (e : ℕ × ℕ). not (nat_eq e.1 0)) has.entries ((symbol, t) ∷ [])));
+}
+
+positive_symbols : (size count : ℕ) (pairs : List (ℤ × ℤ)) (entries : List (ℕ × ℕ)) → AreEntries size count pairs entries → All (λ (e : ℕ × ℕ). 0 < e.0) entries
+positive_symbols size count pairs entries are =
+    All-weaker (λ (e : ℕ × ℕ). (0 < e.0) × (e.0 ≤ size)) (λ (e : ℕ × ℕ). 0 < e.0) (λ e bounds. bounds.0) entries are.symbols
+
+pub ascending_is_row : (size count last : ℕ) (pairs : List (ℤ × ℤ)) (moves : Moves) → AreAscendingEntries size count last pairs moves → IsRow moves
+ascending_is_row size count last pairs moves has =
+    let P : Moves → Type 0 = λ ms. IsRow ms in
+    subst P (sym has.kept) (row_among has.entries has.ascends (positive_symbols size count pairs has.entries has.are))
+
+pub ascending_row_is : (size count last : ℕ) (pairs : List (ℤ × ℤ)) (moves : Moves) → AreAscendingEntries size count last pairs moves → IsSparseRow size count pairs moves
+ascending_row_is size count last pairs moves has = record {
+  entries = has.entries;
+  are = has.are;
+  is_row = ascending_is_row size count last pairs moves has;
+  each = λ symbol. ap (λ (ms : Moves). target ms symbol) has.kept ∙ target_among has.entries symbol has.ascends;
+}
 
 -- an earlier pair has the symbol
 pub record StandsEarlier (pairs : List (ℤ × ℤ)) (k symbol : ℕ) : Type 0 where

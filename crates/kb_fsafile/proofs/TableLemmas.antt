@@ -1,22 +1,20 @@
 -- Rows at the places of a table, and their faults.
-use Rattle.std.proofs.Common.{◌≡◌, ℕ, ◌+◌, ◌<◌, ◌≤◌, ◌^◌, ℤ, pos, List, [], ◌∷◌, ◌++◌, length, map, take, get_or, Option, Some, None, refl, sym, ap, ◌∙◌, subst, arith}
-use Rattle.std.specs.Option.{option_map}
+use Rattle.std.proofs.Common.{◌≡◌, ℕ, ◌+◌, ◌<◌, ◌≤◌, ◌^◌, ℤ, pos, List, [], ◌∷◌, ◌++◌, length, map, take, get_or, slice_get, Option, Some, None, refl, sym, ap, ◌∙◌, subst, arith}
 use Rattle.std.specs.List.{All}
-use Rattle.std.proofs.lemmas.List.{length-map, length-take, length_push, map_more}
-use Rattle.std.proofs.lemmas.Option.{slice_get-map, slice_get_read}
+use Rattle.std.proofs.lemmas.List.{length-map, length-take, length_push, take_more}
+use Rattle.std.proofs.lemmas.Option.{slice_get_within, get_or_from_slice_get}
 use Rattle.std.proofs.lemmas.List.Elements.{All-weaker, All-contains, All-push}
 use Rattle.kb_record.specs.Tree.{Value, list_value, Fields, Places}
-use Rattle.kb_record.specs.View.{places_of, value_view}
-use Rattle.kb_record.specs.declared.tree.Value as code
-use Rattle.kb_fields.specs.Fields.{places_view, value_of, value_at, place_count}
+use Rattle.kb_record.specs.View.{places_of}
+use Rattle.kb_fields.specs.Fields.{value_of, value_at, place_count}
 use Rattle.kb_fields.proofs.ListingLemmas.{list_same}
-use Rattle.kb_fields.proofs.PlaceLemmas.{value_at-places_of, count_view}
+use Rattle.kb_fields.proofs.PlaceLemmas.{value_at-places_of, count_places}
 use Rattle.kb_fsa.specs.Table.{Moves, IsRow, lookup, target}
 use Rattle.kb_fsa.proofs.Lookups.{lookup_at, entry_from_lookup, lookup_from_target, target_some}
 use Rattle.kb_fsafile.specs.Kinds.{list_of_numbers, list_of_entries, numbered_from}
 use Rattle.kb_fsafile.specs.Holds.{HoldsRecord, HoldsString, HoldsStates, HasNoDefault, HoldsRow, HoldsRows, HoldsEntries, format_name}
 use Rattle.std.specs.Prelude.{codes}
-use Rattle.kb_fsafile.specs.Faults.{needed, transitions_field, IsRowKind, ListsRows, HasSize, HasFieldFault}
+use Rattle.kb_fsafile.specs.Faults.{needed, transitions_field, IsRowKind, ListsRows, HasSize, HasWrongStates, HasFieldFault}
 use Rattle.kb_fsafile.specs.RowsRead.{HasRows, IsWithin, IsRowAt, AreRowsAt, HasRowAt, AreRowTargets, IsSparseRow}
 use Rattle.kb_fsafile.specs.declared.format.Format.{Format}
 use Rattle.kb_fsafile.specs.declared.format.Format.TheVariants.{Dense, Sparse}
@@ -93,52 +91,56 @@ holds_push size count format (Some v ∷ ps) (r ∷ rows) value row holds here =
 holds_push size count format (None ∷ ps) rows value row holds here = absurd holds
 
 -- one more row
-pub rows_more : (size count : ℕ) (format : Format) (ps : List (Option code.Value)) (k : ℕ) (p : Option code.Value) (rows : List Moves) (row : Moves)
-    → k < length ps → p ≡ get_or ps k p → AreRowsAt size count format (places_view (take k ps)) rows → IsRowAt size count format (option_map value_view p) row
-    → AreRowsAt size count format (places_view (take (k + 1) ps)) (rows ++ row ∷ [])
-rows_more size count format ps k p rows row within at are is = record {
+pub rows_more : (size count : ℕ) (format : Format) (ps : List (Option Value)) (k : ℕ) (p : Option Value) (rows : List Moves) (row : Moves)
+    → slice_get ps k ≡ Some p → AreRowsAt size count format (places_of (take k ps)) rows → IsRowAt size count format p row
+    → AreRowsAt size count format (places_of (take (k + 1) ps)) (rows ++ row ∷ [])
+rows_more size count format ps k p rows row at are is = record {
   holds = let P : List (Option Value) → Type 0 = λ vs. HoldsRows size count format (places_of vs) (rows ++ row ∷ []) in
-      subst P (sym whole) (holds_push size count format (map (option_map value_view) (take k ps)) rows is.value row are.holds is.holds);
+      subst P (sym whole) (holds_push size count format (take k ps) rows is.value row are.holds is.holds);
   one_each =
       let pushed = length_push rows row in
-      let here = count_view (take k ps) in let there = count_view (take (k + 1) ps) in
+      let here = count_places (take k ps) in let there = count_places (take (k + 1) ps) in
       let some = length-take k ps in let more = length-take (k + 1) ps in
-      omega (arith, pushed, are.one_each, here, there, some, more);
+      omega (arith, pushed, are.one_each, here, there, some, more, inside);
   are_rows = All-push IsRow rows row are.are_rows is.holds.is_row;
   within = All-push (All (IsWithin size count)) rows row are.within is.within;
 }
   where
-    last : option_map value_view (get_or ps k p) ≡ Some is.value
-    last = ap (option_map value_view) (sym at) ∙ is.stands
+    inside : k < length ps
+    inside = slice_get_within ps k p at
 
-    whole : map (option_map value_view) (take (k + 1) ps) ≡ map (option_map value_view) (take k ps) ++ Some is.value ∷ []
-    whole = map_more (option_map value_view) ps k p within
-        ∙ ap (λ (v : Option Value). map (option_map value_view) (take k ps) ++ v ∷ []) last
+    whole : take (k + 1) ps ≡ take k ps ++ Some is.value ∷ []
+    whole = take_more ps k p inside ∙ ap (λ (q : Option Value). take k ps ++ q ∷ []) (get_or_from_slice_get ps k p p at ∙ is.stands)
 
 -- what stands at a place of the table
-pub row_stands : (given : Fields) (size count : ℕ) (format : Format) (ps : List (Option code.Value)) (k : ℕ) (p : Option code.Value)
-    → k < length ps → p ≡ get_or ps k p → HoldsStates given count → HasSize given size → ListsRows given format (places_view ps)
-    → HasRowAt given format size count (option_map value_view p)
-row_stands given size count format ps k p within at counted sized listed =
-    let stands = slice_get-map (option_map value_view) ps k ∙ ap (option_map (option_map value_view)) (slice_get_read ps (length ps) k p refl within at) in
-    let seen = value_at-places_of (map (option_map value_view) ps) k (option_map value_view p) stands in
-    record { counted = counted; sized = sized; places = places_view ps; listed = listed; k = k; within = seen.1; stands = seen.0 }
+pub row_stands : (given : Fields) (size count : ℕ) (format : Format) (ps : List (Option Value)) (k : ℕ) (p : Option Value)
+    → slice_get ps k ≡ Some p → HoldsStates given count → HasSize given size → ListsRows given format (places_of ps)
+    → HasRowAt given format size count p
+row_stands given size count format ps k p at counted sized listed =
+    let seen = value_at-places_of ps k p at in
+    record { counted = counted; sized = sized; places = places_of ps; listed = listed; k = k; within = seen.1; stands = seen.0 }
+
+-- rows are not one for each state
+pub wrong_count : (given : Fields) (count length_of : ℕ) (format : Format) (ps : List (Option Value)) → HoldsStates given count
+    → ListsRows given format (places_of ps) → length ps ≡ length_of → (length_of ≡ count → ⊥) → HasFieldFault given errors.StatesWrong
+wrong_count given count length_of format ps states rows is other =
+    HasWrongStates.other_rows count format (places_of ps) states rows (λ same. other (sym is ∙ (sym (count_places ps) ∙ same)))
 
 -- the rows of the table, whose count fits
-pub has_rows : (given table : Fields) (size count number : ℕ) (format : Format) (ps seen : List (Option code.Value)) (rows : List Moves) → HoldsRecord given (codes "table") table
+pub has_rows : (given table : Fields) (size count number : ℕ) (format : Format) (ps : List (Option Value)) (rows : List Moves) → HoldsRecord given (codes "table") table
     → HasNoDefault (value_of table (codes "defaultTarget")) → HoldsString table (codes "format") (format_name format)
-    → value_of table (codes "transitions") ≡ Some (list_value (places_view ps)) → seen ≡ ps → length ps ≡ count → count < 2 ^ 32 → number ≡ count
-    → AreRowsAt size number format (places_view seen) rows → HasRows given size count rows
-has_rows given table size count number format ps seen rows is_record no_default named listed same all few fits are = record {
+    → value_of table (codes "transitions") ≡ Some (list_value (places_of ps)) → length ps ≡ count → count < 2 ^ 32 → number ≡ count
+    → AreRowsAt size number format (places_of ps) rows → HasRows given size count rows
+has_rows given table size count number format ps rows is_record no_default named listed all few fits are = record {
   holds = record {
     table = table;
     is_record = is_record;
     no_default = no_default;
     format = format;
     named = named;
-    places = places_view seen;
-    listed = listed ∙ ap (λ (vs : List (Option code.Value)). Some (list_value (places_view vs))) (sym same);
-    each = let P : ℕ → Type 0 = λ n. HoldsRows size n format (places_view seen) rows in subst P (fits ∙ sym whole) are.holds;
+    places = places_of ps;
+    listed = listed;
+    each = let P : ℕ → Type 0 = λ n. HoldsRows size n format (places_of ps) rows in subst P (fits ∙ sym whole) are.holds;
   };
   one_each = whole;
   few = few;
@@ -147,4 +149,4 @@ has_rows given table size count number format ps seen rows is_record no_default 
 }
   where
     whole : length rows ≡ count
-    whole = are.one_each ∙ (count_view seen ∙ (ap length same ∙ all))
+    whole = are.one_each ∙ (count_places ps ∙ all)

@@ -4,7 +4,7 @@ use Rattle.std.specs.BTreeMap.{BTreeMap, get}
 use Rattle.std.specs.Ordering.{nat_cmp}
 use Rattle.kb_record.specs.Tree.{Value, Fields, Places}
 use Rattle.kb_fields.specs.Fields.{value_at, place_count}
-use Rattle.kb_fsa.specs.Table.{Moves, IsRow, lookup, target, Table, IsTable, HasSymbols}
+use Rattle.kb_fsa.specs.Table.{Moves, IsRow, Ascends, lookup, target, Table, IsTable, HasSymbols}
 use Rattle.kb_fsa.specs.declared.alphabet.Alphabet.{Alphabet}
 use Rattle.kb_fsa.specs.declared.alphabet.Alphabet.TheVariants.{Plain, Pair}
 use Rattle.kb_fsafile.specs.Kinds.{numbered_from}
@@ -81,6 +81,14 @@ pub record HasEntries (size count : ℕ) (pairs : List (ℤ × ℤ)) (found : BT
   pub entries : List (ℕ × ℕ)
   pub are : AreEntries size count pairs entries
   pub each : (symbol : ℕ) → get nat_cmp found symbol ≡ lookup entries symbol
+
+-- the pairs of numbers are entries of ascending symbols, none of them above the last, and these are the moves among them
+pub record AreAscendingEntries (size count last : ℕ) (pairs : List (ℤ × ℤ)) (moves : Moves) : Type 0 where
+  pub entries : List (ℕ × ℕ)
+  pub are : AreEntries size count pairs entries
+  pub ascends : Ascends entries
+  pub upto : All (λ (e : ℕ × ℕ). e.0 ≤ last) entries
+  pub kept : moves ≡ moves_among entries
 
 -- the row has the moves that the pairs of numbers are
 pub record IsSparseRow (size count : ℕ) (pairs : List (ℤ × ℤ)) (row : Moves) : Type 0 where

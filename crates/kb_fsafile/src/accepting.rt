@@ -80,6 +80,9 @@ pub fn read_accepting<'a>(
     if let Some((from, to)) = range_of(value) {
         return range_within(from, to, count);
     }
+    if let Value::Numbers(numbers) = value {
+        return listed_within(alloc, numbers.as_slice(), count);
+    }
     let Some(numbers) = numbers_listed(alloc, value)? else {
         return Err(FsaError::WrongKind {
             field: Field::Accepting,

@@ -1,10 +1,11 @@
 //! The fields that an automaton file has, each once and of its kind.
 
-ghost use Rattle.std.specs.Prelude.{◌≡◌, ℕ, pos, List, Some, IfOk, IfErr, OnOk};
+ghost use Rattle.std.specs.Prelude.{◌≡◌, ℕ, pos, List, length, Some, IfOk, IfErr, OnOk};
 ghost use Rattle.std.specs.Option.{option_map};
-ghost use Rattle.kb_record.specs.Tree.{number_value, string_value, record_value, list_value};
+ghost use Rattle.kb_record.specs.Tree.{number_value, string_value, record_value};
 ghost use Rattle.kb_record.specs.View.{value_view};
-ghost use Rattle.kb_fields.specs.Fields.{fields_view, places_view, value_of, HasFieldTwice};
+ghost use Rattle.kb_record.specs.Listed.{listed, HasPlaces};
+ghost use Rattle.kb_fields.specs.Fields.{fields_view, value_of, HasFieldTwice};
 ghost use Rattle.kb_fsafile.specs.Kinds.{count_value};
 ghost use Rattle.kb_fsafile.specs.Faults.{name_of, needed, optional, HasFieldFault};
 ghost use Rattle.kb_fsafile.specs.Reading.{HasRecords, HasLists, HasStrings, HasNumbers, HasCounts, IsFaultOf};
@@ -55,18 +56,21 @@ pub fn needed_record<'r, 'a>(
     }
 }
 
-/// The places of the list that a field holds.
+/// The list that a field holds, and the number of its places.
 pub fn needed_list<'r, 'a>(
     fields: &'r [(&'a str, Value<'a>)],
     field: Field,
-) -> Result<&'r Vec<Option<Value<'a>>>, FsaError>
+) -> Result<(&'r Value<'a>, usize), FsaError>
     requires { HasLists field }
-    ensures found { IfOk result (λ places. value_of (fields_view fields.now) (name_of field) ≡ Some (list_value (places_view places.now.items))) }
+    ensures found { IfOk result (λ list. value_of (fields_view fields.now) (name_of field) ≡ Some (value_view list.0.now)) }
+    ensures listed { IfOk result (λ list. HasPlaces (value_view list.0.now) (listed (value_view list.0.now))) }
+    ensures counted { IfOk result (λ list. length (listed (value_view list.0.now)) ≡ list.1) }
     ensures fault { IfErr result (IsFaultOf field needed (fields_view fields.now)) }
 {
-    match needed_value(fields, field)? {
-        Value::List(places) => Ok(places),
-        _ => Err(FsaError::WrongKind { field }),
+    let value = needed_value(fields, field)?;
+    match value.place_count() {
+        Some(count) => Ok((value, count)),
+        None => Err(FsaError::WrongKind { field }),
     }
 }
 

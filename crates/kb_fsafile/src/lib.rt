@@ -36,7 +36,8 @@
 //!   numbers from other values.
 //! - `header`, `alphabet`, `states`, `initial`, `accepting` and `table` read a field each. Numbers of states are up
 //!   to 10^18 before the rows are seen to be as many, so the accepting states are marked after the rows.
-//! - `rows` reads the rows of a table, dense or sparse, as ascending symbols with targets that are states.
+//! - `rows` reads the rows of a table, dense or sparse, as ascending symbols with targets that are states. Rows that
+//!   the tree keeps as numbers are read where they stand, and a sparse row in order of its symbols without a map.
 //! - `misplaced` drops moves of automata of pairs, or refuses them.
 //! - `reader` joins them, each step a function called in the order of the refusals.
 //!

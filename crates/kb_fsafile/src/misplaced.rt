@@ -193,7 +193,7 @@ fn kept_row(alloc: Global, n: u16, row: &Row, state: u32, reach: &Reach) -> Resu
     ensures { IfOk result (λ kept. kept
         ≡ filter (λ move. not (is_dropped n reach.now.marks.items reach.now.first.items reach.now.second.items state move.0)) row.now) }
 {
-    let mut kept = Vec::new(alloc);
+    let mut kept = Vec::with_capacity(alloc, row.len())?;
     for (symbol, target) in row.as_slice() {
         if !reach.drops(n, state, *symbol) {
             kept.push((*symbol, *target))?;

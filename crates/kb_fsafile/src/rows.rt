@@ -1,36 +1,38 @@
 //! The rows of a table.
 
-ghost use Rattle.std.specs.Prelude.{◌≡◌, ◌≢◌, ◌<◌, ◌^◌, ◌++◌, ℕ, ℤ, List, [], ◌∷◌, length, All, Some, IfOk, IfErr, OnOk, IsSome, IfSome, IfNone};
+ghost use Rattle.std.specs.Prelude.{◌≡◌, ◌<◌, ◌≤◌, ◌⊎◌, ◌++◌, ℕ, pos, [], ◌∷◌, length, All, Some, IfOk, IfErr, OnOk, IsSome, IfSome, IfNone};
 ghost use Rattle.std.specs.BTreeMap.{get};
 ghost use Rattle.std.specs.Ordering.{nat_cmp};
-ghost use Rattle.std.specs.Option.{option_map};
 ghost use Rattle.kb_record.specs.Tree.{list_value};
-ghost use Rattle.kb_record.specs.View.{value_view};
+ghost use Rattle.kb_record.specs.View.{value_view, row_place, entries_place};
+ghost use Rattle.kb_record.specs.Listed.{place_view};
 ghost use Rattle.kb_fsa.specs.Table.{Ascends};
-ghost use Rattle.kb_fsafile.specs.Kinds.{list_of_numbers, list_of_entries};
+ghost use Rattle.kb_fsafile.specs.Kinds.{list_of_numbers, list_of_entries, IsNumberOf, IsTargetOf};
 ghost use Rattle.kb_fsafile.specs.RowsRead.{moves_among, IsRowAt, IsFaultOfRow, AreRowTargets, HasEntries, IsSparseRow};
 ghost use Rattle.kb_fsafile.specs.declared.format.Format.TheVariants.{Dense, Sparse};
+ghost use Rattle.kb_fsafile.specs.declared.error.Field.TheVariants.{Transitions};
+ghost use Rattle.kb_fsafile.specs.declared.error.FsaError.TheVariants.{WrongKind};
 
 use crate::error::{Field, FsaError};
 use crate::format::Format;
 use crate::values::{entries_listed, number_within, target_within};
 use kb_fields::numbers_listed;
 use kb_fsa::Row;
-use kb_record::Value;
+use kb_record::{Place, Value};
 use kb_word::Memory;
 use std::alloc::Global;
 use std::collections::BTreeMap;
 
 /// The row at a place of a table over so many symbols and of so many states.
-pub fn read_row<'a>(
+pub fn read_row(
     alloc: Global,
-    place: &Option<Value<'a>>,
+    place: Place<'_, '_>,
     format: Format,
     size: u32,
     count: u32,
 ) -> Result<Row, FsaError>
-    ensures read { IfOk result (IsRowAt size count format (option_map value_view place.now)) }
-    ensures fault { IfErr result (IsFaultOfRow format size count (option_map value_view place.now)) }
+    ensures read { IfOk result (IsRowAt size count format (place_view place.entry)) }
+    ensures fault { IfErr result (IsFaultOfRow format size count (place_view place.entry)) }
 {
     match format {
         Format::Dense => read_dense_row(alloc, place, size, count),
@@ -38,36 +40,69 @@ pub fn read_row<'a>(
     }
 }
 
+/// The refusal of a place that holds no row of the table's format.
+fn no_row() -> FsaError
+    ensures { result ≡ WrongKind Transitions }
+{
+    FsaError::WrongKind {
+        field: Field::Transitions,
+    }
+}
+
 /// The row at a place that lists a target for each symbol.
-fn read_dense_row<'a>(
+fn read_dense_row(
     alloc: Global,
-    place: &Option<Value<'a>>,
+    place: Place<'_, '_>,
     size: u32,
     count: u32,
 ) -> Result<Row, FsaError>
-    ensures read { IfOk result (IsRowAt size count Dense (option_map value_view place.now)) }
-    ensures fault { IfErr result (IsFaultOfRow Dense size count (option_map value_view place.now)) }
+    ensures read { IfOk result (IsRowAt size count Dense (place_view place.entry)) }
+    ensures fault { IfErr result (IsFaultOfRow Dense size count (place_view place.entry)) }
 {
-    let Some(numbers) = numbers_at(alloc, place)? else {
-        return Err(FsaError::WrongKind {
-            field: Field::Transitions,
-        });
+    match place {
+        Place::Numbers(numbers) => whole_row(alloc, numbers, size, count),
+        Place::Entries(entries) => row_without_targets(alloc, entries, size, count),
+        Place::Value(value) => listed_row(alloc, value, size, count),
+        _ => Err(no_row()),
+    }
+}
+
+/// The row of a value that lists a target for each symbol.
+fn listed_row<'a>(alloc: Global, value: &Value<'a>, size: u32, count: u32) -> Result<Row, FsaError>
+    ensures read { IfOk result (IsRowAt size count Dense (Some (value_view value.now))) }
+    ensures fault { IfErr result (IsFaultOfRow Dense size count (Some (value_view value.now))) }
+{
+    let Some(numbers) = numbers_listed(alloc, value)? else {
+        return Err(no_row());
     };
+    whole_row(alloc, numbers.as_slice(), size, count)
+}
+
+/// The row of a list of entries, which is a list of targets only where it is empty.
+fn row_without_targets(
+    alloc: Global,
+    entries: &[(i64, i64)],
+    size: u32,
+    count: u32,
+) -> Result<Row, FsaError>
+    ensures read { IfOk result (IsRowAt size count Dense (entries_place entries.now)) }
+    ensures fault { IfErr result (IsFaultOfRow Dense size count (entries_place entries.now)) }
+{
+    if !entries.is_empty() {
+        return Err(no_row());
+    }
+    whole_row(alloc, &[], size, count)
+}
+
+/// The row with these targets, one for each symbol.
+fn whole_row(alloc: Global, numbers: &[i64], size: u32, count: u32) -> Result<Row, FsaError>
+    ensures read { IfOk result (IsRowAt size count Dense (Some (list_value (list_of_numbers numbers.now)))) }
+    ensures fault { IfErr result (IsFaultOfRow Dense size count (Some (list_value (list_of_numbers numbers.now)))) }
+{
     if numbers.len() != size as usize {
         return Err(FsaError::StatesWrong);
     }
-    dense_row(alloc, numbers.as_slice(), size, count)
-}
-
-/// The numbers at a place that holds a list of numbers.
-fn numbers_at<'a>(alloc: Global, place: &Option<Value<'a>>) -> Result<Option<Vec<i64>>, Memory>
-    ensures listed { IfOk result (λ numbers. IfSome numbers (λ numbers. option_map value_view place.now ≡ Some (list_value (list_of_numbers numbers.items)))) }
-    ensures other { IfOk result (λ numbers. IfNone numbers ((numbers : List ℤ) → option_map value_view place.now ≢ Some (list_value (list_of_numbers numbers)))) }
-{
-    match place {
-        Some(value) => numbers_listed(alloc, value),
-        None => Ok(None),
-    }
+    dense_row(alloc, numbers, size, count)
 }
 
 /// The row with these targets for the symbols in order; 0 is none.
@@ -76,7 +111,8 @@ fn dense_row(alloc: Global, numbers: &[i64], size: u32, count: u32) -> Result<Ro
     ensures read { IfOk result (AreRowTargets count numbers.now) }
     ensures fault { IfErr result (IsFaultOfRow Dense size count (Some (list_value (list_of_numbers numbers.now)))) }
 {
-    let mut moves = Vec::new(alloc);
+    let room = numbers.iter().filter(|number| **number != 0).count();
+    let mut moves = Vec::with_capacity(alloc, room)?;
     let mut symbol = 0;
     for number in numbers {
         symbol += 1;
@@ -99,39 +135,105 @@ fn keep(moves: &mut Vec<(u32, u32)>, symbol: u32, target: u32) -> Result<(), Mem
 }
 
 /// The row at a place that lists symbols, each with its target.
-fn read_sparse_row<'a>(
+fn read_sparse_row(
     alloc: Global,
-    place: &Option<Value<'a>>,
+    place: Place<'_, '_>,
     size: u32,
     count: u32,
 ) -> Result<Row, FsaError>
-    ensures read { IfOk result (IsRowAt size count Sparse (option_map value_view place.now)) }
-    ensures fault { IfErr result (IsFaultOfRow Sparse size count (option_map value_view place.now)) }
+    ensures read { IfOk result (IsRowAt size count Sparse (place_view place.entry)) }
+    ensures fault { IfErr result (IsFaultOfRow Sparse size count (place_view place.entry)) }
 {
-    let Some(entries) = entries_at(alloc, place)? else {
-        return Err(FsaError::WrongKind {
-            field: Field::Transitions,
-        });
+    match place {
+        Place::Entries(entries) => sparse_row(alloc, entries, size, count),
+        Place::Numbers(numbers) => row_without_entries(alloc, numbers, size, count),
+        Place::Value(value) => listed_sparse_row(alloc, value, size, count),
+        _ => Err(no_row()),
+    }
+}
+
+/// The row of a value that lists symbols, each with its target.
+fn listed_sparse_row<'a>(
+    alloc: Global,
+    value: &Value<'a>,
+    size: u32,
+    count: u32,
+) -> Result<Row, FsaError>
+    ensures read { IfOk result (IsRowAt size count Sparse (Some (value_view value.now))) }
+    ensures fault { IfErr result (IsFaultOfRow Sparse size count (Some (value_view value.now))) }
+{
+    let Some(entries) = entries_listed(alloc, value)? else {
+        return Err(no_row());
     };
     sparse_row(alloc, entries.as_slice(), size, count)
 }
 
-/// The pairs of numbers at a place that holds a list of pairs of numbers.
-fn entries_at<'a>(
+/// The row of a list of numbers, which is a list of entries only where it is empty.
+fn row_without_entries(
     alloc: Global,
-    place: &Option<Value<'a>>,
-) -> Result<Option<Vec<(i64, i64)>>, Memory>
-    ensures listed { IfOk result (λ entries. IfSome entries (λ entries. option_map value_view place.now ≡ Some (list_value (list_of_entries entries.items)))) }
-    ensures other { IfOk result (λ entries. IfNone entries ((entries : List (ℤ × ℤ)) → option_map value_view place.now ≢ Some (list_value (list_of_entries entries)))) }
+    numbers: &[i64],
+    size: u32,
+    count: u32,
+) -> Result<Row, FsaError>
+    ensures read { IfOk result (IsRowAt size count Sparse (row_place numbers.now)) }
+    ensures fault { IfErr result (IsFaultOfRow Sparse size count (row_place numbers.now)) }
 {
-    match place {
-        Some(value) => entries_listed(alloc, value),
-        None => Ok(None),
+    if !numbers.is_empty() {
+        return Err(no_row());
     }
+    sparse_row(alloc, &[], size, count)
 }
 
 /// The row with these entries.
 fn sparse_row(alloc: Global, pairs: &[(i64, i64)], size: u32, count: u32) -> Result<Row, FsaError>
+    ensures read { IfOk result (IsSparseRow size count pairs.now) }
+    ensures fault { IfErr result (IsFaultOfRow Sparse size count (Some (list_value (list_of_entries pairs.now)))) }
+{
+    match ascending_row(alloc, pairs, size, count)? {
+        Some(row) => Ok(row),
+        None => sorted_row(alloc, pairs, size, count),
+    }
+}
+
+/// The row with these entries where their symbols ascend; `None` where they don't.
+fn ascending_row(
+    alloc: Global,
+    pairs: &[(i64, i64)],
+    size: u32,
+    count: u32,
+) -> Result<Option<Row>, FsaError>
+    ensures read { IfOk result (λ row. IfSome row (IsSparseRow size count pairs.now)) }
+    ensures fault { IfErr result (IsFaultOfRow Sparse size count (Some (list_value (list_of_entries pairs.now)))) }
+{
+    let mut moves = Vec::with_capacity(alloc, pairs.len())?;
+    let mut last = 0;
+    for pair in pairs {
+        let Some((symbol, target)) = entry_within(pair, size, count) else {
+            return Err(FsaError::TargetOutOfRange);
+        };
+        if symbol <= last {
+            return Ok(None);
+        }
+        keep(&mut moves, symbol, target)?;
+        last = symbol;
+    }
+    Ok(Some(Row::from_vec(moves)))
+}
+
+/// The entry that the pair of numbers is, of so many symbols and states.
+fn entry_within(pair: &(i64, i64), size: u32, count: u32) -> Option<(u32, u32)>
+    ensures is { IfSome result (λ entry. pair.now ≡ (pos entry.0, pos entry.1)) }
+    ensures symbol { IfSome result (λ entry. (0 < entry.0) × (entry.0 ≤ size)) }
+    ensures target { IfSome result (λ entry. entry.1 ≤ count) }
+    ensures none { IfNone result ((¬ IsNumberOf size pair.now.0) ⊎ (¬ IsTargetOf count pair.now.1)) }
+{
+    let symbol = number_within(pair.0, u64::from(size))?;
+    let target = target_within(pair.1, u64::from(count))?;
+    Some((symbol as u32, target as u32))
+}
+
+/// The row with these entries, whatever the order of their symbols is.
+fn sorted_row(alloc: Global, pairs: &[(i64, i64)], size: u32, count: u32) -> Result<Row, FsaError>
     ensures read { IfOk result (IsSparseRow size count pairs.now) }
     ensures fault { IfErr result (IsFaultOfRow Sparse size count (Some (list_value (list_of_entries pairs.now)))) }
 {
@@ -151,13 +253,10 @@ fn by_symbol(
 {
     let mut entries = BTreeMap::new(alloc);
     for pair in pairs {
-        let Some(symbol) = number_within(pair.0, u64::from(size)) else {
+        let Some((symbol, target)) = entry_within(pair, size, count) else {
             return Err(FsaError::TargetOutOfRange);
         };
-        let Some(target) = target_within(pair.1, u64::from(count)) else {
-            return Err(FsaError::TargetOutOfRange);
-        };
-        if entries.insert(symbol as u32, target as u32)?.is_some() {
+        if entries.insert(symbol, target)?.is_some() {
             return Err(FsaError::NotDeterministic);
         }
     }

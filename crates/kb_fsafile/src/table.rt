@@ -1,7 +1,9 @@
 //! The field `table`: its rows, one for each state.
 
-ghost use Rattle.std.specs.Prelude.{codes, IfOk, IfErr, OnOk};
-ghost use Rattle.kb_fields.specs.Fields.{fields_view, places_view, value_of};
+ghost use Rattle.std.specs.Prelude.{◌≡◌, length, codes, IfOk, IfErr, OnOk};
+ghost use Rattle.kb_record.specs.View.{value_view, places_of};
+ghost use Rattle.kb_record.specs.Listed.{listed};
+ghost use Rattle.kb_fields.specs.Fields.{fields_view, value_of};
 ghost use Rattle.kb_fsafile.specs.Holds.{HoldsString, HasNoDefault, HoldsStates, format_name};
 ghost use Rattle.kb_fsafile.specs.Faults.{HasSize, HasFieldFault};
 ghost use Rattle.kb_fsafile.specs.Reading.{IsFaultOfTable};
@@ -30,12 +32,12 @@ pub fn read_rows<'a>(
     let table = needed_record(fields, Field::Table)?.as_slice();
     check_default(table)?;
     let format = read_format(table)?;
-    let places = needed_list(table, Field::Transitions)?;
-    if places.len() as u64 != count {
+    let (list, length) = needed_list(table, Field::Transitions)?;
+    if length as u64 != count {
         return Err(FsaError::StatesWrong);
     }
     match u32::try_from(count) {
-        Ok(count) => rows_at(alloc, places.as_slice(), format, size, count),
+        Ok(count) => rows_listed(alloc, list, format, size, count),
         Err(_) => Err(FsaError::Memory),
     }
 }
@@ -65,20 +67,21 @@ fn read_format<'a>(table: &[(&'a str, Value<'a>)]) -> Result<Format, FsaError>
     }
 }
 
-/// The rows at the places of a list.
-fn rows_at<'a>(
+/// The rows of a list, at so many places.
+fn rows_listed<'a>(
     alloc: Global,
-    places: &[Option<Value<'a>>],
+    list: &Value<'a>,
     format: Format,
     size: u32,
     count: u32,
 ) -> Result<Vec<Row>, FsaError>
-    ensures read { IfOk result (λ rows. AreRowsAt size count format (places_view places.now) rows.items) }
-    ensures fault { IfErr result (IsFaultOfRows format size count (places_view places.now)) }
+    requires { length (listed (value_view list.now)) ≡ count }
+    ensures read { IfOk result (λ rows. AreRowsAt size count format (places_of (listed (value_view list.now))) rows.items) }
+    ensures fault { IfErr result (IsFaultOfRows format size count (places_of (listed (value_view list.now)))) }
 {
-    let mut rows = Vec::with_capacity(alloc, places.len())?;
-    for place in places {
-        rows.push(read_row(alloc, place, format, size, count)?)?;
+    let mut rows = Vec::with_capacity(alloc, count as usize)?;
+    for place in 0..count as usize {
+        rows.push(read_row(alloc, list.place(place), format, size, count)?)?;
     }
     Ok(rows)
 }

@@ -1,14 +1,13 @@
 //! The kinds of values that an automaton's fields hold.
 
-ghost use Rattle.std.specs.Prelude.{◌≡◌, ◌≢◌, ◌<◌, ◌≤◌, ℕ, ℤ, pos, List, Some, IfOk, IfSome, IfNone};
-ghost use Rattle.std.specs.Option.{option_map};
-ghost use Rattle.kb_record.specs.Tree.{number_value, string_value, list_value, range_value};
+ghost use Rattle.std.specs.Prelude.{◌≡◌, ◌≢◌, ◌<◌, ◌≤◌, ◌∷◌, [], ℕ, ℤ, pos, List, Some, IfOk, IfSome, IfNone};
+ghost use Rattle.kb_record.specs.Tree.{string_value, list_value, range_value};
 ghost use Rattle.kb_record.specs.View.{value_view};
-ghost use Rattle.kb_fields.specs.Fields.{places_view};
-ghost use Rattle.kb_fsafile.specs.Kinds.{two_places, entry_value, list_of_entries, IsNumberOf, IsTargetOf};
+ghost use Rattle.kb_record.specs.Listed.{place_view};
+ghost use Rattle.kb_fsafile.specs.Kinds.{entry_value, list_of_entries, IsNumberOf, IsTargetOf};
 
-use kb_fields::number_of;
-use kb_record::Value;
+use kb_fields::number_at;
+use kb_record::{Place, Value};
 use kb_word::Memory;
 use std::alloc::Global;
 
@@ -42,12 +41,12 @@ pub fn entries_listed<'a>(
     ensures listed { IfOk result (λ entries. IfSome entries (λ entries. value_view value.now ≡ list_value (list_of_entries entries.items))) }
     ensures other { IfOk result (λ entries. IfNone entries ((entries : List (ℤ × ℤ)) → value_view value.now ≢ list_value (list_of_entries entries))) }
 {
-    let Value::List(places) = value else {
+    let Some(count) = value.place_count() else {
         return Ok(None);
     };
-    let mut entries = Vec::with_capacity(alloc, places.len())?;
-    for place in places {
-        let Some(entry) = entry_at(place) else {
+    let mut entries = Vec::with_capacity(alloc, count)?;
+    for place in 0..count {
+        let Some(entry) = entry_at(value.place(place)) else {
             return Ok(None);
         };
         entries.push(entry)?;
@@ -55,37 +54,39 @@ pub fn entries_listed<'a>(
     Ok(Some(entries))
 }
 
-/// The two numbers at a place of a list that holds a list of two numbers.
-fn entry_at<'a>(place: &Option<Value<'a>>) -> Option<(i64, i64)>
-    ensures found { IfSome result (λ entry. option_map value_view place.now ≡ Some (entry_value entry)) }
-    ensures none { IfNone result ((entry : ℤ × ℤ) → option_map value_view place.now ≢ Some (entry_value entry)) }
+/// The two numbers at a place that holds a list of two numbers.
+fn entry_at(place: Place<'_, '_>) -> Option<(i64, i64)>
+    ensures found { IfSome result (λ entry. place_view place.entry ≡ Some (entry_value entry)) }
+    ensures none { IfNone result ((entry : ℤ × ℤ) → place_view place.entry ≢ Some (entry_value entry)) }
 {
     match place {
-        Some(Value::List(places)) => two_numbers(places.as_slice()),
+        Place::Numbers(numbers) => pair_of(numbers),
+        Place::Value(value) => two_numbers(value),
         _ => None,
     }
 }
 
-/// The numbers at two places.
-fn two_numbers<'a>(places: &[Option<Value<'a>>]) -> Option<(i64, i64)>
-    ensures found { IfSome result (λ entry. places_view places.now ≡ two_places entry) }
-    ensures none { IfNone result ((entry : ℤ × ℤ) → places_view places.now ≢ two_places entry) }
+/// The two numbers, where there are two.
+fn pair_of(numbers: &[i64]) -> Option<(i64, i64)>
+    ensures found { IfSome result (λ pair. numbers.now ≡ pair.0 ∷ pair.1 ∷ []) }
+    ensures none { IfNone result ((pair : ℤ × ℤ) → numbers.now ≢ pair.0 ∷ pair.1 ∷ []) }
 {
-    if places.len() != 2 {
-        return None;
+    match numbers {
+        [first, second] => Some((*first, *second)),
+        _ => None,
     }
-    Some((number_at(&places[0])?, number_at(&places[1])?))
 }
 
-/// The number at a place of a list.
-fn number_at<'a>(place: &Option<Value<'a>>) -> Option<i64>
-    ensures found { IfSome result (λ number. option_map value_view place.now ≡ Some (number_value number)) }
-    ensures none { IfNone result ((number : ℤ) → option_map value_view place.now ≢ Some (number_value number)) }
+/// The two numbers that a value lists.
+fn two_numbers<'a>(value: &Value<'a>) -> Option<(i64, i64)>
+    ensures found { IfSome result (λ entry. value_view value.now ≡ entry_value entry) }
+    ensures none { IfNone result ((entry : ℤ × ℤ) → value_view value.now ≢ entry_value entry) }
 {
-    match place {
-        Some(value) => number_of(value),
-        None => None,
+    let count = value.place_count()?;
+    if count != 2 {
+        return None;
     }
+    Some((number_at(value.place(0))?, number_at(value.place(1))?))
 }
 
 /// The number, where it is one of 1 to `count`.

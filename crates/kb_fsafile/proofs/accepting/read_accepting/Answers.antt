@@ -9,6 +9,7 @@ use Rattle.kb_fsafile.specs.Kinds.{list_of_numbers}
 use Rattle.kb_fsafile.specs.Faults.{needed, accepting_field}
 use Rattle.kb_fsafile.specs.declared.error.Field.TheVariants as kinds
 use Rattle.kb_fsafile.proofs.FieldFaults.{wrong_kind}
+use Rattle.kb_fsafile.proofs.KindLemmas.{value_of_numbers}
 use Rattle.kb_fsafile.proofs.NumberLemmas.{no_numbers}
 use Rattle.kb_fsafile.proofs.accepting.read_accepting.Goals as goal
 
@@ -23,17 +24,29 @@ returns-in_default-2-clause-fault c =
     wrong_kind given given kinds.Accepting needed (value_view c.in_ok-value.value.now) accepting_field c.in_ok-value.ensures.found
     (no_numbers _ c.in_default.ensures.none (rw c.in_default-2.is at c.in_ok-numbers.ensures.other))
 
+pub returns-in-Numbers-clause-fault : goal.returns-in-Numbers-clause-fault
+returns-in-Numbers-clause-fault c =
+    let listed = ap value_view c.in-Numbers.is ∙ value_of_numbers c.in-Numbers.numbers in
+    let holds = c.in_ok-value.ensures.found ∙ ap Some (listed ∙ ap (λ (ns : List ℤ). list_value (list_of_numbers ns)) (sym c.as_slice.ensures.value)) in
+    IfErr_then c.listed_within.result c.listed_within.ensures.fault (λ error fault. fault (fields_view c.args.fields.now) c.requires holds)
+
+pub returns-in-Numbers-clause-read : goal.returns-in-Numbers-clause-read
+returns-in-Numbers-clause-read c =
+    let listed = ap value_view c.in-Numbers.is ∙ value_of_numbers c.in-Numbers.numbers in
+    let holds = c.in_ok-value.ensures.found ∙ ap Some (listed ∙ ap (λ (ns : List ℤ). list_value (list_of_numbers ns)) (sym c.as_slice.ensures.value)) in
+    IfOk_then c.listed_within.result c.listed_within.ensures.read (λ accepting stands. record { value = _; holds = holds; stands = stands })
+
 pub returns-clause-fault : goal.returns-clause-fault
 returns-clause-fault c =
     let listed = rw c.in-Some-2.is at c.in_ok-numbers.ensures.listed in
-    let holds = c.in_ok-value.ensures.found ∙ ap Some (listed ∙ ap (λ (ns : List ℤ). list_value (list_of_numbers ns)) (sym c.as_slice.ensures.value)) in
-    IfErr_then c.listed_within.result c.listed_within.ensures.fault (λ error fault. fault (fields_view c.args.fields.now) c.requires holds)
+    let holds = c.in_ok-value.ensures.found ∙ ap Some (listed ∙ ap (λ (ns : List ℤ). list_value (list_of_numbers ns)) (sym c.as_slice-2.ensures.value)) in
+    IfErr_then c.listed_within-2.result c.listed_within-2.ensures.fault (λ error fault. fault (fields_view c.args.fields.now) c.requires holds)
 
 pub returns-clause-read : goal.returns-clause-read
 returns-clause-read c =
     let listed = rw c.in-Some-2.is at c.in_ok-numbers.ensures.listed in
-    let holds = c.in_ok-value.ensures.found ∙ ap Some (listed ∙ ap (λ (ns : List ℤ). list_value (list_of_numbers ns)) (sym c.as_slice.ensures.value)) in
-    IfOk_then c.listed_within.result c.listed_within.ensures.read (λ accepting stands. record { value = _; holds = holds; stands = stands })
+    let holds = c.in_ok-value.ensures.found ∙ ap Some (listed ∙ ap (λ (ns : List ℤ). list_value (list_of_numbers ns)) (sym c.as_slice-2.ensures.value)) in
+    IfOk_then c.listed_within-2.result c.listed_within-2.ensures.read (λ accepting stands. record { value = _; holds = holds; stands = stands })
 
 pub returns-in-Some-clause-fault : goal.returns-in-Some-clause-fault
 returns-in-Some-clause-fault c =

@@ -1,6 +1,5 @@
-use Rattle.std.proofs.Common.{ℕ, ℤ, Option, Some, pos, ◌<◌, length, get_or, inl, inr, sym, ap, subst, ◌∙◌, w64, SFits, rules, arith}
+use Rattle.std.proofs.Common.{ℕ, Option, Some, pos, ◌<◌, length, get_or, sym, ap, subst, ◌∙◌, arith}
 use Rattle.std.specs.Option.{IsSome}
-use Rattle.std.proofs.lemmas.Int.{to_z-of_z}
 use Rattle.std.proofs.lemmas.Option.{slice_get-get_or}
 use Rattle.std.proofs.lemmas.List.{get_or_default}
 use Rattle.std.proofs.lemmas.List.Elements.{Contains-get_or}
@@ -12,46 +11,26 @@ pub returns-in_default-clause-fault : goal.returns-in_default-clause-fault
 returns-in_default-clause-fault c = λ given at.
     let pairs = c.args.pairs.now in
     let pair = get_or pairs c.loop-pair.pair-index (pos 0, pos 0) in
-    let fits : SFits w64 (get_or c.args.pairs.now c.loop-pair.pair-index (pos 0, pos 0)).0 = search rules in
-    let none = rw c.from.ensures at (simp to_z-of_z at c.in_default.ensures.none) in
     let within : c.loop-pair.pair-index < length c.args.pairs.now = omega arith in
     HasOutOfRange.row_entry c.args.count c.args.size at.places at.k pairs pair.0 pair.1 at.counted at.sized at.listed at.stands
-    (Contains-get_or pairs c.loop-pair.pair-index (pos 0, pos 0) within) (inl none)
-
-pub returns-in_default-target_within-clause-fault : goal.returns-in_default-target_within-clause-fault
-returns-in_default-target_within-clause-fault c = λ given at.
-    let pairs = c.args.pairs.now in
-    let pair = get_or pairs c.loop-pair.pair-index (pos 0, pos 0) in
-    let fits : SFits w64 (get_or c.args.pairs.now c.loop-pair.pair-index (pos 0, pos 0)).1 = search rules in
-    let none = rw c.from-in-loop-pair.ensures at (simp to_z-of_z at c.in_default-target_within.ensures.none) in
-    let within : c.loop-pair.pair-index < length c.args.pairs.now = omega arith in
-    HasOutOfRange.row_entry c.args.count c.args.size at.places at.k pairs pair.0 pair.1 at.counted at.sized at.listed at.stands
-    (Contains-get_or pairs c.loop-pair.pair-index (pos 0, pos 0) within) (inr none)
+    (Contains-get_or pairs c.loop-pair.pair-index (pos 0, pos 0) within) c.in_default.ensures.none
 
 pub returns-then-is_some-clause-fault : goal.returns-then-is_some-clause-fault
 returns-then-is_some-clause-fault c = λ given at.
     let pairs = c.args.pairs.now in
     let k = c.loop-pair.pair-index in
-    let pair = get_or pairs k (pos 0, pos 0) in
-    let fits : SFits w64 (get_or c.args.pairs.now c.loop-pair.pair-index (pos 0, pos 0)).0 = search rules in
-    let is = simp to_z-of_z at c.in-Some.ensures.is in
     let within : c.loop-pair.pair-index < length c.args.pairs.now = omega arith in
     let S : Option ℕ → Type 0 = λ o. IsSome o in
     let earlier = twice c.args.size c.args.count pairs k c.loop-pair.entries c.in-Some.symbol c.loop-pair.invariant (subst S c.in_ok-insert.ensures.old (sym c.if-is_some.ensures)) in
-    HasOtherForm.symbol_twice at.places at.k pairs earlier.j k (pos c.in-Some.symbol) earlier.u pair.1 at.listed at.stands earlier.before earlier.at
-    (slice_get-get_or pairs k (pos 0, pos 0) within ∙ ap (λ (z : ℤ). Some (z, pair.1)) is)
+    HasOtherForm.symbol_twice at.places at.k pairs earlier.j k (pos c.in-Some.symbol) earlier.u (pos c.in-Some.target) at.listed at.stands earlier.before earlier.at
+    (slice_get-get_or pairs k (pos 0, pos 0) within ∙ ap Some c.in-Some.ensures.is)
 
 pub loop-pair-preserved : goal.loop-pair-preserved
 loop-pair-preserved c =
     let pairs = c.args.pairs.now in
     let k = c.loop-pair.pair-index in
     let pair = get_or pairs k (pos 0, pos 0) in
-    let f : SFits w64 (get_or c.args.pairs.now c.loop-pair.pair-index (pos 0, pos 0)).0 = search rules in
-    let g : SFits w64 (get_or c.args.pairs.now c.loop-pair.pair-index (pos 0, pos 0)).1 = search rules in
-    let first = simp to_z-of_z at c.in-Some.ensures.is in
-    let second = simp to_z-of_z at c.in-Some-target_within.ensures.is in
     let within : c.loop-pair.pair-index < length c.args.pairs.now = omega arith in
-    entries_more c.args.size c.args.count pairs k pair c.loop-pair.entries c.insert.new.self c.in-Some.symbol c.in-Some-target_within.target within
-    (get_or_default pairs k (pos 0, pos 0) pair within) c.loop-pair.invariant first second c.in-Some.ensures.positive (rw c.from.ensures at c.in-Some.ensures.within)
-    (rw c.from-in-loop-pair.ensures at c.in-Some-target_within.ensures.within)
+    entries_more c.args.size c.args.count pairs k pair c.loop-pair.entries c.insert.new.self c.in-Some.symbol c.in-Some.target within
+    (get_or_default pairs k (pos 0, pos 0) pair within) c.loop-pair.invariant c.in-Some.ensures.is c.in-Some.ensures.symbol c.in-Some.ensures.target
     (sym c.in_ok-insert.ensures.old ∙ none_is c.in_ok-insert.field-0 (sym c.if-is_some.ensures)) c.in_ok-insert.ensures.updates

@@ -1,27 +1,30 @@
-use Rattle.std.proofs.Common.{ℤ, List, Some, sym, ap, ◌∙◌, subst}
-use Rattle.std.proofs.Common.{Option, IfErr}
+use Rattle.std.proofs.Common.{◌≡◌, sym, ap, ◌∙◌, subst}
+use Rattle.std.proofs.Common.{Option, IfErr, Some}
 use Rattle.kb_record.specs.Tree.{Value, list_value}
-use Rattle.kb_fsafile.specs.RowsRead.{IsFaultOfRow}
+use Rattle.kb_record.specs.Listed.{place_view}
 use Rattle.kb_fields.proofs.Outcomes.{IfOk_then}
 use Rattle.kb_fsafile.specs.Kinds.{list_of_entries}
 use Rattle.kb_fsafile.specs.declared.format.Format.TheVariants.{Sparse}
+use Rattle.kb_fsafile.specs.Faults.{HasFieldFault}
+use Rattle.kb_fsafile.specs.declared.error.FsaError.{FsaError}
+use Rattle.kb_fsafile.specs.RowsRead.{IsRowAt, IsFaultOfRow}
+use Rattle.kb_fsafile.proofs.KindLemmas.{place_of_entries, no_list_at}
 use Rattle.kb_fsafile.proofs.TableLemmas.{other_row_kind, sparse_row_at}
 use Rattle.kb_fsafile.proofs.rows.read_sparse_row.Goals as goal
 
+pub returns-in-Entries-clause-read : goal.returns-in-Entries-clause-read
+returns-in-Entries-clause-read c =
+    let seen = ap place_view c.in-Entries.is ∙ place_of_entries c.in-Entries.entries.now in
+    IfOk_then c.sparse_row.result c.sparse_row.ensures.read (λ row is. sparse_row_at c.args.size c.args.count c.in-Entries.entries.now _ row seen is)
+
+pub returns-in-Entries-clause-fault : goal.returns-in-Entries-clause-fault
+returns-in-Entries-clause-fault c =
+    let seen = ap place_view c.in-Entries.is ∙ place_of_entries c.in-Entries.entries.now in
+    let P : Option Value → Type 0 = λ p. IfErr c.sparse_row.result (IsFaultOfRow Sparse c.args.size c.args.count p) in
+    subst P (sym seen) c.sparse_row.ensures.fault
+
 pub returns-in_default-clause-fault : goal.returns-in_default-clause-fault
 returns-in_default-clause-fault c = λ given at.
-    let other = rw c.in_default.is at c.in_ok-entries.ensures.other in
-    other_row_kind given Sparse c.args.size c.args.count _ at (λ value is kind. other kind.0 (is ∙ ap Some kind.1))
-
-pub returns-clause-read : goal.returns-clause-read
-returns-clause-read c =
-    let listed = rw c.in-Some.is at c.in_ok-entries.ensures.listed in
-    let stands = listed ∙ ap (λ (xs : List (ℤ × ℤ)). Some (list_value (list_of_entries xs))) (sym c.as_slice.ensures.value) in
-    IfOk_then c.sparse_row.result c.sparse_row.ensures.read (λ row is. sparse_row_at c.args.size c.args.count c.as_slice.result.now _ row stands is)
-
-pub returns-clause-fault : goal.returns-clause-fault
-returns-clause-fault c =
-    let listed = rw c.in-Some.is at c.in_ok-entries.ensures.listed in
-    let stands = listed ∙ ap (λ (xs : List (ℤ × ℤ)). Some (list_value (list_of_entries xs))) (sym c.as_slice.ensures.value) in
-    let P : Option Value → Type 0 = λ place. IfErr c.sparse_row.result (IsFaultOfRow Sparse c.args.size c.args.count place) in
-    subst P (sym stands) c.sparse_row.ensures.fault
+    let P : FsaError → Type 0 = λ e. HasFieldFault given e in
+    subst P (sym c.no_row.ensures) (other_row_kind given Sparse c.args.size c.args.count _ at (λ value is kind.
+    no_list_at c.args.place c.in_default.not-Value c.in_default.not-Numbers c.in_default.not-Entries (list_of_entries kind.0) (is ∙ ap Some kind.1)))

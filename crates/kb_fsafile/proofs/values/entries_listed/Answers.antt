@@ -1,20 +1,26 @@
-use Rattle.std.proofs.Common.{ℤ, ◌<◌, map, length, Some, sym, ◌∙◌, ap, arith}
-use Rattle.std.specs.Option.{option_map}
+use Rattle.std.proofs.Common.{ℤ, Some, sym, ◌∙◌, arith}
 use Rattle.kb_record.specs.View.{value_view}
-use Rattle.kb_fields.proofs.ListingLemmas.{value_listed, value_other, all_taken}
+use Rattle.kb_record.specs.Listed.{listed}
+use Rattle.kb_fields.proofs.ListingLemmas.{value_listed, value_other, one_place_more}
+use Rattle.std.proofs.lemmas.List.{take_all}
 use Rattle.kb_fsafile.specs.Kinds.{entry_value, list_of_entries}
 use Rattle.kb_fsafile.proofs.KindLemmas.{list_of_entries-places_of}
 use Rattle.kb_fsafile.proofs.values.entries_listed.Goals as goal
 
 pub returns-in_default-entry_at-clause-other : goal.returns-in_default-entry_at-clause-other
 returns-in_default-entry_at-clause-other c =
-    let within : c.loop-place.place-index < length c.deref-place-items.result.now = omega arith in
-    value_other (λ (e : ℤ × ℤ). Some (entry_value e)) list_of_entries list_of_entries-places_of c.args.value.now c.in-List.places c.in-List.is
-    c.deref-place-items.result.now c.deref-place-items.ensures.value c.loop-place.place-index c.place-item.result within c.place-item.is
+    value_other (λ (e : ℤ × ℤ). Some (entry_value e)) list_of_entries list_of_entries-places_of (value_view c.args.value.now) c.loop-place.place _ c.place.ensures
     c.in_default-entry_at.ensures.none
+
+pub loop-place-preserved : goal.loop-place-preserved
+loop-place-preserved c =
+    one_place_more (λ (e : ℤ × ℤ). Some (entry_value e)) (listed (value_view c.args.value.now)) c.loop-place.place _ c.place.ensures c.loop-place.entries.items _
+    c.in-Some-entry_at.entry c.loop-place.invariant c.in-Some-entry_at.ensures.found c.in_ok-push.ensures.items
 
 pub returns-clause-listed : goal.returns-clause-listed
 returns-clause-listed c =
-    let whole = all_taken c.deref-place-items.result.now c.in-List.places.items c.loop-place.place-index c.deref-place-items.ensures.value (omega arith) in
-    value_listed (λ (e : ℤ × ℤ). Some (entry_value e)) list_of_entries list_of_entries-places_of c.args.value.now c.in-List.places c.in-List.is _
-    (ap (map (option_map value_view)) (sym whole) ∙ c.loop-place.invariant)
+    let places = listed (value_view c.args.value.now) in
+    let count = c.in-Some.ensures.list.1 in
+    let whole = take_all c.loop-place.place places (omega (arith, count)) in
+    value_listed (λ (e : ℤ × ℤ). Some (entry_value e)) list_of_entries list_of_entries-places_of (value_view c.args.value.now) places c.in-Some.ensures.list.0
+    c.loop-place.entries.items (sym whole ∙ c.loop-place.invariant)

@@ -1,15 +1,13 @@
-use Rattle.std.proofs.Common.{Some, sym, ◌∙◌, ap}
-use Rattle.std.proofs.lemmas.Option.{IfSome_then}
-use Rattle.std.specs.Option.{option_map}
-use Rattle.kb_record.specs.Tree.{Places, list_value}
-use Rattle.kb_record.specs.View.{value_view}
-use Rattle.kb_fields.specs.Fields.{places_view}
-use Rattle.kb_fields.proofs.ViewLemmas.{view-List}
+use Rattle.std.proofs.Common.{ap, sym, ◌∙◌}
+use Rattle.kb_record.specs.Listed.{place_view}
+use Rattle.kb_fields.proofs.Outcomes.{IfNone_then}
+use Rattle.kb_fsafile.proofs.KindLemmas.{numbers_of_entry, no_entry_at}
 use Rattle.kb_fsafile.proofs.values.entry_at.Goals as goal
 
-pub returns-in-Some-List-clause-found : goal.returns-in-Some-List-clause-found
-returns-in-Some-List-clause-found c =
-    let listed = rw c.in-Some-List.is at c.in-Some-List.field-0-is in
-    let seen = ap (option_map value_view) c.in-Some-List.is ∙ ap Some (ap value_view listed ∙ view-List c.in-Some-List.places) in
-    IfSome_then c.two_numbers.result c.two_numbers.ensures.found (λ entry is.
-    seen ∙ ap (λ (ps : Places). Some (list_value ps)) (ap places_view (sym c.as_slice.ensures.value) ∙ is))
+pub returns-in-Numbers-clause-none : goal.returns-in-Numbers-clause-none
+returns-in-Numbers-clause-none c =
+    IfNone_then c.pair_of.result c.pair_of.ensures.none (λ none entry e.
+    none entry (numbers_of_entry c.in-Numbers.numbers.now entry (sym (ap place_view c.in-Numbers.is) ∙ e)))
+
+pub returns-in_default : goal.returns-in_default
+returns-in_default c = record { found = tt; none = no_entry_at c.args.place c.in_default.not-Value c.in_default.not-Numbers }

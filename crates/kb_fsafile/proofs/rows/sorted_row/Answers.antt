@@ -1,5 +1,5 @@
 use Rattle.kb_fsafile.proofs.RowLemmas.{symbol_positive, sparse_row_is}
-use Rattle.kb_fsafile.proofs.rows.sparse_row.Goals as goal
+use Rattle.kb_fsafile.proofs.rows.sorted_row.Goals as goal
 
 pub row_of-requires : goal.row_of-requires
 row_of-requires c = symbol_positive c.args.size c.args.count c.args.pairs.now c.in_ok-entries.entries c.in_ok-entries.ensures.read

@@ -1,0 +1,22 @@
+use Rattle.std.proofs.Common.{ℤ, List, Some, sym, ap, ◌∙◌, subst}
+use Rattle.std.proofs.lemmas.Option.{same_Some}
+use Rattle.kb_record.specs.Tree.{list_value}
+use Rattle.kb_fields.proofs.Outcomes.{IfOk_then}
+use Rattle.kb_fsafile.specs.Kinds.{list_of_entries}
+use Rattle.kb_fsafile.specs.declared.format.Format.TheVariants.{Sparse}
+use Rattle.kb_fsafile.specs.Faults.{HasFieldFault}
+use Rattle.kb_fsafile.specs.declared.error.FsaError.{FsaError}
+use Rattle.kb_fsafile.proofs.TableLemmas.{other_row_kind, sparse_row_at}
+use Rattle.kb_fsafile.proofs.rows.listed_sparse_row.Goals as goal
+
+pub returns-in_default-clause-fault : goal.returns-in_default-clause-fault
+returns-in_default-clause-fault c = λ given at.
+    let other = rw c.in_default.is at c.in_ok-entries.ensures.other in
+    let P : FsaError → Type 0 = λ e. HasFieldFault given e in
+    subst P (sym c.no_row.ensures) (other_row_kind given Sparse c.args.size c.args.count _ at (λ value is kind. other kind.0 (same_Some _ _ is ∙ kind.1)))
+
+pub returns-clause-read : goal.returns-clause-read
+returns-clause-read c =
+    let listed = rw c.in-Some.is at c.in_ok-entries.ensures.listed in
+    let stands = ap Some (listed ∙ ap (λ (xs : List (ℤ × ℤ)). list_value (list_of_entries xs)) (sym c.as_slice.ensures.value)) in
+    IfOk_then c.sparse_row.result c.sparse_row.ensures.read (λ row is. sparse_row_at c.args.size c.args.count c.as_slice.result.now _ row stands is)
