@@ -6,7 +6,7 @@ ghost use Rattle.kb_record.specs.Meaning.{most_letters};
 ghost use Rattle.kb_wordreader.specs.Factors.{Adds, NameFront, BaseFront, FactorFront, FactorsFront, GroupFront};
 ghost use Rattle.kb_wordreader.specs.Letters.{AreByteLetters};
 
-use crate::first::take_first;
+use crate::first::{take_first, take_short};
 use crate::power::take_power;
 use kb_lexing::{behind_gap, is_blank};
 use kb_word::{Letter, Names, Presentation, Word};
@@ -105,6 +105,9 @@ fn take_base<'a>(
     ensures few { IfSome result (λ rest. length word.new ≤ most_letters) }
     ensures shorter { IfSome result (λ rest. length rest.now < length text.now) }
 {
+    if let Some(rest) = take_short(&presentation.names, byte_letters, text, word) {
+        return Some(rest);
+    }
     if let [b'(', inside @ ..] = behind_gap(text) {
         return take_group(alloc, presentation, byte_letters, inside, depth, word);
     }
