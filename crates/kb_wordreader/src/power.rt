@@ -58,8 +58,29 @@ fn raise_end(
     repeat_end(word, start, exponent.unsigned_abs())
 }
 
-/// Puts the inverse of the word's end, from the place on, in its place.
+/// Puts the inverse of the word's end, from the place on, in its place. That of one letter takes no memory.
 fn invert_end(
+    alloc: Global,
+    presentation: &Presentation,
+    word: &mut Word,
+    start: usize,
+) -> Option<()>
+    requires { start ≤ length word.old }
+    ensures inverted { IfSome result (λ done. Adds
+        (λ letters. inverse_word presentation.now.inv (drop start word.old) ≡ Some letters)
+        (take start word.old) word.new) }
+    ensures start { IfSome result (λ done. start ≤ length word.new) }
+{
+    if let [letter] = &word.letters()[start..] {
+        let inverse = presentation.letter_inverse(*letter)?;
+        word.truncate(start);
+        return word.push(inverse).ok();
+    }
+    invert_letters(alloc, presentation, word, start)
+}
+
+/// Puts the inverse of the word's end, from the place on, in its place, letter by letter.
+fn invert_letters(
     alloc: Global,
     presentation: &Presentation,
     word: &mut Word,
