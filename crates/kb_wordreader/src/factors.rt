@@ -1,4 +1,6 @@
 //! One pass over a word with powers and brackets.
+//!
+//! `None` says that the pass gives up: the bytes have a fault, or memory ran out. The word is of no use then.
 
 ghost use Rattle.std.specs.Prelude.{◌≡◌, ◌<◌, ◌≤◌, length, IfSome, Ok};
 ghost use Rattle.kb_record.specs.Faults.{Meaning};
@@ -15,8 +17,7 @@ use std::alloc::Global;
 /// How deep brackets may stand in brackets.
 const DEEPEST: usize = 64;
 
-/// The word of bytes with powers and brackets. `None` says nothing: the bytes may have a fault, and memory may have
-/// run out.
+/// The word of bytes with powers and brackets.
 pub(crate) fn product_of_powers(
     alloc: Global,
     presentation: &Presentation,

@@ -1,4 +1,4 @@
-//! Powers of a word's end.
+//! Powers of a word's end. `None` says that the pass gives up: there is no such word, or memory ran out.
 
 ghost use Rattle.std.specs.Prelude.{◌≡◌, ℕ, List, Option, ◌≤◌, length, take, drop, IfSome, Ok, Some};
 ghost use Rattle.kb_word.specs.Relations.{inverse_word};
@@ -36,7 +36,7 @@ pub(crate) fn take_power<'a>(
     Some(rest)
 }
 
-/// Raises the word's end, from the place on, to a power.
+/// Raises the word's end, from the place on, to a power; one below 0 repeats the inverse.
 fn raise_end(
     alloc: Global,
     presentation: &Presentation,
