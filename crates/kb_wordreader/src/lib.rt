@@ -9,7 +9,7 @@
 //!
 //! Most words are plain products: names joined by `*`, without powers and brackets. One pass over the bytes takes
 //! each name and adds its letter to the word, so that such bytes take no memory but the word's. Names of one byte that
-//! stand directly before a `*`, as most do, are taken in a loop of their own.
+//! stand directly before a `*` are taken in a loop of their own.
 //!
 //! Where that pass meets something else, a second one goes over the factors, with their powers and brackets. A power
 //! repeats the word's end in place. This pass returns words only. Where it gives up, for a fault of the bytes or for
