@@ -13,7 +13,10 @@ use crate::token::Token;
 pub fn behind_gap(text: &[u8]) -> &[u8]
     ensures { result.now ≡ after_gap text.now }
 {
-    &text[gap_end(text, 0)..]
+    match text {
+        [first, ..] if *first > b'#' => text,
+        _ => &text[gap_end(text, 0)..],
+    }
 }
 
 /// The name with which a text begins and what stands behind it, and `None` exactly where it begins with none.
@@ -47,6 +50,18 @@ pub fn short_name(text: &[u8]) -> Option<(u8, &[u8])>
         Some((*byte, rest))
     } else {
         None
+    }
+}
+
+/// The name of one byte with which a text begins, where `*` stands directly behind it, and what stands behind that.
+pub fn starred_name(text: &[u8]) -> Option<(u8, &[u8])>
+    ensures some { IfSome result
+        (λ found. FirstToken (after_gap text.now) (name (found.0 ∷ [])) (42 ∷ found.1.now)) }
+    ensures ascii { IfSome result (λ found. found.0 < 128) }
+{
+    match text {
+        [byte, b'*', rest @ ..] if begins_names(*byte) => Some((*byte, rest)),
+        _ => None,
     }
 }
 

@@ -6,7 +6,7 @@
 //! token begins. So a text is read token by token, and its tokens take no memory. [`has_tokens`] tells whether the bytes
 //! have tokens (`TokensOf` of `specs/Spelling.antt`) up to their end, and [`is_blank`] whether they are blanks and
 //! comments alone. [`behind_gap`], [`first_name`] and [`first_number`] pass what stands at the front of a text, and
-//! [`short_name`] a name of one byte. The laws are [`a_text_has_one_list_of_tokens`], and
+//! [`short_name`] and [`starred_name`] a name of one byte. The laws are [`a_text_has_one_list_of_tokens`], and
 //! [`a_front_ending_in_a_bracket_keeps_its_tokens`], by which what is read of a front stays so.
 //!
 //! [`syntax_place`] is the length of the longest front of the bytes with which some text begins. Whole runs
@@ -34,7 +34,7 @@ mod lexer;
 mod place;
 mod token;
 
-pub use fronts::{behind_gap, first_name, first_number, short_name};
+pub use fronts::{behind_gap, first_name, first_number, short_name, starred_name};
 pub use laws::{a_front_ending_in_a_bracket_keeps_its_tokens, a_text_has_one_list_of_tokens};
 pub use lexer::{first_lexeme, has_tokens, is_blank};
 pub use place::{Expected, Passed, last_place, syntax_place};

@@ -13,7 +13,7 @@ use Rattle.kb_record.specs.Faults.{Meaning, HasWordFault, Evaluates}
 use Rattle.kb_record.specs.Meaning.{WordFault, unknown_generator, no_inverse, too_long, and_then, product_meaning, word_meaning}
 use Rattle.kb_record.specs.declared.error.WordError.{WordError}
 use Rattle.kb_record.specs.declared.error.WordError.TheVariants.{Syntax, TooDeep, UnknownGenerator, NoInverse, WordTooLong, Memory}
-use Rattle.kb_wordreader.specs.Products.{starred, before, times_name, Takes, TakesFirst, SoFar, Passed, BehindName}
+use Rattle.kb_wordreader.specs.Products.{starred, before, times_name, Takes, SoFar, Passed}
 use Rattle.kb_wordreader.proofs.ProductLemmas.{product_step, first_fault}
 
 -- a mark of one byte is never longer
@@ -109,9 +109,6 @@ module _ (names : List (List ℕ)) (bytes rest behind so_far text w : List ℕ) 
         subst (λ fs. SoFar names inverses w others (product_meaning names inverses [] fs) new) (before_more passed.texts text others) (means_more inverses others);
   }
 
-  pub name_taken : BehindName names bytes behind w new
-  name_taken = record { rest = rest; so_far = so_far; earlier = old; passed = passed; spelling = text; first = first; takes = takes }
-
   ends : after_gap behind ≡ [] → WordOf bytes (tree passed.texts text)
   ends at = word_of_names bytes passed.texts text (passed.onward (name text ∷ []) (behind, first, at))
 
@@ -165,9 +162,3 @@ pub ends_err : (r : Result (Option (List ℕ)) WordError) (fault : Option WordEr
     → IfErr r P
 ends_err (Ok product) fault P h p = tt
 ends_err (Err error) fault P h p = p error h
-
--- `*` and a name more
-pub one_more_name : (names : List (List ℕ)) (bytes behind w rest new : List ℕ) (fault : Option WordError) → BehindName names bytes (42 ∷ behind) w None
-    → TakesFirst names behind rest w None new fault → BehindName names bytes rest new fault
-one_more_name names bytes behind w rest new fault b t =
-    name_taken names bytes behind rest w t.spelling new None fault (passed_more names bytes b.rest (42 ∷ behind) b.so_far b.spelling w b.earlier None b.passed b.first b.takes behind refl) t.first t.takes

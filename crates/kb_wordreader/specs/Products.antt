@@ -43,13 +43,3 @@ pub record Passed (names : List (List ℕ)) (bytes rest w : List ℕ) (fault : O
   pub texts : List (List ℕ)
   pub onward : (tokens : List Token) → TokensOf rest tokens → TokensOf bytes (starred texts ++ tokens)
   pub means : (inverses : List (Option ℕ)) (others : Factors) → SoFar names inverses w others (product_meaning names inverses [] (before texts others)) fault
-
--- a name was taken behind these
-pub record BehindName (names : List (List ℕ)) (bytes behind w : List ℕ) (fault : Option WordError) : Type 0 where
-  pub rest : List ℕ
-  pub so_far : List ℕ
-  pub earlier : Option WordError
-  pub passed : Passed names bytes rest so_far earlier
-  pub spelling : List ℕ
-  pub first : FirstToken (after_gap rest) (name spelling) behind
-  pub takes : Takes names so_far spelling earlier w fault

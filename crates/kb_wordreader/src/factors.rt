@@ -1,4 +1,6 @@
 //! One pass over a word with powers and brackets.
+//!
+//! `None` says that the pass gives up: the bytes have a fault, or memory ran out. The word is of no use then.
 
 ghost use Rattle.std.specs.Prelude.{◌≡◌, ◌<◌, ◌≤◌, length, IfSome, Ok};
 ghost use Rattle.kb_record.specs.Faults.{Meaning};
@@ -6,7 +8,7 @@ ghost use Rattle.kb_record.specs.Meaning.{most_letters};
 ghost use Rattle.kb_wordreader.specs.Factors.{Adds, NameFront, BaseFront, FactorFront, FactorsFront, GroupFront};
 ghost use Rattle.kb_wordreader.specs.Letters.{AreByteLetters};
 
-use crate::first::take_first;
+use crate::first::{take_first, take_short};
 use crate::power::take_power;
 use kb_lexing::{behind_gap, is_blank};
 use kb_word::{Letter, Names, Presentation, Word};
@@ -15,8 +17,7 @@ use std::alloc::Global;
 /// How deep brackets may stand in brackets.
 const DEEPEST: usize = 64;
 
-/// The word of bytes with powers and brackets. `None` says nothing: the bytes may have a fault, and memory may have
-/// run out.
+/// The word of bytes with powers and brackets.
 pub(crate) fn product_of_powers(
     alloc: Global,
     presentation: &Presentation,
@@ -105,6 +106,9 @@ fn take_base<'a>(
     ensures few { IfSome result (λ rest. length word.new ≤ most_letters) }
     ensures shorter { IfSome result (λ rest. length rest.now < length text.now) }
 {
+    if let Some(rest) = take_short(&presentation.names, byte_letters, text, word) {
+        return Some(rest);
+    }
     if let [b'(', inside @ ..] = behind_gap(text) {
         return take_group(alloc, presentation, byte_letters, inside, depth, word);
     }

@@ -8,17 +8,28 @@
 //! # How it is made
 //!
 //! Most words are plain products: names joined by `*`, without powers and brackets. One pass over the bytes takes
-//! each name and adds its letter to the word, so that such bytes take no memory but the word's. Where it meets
-//! something else, the bytes are read by their tree.
+//! each name and adds its letter to the word, so that such bytes take no memory but the word's. Names of one byte that
+//! stand directly before a `*` are taken in a loop of their own.
+//!
+//! Where that pass meets something else, a second one goes over the factors, with their powers and brackets. A power
+//! repeats the word's end in place. This pass returns words only. Where it gives up, for a fault of the bytes or for
+//! want of memory, the bytes are read by their tree, which has each refusal's cause.
 //!
 //! - `byte_letters` is the table of the letters whose names have one byte.
 //! - `product` adds the letter of one more name, and keeps the first fault.
-//! - `plain_product` is the pass, and `reader` falls back to the tree where the bytes are no plain product.
+//! - `first` takes the name at the front of a text, in a shorter way where it has one byte.
+//! - `plain_product` is the pass over plain products.
+//! - `power` repeats or inverts a word's end, and `factors` is the pass over factors.
+//! - `reader` tries the passes in this order, and then the tree.
 //!
 //! # Where the proofs are
 //!
+//! - `specs/Products.antt`: what was read of a plain product. `Factors`: what stands at the front of a text, and the
+//!   letters that it means.
 //! - `proofs/NameLemmas.antt`: letters of names. `ProductLemmas`: a name behind the product so far.
 //! - `proofs/PassLemmas.antt`: what the pass has read, in front of what is still to come; its tree and its meaning.
+//! - `proofs/FactorLemmas.antt`: names, powers, groups and products of factors at the front of a text.
+//!   `PowerLemmas`: a word whose end is repeated, letter by letter.
 //!
 //! Below stand `kb_lexing`, `kb_record` and `kb_word`; above stands `kb_lines`.
 #![tactic(auto)]

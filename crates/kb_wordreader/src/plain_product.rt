@@ -4,7 +4,7 @@ ghost use Rattle.std.specs.Prelude.{◌≡◌, ℕ, List, Option, IfOk, IfErr, I
 ghost use Rattle.kb_record.specs.Faults.{HasWordFault, Meaning};
 ghost use Rattle.kb_wordreader.specs.Letters.{AreByteLetters};
 
-use crate::first::{take_first, take_short_names};
+use crate::first::{take_first, take_starred_names};
 use kb_lexing::behind_gap;
 use kb_record::WordError;
 use kb_word::{Letter, Names, Word};
@@ -27,11 +27,11 @@ pub(crate) fn plain_product(
     let mut fault = None;
     let mut rest = bytes;
     loop {
+        rest = take_starred_names(names, byte_letters, rest, &mut word, &fault);
         let Some(behind) = take_first(alloc, names, byte_letters, rest, &mut word, &mut fault)
         else {
             return Ok(None);
         };
-        let behind = take_short_names(names, byte_letters, behind, &mut word, &fault);
         match behind_gap(behind) {
             [] => return product(word, fault),
             [b'*', next @ ..] => rest = next,

@@ -1,4 +1,4 @@
-//! Powers of a word's end.
+//! Powers of a word's end. `None` says that the pass gives up: there is no such word, or memory ran out.
 
 ghost use Rattle.std.specs.Prelude.{◌≡◌, ℕ, List, Option, ◌≤◌, length, take, drop, IfSome, Ok, Some};
 ghost use Rattle.kb_word.specs.Relations.{inverse_word};
@@ -36,7 +36,7 @@ pub(crate) fn take_power<'a>(
     Some(rest)
 }
 
-/// Raises the word's end, from the place on, to a power.
+/// Raises the word's end, from the place on, to a power; one below 0 repeats the inverse.
 fn raise_end(
     alloc: Global,
     presentation: &Presentation,
@@ -58,8 +58,29 @@ fn raise_end(
     repeat_end(word, start, exponent.unsigned_abs())
 }
 
-/// Puts the inverse of the word's end, from the place on, in its place.
+/// Puts the inverse of the word's end, from the place on, in its place. That of one letter takes no memory.
 fn invert_end(
+    alloc: Global,
+    presentation: &Presentation,
+    word: &mut Word,
+    start: usize,
+) -> Option<()>
+    requires { start ≤ length word.old }
+    ensures inverted { IfSome result (λ done. Adds
+        (λ letters. inverse_word presentation.now.inv (drop start word.old) ≡ Some letters)
+        (take start word.old) word.new) }
+    ensures start { IfSome result (λ done. start ≤ length word.new) }
+{
+    if let [letter] = &word.letters()[start..] {
+        let inverse = presentation.letter_inverse(*letter)?;
+        word.truncate(start);
+        return word.push(inverse).ok();
+    }
+    invert_letters(alloc, presentation, word, start)
+}
+
+/// Puts the inverse of the word's end, from the place on, in its place, letter by letter.
+fn invert_letters(
     alloc: Global,
     presentation: &Presentation,
     word: &mut Word,

@@ -1,9 +1,26 @@
-use Rattle.std.proofs.Common.{rules, ◌≡◌, ◌∷◌, ◌-◌, ◌<◌, length, take, drop, get_or, sym, ◌∙◌, arith}
+use Rattle.std.proofs.Common.{rules, ◌≡◌, ◌∷◌, ◌-◌, ◌<◌, length, take, drop, get_or, sym, subst, ◌∙◌, arith}
+use Rattle.std.specs.Prelude.{IfSome}
+use Rattle.kb_lexing.specs.Token.{name}
 use Rattle.kb_lexing.specs.Spelling.{after_gap}
 use Rattle.kb_wordreader.specs.Factors.{Adds, NameFront, BaseFront, GroupFront}
 use Rattle.kb_wordreader.proofs.PassLemmas.{mark_split}
-use Rattle.kb_wordreader.proofs.FactorLemmas.{name_base, group_base, going_more, going_ends, adds_as, mark_shorter, if_some}
+use Rattle.kb_wordreader.proofs.FactorLemmas.{name_front, name_base, token_shorter, group_base, going_more, going_ends, adds_as, mark_shorter, if_some}
 use Rattle.kb_wordreader.proofs.factors.+factors.Goals as goal
+
+pub take_base-returns-in-Some-clause-takes : goal.take_base-returns-in-Some-clause-takes
+take_base-returns-in-Some-clause-takes t c =
+    let names = c.args.presentation.now.names in
+    let text = c.args.text.now in
+    let rest = c.in-Some.rest.now in
+    let old = c.args.word.now in
+    let new = c.take_short.new.word in
+    adds_as (NameFront names text rest) (BaseFront names c.args.presentation.now.inv c.args.depth text rest) old new (name_base names c.args.presentation.now.inv c.args.depth text rest)
+    (name_front names text rest old new c.in-Some.ensures.takes)
+
+pub take_base-returns-in-Some-clause-shorter : goal.take_base-returns-in-Some-clause-shorter
+take_base-returns-in-Some-clause-shorter t c =
+    let taken = c.in-Some.ensures.takes in
+    token_shorter (name taken.spelling) c.args.text.now c.in-Some.rest.now taken.first
 
 pub take_base-returns-in-40-clause-takes : goal.take_base-returns-in-40-clause-takes
 take_base-returns-in-40-clause-takes t c =
@@ -14,11 +31,12 @@ take_base-returns-in-40-clause-takes t c =
     let inside = take (length text - 1) (drop 1 text) in
     let old = c.args.word.now in
     let new = c.take_group.new.word in
+    let kept : c.take_short.new.word ≡ old = search rules in
     let begun : get_or text 0 0 ≡ 40 = search rules in
     let at : after_gap c.args.text.now ≡ 40 ∷ inside = sym c.behind_gap.ensures ∙ mark_split 40 text (omega (arith, c.in-40.len_at_least)) begun in
     if_some c.take_group.result (λ rest. Adds (GroupFront names inverses depth inside rest.now) old new) (λ rest. Adds (BaseFront names inverses depth c.args.text.now rest.now) old new)
     (λ rest. adds_as (GroupFront names inverses depth inside rest.now) (BaseFront names inverses depth c.args.text.now rest.now) old new (λ letters. group_base names inverses depth c.args.text.now inside rest.now letters at))
-    c.take_group.ensures.takes
+    (subst (λ w. IfSome c.take_group.result (λ rest. Adds (GroupFront names inverses depth inside rest.now) w new)) kept c.take_group.ensures.takes)
 
 pub take_base-returns-in-40-clause-shorter : goal.take_base-returns-in-40-clause-shorter
 take_base-returns-in-40-clause-shorter t c =
@@ -35,9 +53,10 @@ take_base-returns-clause-takes t c =
     let inverses = c.args.presentation.now.inv in
     let old = c.args.word.now in
     let new = c.take_letter.new.word in
+    let kept : c.take_short.new.word ≡ old = search rules in
     if_some c.take_letter.result (λ rest. Adds (NameFront names c.args.text.now rest.now) old new) (λ rest. Adds (BaseFront names inverses c.args.depth c.args.text.now rest.now) old new)
     (λ rest. adds_as (NameFront names c.args.text.now rest.now) (BaseFront names inverses c.args.depth c.args.text.now rest.now) old new (λ letters. name_base names inverses c.args.depth c.args.text.now rest.now letters))
-    c.take_letter.ensures.takes
+    (subst (λ w. IfSome c.take_letter.result (λ rest. Adds (NameFront names c.args.text.now rest.now) w new)) kept c.take_letter.ensures.takes)
 
 pub take_factors-loop-rest-smaller : goal.take_factors-loop-rest-smaller
 take_factors-loop-rest-smaller t c =
