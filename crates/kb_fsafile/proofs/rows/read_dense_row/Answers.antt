@@ -1,6 +1,6 @@
-use Rattle.std.proofs.Common.{◌≡◌, sym, ap, ◌∙◌, subst}
+use Rattle.std.proofs.Common.{sym, ap, ◌∙◌, subst}
 use Rattle.std.proofs.Common.{Option, IfOk, IfErr, Some}
-use Rattle.kb_record.specs.Tree.{Value, list_value}
+use Rattle.kb_record.specs.Tree.{Value}
 use Rattle.kb_record.specs.Listed.{place_view}
 use Rattle.kb_fsafile.specs.Kinds.{list_of_numbers}
 use Rattle.kb_fsafile.specs.declared.format.Format.TheVariants.{Dense}

@@ -1,13 +1,13 @@
-use Rattle.std.proofs.Common.{◌≡◌, sym, ap, ◌∙◌, subst}
+use Rattle.std.proofs.Common.{sym, ap, ◌∙◌, subst}
 use Rattle.std.proofs.Common.{Option, IfErr, Some}
-use Rattle.kb_record.specs.Tree.{Value, list_value}
+use Rattle.kb_record.specs.Tree.{Value}
 use Rattle.kb_record.specs.Listed.{place_view}
 use Rattle.kb_fields.proofs.Outcomes.{IfOk_then}
 use Rattle.kb_fsafile.specs.Kinds.{list_of_entries}
 use Rattle.kb_fsafile.specs.declared.format.Format.TheVariants.{Sparse}
 use Rattle.kb_fsafile.specs.Faults.{HasFieldFault}
 use Rattle.kb_fsafile.specs.declared.error.FsaError.{FsaError}
-use Rattle.kb_fsafile.specs.RowsRead.{IsRowAt, IsFaultOfRow}
+use Rattle.kb_fsafile.specs.RowsRead.{IsFaultOfRow}
 use Rattle.kb_fsafile.proofs.KindLemmas.{place_of_entries, no_list_at}
 use Rattle.kb_fsafile.proofs.TableLemmas.{other_row_kind, sparse_row_at}
 use Rattle.kb_fsafile.proofs.rows.read_sparse_row.Goals as goal

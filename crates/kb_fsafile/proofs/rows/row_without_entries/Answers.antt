@@ -1,4 +1,4 @@
-use Rattle.std.proofs.Common.{ℤ, List, [], Option, Some, IfOk, ap, sym, ◌∙◌, subst}
+use Rattle.std.proofs.Common.{[], Some, ap, sym, ◌∙◌, subst}
 use Rattle.kb_record.specs.View.{row_place}
 use Rattle.kb_fields.proofs.Outcomes.{IfOk_then}
 use Rattle.kb_fsafile.specs.Faults.{HasFieldFault}
