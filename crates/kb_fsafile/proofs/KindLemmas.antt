@@ -1,11 +1,11 @@
 -- Lists of numbers and of entries, element by element.
-use Rattle.std.proofs.Common.{◌≡◌, ℤ, true, false, nat_eq, List, [], ◌∷◌, map, length, slice_get, Option, Some, Vec, Global, refl, sym, ap, ◌∙◌, eqb-true, arith}
+use Rattle.std.proofs.Common.{◌≡◌, ℤ, true, false, nat_eq, List, [], ◌∷◌, map, length, Some, Vec, Global, refl, sym, ap, ◌∙◌, eqb-true, arith}
 use Rattle.std.proofs.lemmas.Bool.{false≢true}
 use Rattle.std.specs.Borrow.{Bor}
 use Rattle.std.proofs.lemmas.Option.{same_Some}
-use Rattle.kb_record.specs.Tree.{Value, number_value, list_value, Places, place}
+use Rattle.kb_record.specs.Tree.{list_value, Places, place}
 use Rattle.kb_record.specs.View.{value_view, places_of, row_place, entries_place}
-use Rattle.kb_record.specs.Listed.{listed, place_view}
+use Rattle.kb_record.specs.Listed.{place_view}
 use Rattle.kb_record.specs.declared.tree.Value as code
 use Rattle.kb_record.specs.declared.listed.Place.{Place}
 use Rattle.kb_record.specs.declared.listed.Place.TheVariants as variants
@@ -51,7 +51,7 @@ empty_list (x ∷ xs) e = let none = eqb-true (length (x ∷ xs)) 0 (sym e) in a
 pub no_empty_list : {A : Type 0} (xs : List A) → false ≡ nat_eq (length xs) 0 → xs ≡ [] → ⊥
 no_empty_list {A = A} xs e none = false≢true (e ∙ ap (λ (ys : List A). nat_eq (length ys) 0) none)
 
--- Places that are no values and no flat lists hold none of these.
+-- A place that is neither another value nor a list of numbers holds none of these.
 module _ (p : Place) (other : (value : Bor code.Value) → p ≡ variants.Value value → ⊥) (not_flat : (numbers : Bor (List ℤ)) → p ≡ variants.Numbers numbers → ⊥) where
   -- an entry
   pub no_entry_at : (entry : ℤ × ℤ) → place_view p ≡ Some (entry_value entry) → ⊥
@@ -80,13 +80,3 @@ module _ (p : Place) (other : (value : Bor code.Value) → p ≡ variants.Value 
       go (variants.Number z) v n r h = cc
       go (variants.Numbers numbers) v n r h = n numbers refl
       go (variants.Entries entries) v n r h = r entries refl
-
--- an entry has two places, and a number at each
-pub entry_count : (value : Value) (entry : ℤ × ℤ) → value ≡ entry_value entry → length (listed value) ≡ 2
-entry_count value entry e = ap (λ (v : Value). length (listed v)) e
-
-pub entry_first : (value : Value) (p : Option Value) → slice_get (listed value) 0 ≡ Some p → (entry : ℤ × ℤ) → value ≡ entry_value entry → p ≡ Some (number_value entry.0)
-entry_first value p at entry e = same_Some _ _ (sym at ∙ ap (λ (v : Value). slice_get (listed v) 0) e)
-
-pub entry_second : (value : Value) (p : Option Value) → slice_get (listed value) 1 ≡ Some p → (entry : ℤ × ℤ) → value ≡ entry_value entry → p ≡ Some (number_value entry.1)
-entry_second value p at entry e = same_Some _ _ (sym at ∙ ap (λ (v : Value). slice_get (listed v) 1) e)

@@ -4,7 +4,7 @@ use Rattle.std.proofs.lemmas.Int.{ints}
 use Rattle.std.proofs.lemmas.Bool.{cases_eq, false≢true}
 use Rattle.std.proofs.lemmas.List.{length-map, get_or-map, get_or-set_same, get_or-set_other, take_more, map-append}
 use Rattle.std.proofs.lemmas.List.Elements.{Contains-get_or, Contains-append_left, Contains-push, Contains-push_cases, All-contains, All-push}
-use Rattle.kb_record.specs.Tree.{Value, number_value, string_value, record_value, list_value, range_value, word_value, Places}
+use Rattle.kb_record.specs.Tree.{Value, number_value, string_value, record_value, list_value, range_value, word_value}
 use Rattle.kb_fields.proofs.NumberLemmas.{list_of_numbers-injective}
 use Rattle.kb_fsafile.specs.Kinds.{list_of_numbers, StandsFor, IsNumbers, IsNumberOf}
 use Rattle.kb_fsafile.specs.Reading.{AreStates, IsAcceptingState, StandsForStates}

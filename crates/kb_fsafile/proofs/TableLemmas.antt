@@ -1,5 +1,5 @@
 -- Rows at the places of a table, and their faults.
-use Rattle.std.proofs.Common.{◌≡◌, ℕ, ◌+◌, ◌<◌, ◌≤◌, ◌^◌, ℤ, pos, List, [], ◌∷◌, ◌++◌, length, map, take, get_or, slice_get, Option, Some, None, refl, sym, ap, ◌∙◌, subst, arith}
+use Rattle.std.proofs.Common.{◌≡◌, ℕ, ◌+◌, ◌<◌, ◌≤◌, ◌^◌, ℤ, pos, List, [], ◌∷◌, ◌++◌, length, take, get_or, slice_get, Option, Some, None, refl, sym, ap, ◌∙◌, subst, arith}
 use Rattle.std.specs.List.{All}
 use Rattle.std.proofs.lemmas.List.{length-map, length-take, length_push, take_more}
 use Rattle.std.proofs.lemmas.Option.{slice_get_within, get_or_from_slice_get}
@@ -14,24 +14,31 @@ use Rattle.kb_fsa.proofs.Lookups.{lookup_at, entry_from_lookup, lookup_from_targ
 use Rattle.kb_fsafile.specs.Kinds.{list_of_numbers, list_of_entries, numbered_from}
 use Rattle.kb_fsafile.specs.Holds.{HoldsRecord, HoldsString, HoldsStates, HasNoDefault, HoldsRow, HoldsRows, HoldsEntries, format_name}
 use Rattle.std.specs.Prelude.{codes}
-use Rattle.kb_fsafile.specs.Faults.{needed, transitions_field, IsRowKind, ListsRows, HasSize, HasWrongStates, HasFieldFault}
+use Rattle.kb_fsafile.specs.Faults.{needed, transitions_field, IsRowKind, IsTransitions, ListsRows, HasSize, HasWrongStates, HasFieldFault}
 use Rattle.kb_fsafile.specs.RowsRead.{HasRows, IsWithin, IsRowAt, AreRowsAt, HasRowAt, AreRowTargets, IsSparseRow}
 use Rattle.kb_fsafile.specs.declared.format.Format.{Format}
 use Rattle.kb_fsafile.specs.declared.format.Format.TheVariants.{Dense, Sparse}
 use Rattle.kb_fsafile.specs.declared.error.Field.TheVariants as kinds
+use Rattle.kb_fsafile.specs.declared.error.FsaError.{FsaError}
 use Rattle.kb_fsafile.specs.declared.error.FsaError.TheVariants as errors
 use Rattle.kb_fsafile.proofs.FieldFaults.{wrong_kind}
 use Rattle.kb_fsafile.proofs.MoveLemmas.{target_among, row_among, within_among, numbered_positive, numbered_ascends, numbered_within}
 
 -- a place that is no row of the format
-pub other_row_kind : (given : Fields) (format : Format) (size count : ℕ) (row : Option Value) → HasRowAt given format size count row
-    → ((value : Value) → row ≡ Some value → IsRowKind format value → ⊥) → HasFieldFault given (errors.WrongKind kinds.Transitions)
-other_row_kind given format size count row at other =
-    wrong_kind given at.listed.table kinds.Transitions needed (list_value at.places) (transitions_field at.listed.is_record) at.listed.listed (λ kind.
-    let same : at.places ≡ kind.0 = list_same kind.1 in
-    let Within : Places → Type 0 = λ ps. at.k < place_count ps in
-    let found = kind.2 format at.listed.named at.k (subst Within same at.within) in
-    other found.0 (sym at.stands ∙ (ap (λ ps. value_at ps at.k) same ∙ found.1)) found.2)
+pub other_row_kind : (given : Fields) (format : Format) (size count : ℕ) (row : Option Value) (error : FsaError) → error ≡ errors.WrongKind kinds.Transitions
+    → HasRowAt given format size count row → ((value : Value) → row ≡ Some value → IsRowKind format value → ⊥) → HasFieldFault given error
+other_row_kind given format size count row error named at other =
+    subst P (sym named) (wrong_kind given at.listed.table kinds.Transitions needed (list_value at.places) (transitions_field at.listed.is_record) at.listed.listed no_rows)
+  where
+    P : FsaError → Type 0
+    P e = HasFieldFault given e
+
+    no_rows : IsTransitions at.listed.table (list_value at.places) → ⊥
+    no_rows kind =
+        let same : at.places ≡ kind.0 = list_same kind.1 in
+        let Within : Places → Type 0 = λ ps. at.k < place_count ps in
+        let found = kind.2 format at.listed.named at.k (subst Within same at.within) in
+        other found.0 (sym at.stands ∙ (ap (λ ps. value_at ps at.k) same ∙ found.1)) found.2
 
 -- the row of targets for each symbol
 pub dense_row_at : (size count : ℕ) (numbers : List ℤ) (here : Option Value) (row : Moves) → here ≡ Some (list_value (list_of_numbers numbers)) → length numbers ≡ size

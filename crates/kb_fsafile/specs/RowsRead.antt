@@ -2,16 +2,17 @@
 use Rattle.std.specs.Prelude.{◌≡◌, ◌≢◌, ℕ, ◌+◌, ◌*◌, ◌<◌, ◌≤◌, ◌^◌, nat_eq, not, ℤ, pos, List, map, length, filter, All, AllPairs, Option, Some}
 use Rattle.std.specs.BTreeMap.{BTreeMap, get}
 use Rattle.std.specs.Ordering.{nat_cmp}
-use Rattle.kb_record.specs.Tree.{Value, Fields, Places}
+use Rattle.kb_record.specs.Tree.{Value, list_value, Fields, Places}
 use Rattle.kb_fields.specs.Fields.{value_at, place_count}
 use Rattle.kb_fsa.specs.Table.{Moves, IsRow, Ascends, lookup, target, Table, IsTable, HasSymbols}
 use Rattle.kb_fsa.specs.declared.alphabet.Alphabet.{Alphabet}
 use Rattle.kb_fsa.specs.declared.alphabet.Alphabet.TheVariants.{Plain, Pair}
-use Rattle.kb_fsafile.specs.Kinds.{numbered_from}
+use Rattle.kb_fsafile.specs.Kinds.{list_of_numbers, list_of_entries, numbered_from}
 use Rattle.kb_fsafile.specs.Holds.{HoldsStates, HoldsInitial, HoldsAccepting, HoldsRow, HoldsRows, HoldsMoves}
 use Rattle.kb_fsafile.specs.Misplaced.{IsPaddingFault}
 use Rattle.kb_fsafile.specs.Faults.{ListsRows, HasSize, HasFieldFault}
 use Rattle.kb_fsafile.specs.declared.format.Format.{Format}
+use Rattle.kb_fsafile.specs.declared.format.Format.TheVariants.{Dense, Sparse}
 use Rattle.kb_fsafile.specs.declared.error.FsaError.{FsaError}
 
 -- the symbol is one of so many, and the target one of so many states
@@ -61,6 +62,13 @@ IsFaultOfRow format size count row error = (given : Fields) → HasRowAt given f
 abbrev pub IsFaultOfRows : Format → ℕ → ℕ → Places → FsaError → Type 0
 IsFaultOfRows format size count places error =
     (given : Fields) → HoldsStates given count → HasSize given size → ListsRows given format places → HasFieldFault given error
+
+-- the refusal is for a fault of each text that has these targets as a row; these entries as a row
+abbrev pub IsFaultOfTargets : ℕ → ℕ → List ℤ → FsaError → Type 0
+IsFaultOfTargets size count numbers = IsFaultOfRow Dense size count (Some (list_value (list_of_numbers numbers)))
+
+abbrev pub IsFaultOfEntries : ℕ → ℕ → List (ℤ × ℤ) → FsaError → Type 0
+IsFaultOfEntries size count pairs = IsFaultOfRow Sparse size count (Some (list_value (list_of_entries pairs)))
 
 -- the numbers are targets, of so many states, and these are the moves among them
 pub record AreRowTargets (count : ℕ) (numbers : List ℤ) (moves : List (ℕ × ℕ)) : Type 0 where

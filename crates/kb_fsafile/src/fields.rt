@@ -62,8 +62,11 @@ pub fn needed_list<'r, 'a>(
     field: Field,
 ) -> Result<(&'r Value<'a>, usize), FsaError>
     requires { HasLists field }
-    ensures found { IfOk result (λ list. value_of (fields_view fields.now) (name_of field) ≡ Some (value_view list.0.now)) }
-    ensures listed { IfOk result (λ list. HasPlaces (value_view list.0.now) (listed (value_view list.0.now))) }
+    ensures found { IfOk result
+        (λ list. value_of (fields_view fields.now) (name_of field)
+        ≡ Some (value_view list.0.now)) }
+    ensures listed { IfOk result
+        (λ list. HasPlaces (value_view list.0.now) (listed (value_view list.0.now))) }
     ensures counted { IfOk result (λ list. length (listed (value_view list.0.now)) ≡ list.1) }
     ensures fault { IfErr result (IsFaultOf field needed (fields_view fields.now)) }
 {

@@ -32,12 +32,12 @@
 //!
 //! # How it is made
 //!
-//! - `fields` looks up fields of their kinds, and `values` tells numbers, lists of numbers and lists of pairs of
-//!   numbers from other values.
+//! - `fields` looks up fields of their kinds, and `values` tells strings, ranges and lists of pairs of numbers from
+//!   other values, and states and targets from other numbers.
 //! - `header`, `alphabet`, `states`, `initial`, `accepting` and `table` read a field each. Numbers of states are up
 //!   to 10^18 before the rows are seen to be as many, so the accepting states are marked after the rows.
-//! - `rows` reads the rows of a table, dense or sparse, as ascending symbols with targets that are states. Rows that
-//!   the tree keeps as numbers are read where they stand, and a sparse row in order of its symbols without a map.
+//! - `rows` reads the rows of a table, dense or sparse, as ascending symbols with targets that are states. A row that
+//!   the tree keeps as numbers is read where it stands, and a sparse row needs no map where its symbols ascend.
 //! - `misplaced` drops moves of automata of pairs, or refuses them.
 //! - `reader` joins them, each step a function called in the order of the refusals.
 //!

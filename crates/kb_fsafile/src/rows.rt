@@ -7,8 +7,9 @@ ghost use Rattle.kb_record.specs.Tree.{list_value};
 ghost use Rattle.kb_record.specs.View.{value_view, row_place, entries_place};
 ghost use Rattle.kb_record.specs.Listed.{place_view};
 ghost use Rattle.kb_fsa.specs.Table.{Ascends};
-ghost use Rattle.kb_fsafile.specs.Kinds.{list_of_numbers, list_of_entries, IsNumberOf, IsTargetOf};
-ghost use Rattle.kb_fsafile.specs.RowsRead.{moves_among, IsRowAt, IsFaultOfRow, AreRowTargets, HasEntries, IsSparseRow};
+ghost use Rattle.kb_fsafile.specs.Kinds.{list_of_numbers, IsNumberOf, IsTargetOf};
+ghost use Rattle.kb_fsafile.specs.RowsRead.{moves_among, IsRowAt, AreRowTargets, HasEntries, IsSparseRow};
+ghost use Rattle.kb_fsafile.specs.RowsRead.{IsFaultOfRow, IsFaultOfTargets, IsFaultOfEntries};
 ghost use Rattle.kb_fsafile.specs.declared.format.Format.TheVariants.{Dense, Sparse};
 ghost use Rattle.kb_fsafile.specs.declared.error.Field.TheVariants.{Transitions};
 ghost use Rattle.kb_fsafile.specs.declared.error.FsaError.TheVariants.{WrongKind};
@@ -96,8 +97,9 @@ fn row_without_targets(
 
 /// The row with these targets, one for each symbol.
 fn whole_row(alloc: Global, numbers: &[i64], size: u32, count: u32) -> Result<Row, FsaError>
-    ensures read { IfOk result (IsRowAt size count Dense (Some (list_value (list_of_numbers numbers.now)))) }
-    ensures fault { IfErr result (IsFaultOfRow Dense size count (Some (list_value (list_of_numbers numbers.now)))) }
+    ensures read { IfOk result
+        (IsRowAt size count Dense (Some (list_value (list_of_numbers numbers.now)))) }
+    ensures fault { IfErr result (IsFaultOfTargets size count numbers.now) }
 {
     if numbers.len() != size as usize {
         return Err(FsaError::StatesWrong);
@@ -109,7 +111,7 @@ fn whole_row(alloc: Global, numbers: &[i64], size: u32, count: u32) -> Result<Ro
 fn dense_row(alloc: Global, numbers: &[i64], size: u32, count: u32) -> Result<Row, FsaError>
     requires { length numbers.now ≡ size }
     ensures read { IfOk result (AreRowTargets count numbers.now) }
-    ensures fault { IfErr result (IsFaultOfRow Dense size count (Some (list_value (list_of_numbers numbers.now)))) }
+    ensures fault { IfErr result (IsFaultOfTargets size count numbers.now) }
 {
     let room = numbers.iter().filter(|number| **number != 0).count();
     let mut moves = Vec::with_capacity(alloc, room)?;
@@ -126,7 +128,8 @@ fn dense_row(alloc: Global, numbers: &[i64], size: u32, count: u32) -> Result<Ro
 
 /// Adds a move where the target is a state.
 fn keep(moves: &mut Vec<(u32, u32)>, symbol: u32, target: u32) -> Result<(), Memory>
-    ensures { OnOk result (moves.new.items ≡ moves.old.items ++ moves_among ((symbol, target) ∷ [])) }
+    ensures { OnOk result
+        (moves.new.items ≡ moves.old.items ++ moves_among ((symbol, target) ∷ [])) }
 {
     if target != 0 {
         moves.push((symbol, target))?;
@@ -187,7 +190,7 @@ fn row_without_entries(
 /// The row with these entries.
 fn sparse_row(alloc: Global, pairs: &[(i64, i64)], size: u32, count: u32) -> Result<Row, FsaError>
     ensures read { IfOk result (IsSparseRow size count pairs.now) }
-    ensures fault { IfErr result (IsFaultOfRow Sparse size count (Some (list_value (list_of_entries pairs.now)))) }
+    ensures fault { IfErr result (IsFaultOfEntries size count pairs.now) }
 {
     match ascending_row(alloc, pairs, size, count)? {
         Some(row) => Ok(row),
@@ -203,7 +206,7 @@ fn ascending_row(
     count: u32,
 ) -> Result<Option<Row>, FsaError>
     ensures read { IfOk result (λ row. IfSome row (IsSparseRow size count pairs.now)) }
-    ensures fault { IfErr result (IsFaultOfRow Sparse size count (Some (list_value (list_of_entries pairs.now)))) }
+    ensures fault { IfErr result (IsFaultOfEntries size count pairs.now) }
 {
     let mut moves = Vec::with_capacity(alloc, pairs.len())?;
     let mut last = 0;
@@ -225,7 +228,8 @@ fn entry_within(pair: &(i64, i64), size: u32, count: u32) -> Option<(u32, u32)>
     ensures is { IfSome result (λ entry. pair.now ≡ (pos entry.0, pos entry.1)) }
     ensures symbol { IfSome result (λ entry. (0 < entry.0) × (entry.0 ≤ size)) }
     ensures target { IfSome result (λ entry. entry.1 ≤ count) }
-    ensures none { IfNone result ((¬ IsNumberOf size pair.now.0) ⊎ (¬ IsTargetOf count pair.now.1)) }
+    ensures none { IfNone result
+        ((¬ IsNumberOf size pair.now.0) ⊎ (¬ IsTargetOf count pair.now.1)) }
 {
     let symbol = number_within(pair.0, u64::from(size))?;
     let target = target_within(pair.1, u64::from(count))?;
@@ -235,7 +239,7 @@ fn entry_within(pair: &(i64, i64), size: u32, count: u32) -> Option<(u32, u32)>
 /// The row with these entries, whatever the order of their symbols is.
 fn sorted_row(alloc: Global, pairs: &[(i64, i64)], size: u32, count: u32) -> Result<Row, FsaError>
     ensures read { IfOk result (IsSparseRow size count pairs.now) }
-    ensures fault { IfErr result (IsFaultOfRow Sparse size count (Some (list_value (list_of_entries pairs.now)))) }
+    ensures fault { IfErr result (IsFaultOfEntries size count pairs.now) }
 {
     let entries = by_symbol(alloc, pairs, size, count)?;
     Ok(row_of(alloc, &entries)?)
@@ -249,7 +253,7 @@ fn by_symbol(
     count: u32,
 ) -> Result<BTreeMap<u32, u32>, FsaError>
     ensures read { IfOk result (HasEntries size count pairs.now) }
-    ensures fault { IfErr result (IsFaultOfRow Sparse size count (Some (list_value (list_of_entries pairs.now)))) }
+    ensures fault { IfErr result (IsFaultOfEntries size count pairs.now) }
 {
     let mut entries = BTreeMap::new(alloc);
     for pair in pairs {
@@ -268,7 +272,8 @@ fn row_of(alloc: Global, entries: &BTreeMap<u32, u32>) -> Result<Row, Memory>
     requires { (symbol : ℕ) → IsSome (get nat_cmp entries.now symbol) → 0 < symbol }
     ensures moves { IfOk result (λ row. row ≡ moves_among entries.now.entries) }
     ensures ordered { OnOk result (Ascends entries.now.entries) }
-    ensures found { OnOk result (All (λ entry. get nat_cmp entries.now entry.0 ≡ Some entry.1) entries.now.entries) }
+    ensures found { OnOk result
+        (All (λ entry. get nat_cmp entries.now entry.0 ≡ Some entry.1) entries.now.entries) }
 {
     let mut moves = Vec::with_capacity(alloc, entries.len())?;
     for (symbol, target) in entries {

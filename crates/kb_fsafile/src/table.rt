@@ -67,7 +67,7 @@ fn read_format<'a>(table: &[(&'a str, Value<'a>)]) -> Result<Format, FsaError>
     }
 }
 
-/// The rows of a list, at so many places.
+/// The rows that a list has at its places, one for each of so many states.
 fn rows_listed<'a>(
     alloc: Global,
     list: &Value<'a>,
@@ -76,8 +76,10 @@ fn rows_listed<'a>(
     count: u32,
 ) -> Result<Vec<Row>, FsaError>
     requires { length (listed (value_view list.now)) ≡ count }
-    ensures read { IfOk result (λ rows. AreRowsAt size count format (places_of (listed (value_view list.now))) rows.items) }
-    ensures fault { IfErr result (IsFaultOfRows format size count (places_of (listed (value_view list.now)))) }
+    ensures read { IfOk result
+        (λ rows. AreRowsAt size count format (places_of (listed (value_view list.now))) rows.items) }
+    ensures fault { IfErr result
+        (IsFaultOfRows format size count (places_of (listed (value_view list.now)))) }
 {
     let mut rows = Vec::with_capacity(alloc, count as usize)?;
     for place in 0..count as usize {

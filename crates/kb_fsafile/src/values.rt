@@ -38,8 +38,12 @@ pub fn entries_listed<'a>(
     alloc: Global,
     value: &Value<'a>,
 ) -> Result<Option<Vec<(i64, i64)>>, Memory>
-    ensures listed { IfOk result (λ entries. IfSome entries (λ entries. value_view value.now ≡ list_value (list_of_entries entries.items))) }
-    ensures other { IfOk result (λ entries. IfNone entries ((entries : List (ℤ × ℤ)) → value_view value.now ≢ list_value (list_of_entries entries))) }
+    ensures listed { IfOk result
+        (λ entries. IfSome entries
+        (λ entries. value_view value.now ≡ list_value (list_of_entries entries.items))) }
+    ensures other { IfOk result
+        (λ entries. IfNone entries
+        ((entries : List (ℤ × ℤ)) → value_view value.now ≢ list_value (list_of_entries entries))) }
 {
     let Some(count) = value.place_count() else {
         return Ok(None);
@@ -57,7 +61,8 @@ pub fn entries_listed<'a>(
 /// The two numbers at a place that holds a list of two numbers.
 fn entry_at(place: Place<'_, '_>) -> Option<(i64, i64)>
     ensures found { IfSome result (λ entry. place_view place.entry ≡ Some (entry_value entry)) }
-    ensures none { IfNone result ((entry : ℤ × ℤ) → place_view place.entry ≢ Some (entry_value entry)) }
+    ensures none { IfNone result
+        ((entry : ℤ × ℤ) → place_view place.entry ≢ Some (entry_value entry)) }
 {
     match place {
         Place::Numbers(numbers) => pair_of(numbers),
@@ -69,7 +74,8 @@ fn entry_at(place: Place<'_, '_>) -> Option<(i64, i64)>
 /// The two numbers, where there are two.
 fn pair_of(numbers: &[i64]) -> Option<(i64, i64)>
     ensures found { IfSome result (λ pair. numbers.now ≡ pair.0 ∷ pair.1 ∷ []) }
-    ensures none { IfNone result ((pair : ℤ × ℤ) → numbers.now ≢ pair.0 ∷ pair.1 ∷ []) }
+    ensures none { IfNone result
+        ((pair : ℤ × ℤ) → numbers.now ≢ pair.0 ∷ pair.1 ∷ []) }
 {
     match numbers {
         [first, second] => Some((*first, *second)),
@@ -80,7 +86,8 @@ fn pair_of(numbers: &[i64]) -> Option<(i64, i64)>
 /// The two numbers that a value lists.
 fn two_numbers<'a>(value: &Value<'a>) -> Option<(i64, i64)>
     ensures found { IfSome result (λ entry. value_view value.now ≡ entry_value entry) }
-    ensures none { IfNone result ((entry : ℤ × ℤ) → value_view value.now ≢ entry_value entry) }
+    ensures none { IfNone result
+        ((entry : ℤ × ℤ) → value_view value.now ≢ entry_value entry) }
 {
     let count = value.place_count()?;
     if count != 2 {

@@ -1,19 +1,16 @@
-use Rattle.std.proofs.Common.{ℤ, List, Some, sym, ap, ◌∙◌, subst}
+use Rattle.std.proofs.Common.{ℤ, List, Some, sym, ap, ◌∙◌}
 use Rattle.std.proofs.lemmas.Option.{same_Some}
 use Rattle.kb_record.specs.Tree.{list_value}
 use Rattle.kb_fields.proofs.Outcomes.{IfOk_then}
 use Rattle.kb_fsafile.specs.Kinds.{list_of_entries}
 use Rattle.kb_fsafile.specs.declared.format.Format.TheVariants.{Sparse}
-use Rattle.kb_fsafile.specs.Faults.{HasFieldFault}
-use Rattle.kb_fsafile.specs.declared.error.FsaError.{FsaError}
 use Rattle.kb_fsafile.proofs.TableLemmas.{other_row_kind, sparse_row_at}
 use Rattle.kb_fsafile.proofs.rows.listed_sparse_row.Goals as goal
 
 pub returns-in_default-clause-fault : goal.returns-in_default-clause-fault
 returns-in_default-clause-fault c = λ given at.
     let other = rw c.in_default.is at c.in_ok-entries.ensures.other in
-    let P : FsaError → Type 0 = λ e. HasFieldFault given e in
-    subst P (sym c.no_row.ensures) (other_row_kind given Sparse c.args.size c.args.count _ at (λ value is kind. other kind.0 (same_Some _ _ is ∙ kind.1)))
+    other_row_kind given Sparse c.args.size c.args.count _ _ c.no_row.ensures at (λ value is kind. other kind.0 (same_Some _ _ is ∙ kind.1))
 
 pub returns-clause-read : goal.returns-clause-read
 returns-clause-read c =

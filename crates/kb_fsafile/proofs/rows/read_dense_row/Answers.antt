@@ -1,11 +1,8 @@
-use Rattle.std.proofs.Common.{◌≡◌, sym, ap, ◌∙◌, subst}
-use Rattle.std.proofs.Common.{Option, IfOk, IfErr, Some}
-use Rattle.kb_record.specs.Tree.{Value, list_value}
+use Rattle.std.proofs.Common.{Option, Some, IfOk, IfErr, sym, ap, ◌∙◌, subst}
+use Rattle.kb_record.specs.Tree.{Value}
 use Rattle.kb_record.specs.Listed.{place_view}
 use Rattle.kb_fsafile.specs.Kinds.{list_of_numbers}
 use Rattle.kb_fsafile.specs.declared.format.Format.TheVariants.{Dense}
-use Rattle.kb_fsafile.specs.Faults.{HasFieldFault}
-use Rattle.kb_fsafile.specs.declared.error.FsaError.{FsaError}
 use Rattle.kb_fsafile.specs.RowsRead.{IsRowAt, IsFaultOfRow}
 use Rattle.kb_fsafile.proofs.KindLemmas.{place_of_numbers, no_list_at}
 use Rattle.kb_fsafile.proofs.TableLemmas.{other_row_kind}
@@ -25,6 +22,5 @@ returns-in-Numbers-clause-fault c =
 
 pub returns-in_default-clause-fault : goal.returns-in_default-clause-fault
 returns-in_default-clause-fault c = λ given at.
-    let P : FsaError → Type 0 = λ e. HasFieldFault given e in
-    subst P (sym c.no_row.ensures) (other_row_kind given Dense c.args.size c.args.count _ at (λ value is kind.
-    no_list_at c.args.place c.in_default.not-Value c.in_default.not-Numbers c.in_default.not-Entries (list_of_numbers kind.0) (is ∙ ap Some kind.1)))
+    other_row_kind given Dense c.args.size c.args.count _ _ c.no_row.ensures at (λ value is kind.
+    no_list_at c.args.place c.in_default.not-Value c.in_default.not-Numbers c.in_default.not-Entries (list_of_numbers kind.0) (is ∙ ap Some kind.1))

@@ -1,8 +1,8 @@
 use Rattle.std.proofs.Common.{ℤ, Some, sym, ◌∙◌, arith}
+use Rattle.std.proofs.lemmas.List.{take_all}
 use Rattle.kb_record.specs.View.{value_view}
 use Rattle.kb_record.specs.Listed.{listed}
 use Rattle.kb_fields.proofs.ListingLemmas.{value_listed, value_other, one_place_more}
-use Rattle.std.proofs.lemmas.List.{take_all}
 use Rattle.kb_fsafile.specs.Kinds.{entry_value, list_of_entries}
 use Rattle.kb_fsafile.proofs.KindLemmas.{list_of_entries-places_of}
 use Rattle.kb_fsafile.proofs.values.entries_listed.Goals as goal
