@@ -58,6 +58,8 @@ pub fn starred_name(text: &[u8]) -> Option<(u8, &[u8])>
     ensures some { IfSome result
         (λ found. FirstToken (after_gap text.now) (name (found.0 ∷ [])) (42 ∷ found.1.now)) }
     ensures ascii { IfSome result (λ found. found.0 < 128) }
+    ensures none { IfNone result
+        ((byte : ℕ) (rest : List ℕ) → text.now ≡ byte ∷ 42 ∷ rest → ¬ BeginsNames byte) }
 {
     match text {
         [byte, b'*', rest @ ..] if begins_names(*byte) => Some((*byte, rest)),
