@@ -37,7 +37,7 @@ pub fn first_name(text: &[u8]) -> Option<(&[u8], &[u8])>
 
 /// The name of one byte with which a text begins, and what stands behind it: `*`, `^`, `)` or nothing.
 ///
-/// It is what [`first_name`] finds behind the gap, which is empty, in a few instructions.
+/// No gap stands before it, and [`first_name`] finds the same; this way is shorter.
 pub fn short_name(text: &[u8]) -> Option<(u8, &[u8])>
     ensures some { IfSome result
         (λ found. FirstToken (after_gap text.now) (name (found.0 ∷ [])) found.1.now) }
@@ -58,6 +58,8 @@ pub fn starred_name(text: &[u8]) -> Option<(u8, &[u8])>
     ensures some { IfSome result
         (λ found. FirstToken (after_gap text.now) (name (found.0 ∷ [])) (42 ∷ found.1.now)) }
     ensures ascii { IfSome result (λ found. found.0 < 128) }
+    ensures none { IfNone result
+        ((byte : ℕ) (rest : List ℕ) → text.now ≡ byte ∷ 42 ∷ rest → ¬ BeginsNames byte) }
 {
     match text {
         [byte, b'*', rest @ ..] if begins_names(*byte) => Some((*byte, rest)),
@@ -65,7 +67,7 @@ pub fn starred_name(text: &[u8]) -> Option<(u8, &[u8])>
     }
 }
 
-/// The number with which a text begins and what stands behind it.
+/// The number with which a text begins and what stands behind it; `None` where it begins with none.
 pub fn first_number(text: &[u8]) -> Option<(i64, &[u8])>
     ensures some { IfSome result (λ found. FirstToken text.now (number found.0) found.1.now) }
 {
