@@ -1,5 +1,5 @@
 -- With which token a text begins, if it begins with one.
-use Rattle.std.proofs.Common.{◌≡◌, ◌≢◌, ℕ, zero, suc, ◌+◌, ◌<◌, ◌≤◌, ◌⊎◌, inl, inr, ⊎_elim, Bool, true, false, ◌||◌, List, [], ◌∷◌, ◌++◌, length, take, get_or, refl, ap, ◌∙◌, arith, one-add}
+use Rattle.std.proofs.Common.{◌≡◌, ◌≢◌, ℕ, zero, suc, ◌+◌, ◌<◌, ◌≤◌, ◌⊎◌, inl, inr, ⊎_elim, Bool, true, false, ◌||◌, List, [], ◌∷◌, ◌++◌, length, take, drop, get_or, refl, sym, subst, ap, ◌∙◌, ◌-◌, arith, one-add}
 use Rattle.std.specs.Prelude.{◌==◌, codes, take_while}
 use Rattle.std.specs.List.{AllByRecursion}
 use Rattle.std.specs.Char.{is_ascii_digit, is_ascii_alphabetic}
@@ -8,7 +8,9 @@ use Rattle.std.proofs.lemmas.Bool.Decides.{nat_tests, not_from_Decides}
 use Rattle.std.specs.Str.{bytes_eq}
 use Rattle.std.proofs.lemmas.Slice.Eq.{bytes_eq-Decides}
 use Rattle.kb_lexing.specs.Token.{Token, name, assign, open_round, close_round, open_square, close_square, comma, semicolon, star, caret, dots, rec_word}
-use Rattle.kb_lexing.specs.Spelling.{IsDigit, IsNameByte, BeginsNames, BeginsWithNameByte, GoesOnAsName, IsStringByte, Spells, FirstToken}
+use Rattle.kb_lexing.specs.Spelling.{IsDigit, IsNameByte, BeginsNames, BeginsWithNameByte, GoesOnAsName, IsStringByte, Spells, FirstToken, after_gap}
+use Rattle.std.proofs.lemmas.List.{append-nil}
+use Rattle.std.proofs.Math.Seq.{take-append_seam}
 use Rattle.kb_lexing.specs.Lexemes.{IsLongestFront, GoesOnAt, AreFewDigits, is_string_byte}
 use Rattle.kb_lexing.proofs.FirstTokens.{IsSingle, Kind, word, digits, negative, quoted, assigns, ranges, single, same_head, first_from, none_from, IsFirstOf, word_first, digits_first, negative_first, negative_none, string_first, string_none}
 use Rattle.kb_lexing.proofs.LongestFronts.{longest_digits, longest_string, longest_onward, longest_stop}
@@ -132,6 +134,23 @@ one_byte token b bytes at spelled = begun token 1 (record {
   some = omega arith;
   within = omega arith;
 })
+
+-- no gap stands before a byte above the hash sign
+no_gap : (c : ℕ) (bytes : List ℕ) → 35 < c → after_gap (c ∷ bytes) ≡ c ∷ bytes
+no_gap c bytes above = grind arith
+
+-- a text that begins with a mark of one byte, without a gap before it
+pub mark_first : (token : Token) (b : ℕ) (text : List ℕ) → IsSingle b → Spells token (b ∷ []) → 0 < length text → get_or text 0 0 ≡ b
+    → FirstToken (after_gap text) token (take (length text - 1) (drop 1 text))
+mark_first token b [] at spelled some first = absurd (omega (arith, some))
+mark_first token b (c ∷ bytes) at spelled some first =
+    let e : c ≡ b = first in
+    let above : 35 < c = omega (arith, at, e) in
+    let all : take (length (c ∷ bytes) - 1) bytes ≡ bytes = ap (λ n. take n bytes) (omega arith) ∙ ap (take (length bytes)) (sym (append-nil bytes)) ∙ take-append_seam bytes [] in
+    subst (λ text. FirstToken text token (take (length (c ∷ bytes) - 1) bytes)) (sym (no_gap c bytes above))
+    (subst (λ rest. FirstToken (c ∷ bytes) token rest) (sym all)
+    (subst (λ d. FirstToken (d ∷ bytes) token bytes) (sym e)
+    (first_from token b [] bytes bytes spelled refl (λ other back k w. single_only b other at k))))
 
 single_begun : (b : ℕ) (bytes : List ℕ) → IsSingle b → Begun (b ∷ bytes)
 single_begun b bytes (inl e) = one_byte open_round b bytes (inl e) (ap (λ x. x ∷ []) e)

@@ -5,12 +5,33 @@ ghost use Rattle.std.specs.Char.{is_ascii_digit};
 ghost use Rattle.std.specs.List.{AllByRecursion};
 ghost use Rattle.kb_lexing.specs.Token.{Token as TreeToken};
 ghost use Rattle.kb_lexing.specs.Spelling.{TokensOf, after_gap, after_comment, BeginsNames, IsNameByte, IsDigit, GoesOnAsName, value_after};
-ghost use Rattle.kb_lexing.specs.Lexemes.{IsFirstLexeme, IsFirst, IsLongestFront, GoesOnAt, AreFewDigits, is_string_byte};
+ghost use Rattle.kb_lexing.specs.Lexemes.{token_view, IsFirstLexeme, IsFirst, IsLongestFront, GoesOnAt, AreFewDigits, is_string_byte};
 
 use crate::token::{Lexeme, Token};
 
 /// The token that comes first in a text, behind blanks and comments. It is as long as possible.
 pub fn first_lexeme<'a>(text: &'a [u8]) -> Option<Lexeme<'a>>
+    ensures first { IsFirstLexeme text.now result }
+    ensures shorter { IfSome result (λ lexeme. length lexeme.rest.now < length text.now) }
+{
+    match text {
+        [b',', rest @ ..] => Some(lexeme(Token::Comma, text, rest)),
+        [b'[', rest @ ..] => Some(lexeme(Token::OpenSquare, text, rest)),
+        [b']', rest @ ..] => Some(lexeme(Token::CloseSquare, text, rest)),
+        _ => any_lexeme(text),
+    }
+}
+
+/// The token of these parts.
+fn lexeme<'a>(token: Token<'a>, text: &'a [u8], rest: &'a [u8]) -> Lexeme<'a>
+    ensures token { token_view result.token ≡ token_view token.entry }
+    ensures rest { result.rest.now ≡ rest.now }
+{
+    Lexeme { token, text, rest }
+}
+
+/// The token that comes first in a text, whichever it is.
+fn any_lexeme<'a>(text: &'a [u8]) -> Option<Lexeme<'a>>
     ensures first { IsFirstLexeme text.now result }
     ensures shorter { IfSome result (λ lexeme. length lexeme.rest.now < length text.now) }
 {
