@@ -1,6 +1,6 @@
 //! Lists side by side in one array.
 
-ghost use Rattle.std.specs.Prelude.{◌≡◌, ◌≤◌, ◌<◌, ◌++◌, ◌∷◌, [], length, IfOk, OnOk, OnErr, slice_get};
+ghost use Rattle.std.specs.Prelude.{◌≡◌, ◌≤◌, ◌<◌, ◌++◌, ◌∷◌, [], ◌+◌, length, IfOk, IfSome, OnOk, OnErr, slice_get};
 ghost use Rattle.std.specs.Option.{option_map};
 ghost use Rattle.std.specs.List.{slice_range};
 ghost use Rattle.kb_ragged.specs.Cuts.{cut, AreEnds, begins_at};
@@ -15,11 +15,12 @@ pub struct Ragged<T> {
     arrays: Box<Arrays<T>>,
 }
 
-/// The items of all lists, one list behind another, and where each list ends.
+/// The items of all lists, one list behind another, and where each list ends. More items than a `u32` can number take
+/// more memory than there is.
 #[derive(Debug, Drop)]
 struct Arrays<T> {
     items: Vec<T>,
-    ends: Vec<usize>,
+    ends: Vec<u32>,
 }
 
 impl<T> Model for Ragged<T> {
@@ -73,7 +74,7 @@ impl<T: Copy> Ragged<T> {
         ensures kept { OnErr result (self.new ≡ self.old) }
     {
         let arrays = &mut *self.arrays;
-        let end = arrays.items.len().checked_add(list.len()).ok_or(Memory)?;
+        let end = end_of(arrays.items.len(), list.len()).ok_or(Memory)?;
         arrays.ends.push(end)?;
         if arrays.items.extend_from_slice(list).is_err() {
             arrays.ends.pop();
@@ -84,14 +85,14 @@ impl<T: Copy> Ragged<T> {
 }
 
 /// The piece at a place of items that are cut at these ends.
-fn piece<'a, T: Copy>(items: &'a [T], ends: &[usize], place: usize) -> Option<&'a [T]>
+fn piece<'a, T: Copy>(items: &'a [T], ends: &[u32], place: usize) -> Option<&'a [T]>
     requires { AreEnds 0 ends.now (length items.now) }
     ensures { slice_get (cut 0 ends.now items.now) place ≡ option_map (λ list. list.now) result }
 {
     if place >= ends.len() {
         return None;
     }
-    Some(range(items, beginning(ends, place), ends[place]))
+    Some(range(items, beginning(ends, place), ends[place] as usize))
 }
 
 /// The items from one place up to another.
@@ -103,9 +104,20 @@ fn range<T: Copy>(items: &[T], start: usize, end: usize) -> &[T]
 }
 
 /// Where the piece at a place begins.
-fn beginning(ends: &[usize], place: usize) -> usize
+fn beginning(ends: &[u32], place: usize) -> usize
     requires { place < length ends.now }
     ensures { result ≡ begins_at 0 ends.now place }
 {
-    if place == 0 { 0 } else { ends[place - 1] }
+    if place == 0 {
+        0
+    } else {
+        ends[place - 1] as usize
+    }
+}
+
+/// Where a list of so many items ends behind so many others.
+fn end_of(before: usize, count: usize) -> Option<u32>
+    ensures { IfSome result (λ end. end ≡ before + count) }
+{
+    u32::try_from(before.checked_add(count)?).ok()
 }
