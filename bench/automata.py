@@ -54,6 +54,13 @@ def reading(bench):
     for width, sizes in ((2, (5_000, 50_000, 500_000, 820_000)), (126, (79, 794, 7_937, 23_000))):
         bench.series(f"read, {width} letters", "fsaenumerate 0 0 A", "moves", at_random(width, sizes))
     bench.series(
+        "read, pairs over 126 letters",
+        "fsaexists --max-states 1 A OUT",
+        "moves",
+        ((126**2 * states, [data.pairs_at_random(states, 126)]) for states in (6, 63, 280)),
+        wanted=2,
+    )
+    bench.series(
         "read, 1 letter",
         "fsaenumerate 0 0 A",
         "moves",
@@ -180,8 +187,13 @@ def enumerating(bench):
     )
 
 
+def measure_reading(program, room):
+    """Prints the figures of reading alone."""
+    reading(Bench(program, room))
+
+
 def measure_automata(program, room):
-    """Prints all figures."""
+    """Prints the figures of the commands."""
     bench = Bench(program, room)
-    for part in (reading, minimising, reversing, projecting, multiplying, joining, enumerating):
+    for part in (minimising, reversing, projecting, multiplying, joining, enumerating):
         part(bench)

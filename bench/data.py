@@ -68,9 +68,9 @@ def repeated(stock, size, chance):
         lines.append(line)
 
 
-def one_line(text, size):
-    """One line of so many bytes, of the text again and again."""
-    return (text * (size // len(text))).encode() + b"\n"
+def one_line(text, size, last=""):
+    """One line of about so many bytes, of the text again and again."""
+    return (text * (size // len(text)) + last + "\n").encode()
 
 
 def longest_word(names, length=65_535):

@@ -35,9 +35,9 @@ def measure_words(program, room, examples):
     for size in (1, 16):
         what = f"{LINES}: {size} MiB of powers and brackets"
         reduce(what, symmetric, lambda: data.power_lines("ab", size * MIB), rate=(size, "MiB"))
-    for what, text, wanted in (("a*a*..*a", "a*", 4), ("brackets that open alone", "(", 4)):
+    for what, text, last in (("a*a*..*a", "a*", "a"), ("brackets that open alone", "(", ""), ("a*a*..*a*", "a*", "")):
         what = f"{LINES}: one line of 30 MiB, {what}"
-        reduce(what, symmetric, lambda: data.one_line(text, 30 * MIB), wanted=wanted)
+        reduce(what, symmetric, lambda: data.one_line(text, 30 * MIB, last), wanted=1)
     for rank in (3, 23, 32, 46):
         file = f"{room}/commutative"
         presentation = data.free_commutative(rank)
