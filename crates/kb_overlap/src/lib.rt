@@ -8,13 +8,16 @@
 //! Below is `kb_word`, with the definitions of overlap and critical pair; above is `kb_confluence`.
 #![tactic(auto)]
 
+mod left_sides;
 mod meeting;
 mod pair;
 mod search;
+mod walk;
 
 ghost use Rattle.std.specs.Prelude.{◌≡◌};
 
 use kb_word::Word;
+pub use left_sides::{LeftSides, Overlap};
 pub use meeting::meets;
 pub use pair::{overlaps_are_superpositions, pair_at};
 pub use search::Places;
