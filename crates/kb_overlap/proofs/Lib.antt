@@ -1,2 +1,4 @@
 pub mod Superposed
 mod Searching
+mod Lists
+mod Walking
