@@ -2,3 +2,5 @@ pub mod Superposed
 mod Searching
 mod Lists
 mod Walking
+mod Collecting
+mod Indexing

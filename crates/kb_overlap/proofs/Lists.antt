@@ -84,6 +84,16 @@ key_part {X} key sought xs start count lower higher fits =
     let last : take count rest ++ [] ≡ take count rest = append-nil (take count rest) in
     cc
 
+-- the same where what is left of the list stands under another name
+pub key_part_of : {X : Type 0} (key : X → ℕ) (sought : ℕ) (xs rest : List X) (start count : ℕ) → rest ≡ drop start xs
+    → IsPartitionPoint (λ x. ltb (key x) sought ≡ true) (λ x. ltb (key x) sought ≡ false) xs start
+    → IsPartitionPoint (λ x. leb (key x) sought ≡ true) (λ x. leb (key x) sought ≡ false) rest count
+    → count ≤ length rest → take count rest ≡ filter (λ x. eqb (key x) sought) xs
+key_part_of {X} key sought xs rest start count e lower =
+    let P : List X → Type 0 = λ part. IsPartitionPoint (λ x. leb (key x) sought ≡ true) (λ x. leb (key x) sought ≡ false) part count
+    → count ≤ length part → take count part ≡ filter (λ x. eqb (key x) sought) xs in
+    subst P (sym e) (key_part key sought xs start count lower)
+
 module _ {X : Type 0} (R : X → X → Type 0) where
   pub pairs_append : (xs ys : List X) → AllPairs R xs → AllPairs R ys → All (λ x. All (R x) ys) xs → AllPairs R (xs ++ ys)
   pairs_append xs ys front back across i j d less within =

@@ -1,5 +1,5 @@
 -- What a walk over the left sides along the letters of a word finds.
-use Rattle.std.proofs.Common.{◌≡◌, ◌≢◌, ℕ, zero, suc, ◌+◌, ◌<◌, ◌≤◌, inl, inr, Bool, true, false, eqb, List, [], ◌∷◌, ◌++◌, length, drop, map, get_or, Some, Ordering, refl, sym, ap, ◌∙◌, subst, arith, suc-le-suc, zero-le}
+use Rattle.std.proofs.Common.{◌≡◌, ◌≢◌, ℕ, zero, suc, ◌+◌, ◌<◌, ◌≤◌, inl, inr, Bool, true, false, eqb, List, [], ◌∷◌, ◌++◌, length, drop, map, get_or, Some, Ordering, refl, sym, ap, ◌∙◌, subst, arith, drop-cons, suc-le-suc, zero-le}
 use Rattle.std.specs.Prelude.{slice_get, ◌↔◌}
 use Rattle.std.specs.List.{All, AllPairs, Contains, filter}
 use Rattle.std.specs.List.Sorted.{IsNonDecreasingBy}
@@ -10,22 +10,24 @@ use Rattle.std.specs.Cmp.Lexicographic.{slice_cmp}
 use Rattle.std.proofs.lemmas.Bool.{cases_eq, true≢false, eqb-true, eq-eqb}
 use Rattle.std.proofs.lemmas.Cmp.{ranked}
 use Rattle.std.proofs.lemmas.List.Elements.{filter_passes, All-contains_itself, Contains-append_left, Contains-append_right, Contains-append_cases}
+use Rattle.std.proofs.lemmas.List.{append-nil, append_assoc, map-append, drop_all, nil_from_length}
 use Rattle.std.proofs.lemmas.List.Kept.{AllPairs-filter}
 use Rattle.kb_overlap.specs.Search.{AgreeAsFar}
 use Rattle.kb_overlap.specs.Sides.{Adds, AreApart, InOrder, NotAfter, at_place, key_at, with_key}
+use Rattle.kb_overlap.specs.declared.left_sides.Overlap.{Overlap}
 use Rattle.kb_overlap.specs.declared.walk.Side.{Side}
 use Rattle.kb_overlap.proofs.Lists.{of_filter, in_filter, pairs_append, one_element}
 
 -- a word at a depth: it has ended, or a letter stands there
 data AtDepth (depth : ℕ) (letters : List ℕ) : Type 0 where
-  ended : key_at depth letters ≡ 0 → drop depth letters ≡ [] → AtDepth depth letters
-  letter : (x : ℕ) → key_at depth letters ≡ suc x → drop depth letters ≡ x ∷ drop (suc depth) letters → AtDepth depth letters
+  at_end : key_at depth letters ≡ 0 → drop depth letters ≡ [] → AtDepth depth letters
+  at_letter : (x : ℕ) → key_at depth letters ≡ suc x → drop depth letters ≡ x ∷ drop (suc depth) letters → AtDepth depth letters
 
 at_depth : (depth : ℕ) (letters : List ℕ) → AtDepth depth letters
-at_depth zero [] = ended refl refl
-at_depth zero (x ∷ letters) = letter x refl refl
-at_depth (suc depth) [] = ended refl refl
-at_depth (suc depth) (x ∷ letters) = elim (at_depth depth letters) [ ended a b ↦ ended a b | letter y a b ↦ letter y a b ]
+at_depth zero [] = at_end refl refl
+at_depth zero (x ∷ letters) = at_letter x refl refl
+at_depth (suc depth) [] = at_end refl refl
+at_depth (suc depth) (x ∷ letters) = elim (at_depth depth letters) [ at_end a b ↦ at_end a b | at_letter y a b ↦ at_letter y a b ]
 
 -- the comparison of lists that begin with letters
 first_not_after : (x y : ℕ) (o s : Ordering) → MatchOrdering o (y < x) (y ≡ x) (x < y) → is_lt (ordering_then o s) ≡ false → x ≤ y
@@ -35,10 +37,10 @@ first_not_after x y Greater s m e = omega arith
 
 keys_ordered : (depth : ℕ) (u v : List ℕ) → is_lt (slice_cmp nat_cmp (drop depth v) (drop depth u)) ≡ false → key_at depth u ≤ key_at depth v
 keys_ordered depth u v e = elim (at_depth depth u) [
-    | ended key _ ↦ rw key zero-le
-    | letter x key rest ↦ elim (at_depth depth v) [
-        | ended key' rest' ↦ absurd (true≢false (rw (rest, rest') at e))
-        | letter y key' rest' ↦
+    | at_end key _ ↦ rw key zero-le
+    | at_letter x key rest ↦ elim (at_depth depth v) [
+        | at_end key' rest' ↦ absurd (true≢false (rw (rest, rest') at e))
+        | at_letter y key' rest' ↦
             let compared : is_lt (ordering_then (nat_cmp y x) (slice_cmp nat_cmp (drop (suc depth) v) (drop (suc depth) u))) ≡ false = rw (rest, rest') at e in
             let up : x ≤ y = first_not_after x y (nat_cmp y x) _ (ranked y x (nat_cmp y x) refl) compared in
             rw (key, key') (suc-le-suc up)
@@ -49,10 +51,10 @@ rest_ordered : (depth x : ℕ) (u v : List ℕ) → key_at depth u ≡ suc x →
     → is_lt (slice_cmp nat_cmp (drop depth v) (drop depth u)) ≡ false
     → is_lt (slice_cmp nat_cmp (drop (suc depth) v) (drop (suc depth) u)) ≡ false
 rest_ordered depth x u v is_x is_x' e = elim (at_depth depth u) [
-    | ended key _ ↦ absurd (let no : ⊥ = omega arith in no)
-    | letter y key rest ↦ elim (at_depth depth v) [
-        | ended key' _ ↦ absurd (let no : ⊥ = omega arith in no)
-        | letter z key' rest' ↦
+    | at_end key _ ↦ absurd (let no : ⊥ = omega arith in no)
+    | at_letter y key rest ↦ elim (at_depth depth v) [
+        | at_end key' _ ↦ absurd (let no : ⊥ = omega arith in no)
+        | at_letter z key' rest' ↦
             let same : z ≡ y = omega arith in
             let compared : is_lt (ordering_then (nat_cmp z y) (slice_cmp nat_cmp (drop (suc depth) v) (drop (suc depth) u))) ≡ false = rw (rest, rest') at e in
             let ties : nat_cmp z y ≡ Equal = ap (λ n. nat_cmp n y) same ∙ tied_itself nat_cmp_total y in
@@ -117,15 +119,15 @@ walked_agree depth (x ∷ letters) sides side holds =
       | inl here ↦
           let found = of_key depth 0 sides side here in
           elim (at_depth depth m) [
-            | ended key rest ↦ (found.0, rw rest (agree_nil (x ∷ letters)))
-            | letter y key rest ↦ absurd (let e : key_at depth m ≡ 0 = found.1 in let no : ⊥ = omega arith in no)
+            | at_end key rest ↦ (found.0, rw rest (agree_nil (x ∷ letters)))
+            | at_letter y key rest ↦ absurd (let e : key_at depth m ≡ 0 = found.1 in let no : ⊥ = omega arith in no)
           ]
       | inr later ↦
           let deeper = walked_agree (suc depth) letters (with_key depth (suc x) sides) side later in
           let found = of_key depth (suc x) sides side deeper.0 in
           elim (at_depth depth m) [
-            | ended key rest ↦ absurd (let e : key_at depth m ≡ suc x = found.1 in let no : ⊥ = omega arith in no)
-            | letter y key rest ↦
+            | at_end key rest ↦ absurd (let e : key_at depth m ≡ suc x = found.1 in let no : ⊥ = omega arith in no)
+            | at_letter y key rest ↦
                 let e : key_at depth m ≡ suc x = found.1 in
                 let same : y ≡ x = omega arith in
                 let whole : drop depth m ≡ x ∷ drop (suc depth) m = rest ∙ ap (λ z. z ∷ drop (suc depth) m) same in
@@ -141,8 +143,8 @@ agree_walked depth (x ∷ letters) sides side holds agree =
     let here = with_key depth 0 sides in
     let later = walked (suc depth) letters (with_key depth (suc x) sides) in
     elim (at_depth depth m) [
-      | ended key rest ↦ Contains-append_left here later side (in_key depth 0 sides side holds key)
-      | letter y key rest ↦
+      | at_end key rest ↦ Contains-append_left here later side (in_key depth 0 sides side holds key)
+      | at_letter y key rest ↦
           let along : AgreeAsFar (x ∷ letters) (y ∷ drop (suc depth) m) = rw rest at agree in
           let same : x ≡ y = same_some (along zero (suc-le-suc zero-le) (suc-le-suc zero-le)) in
           let is_key : key_at depth m ≡ suc x = omega arith in
@@ -173,7 +175,7 @@ walked_apart depth (x ∷ letters) sides apart =
     absurd (let no : ⊥ = omega arith in no))
 
 -- the walk from the first letter on adds what agrees
-pub adds_walked : (sides : List Side) (letters : List ℕ) (place : ℕ) {before after : List _}
+pub adds_walked : (sides : List Side) (letters : List ℕ) (place : ℕ) {before after : List Overlap}
     → after ≡ before ++ map (at_place place) (walked 0 letters sides) → Adds sides letters place before after
 adds_walked sides letters place e = record {
   added = walked 0 letters sides;
@@ -181,3 +183,43 @@ adds_walked sides letters place e = record {
   exact = λ side. (walked_agree 0 letters sides side, λ both. agree_walked 0 letters sides side both.0 both.1);
   apart = walked_apart 0 letters sides;
 }
+
+-- a step of the walk: with the letter x at the depth, what ends there is added, and what goes on with x is left
+pub walk_more : (depth next x key : ℕ) (letters : List ℕ) (sides begun ended longer : List Side) (place : ℕ) (before found after : List Overlap)
+    → depth < length letters → x ≡ get_or letters depth x → next ≡ suc depth → key ≡ suc x
+    → ended ≡ with_key depth 0 begun → longer ≡ with_key depth key begun → after ≡ found ++ map (at_place place) ended
+    → InOrder depth begun
+    → found ++ map (at_place place) (walked depth (drop depth letters) begun) ≡ before ++ map (at_place place) (walked 0 letters sides)
+    → InOrder next longer × (after ++ map (at_place place) (walked next (drop next letters) longer) ≡ before ++ map (at_place place) (walked 0 letters sides))
+walk_more depth next x key letters sides begun ended longer place before found after within is_x is_next is_key is_ended is_longer is_after order so_far =
+    let here : List Overlap = map (at_place place) (with_key depth 0 begun) in
+    let deeper = walked (suc depth) (drop (suc depth) letters) (with_key depth (suc x) begun) in
+    let rest : drop depth letters ≡ x ∷ drop (suc depth) letters =
+    drop-cons letters depth x within ∙ ap (λ y. y ∷ drop (suc depth) letters) (sym is_x) in
+    let split : map (at_place place) (walked depth (drop depth letters) begun) ≡ here ++ map (at_place place) deeper =
+    ap (λ (l : List ℕ). map (at_place place) (walked depth l begun)) rest ∙ map-append (at_place place) (with_key depth 0 begun) deeper in
+    let whole : (found ++ here) ++ map (at_place place) deeper ≡ before ++ map (at_place place) (walked 0 letters sides) =
+    append_assoc found here (map (at_place place) deeper) ∙ ap (λ l. found ++ l) (sym split) ∙ so_far in
+    (rw (is_next, is_longer, is_key) (order_more depth x begun order), rw (is_next, is_longer, is_key, is_after, is_ended) whole)
+
+-- the end of the walk: all left sides that are left are added
+pub walk_ended : (depth : ℕ) (letters : List ℕ) (sides begun : List Side) (place : ℕ) {before : List Overlap} (found : List Overlap) {after : List Overlap}
+    → length letters ≤ depth → after ≡ found ++ map (at_place place) begun
+    → found ++ map (at_place place) (walked depth (drop depth letters) begun) ≡ before ++ map (at_place place) (walked 0 letters sides)
+    → Adds sides letters place before after
+walk_ended depth letters sides begun place found past is_after so_far =
+    let rest : drop depth letters ≡ [] = drop_all depth letters past in
+    let last : map (at_place place) (walked depth (drop depth letters) begun) ≡ map (at_place place) begun =
+    ap (λ (l : List ℕ). map (at_place place) (walked depth l begun)) rest in
+    adds_walked sides letters place (is_after ∙ ap (λ l. found ++ l) (sym last) ∙ so_far)
+
+-- the walk ends early where no left side is left
+pub walk_left : (depth : ℕ) (letters : List ℕ) (sides begun : List Side) (place : ℕ) {before : List Overlap} (found : List Overlap) → length begun ≡ 0
+    → found ++ map (at_place place) (walked depth (drop depth letters) begun) ≡ before ++ map (at_place place) (walked 0 letters sides)
+    → Adds sides letters place before found
+walk_left depth letters sides begun place found none so_far =
+    let is_nil : begun ≡ [] = nil_from_length begun none in
+    let last : map (at_place place) (walked depth (drop depth letters) begun) ≡ [] =
+    ap (λ (l : List Side). map (at_place place) (walked depth (drop depth letters) l)) is_nil
+    ∙ ap (map (at_place place)) (walked_none depth (drop depth letters)) in
+    adds_walked sides letters place (sym (append-nil found) ∙ ap (λ l. found ++ l) (sym last) ∙ so_far)

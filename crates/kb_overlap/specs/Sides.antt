@@ -63,9 +63,9 @@ pub record IsSideOf (rules : List Pair) (side : Side) : Type 0 where
   pub is_rule : slice_get rules side.rule ≡ Some rule
   pub left : side.letters.now ≡ rule.0
 
--- the left sides of the rules, in their order
-pub record IsListed (rules : List Pair) (sides : List Side) : Type 0 where
-  pub length_is : length sides ≡ length rules
+-- the left sides of the first rules, as many as are counted, in their order
+pub record IsListed (rules : List Pair) (count : ℕ) (sides : List Side) : Type 0 where
+  pub length_is : length sides ≡ count
   pub index : (k : ℕ) (side : Side) → k < length sides → (slice_index_or sides k side).rule ≡ k
   pub each : All (IsSideOf rules) sides
 

@@ -1,6 +1,6 @@
 //! The left sides of rules in lexicographic order, and their overlaps with a word.
 
-ghost use Rattle.std.specs.Prelude.{◌≡◌, IfOk, OnOk};
+ghost use Rattle.std.specs.Prelude.{◌≡◌, IfOk, OnOk, length};
 ghost use Rattle.kb_overlap.specs.Overlapping.{AreOverlaps};
 ghost use Rattle.kb_overlap.specs.Sides.{IsListed};
 
@@ -69,7 +69,7 @@ impl<'r> LeftSides<'r> {
 
 /// The left sides in the order of the rules.
 fn listed<'r>(alloc: Global, rules: &'r [Rule]) -> Result<Vec<Side<'r>>, Memory>
-    ensures { IfOk result (λ sides. IsListed rules.now sides.items) }
+    ensures { IfOk result (λ sides. IsListed rules.now (length rules.now) sides.items) }
 {
     let mut sides = Vec::with_capacity(alloc, rules.len())?;
     for (rule, sided) in rules.iter().enumerate() {
