@@ -1,0 +1,1 @@
+use Rattle.kb_confluence.proofs.confluence.check_row.Goals as goal
