@@ -30,6 +30,19 @@ rule_within rules l overlaps k one row within is_one =
     let low = slice_get_within rules _ found.rule found.is_rule in
     omega arith
 
+-- what is read at that index
+pub rule_at : (rules : List Pair) (l : List ℕ) (overlaps : List Overlap) (k : ℕ) (one : Overlap) (rule : Pair) → AreOverlaps rules l overlaps
+    → k < length overlaps → one ≡ get_or overlaps k one → rule ≡ get_or rules one.rule rule → slice_get rules one.rule ≡ Some rule
+rule_at rules l overlaps k one rule row within is_one read =
+    slice_get_read rules (length rules) one.rule rule refl (rule_within rules l overlaps k one row within is_one) read
+
+-- where the critical pair with the rule at that index joins, the overlap does
+pub same_second : (rules : List Pair) (i : ℕ) (first : Pair) (one : Overlap) (second : Pair) → slice_get rules one.rule ≡ Some second
+    → IsResolved rules (critical_pair first second one.place) → JoinsAt rules i first one
+same_second rules i first one second is_second joins other overlap =
+    let P : Pair → Type 0 = λ rule. IsResolved rules (critical_pair first rule one.place) in
+    subst P (some-injective (sym is_second ∙ overlap.is_second)) joins
+
 -- it is the rule that overlaps
 pub overlaps_second : (rules : List Pair) (l : List ℕ) (overlaps : List Overlap) (k : ℕ) (one : Overlap) (second : Pair) → AreOverlaps rules l overlaps
     → k < length overlaps → one ≡ get_or overlaps k one → slice_get rules one.rule ≡ Some second → Overlaps l second.0 one.place
