@@ -87,11 +87,11 @@ fn check_row<R: Reducer>(
 {
     for overlap in overlaps {
         let (j, place) = (overlap.rule, overlap.place as u64);
+        let second = &rules[j];
         // A rule with itself at place 0 is one replacement, and no overlap.
         if i == j && place == 0 {
             continue;
         }
-        let second = &rules[j];
         if let Some((u, v)) = different_normal_forms(alloc, reducer, first, second, place)? {
             let (i, j) = (i as u32 + 1, j as u32 + 1);
             return Ok(Verdict::No { i, j, place, u, v });

@@ -2,8 +2,8 @@
 use Rattle.std.proofs.Common.{◌≡◌, ◌≢◌, ℕ, zero, suc, ◌+◌, ◌<◌, ◌≤◌, inl, inr, List, [], ◌∷◌, ◌++◌, length, get_or, drop, map, refl, sym, ap, ◌∙◌, subst, arith}
 use Rattle.std.specs.List.{All, AllPairs, Contains}
 use Rattle.std.proofs.lemmas.Bool.{cases_lt}
-use Rattle.std.proofs.lemmas.List.Elements.{All-append, All-map, All-weaker, All-contains, All-contains_itself, Contains-append_left, Contains-append_right}
-use Rattle.kb_overlap.specs.Search.{AgreeAsFar}
+use Rattle.std.proofs.lemmas.List.Elements.{All-append, All-map, All-weaker, All-contains_itself, Contains-append_left, Contains-append_right}
+use Rattle.kb_overlap.specs.Agreement.{AgreeAsFar}
 use Rattle.kb_overlap.specs.Sides.{Adds, AreApart, Collects, OverlapsSide, at_place}
 use Rattle.kb_overlap.specs.declared.left_sides.Overlap.{Overlap}
 use Rattle.kb_overlap.specs.declared.walk.Side.{Side}
@@ -43,14 +43,16 @@ collects_more place sides letters rest found after within is_rest below adds =
     let each_here : All P here = All-map P (at_place place) adds.added (λ k d low.
     let side = get_or adds.added k d in
     let holds = All-contains_itself adds.added k d low in
-    let sums : place < place + 1 = omega arith in
-    (sums, record {
-      side = side;
-      is_side = ((adds.exact side).0 holds).0;
-      rule = refl;
-      within = within;
-      agree = agrees side holds;
-    })) in
+    let sums : place < place + 1 = omega arith in (
+      sums,
+      record {
+        side = side;
+        is_side = ((adds.exact side).0 holds).0;
+        rule = refl;
+        within = within;
+        agree = agrees side holds;
+      },
+    )) in
     let each_before : All P found = All-weaker (λ one. (one.place < place) × OverlapsSide sides letters one) P
     (λ one both. let low : one.place < place + 1 = omega (arith, both.0) in (low, both.1)) found below.each in
     let all_of : (one : Overlap) → one.place < place + 1 → OverlapsSide sides letters one → Contains (found ++ here) one =

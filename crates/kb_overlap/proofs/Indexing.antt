@@ -1,7 +1,6 @@
 -- The sorted left sides of rules, and the sorted overlaps with them.
-use Rattle.std.proofs.Common.{◌≡◌, ◌≢◌, ℕ, zero, suc, ◌+◌, ◌<◌, ◌≤◌, ◌⊎◌, inl, inr, Bool, true, false, List, [], ◌∷◌, ◌++◌, length, get_or, drop, Option, Some, Ordering, refl, sym, ap, ◌∙◌, subst, arith, length-drop}
+use Rattle.std.proofs.Common.{◌≡◌, ◌≢◌, ℕ, zero, suc, ◌+◌, ◌<◌, ◌≤◌, ◌⊎◌, inl, inr, Bool, false, List, [], ◌∷◌, ◌++◌, length, get_or, drop, Some, Ordering, refl, sym, ap, ◌∙◌, subst, arith, length-drop}
 use Rattle.std.specs.Prelude.{slice_get}
-use Rattle.std.specs.List.{All, AllPairs, Contains}
 use Rattle.std.specs.List.Sorted.{IsPermutation, IsSortedBy}
 use Rattle.std.specs.declared.cmp.Ordering.TheVariants.{Less, Equal, Greater}
 use Rattle.std.specs.Ordering.{MatchOrdering, is_lt, nat_cmp, ordering_then}
@@ -10,12 +9,12 @@ use Rattle.std.specs.Cmp.Lexicographic.{slice_cmp, nat_list_cmp_total}
 use Rattle.std.proofs.lemmas.Bool.{cases_lt, cases_eq, true≢false}
 use Rattle.std.proofs.lemmas.Cmp.{ranked}
 use Rattle.std.proofs.lemmas.List.{get_or_append_left, get_or_push, length_push}
-use Rattle.std.proofs.lemmas.List.Elements.{All-nil, All-push, All-contains, All-contains_itself, All-weaker}
+use Rattle.std.proofs.lemmas.List.Elements.{All-nil, All-push, All-contains, All-weaker}
 use Rattle.std.proofs.lemmas.List.Sorted.{All-permutation, Contains-permutation, ranks_by, sorted_far}
 use Rattle.std.proofs.lemmas.Option.{slice_get_within}
 use Rattle.kb_word.specs.Words.{Pair}
 use Rattle.kb_word.specs.Overlap.{Overlaps}
-use Rattle.kb_overlap.specs.Search.{AgreeAsFar}
+use Rattle.kb_overlap.specs.Agreement.{AgreeAsFar}
 use Rattle.kb_overlap.specs.Overlapping.{AreOverlaps, IsBefore, OverlapsRule}
 use Rattle.kb_overlap.specs.Sides.{AreApart, Collects, IsIndex, IsListed, IsSideOf, OverlapsSide}
 use Rattle.kb_overlap.specs.declared.left_sides.Overlap.{Overlap}
@@ -82,13 +81,12 @@ sorted_index rules listed sides is_listed moved sorted =
     record {
       each = All-permutation (IsSideOf rules) listed sides moved is_listed.each;
       every = λ k low.
-      let within : k < length listed = omega arith in
-      let one = element listed k within in
-      (
-        one.0,
-        Contains-permutation listed sides one.0 moved (k, within, one.1 one.0),
-        sym (ap index (one.1 one.0)) ∙ is_listed.index k one.0 within,
-      );
+          let within : k < length listed = omega arith in
+          let one = element listed k within in (
+            one.0,
+            Contains-permutation listed sides one.0 moved (k, within, one.1 one.0),
+            sym (ap index (one.1 one.0)) ∙ is_listed.index k one.0 within,
+          );
       apart = apart_permuted index listed sides moved listed_apart;
       in_order = λ i j d less within. sorted_far lower lower_order sides sorted i j d (omega arith) within;
     }
@@ -171,6 +169,6 @@ sorted_overlaps rules sides l found sorted is_index collected moved up = record 
       (All-permutation (OverlapsSide sides l) found sorted moved collected.each);
   all = λ one overlap. Contains-permutation found sorted one moved (collected.all one (side_of_rule rules sides l one is_index overlap));
   ascending = λ i j d less within.
-  before _ _ (sorted_far comes_first comes_first_order sorted up i j d (omega arith) within)
+      before _ _ (sorted_far comes_first comes_first_order sorted up i j d (omega arith) within)
       (apart_permuted (λ (one : Overlap). one) found sorted moved (collected.apart is_index.apart) i j d less within);
 }

@@ -1,5 +1,5 @@
 pub mod Superposed
-mod Searching
+mod Keys
 mod Lists
 mod Walking
 mod Collecting

@@ -6,7 +6,7 @@ use Rattle.std.proofs.Math.Nat.{suc-add}
 use Rattle.kb_word.specs.Words.{Pair}
 use Rattle.kb_word.specs.Overlap.{Overlaps, superposition, critical_pair}
 use Rattle.kb_word.specs.Congruence.{Replaces}
-use Rattle.kb_overlap.specs.Search.{AgreeAsFar}
+use Rattle.kb_overlap.specs.Agreement.{AgreeAsFar}
 
 pub All-drop : (P : ℕ → Type 0) (n : ℕ) (xs : List ℕ) → All P xs → All P (drop n xs)
 All-drop P n xs all k d within = rw get_or-drop (all (n + k) d (omega (arith, length-drop n xs)))

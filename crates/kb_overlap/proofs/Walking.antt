@@ -1,7 +1,6 @@
 -- What a walk over the left sides along the letters of a word finds.
-use Rattle.std.proofs.Common.{◌≡◌, ◌≢◌, ℕ, zero, suc, ◌+◌, ◌<◌, ◌≤◌, inl, inr, Bool, true, false, eqb, List, [], ◌∷◌, ◌++◌, length, drop, map, get_or, Some, Ordering, refl, sym, ap, ◌∙◌, subst, arith, drop-cons, suc-le-suc, zero-le}
-use Rattle.std.specs.Prelude.{slice_get, ◌↔◌}
-use Rattle.std.specs.List.{All, AllPairs, Contains, filter}
+use Rattle.std.proofs.Common.{◌≡◌, ◌≢◌, ℕ, zero, suc, ◌<◌, ◌≤◌, inl, inr, Bool, false, eqb, List, [], ◌∷◌, ◌++◌, length, drop, map, get_or, None, Some, Ordering, refl, sym, ap, ◌∙◌, arith, drop-cons, suc-le-suc, zero-le}
+use Rattle.std.specs.List.{Contains}
 use Rattle.std.specs.List.Sorted.{IsNonDecreasingBy}
 use Rattle.std.specs.declared.cmp.Ordering.TheVariants.{Less, Equal, Greater}
 use Rattle.std.specs.Ordering.{MatchOrdering, is_lt, nat_cmp, ordering_then}
@@ -12,10 +11,11 @@ use Rattle.std.proofs.lemmas.Cmp.{ranked}
 use Rattle.std.proofs.lemmas.List.Elements.{filter_passes, All-contains_itself, Contains-append_left, Contains-append_right, Contains-append_cases}
 use Rattle.std.proofs.lemmas.List.{append-nil, append_assoc, map-append, drop_all, nil_from_length}
 use Rattle.std.proofs.lemmas.List.Kept.{AllPairs-filter}
-use Rattle.kb_overlap.specs.Search.{AgreeAsFar}
-use Rattle.kb_overlap.specs.Sides.{Adds, AreApart, InOrder, NotAfter, at_place, key_at, with_key}
+use Rattle.kb_overlap.specs.Agreement.{AgreeAsFar}
+use Rattle.kb_overlap.specs.Sides.{Adds, AreApart, InOrder, NotAfter, at_place, with_letter}
 use Rattle.kb_overlap.specs.declared.left_sides.Overlap.{Overlap}
 use Rattle.kb_overlap.specs.declared.walk.Side.{Side}
+use Rattle.kb_overlap.proofs.Keys.{key_at, with_key, with_letter_by_key}
 use Rattle.kb_overlap.proofs.Lists.{of_filter, in_filter, pairs_append, one_element}
 
 -- a word at a depth: it has ended, or a letter stands there
@@ -37,37 +37,37 @@ first_not_after x y Greater s m e = omega arith
 
 keys_ordered : (depth : ℕ) (u v : List ℕ) → is_lt (slice_cmp nat_cmp (drop depth v) (drop depth u)) ≡ false → key_at depth u ≤ key_at depth v
 keys_ordered depth u v e = elim (at_depth depth u) [
-    | at_end key _ ↦ rw key zero-le
-    | at_letter x key rest ↦ elim (at_depth depth v) [
-        | at_end key' rest' ↦ absurd (true≢false (rw (rest, rest') at e))
-        | at_letter y key' rest' ↦
-            let compared : is_lt (ordering_then (nat_cmp y x) (slice_cmp nat_cmp (drop (suc depth) v) (drop (suc depth) u))) ≡ false = rw (rest, rest') at e in
-            let up : x ≤ y = first_not_after x y (nat_cmp y x) _ (ranked y x (nat_cmp y x) refl) compared in
-            rw (key, key') (suc-le-suc up)
-      ]
+  | at_end key _ ↦ rw key zero-le
+  | at_letter x key rest ↦ elim (at_depth depth v) [
+    | at_end key' rest' ↦ absurd (true≢false (rw (rest, rest') at e))
+    | at_letter y key' rest' ↦
+        let compared : is_lt (ordering_then (nat_cmp y x) (slice_cmp nat_cmp (drop (suc depth) v) (drop (suc depth) u))) ≡ false = rw (rest, rest') at e in
+        let up : x ≤ y = first_not_after x y (nat_cmp y x) _ (ranked y x (nat_cmp y x) refl) compared in
+        rw (key, key') (suc-le-suc up)
   ]
+]
 
 rest_ordered : (depth x : ℕ) (u v : List ℕ) → key_at depth u ≡ suc x → key_at depth v ≡ suc x
     → is_lt (slice_cmp nat_cmp (drop depth v) (drop depth u)) ≡ false
     → is_lt (slice_cmp nat_cmp (drop (suc depth) v) (drop (suc depth) u)) ≡ false
 rest_ordered depth x u v is_x is_x' e = elim (at_depth depth u) [
-    | at_end key _ ↦ absurd (let no : ⊥ = omega arith in no)
-    | at_letter y key rest ↦ elim (at_depth depth v) [
-        | at_end key' _ ↦ absurd (let no : ⊥ = omega arith in no)
-        | at_letter z key' rest' ↦
-            let same : z ≡ y = omega arith in
-            let compared : is_lt (ordering_then (nat_cmp z y) (slice_cmp nat_cmp (drop (suc depth) v) (drop (suc depth) u))) ≡ false = rw (rest, rest') at e in
-            let ties : nat_cmp z y ≡ Equal = ap (λ n. nat_cmp n y) same ∙ tied_itself nat_cmp_total y in
-            rw ties at compared
-      ]
+  | at_end key _ ↦ absurd (let no : ⊥ = omega arith in no)
+  | at_letter y key rest ↦ elim (at_depth depth v) [
+    | at_end key' _ ↦ absurd (let no : ⊥ = omega arith in no)
+    | at_letter z key' rest' ↦
+        let same : z ≡ y = omega arith in
+        let compared : is_lt (ordering_then (nat_cmp z y) (slice_cmp nat_cmp (drop (suc depth) v) (drop (suc depth) u))) ≡ false = rw (rest, rest') at e in
+        let ties : nat_cmp z y ≡ Equal = ap (λ n. nat_cmp n y) same ∙ tied_itself nat_cmp_total y in
+        rw ties at compared
   ]
+]
 
 -- the keys of left sides in order don't fall
 pub keys_rise : (depth : ℕ) (sides : List Side) → InOrder depth sides → IsNonDecreasingBy (λ side. key_at depth side.letters.now) sides
 keys_rise depth sides order i j d le within = elim (cases_eq i j) [
-    | inl same ↦ omega (arith, ap (λ k. key_at depth (get_or sides k d).letters.now) same)
-    | inr apart ↦ keys_ordered depth _ _ (order i j d (omega arith) within)
-  ]
+  | inl same ↦ omega (arith, ap (λ k. key_at depth (get_or sides k d).letters.now) same)
+  | inr apart ↦ keys_ordered depth _ _ (order i j d (omega arith) within)
+]
 
 -- left sides that have one letter at the depth are in order from the next depth on
 pub order_more : (depth x : ℕ) (sides : List Side) → InOrder depth sides → InOrder (suc depth) (with_key depth (suc x) sides)
@@ -185,13 +185,13 @@ adds_walked sides letters place e = record {
 }
 
 -- a step of the walk: with the letter x at the depth, what ends there is added, and what goes on with x is left
-pub walk_more : (depth next x key : ℕ) (letters : List ℕ) (sides begun ended longer : List Side) (place : ℕ) (before found after : List Overlap)
-    → depth < length letters → x ≡ get_or letters depth x → next ≡ suc depth → key ≡ suc x
-    → ended ≡ with_key depth 0 begun → longer ≡ with_key depth key begun → after ≡ found ++ map (at_place place) ended
+pub walk_more : (depth next x : ℕ) (letters : List ℕ) (sides begun stopped longer : List Side) (place : ℕ) (before found after : List Overlap)
+    → depth < length letters → x ≡ get_or letters depth x → next ≡ suc depth
+    → stopped ≡ with_letter depth None begun → longer ≡ with_letter depth (Some x) begun → after ≡ found ++ map (at_place place) stopped
     → InOrder depth begun
     → found ++ map (at_place place) (walked depth (drop depth letters) begun) ≡ before ++ map (at_place place) (walked 0 letters sides)
     → InOrder next longer × (after ++ map (at_place place) (walked next (drop next letters) longer) ≡ before ++ map (at_place place) (walked 0 letters sides))
-walk_more depth next x key letters sides begun ended longer place before found after within is_x is_next is_key is_ended is_longer is_after order so_far =
+walk_more depth next x letters sides begun stopped longer place before found after within is_x is_next is_ended is_longer is_after order so_far =
     let here : List Overlap = map (at_place place) (with_key depth 0 begun) in
     let deeper = walked (suc depth) (drop (suc depth) letters) (with_key depth (suc x) begun) in
     let rest : drop depth letters ≡ x ∷ drop (suc depth) letters =
@@ -200,7 +200,9 @@ walk_more depth next x key letters sides begun ended longer place before found a
     ap (λ (l : List ℕ). map (at_place place) (walked depth l begun)) rest ∙ map-append (at_place place) (with_key depth 0 begun) deeper in
     let whole : (found ++ here) ++ map (at_place place) deeper ≡ before ++ map (at_place place) (walked 0 letters sides) =
     append_assoc found here (map (at_place place) deeper) ∙ ap (λ l. found ++ l) (sym split) ∙ so_far in
-    (rw (is_next, is_longer, is_key) (order_more depth x begun order), rw (is_next, is_longer, is_key, is_after, is_ended) whole)
+    let is_here : stopped ≡ with_key depth 0 begun = is_ended ∙ with_letter_by_key depth None begun in
+    let is_deeper : longer ≡ with_key depth (suc x) begun = is_longer ∙ with_letter_by_key depth (Some x) begun in
+    (rw (is_next, is_deeper) (order_more depth x begun order), rw (is_next, is_deeper, is_after, is_here) whole)
 
 -- the end of the walk: all left sides that are left are added
 pub walk_ended : (depth : ℕ) (letters : List ℕ) (sides begun : List Side) (place : ℕ) {before : List Overlap} (found : List Overlap) {after : List Overlap}

@@ -1,10 +1,11 @@
 -- The left sides in lexicographic order, and what a walk along the letters of a word finds among them.
-use Rattle.std.specs.Prelude.{◌≡◌, ◌≢◌, ◌↔◌, ℕ, suc, ◌<◌, ◌⊎◌, Bool, false, List, ◌++◌, length, map, drop, nat_eq, Option, None, Some, slice_get, slice_index_or}
+use Rattle.std.specs.Prelude.{◌≡◌, ◌≢◌, ◌↔◌, ℕ, ◌<◌, false, List, ◌++◌, length, map, drop, nat_eq, Option, Some, slice_get, slice_index_or}
 use Rattle.std.specs.List.{All, AllPairs, Contains, filter}
+use Rattle.std.specs.Option.{option_eq}
 use Rattle.std.specs.Ordering.{is_lt, nat_cmp}
 use Rattle.std.specs.Cmp.Lexicographic.{slice_cmp}
 use Rattle.kb_word.specs.Words.{Pair}
-use Rattle.kb_overlap.specs.Search.{AgreeAsFar}
+use Rattle.kb_overlap.specs.Agreement.{AgreeAsFar}
 use Rattle.kb_overlap.specs.declared.left_sides.Overlap.{Overlap}
 use Rattle.kb_overlap.specs.declared.walk.Side.{Side}
 
@@ -16,17 +17,9 @@ NotAfter depth one other = is_lt (slice_cmp nat_cmp (drop depth other.letters.no
 abbrev pub InOrder : ℕ → List Side → Type 0
 InOrder depth = AllPairs (NotAfter depth)
 
--- a number for each letter, and 0 past the end
-abbrev pub key : Option ℕ → ℕ
-key None = 0
-key (Some letter) = suc letter
-
-abbrev pub key_at : ℕ → List ℕ → ℕ
-key_at depth letters = key (slice_get letters depth)
-
--- the left sides that have this key at the depth
-abbrev pub with_key : ℕ → ℕ → List Side → List Side
-with_key depth sought = filter (λ side. nat_eq (key_at depth side.letters.now) sought)
+-- the left sides at whose depth this letter stands, or that have ended there where it is none
+abbrev pub with_letter : ℕ → Option ℕ → List Side → List Side
+with_letter depth letter = filter (λ side. option_eq nat_eq (slice_get side.letters.now depth) letter)
 
 -- the overlap with a left side at this place
 abbrev pub at_place : ℕ → Side → Overlap

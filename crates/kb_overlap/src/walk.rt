@@ -1,8 +1,7 @@
 //! The walk over the left sides along the letters of a word.
 
-ghost use Rattle.std.specs.Prelude.{◌≡◌, ◌++◌, [], OnOk, Some, map};
-ghost use Rattle.std.specs.List.Sorted.{IsNonDecreasingBy};
-ghost use Rattle.kb_overlap.specs.Sides.{Adds, Collects, InOrder, at_place, key, key_at, with_key};
+ghost use Rattle.std.specs.Prelude.{◌≡◌, ◌++◌, [], OnOk, map, slice_get};
+ghost use Rattle.kb_overlap.specs.Sides.{Adds, Collects, InOrder, at_place, with_letter};
 
 use crate::left_sides::Overlap;
 use kb_word::{Letter, Memory};
@@ -12,6 +11,15 @@ use kb_word::{Letter, Memory};
 pub(crate) struct Side<'r> {
     pub(crate) letters: &'r [Letter],
     pub(crate) rule: usize,
+}
+
+impl<'r> Side<'r> {
+    /// The letter at a depth, or none past the end.
+    fn letter_at(&self, depth: usize) -> Option<Letter>
+        ensures { result ≡ slice_get self.now.letters.now depth }
+    {
+        self.letters.get(depth).copied()
+    }
 }
 
 /// Adds each overlap of the word of these letters with the left sides.
@@ -47,8 +55,8 @@ fn add_at_place(
         if begun.is_empty() {
             return Ok(());
         }
-        add(part_with_key(begun, depth, ENDED), place, found)?;
-        begun = part_with_key(begun, depth, key_of(*letter));
+        add(part_with(begun, depth, None), place, found)?;
+        begun = part_with(begun, depth, Some(*letter));
     }
     add(begun, place, found)
 }
@@ -66,31 +74,11 @@ fn add(sides: &[Side], place: usize, found: &mut Vec<Overlap>) -> Result<(), Mem
     Ok(())
 }
 
-/// The part of the left sides that have this key at a depth.
-fn part_with_key<'s, 'r>(sides: &'s [Side<'r>], depth: usize, key: u32) -> &'s [Side<'r>]
-    requires { IsNonDecreasingBy (λ side. key_at depth side.letters.now) sides.now }
-    ensures { result.now ≡ with_key depth key sides.now }
+/// The part of the left sides at whose depth this letter stands, or that end there where it is none.
+fn part_with<'s, 'r>(sides: &'s [Side<'r>], depth: usize, letter: Option<Letter>) -> &'s [Side<'r>]
+    requires { InOrder depth sides.now }
+    ensures { result.now ≡ with_letter depth letter sides.now }
 {
-    let part = &sides[sides.partition_point(|side| key_at(side.letters, depth) < key)..];
-    &part[..part.partition_point(|side| key_at(side.letters, depth) <= key)]
-}
-
-/// The key past the end of a left side. It is below the keys of letters, as a word comes before its extensions.
-const ENDED: u32 = 0;
-
-/// The key of a letter.
-fn key_of(letter: Letter) -> u32
-    ensures { result ≡ key (Some letter) }
-{
-    u32::from(letter.number()) + 1
-}
-
-/// The key of the letter at a depth, or past the end.
-fn key_at(letters: &[Letter], depth: usize) -> u32
-    ensures { result ≡ key_at depth letters.now }
-{
-    match letters.get(depth) {
-        None => ENDED,
-        Some(letter) => key_of(*letter),
-    }
+    let part = &sides[sides.partition_point(|side| side.letter_at(depth) < letter)..];
+    &part[..part.partition_point(|side| side.letter_at(depth) <= letter)]
 }

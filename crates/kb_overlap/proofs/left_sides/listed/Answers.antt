@@ -1,4 +1,4 @@
-use Rattle.std.proofs.Common.{◌≡◌, length, refl, ap, ◌∙◌, arith}
+use Rattle.std.proofs.Common.{length, refl, ◌∙◌, arith}
 use Rattle.std.proofs.lemmas.Option.{slice_get_read}
 use Rattle.kb_overlap.proofs.Indexing.{listed_none, listed_more, listed_all}
 use Rattle.kb_overlap.proofs.left_sides.listed.Goals as goal
