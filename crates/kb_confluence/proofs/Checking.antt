@@ -43,7 +43,7 @@ same_second rules i first one second is_second joins other overlap =
     let P : Pair → Type 0 = λ rule. IsResolved rules (critical_pair first rule one.place) in
     subst P (some-injective (sym is_second ∙ overlap.is_second)) joins
 
--- it is the rule that overlaps
+-- the rule that is read at the index of an overlap is the one that overlaps
 pub overlaps_second : (rules : List Pair) (l : List ℕ) (overlaps : List Overlap) (k : ℕ) (one : Overlap) (second : Pair) → AreOverlaps rules l overlaps
     → k < length overlaps → one ≡ get_or overlaps k one → slice_get rules one.rule ≡ Some second → Overlaps l second.0 one.place
 overlaps_second rules l overlaps k one second row within is_one is_second =
@@ -102,25 +102,25 @@ module _ (rules : List Pair) (i : ℕ) (first : Pair) (overlaps : List Overlap) 
   -- past the row come the overlaps in which the next rule begins
   pub row_all : (next : ℕ) → RowJoins rules i first overlaps next → length overlaps ≤ next → EarlierJoin rules (i + 1) 0 0
   row_all next joins past k l q one other (inl low) overlap = elim (cases_lt k i) [
-      | inl before ↦ earlier k l q one other (inl before) overlap
-      | inr from ↦
-          let same : k ≡ i = omega arith in
-          let P : ℕ → Type 0 = λ n. OverlapOf rules n l q one other in
-          row_joins next l q one other joins (subst P same overlap) (λ m d later inside e. omega arith)
-    ]
+    | inl before ↦ earlier k l q one other (inl before) overlap
+    | inr from ↦
+        let same : k ≡ i = omega arith in
+        let P : ℕ → Type 0 = λ n. OverlapOf rules n l q one other in
+        row_joins next l q one other joins (subst P same overlap) (λ m d later inside e. omega arith)
+  ]
   row_all next joins past k l q one other (inr (same, low)) overlap = absurd (let no : ⊥ = omega (arith, low) in no)
 
   -- one more overlap of the row joins
   pub row_more : (next : ℕ) (at : Overlap) → RowJoins rules i first overlaps next → next < length overlaps → at ≡ get_or overlaps next at
       → JoinsAt rules i first at → RowJoins rules i first overlaps (next + 1)
   row_more next at joins within is_at here k d low = elim (cases_lt k next) [
-      | inl before ↦ joins k d before
-      | inr from ↦
-          let same : k ≡ next = omega arith in
-          let is_here : at ≡ get_or overlaps k d =
-          is_at ∙ get_or_default overlaps next at d within ∙ ap (λ n. get_or overlaps n d) (sym same) in
-          subst (JoinsAt rules i first) is_here here
-    ]
+    | inl before ↦ joins k d before
+    | inr from ↦
+        let same : k ≡ next = omega arith in
+        let is_here : at ≡ get_or overlaps k d =
+        is_at ∙ get_or_default overlaps next at d within ∙ ap (λ n. get_or overlaps n d) (sym same) in
+        subst (JoinsAt rules i first) is_here here
+  ]
 
   -- the next overlap of the row is the first that doesn't join
   pub unjoined_in_row : (next : ℕ) (at : Overlap) (second : Pair) (u v : List ℕ) → RowJoins rules i first overlaps next → next < length overlaps

@@ -69,7 +69,7 @@ fn check_rules<R: Reducer>(alloc: Global, rules: &[Rule], reducer: &R) -> Result
     Ok(Verdict::Yes)
 }
 
-/// The verdict on the overlaps in which the rule of this index begins first: these overlaps of its left side.
+/// The verdict on the overlaps in which the rule of this index begins first, by all overlaps of its left side.
 fn check_row<R: Reducer>(
     alloc: Global,
     rules: &[Rule],

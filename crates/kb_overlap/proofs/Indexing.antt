@@ -16,7 +16,7 @@ use Rattle.kb_word.specs.Words.{Pair}
 use Rattle.kb_word.specs.Overlap.{Overlaps}
 use Rattle.kb_overlap.specs.Agreement.{AgreeAsFar}
 use Rattle.kb_overlap.specs.Overlapping.{AreOverlaps, IsBefore, OverlapsRule}
-use Rattle.kb_overlap.specs.Sides.{AreApart, Collects, IsIndex, IsListed, IsSideOf, OverlapsSide}
+use Rattle.kb_overlap.specs.Sides.{AreApart, AreSortedSides, Collects, IsListed, IsSideOf, OverlapsSide}
 use Rattle.kb_overlap.specs.declared.left_sides.Overlap.{Overlap}
 use Rattle.kb_overlap.specs.declared.walk.Side.{Side}
 use Rattle.kb_overlap.proofs.Collecting.{same_overlap}
@@ -69,9 +69,9 @@ pub lower_order : IsStrictWeakOrder lower
 lower_order = ranks_by nat_list_cmp_total (λ (side : Side). side.letters.now)
 
 -- the left sides of all rules, sorted
-pub sorted_index : (rules : List Pair) (listed sides : List Side) → IsListed rules (length rules) listed → IsPermutation listed sides
-    → IsSortedBy lower sides → IsIndex rules sides
-sorted_index rules listed sides is_listed moved sorted =
+pub sorted_sides : (rules : List Pair) (listed sides : List Side) → IsListed rules (length rules) listed → IsPermutation listed sides
+    → IsSortedBy lower sides → AreSortedSides rules sides
+sorted_sides rules listed sides is_listed moved sorted =
     let index : Side → ℕ = λ side. side.rule in
     let listed_apart : AreApart listed = λ i j d less within e.
     let first : index (get_or listed i d) ≡ i = is_listed.index i d (omega arith) in
@@ -92,7 +92,7 @@ sorted_index rules listed sides is_listed moved sorted =
     }
 
 -- an overlap with a left side is one with a rule
-rule_of_side : (rules : List Pair) (sides : List Side) (l : List ℕ) (one : Overlap) → IsIndex rules sides → OverlapsSide sides l one
+rule_of_side : (rules : List Pair) (sides : List Side) (l : List ℕ) (one : Overlap) → AreSortedSides rules sides → OverlapsSide sides l one
     → OverlapsRule rules l one.rule one.place
 rule_of_side rules sides l one sorted overlap =
     let side = overlap.side in
@@ -112,7 +112,7 @@ some-injective : {x y : Pair} → Some x ≡ Some y → x ≡ y
 some-injective e = cc
 
 -- and the other way round
-side_of_rule : (rules : List Pair) (sides : List Side) (l : List ℕ) (one : Overlap) → IsIndex rules sides
+side_of_rule : (rules : List Pair) (sides : List Side) (l : List ℕ) (one : Overlap) → AreSortedSides rules sides
     → OverlapsRule rules l one.rule one.place → OverlapsSide sides l one
 side_of_rule rules sides l one sorted overlap =
     let found = sorted.every one.rule (slice_get_within rules one.rule overlap.rule overlap.is_rule) in
@@ -161,14 +161,14 @@ before one other e apart =
     ]
 
 -- the sorted overlaps with the left sides are those with the rules
-pub sorted_overlaps : (rules : List Pair) (sides : List Side) (l : List ℕ) (found sorted : List Overlap) → IsIndex rules sides
+pub sorted_overlaps : (rules : List Pair) (sides : List Side) (l : List ℕ) (found sorted : List Overlap) → AreSortedSides rules sides
     → Collects sides l found → IsPermutation found sorted → IsSortedBy comes_first sorted → AreOverlaps rules l sorted
-sorted_overlaps rules sides l found sorted is_index collected moved up = record {
+sorted_overlaps rules sides l found sorted sides_sorted collected moved up = record {
   each = All-weaker (OverlapsSide sides l) (λ one. OverlapsRule rules l one.rule one.place)
-      (λ one overlap. rule_of_side rules sides l one is_index overlap) sorted
+      (λ one overlap. rule_of_side rules sides l one sides_sorted overlap) sorted
       (All-permutation (OverlapsSide sides l) found sorted moved collected.each);
-  all = λ one overlap. Contains-permutation found sorted one moved (collected.all one (side_of_rule rules sides l one is_index overlap));
+  all = λ one overlap. Contains-permutation found sorted one moved (collected.all one (side_of_rule rules sides l one sides_sorted overlap));
   ascending = λ i j d less within.
       before _ _ (sorted_far comes_first comes_first_order sorted up i j d (omega arith) within)
-      (apart_permuted (λ (one : Overlap). one) found sorted moved (collected.apart is_index.apart) i j d less within);
+      (apart_permuted (λ (one : Overlap). one) found sorted moved (collected.apart sides_sorted.apart) i j d less within);
 }

@@ -11,7 +11,8 @@ use Rattle.kb_overlap.specs.declared.walk.Side.{Side}
 
 -- from the depth on the letters of the first word don't come after those of the other, in lexicographic order
 abbrev pub NotAfter : ℕ → Side → Side → Type 0
-NotAfter depth one other = is_lt (slice_cmp nat_cmp (drop depth other.letters.now) (drop depth one.letters.now)) ≡ false
+NotAfter depth one other =
+    is_lt (slice_cmp nat_cmp (drop depth other.letters.now) (drop depth one.letters.now)) ≡ false
 
 -- the left sides ascend by their letters from the depth on
 abbrev pub InOrder : ℕ → List Side → Type 0
@@ -63,7 +64,7 @@ pub record IsListed (rules : List Pair) (count : ℕ) (sides : List Side) : Type
   pub each : All (IsSideOf rules) sides
 
 -- the left sides of the rules, each of them once, in lexicographic order
-pub record IsIndex (rules : List Pair) (sides : List Side) : Type 0 where
+pub record AreSortedSides (rules : List Pair) (sides : List Side) : Type 0 where
   pub each : All (IsSideOf rules) sides
   pub every : (index : ℕ) → index < length rules → (side : Side) × Contains sides side × (side.rule ≡ index)
   pub apart : AreApart sides

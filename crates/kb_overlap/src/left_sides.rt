@@ -29,13 +29,13 @@ pub struct LeftSides<'r> {
 impl<'r> Model for LeftSides<'r> {
     ghost use Rattle.std.specs.Prelude.{List};
     ghost use Rattle.kb_word.specs.Words.{Pair};
-    ghost use Rattle.kb_overlap.specs.Sides.{IsIndex};
+    ghost use Rattle.kb_overlap.specs.Sides.{AreSortedSides};
 
     ghost Value = { List Pair };
 
     ghost view = { λ left_sides. left_sides.rules.now };
 
-    ghost invariant = { λ left_sides. IsIndex left_sides.rules.now left_sides.sides.items };
+    ghost invariant = { λ left_sides. AreSortedSides left_sides.rules.now left_sides.sides.items };
 }
 
 impl<'r> LeftSides<'r> {
@@ -48,7 +48,7 @@ impl<'r> LeftSides<'r> {
         Ok(LeftSides { rules, sides })
     }
 
-    /// The rules.
+    /// The rules whose left sides these are.
     pub fn rules(&self) -> &'r [Rule]
         ensures { result.now ≡ self.now }
     {
@@ -67,7 +67,7 @@ impl<'r> LeftSides<'r> {
     }
 }
 
-/// The left sides in the order of the rules.
+/// The left sides in the order of their rules.
 fn listed<'r>(alloc: Global, rules: &'r [Rule]) -> Result<Vec<Side<'r>>, Memory>
     ensures { IfOk result (λ sides. IsListed rules.now (length rules.now) sides.items) }
 {

@@ -20,8 +20,8 @@
 //! with given letters stand side by side, and first among them those that are these letters. From each place of
 //! the word on a walk reads its letters, and narrows the part of left sides that begin with what was read by binary
 //! search (src/walk.rt). Left sides that end on the way are contained in the word; those that are left at the end
-//! of the word overlap with that end. The walk ends where no left side is left. So a place costs two binary searches
-//! for each letter read, and left sides that don't overlap cost nothing.
+//! of the word overlap with that end. The walk ends where no left side is left. So a letter that is read costs a few
+//! binary searches, and left sides that don't overlap cost nothing.
 //!
 //! # The proofs
 //!
