@@ -1,5 +1,5 @@
 -- How far the test has come: each overlap before the next one joins.
-use Rattle.std.proofs.Common.{◌≡◌, ℕ, suc, ◌+◌, ◌<◌, ◌≤◌, List, length, get_or, Some, refl, sym, ◌∙◌, ap, subst, inl, inr, arith}
+use Rattle.std.proofs.Common.{◌≡◌, ℕ, ◌+◌, ◌<◌, ◌≤◌, List, length, get_or, Some, refl, sym, ◌∙◌, ap, subst, inl, inr, arith}
 use Rattle.std.specs.Prelude.{slice_get}
 use Rattle.std.proofs.lemmas.Bool.{cases_lt, cases_eq}
 use Rattle.std.proofs.lemmas.List.{get_or_default}
@@ -12,7 +12,8 @@ use Rattle.kb_confluence.specs.Unjoined.{EarlierJoin, IsFirstUnjoined}
 
 -- the overlap of the first rule, of index i, with the rule of another index, where it is one, joins
 abbrev pub JoinsAt : List Pair → ℕ → Pair → Overlap → Type 0
-JoinsAt rules i first one = (second : Pair) → OverlapOf rules i one.rule one.place first second → IsResolved rules (critical_pair first second one.place)
+JoinsAt rules i first one = (second : Pair) → OverlapOf rules i one.rule one.place first second
+    → IsResolved rules (critical_pair first second one.place)
 
 -- the overlaps of a row before the next one join
 abbrev pub RowJoins : List Pair → ℕ → Pair → List Overlap → ℕ → Type 0
@@ -31,8 +32,8 @@ rule_within rules l overlaps k one row within is_one =
     omega arith
 
 -- what is read at that index
-pub rule_at : (rules : List Pair) (l : List ℕ) (overlaps : List Overlap) (k : ℕ) (one : Overlap) (rule : Pair) → AreOverlaps rules l overlaps
-    → k < length overlaps → one ≡ get_or overlaps k one → rule ≡ get_or rules one.rule rule → slice_get rules one.rule ≡ Some rule
+pub rule_at : (rules : List Pair) (l : List ℕ) (overlaps : List Overlap) (k : ℕ) (one : Overlap) (rule : Pair)
+    → AreOverlaps rules l overlaps → k < length overlaps → one ≡ get_or overlaps k one → rule ≡ get_or rules one.rule rule → slice_get rules one.rule ≡ Some rule
 rule_at rules l overlaps k one rule row within is_one read =
     slice_get_read rules (length rules) one.rule rule refl (rule_within rules l overlaps k one row within is_one) read
 
@@ -44,8 +45,8 @@ same_second rules i first one second is_second joins other overlap =
     subst P (some-injective (sym is_second ∙ overlap.is_second)) joins
 
 -- the rule that is read at the index of an overlap is the one that overlaps
-pub overlaps_second : (rules : List Pair) (l : List ℕ) (overlaps : List Overlap) (k : ℕ) (one : Overlap) (second : Pair) → AreOverlaps rules l overlaps
-    → k < length overlaps → one ≡ get_or overlaps k one → slice_get rules one.rule ≡ Some second → Overlaps l second.0 one.place
+pub overlaps_second : (rules : List Pair) (l : List ℕ) (overlaps : List Overlap) (k : ℕ) (one : Overlap) (second : Pair)
+    → AreOverlaps rules l overlaps → k < length overlaps → one ≡ get_or overlaps k one → slice_get rules one.rule ≡ Some second → Overlaps l second.0 one.place
 overlaps_second rules l overlaps k one second row within is_one is_second =
     let P : Overlap → Type 0 = λ o. OverlapsRule rules l o.rule o.place in
     let found = subst P (sym is_one) (row.each k one within) in
@@ -75,8 +76,8 @@ module _ (rules : List Pair) (i : ℕ) (first : Pair) (overlaps : List Overlap) 
       ]
 
   -- all overlaps before the next one of the row join
-  pub earlier_in_row : (next : ℕ) (at : Overlap) → RowJoins rules i first overlaps next → next < length overlaps → at ≡ get_or overlaps next at
-      → EarlierJoin rules i at.rule at.place
+  pub earlier_in_row : (next : ℕ) (at : Overlap) → RowJoins rules i first overlaps next → next < length overlaps
+      → at ≡ get_or overlaps next at → EarlierJoin rules i at.rule at.place
   earlier_in_row next at joins within is_at k l q one other (inl low) overlap = earlier k l q one other (inl low) overlap
   earlier_in_row next at joins within is_at k l q one other (inr (same, low)) overlap =
       let P : ℕ → Type 0 = λ n. OverlapOf rules n l q one other in
@@ -111,8 +112,8 @@ module _ (rules : List Pair) (i : ℕ) (first : Pair) (overlaps : List Overlap) 
   row_all next joins past k l q one other (inr (same, low)) overlap = absurd (let no : ⊥ = omega (arith, low) in no)
 
   -- one more overlap of the row joins
-  pub row_more : (next : ℕ) (at : Overlap) → RowJoins rules i first overlaps next → next < length overlaps → at ≡ get_or overlaps next at
-      → JoinsAt rules i first at → RowJoins rules i first overlaps (next + 1)
+  pub row_more : (next : ℕ) (at : Overlap) → RowJoins rules i first overlaps next → next < length overlaps
+      → at ≡ get_or overlaps next at → JoinsAt rules i first at → RowJoins rules i first overlaps (next + 1)
   row_more next at joins within is_at here k d low = elim (cases_lt k next) [
     | inl before ↦ joins k d before
     | inr from ↦
@@ -123,8 +124,8 @@ module _ (rules : List Pair) (i : ℕ) (first : Pair) (overlaps : List Overlap) 
   ]
 
   -- the next overlap of the row is the first that doesn't join
-  pub unjoined_in_row : (next : ℕ) (at : Overlap) (second : Pair) (u v : List ℕ) → RowJoins rules i first overlaps next → next < length overlaps
-      → at ≡ get_or overlaps next at → slice_get rules at.rule ≡ Some second → (i ≡ at.rule → 0 < at.place)
+  pub unjoined_in_row : (next : ℕ) (at : Overlap) (second : Pair) (u v : List ℕ) → RowJoins rules i first overlaps next
+      → next < length overlaps → at ≡ get_or overlaps next at → slice_get rules at.rule ≡ Some second → (i ≡ at.rule → 0 < at.place)
       → IsUnresolved rules (critical_pair first second at.place) u v → IsFirstUnjoined rules i at.rule at.place u v
   unjoined_in_row next at second u v joins within is_at is_second proper parts = record {
     first = first;

@@ -41,7 +41,8 @@ keys_ordered depth u v e = elim (at_depth depth u) [
   | at_letter x key rest ↦ elim (at_depth depth v) [
     | at_end key' rest' ↦ absurd (true≢false (rw (rest, rest') at e))
     | at_letter y key' rest' ↦
-        let compared : is_lt (ordering_then (nat_cmp y x) (slice_cmp nat_cmp (drop (suc depth) v) (drop (suc depth) u))) ≡ false = rw (rest, rest') at e in
+        let compared : is_lt (ordering_then (nat_cmp y x) (slice_cmp nat_cmp (drop (suc depth) v) (drop (suc depth) u))) ≡ false =
+        rw (rest, rest') at e in
         let up : x ≤ y = first_not_after x y (nat_cmp y x) _ (ranked y x (nat_cmp y x) refl) compared in
         rw (key, key') (suc-le-suc up)
   ]
@@ -56,7 +57,8 @@ rest_ordered depth x u v is_x is_x' e = elim (at_depth depth u) [
     | at_end key' _ ↦ absurd (let no : ⊥ = omega arith in no)
     | at_letter z key' rest' ↦
         let same : z ≡ y = omega arith in
-        let compared : is_lt (ordering_then (nat_cmp z y) (slice_cmp nat_cmp (drop (suc depth) v) (drop (suc depth) u))) ≡ false = rw (rest, rest') at e in
+        let compared : is_lt (ordering_then (nat_cmp z y) (slice_cmp nat_cmp (drop (suc depth) v) (drop (suc depth) u))) ≡ false =
+        rw (rest, rest') at e in
         let ties : nat_cmp z y ≡ Equal = ap (λ n. nat_cmp n y) same ∙ tied_itself nat_cmp_total y in
         rw ties at compared
   ]
@@ -184,13 +186,18 @@ adds_walked sides letters place e = record {
   apart = walked_apart 0 letters sides;
 }
 
+-- what was found by this depth, and what the rest of the walk finds among these left sides, make up the whole walk
+abbrev pub IsWalkSoFar : List Side → List ℕ → ℕ → List Overlap → ℕ → List Side → List Overlap → Type 0
+IsWalkSoFar sides letters place before depth begun found =
+    found ++ map (at_place place) (walked depth (drop depth letters) begun) ≡ before ++ map (at_place place) (walked 0 letters sides)
+
 -- a step of the walk: with the letter x at the depth, what ends there is added, and what goes on with x is left
 pub walk_more : (depth next x : ℕ) (letters : List ℕ) (sides begun stopped longer : List Side) (place : ℕ) (before found after : List Overlap)
     → depth < length letters → x ≡ get_or letters depth x → next ≡ suc depth
     → stopped ≡ with_letter depth None begun → longer ≡ with_letter depth (Some x) begun → after ≡ found ++ map (at_place place) stopped
     → InOrder depth begun
-    → found ++ map (at_place place) (walked depth (drop depth letters) begun) ≡ before ++ map (at_place place) (walked 0 letters sides)
-    → InOrder next longer × (after ++ map (at_place place) (walked next (drop next letters) longer) ≡ before ++ map (at_place place) (walked 0 letters sides))
+    → IsWalkSoFar sides letters place before depth begun found
+    → InOrder next longer × IsWalkSoFar sides letters place before next longer after
 walk_more depth next x letters sides begun stopped longer place before found after within is_x is_next is_ended is_longer is_after order so_far =
     let here : List Overlap = map (at_place place) (with_key depth 0 begun) in
     let deeper = walked (suc depth) (drop (suc depth) letters) (with_key depth (suc x) begun) in
@@ -205,21 +212,21 @@ walk_more depth next x letters sides begun stopped longer place before found aft
     (rw (is_next, is_deeper) (order_more depth x begun order), rw (is_next, is_deeper, is_after, is_here) whole)
 
 -- the end of the walk: all left sides that are left are added
-pub walk_ended : (depth : ℕ) (letters : List ℕ) (sides begun : List Side) (place : ℕ) {before : List Overlap} (found : List Overlap) {after : List Overlap}
+pub walk_ended : (depth : ℕ) (letters : List ℕ) (sides begun : List Side) (place : ℕ) (before found after : List Overlap)
     → length letters ≤ depth → after ≡ found ++ map (at_place place) begun
-    → found ++ map (at_place place) (walked depth (drop depth letters) begun) ≡ before ++ map (at_place place) (walked 0 letters sides)
+    → IsWalkSoFar sides letters place before depth begun found
     → Adds sides letters place before after
-walk_ended depth letters sides begun place found past is_after so_far =
+walk_ended depth letters sides begun place before found after past is_after so_far =
     let rest : drop depth letters ≡ [] = drop_all depth letters past in
     let last : map (at_place place) (walked depth (drop depth letters) begun) ≡ map (at_place place) begun =
     ap (λ (l : List ℕ). map (at_place place) (walked depth l begun)) rest in
     adds_walked sides letters place (is_after ∙ ap (λ l. found ++ l) (sym last) ∙ so_far)
 
 -- the walk ends early where no left side is left
-pub walk_left : (depth : ℕ) (letters : List ℕ) (sides begun : List Side) (place : ℕ) {before : List Overlap} (found : List Overlap) → length begun ≡ 0
-    → found ++ map (at_place place) (walked depth (drop depth letters) begun) ≡ before ++ map (at_place place) (walked 0 letters sides)
+pub walk_left : (depth : ℕ) (letters : List ℕ) (sides begun : List Side) (place : ℕ) (before found : List Overlap) → length begun ≡ 0
+    → IsWalkSoFar sides letters place before depth begun found
     → Adds sides letters place before found
-walk_left depth letters sides begun place found none so_far =
+walk_left depth letters sides begun place before found none so_far =
     let is_nil : begun ≡ [] = nil_from_length begun none in
     let last : map (at_place place) (walked depth (drop depth letters) begun) ≡ [] =
     ap (λ (l : List Side). map (at_place place) (walked depth (drop depth letters) l)) is_nil

@@ -9,7 +9,8 @@ loop-rule-init c = rw c.in_ok-sides.ensures.items (listed_none c.args.rules.now)
 pub loop-rule-preserved : goal.loop-rule-preserved
 loop-rule-preserved c =
     listed_more c.args.rules.now c.loop-rule.rule c.loop-rule.sides.items c.push.new.self.items _ c.index-rules-rule.result
-    (slice_get_read c.args.rules.now (length c.args.rules.now) c.loop-rule.rule c.index-rules-rule.result refl c.loop-rule-test.true c.index-rules-rule.is)
+    (slice_get_read c.args.rules.now (length c.args.rules.now) c.loop-rule.rule c.index-rules-rule.result refl c.loop-rule-test.true
+    c.index-rules-rule.is)
     refl (c.letters.ensures.letters ∙ c.left.ensures) c.in_ok-push.ensures.items c.loop-rule.invariant
 
 pub returns : goal.returns

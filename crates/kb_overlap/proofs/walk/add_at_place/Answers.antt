@@ -7,7 +7,8 @@ use Rattle.kb_overlap.proofs.walk.add_at_place.Goals as goal
 pub returns-then-is_empty : goal.returns-then-is_empty
 returns-then-is_empty c =
     let walk = c.loop-depth in
-    walk_left walk.depth c.args.letters.now c.args.sides.now walk.begun.now c.args.place walk.found.items (eqb-true _ _ (sym c.if-is_empty.ensures)) walk.invariant.1
+    walk_left walk.depth c.args.letters.now c.args.sides.now walk.begun.now c.args.place c.args.found.now.items walk.found.items
+    (eqb-true _ _ (sym c.if-is_empty.ensures)) walk.invariant.1
 
 pub loop-depth-preserved : goal.loop-depth-preserved
 loop-depth-preserved c =
@@ -21,5 +22,7 @@ pub returns : goal.returns
 returns c =
     let walk = c.loop-depth in
     on_ok_weaker c.add-2.result
-    (λ e. walk_ended walk.depth c.args.letters.now c.args.sides.now walk.begun.now c.args.place walk.found.items c.loop-depth-test.false e
-    walk.invariant.1) c.add-2.ensures
+    (λ e.
+    walk_ended walk.depth c.args.letters.now c.args.sides.now walk.begun.now c.args.place c.args.found.now.items walk.found.items
+    c.add-2.new.found.items c.loop-depth-test.false e walk.invariant.1)
+    c.add-2.ensures
