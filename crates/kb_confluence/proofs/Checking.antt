@@ -1,137 +1,141 @@
 -- How far the test has come: each overlap before the next one joins.
-use Rattle.std.proofs.Common.{◌≡◌, ℕ, suc, ◌+◌, ◌<◌, ◌≤◌, List, length, get_or, Some, refl, sym, ◌∙◌, ap, subst, inl, inr, arith}
+use Rattle.std.proofs.Common.{◌≡◌, ℕ, ◌+◌, ◌<◌, ◌≤◌, List, length, get_or, Some, refl, sym, ◌∙◌, ap, subst, inl, inr, arith}
 use Rattle.std.specs.Prelude.{slice_get}
-use Rattle.std.proofs.lemmas.Bool.{cases_lt}
-use Rattle.std.proofs.lemmas.Option.{slice_get_read}
+use Rattle.std.proofs.lemmas.Bool.{cases_lt, cases_eq}
+use Rattle.std.proofs.lemmas.List.{get_or_default}
+use Rattle.std.proofs.lemmas.Option.{slice_get_read, slice_get_within}
 use Rattle.kb_word.specs.Words.{Pair}
 use Rattle.kb_word.specs.Overlap.{Overlaps, OverlapOf, IsResolved, IsUnresolved, critical_pair}
-use Rattle.kb_overlap.specs.Search.{Search, NoOverlapFrom, IsFirstOverlap}
+use Rattle.kb_overlap.specs.Overlapping.{AreOverlaps, IsBefore, OverlapsRule}
+use Rattle.kb_overlap.specs.declared.left_sides.Overlap.{Overlap}
 use Rattle.kb_confluence.specs.Unjoined.{EarlierJoin, IsFirstUnjoined}
 
--- the search for overlaps of two rules, when each overlap before its place joins
-pub record Tried (rules : List Pair) (i j : ℕ) (first second : Pair) (search : Search) : Type 0 where
-  pub first_is : search.first ≡ first.0
-  pub second_is : search.second ≡ second.0
-  pub earlier : EarlierJoin rules i j search.here
+-- the overlap of the first rule, of index i, with the rule of another index, where it is one, joins
+abbrev pub JoinsAt : List Pair → ℕ → Pair → Overlap → Type 0
+JoinsAt rules i first one = (second : Pair) → OverlapOf rules i one.rule one.place first second
+    → IsResolved rules (critical_pair first second one.place)
 
--- what is read of the list of rules at an index
-pub rule_at : (rules : List Pair) (i : ℕ) (rule : Pair) → i < length rules → rule ≡ get_or rules i rule → slice_get rules i ≡ Some rule
-rule_at rules i rule within read = slice_get_read rules (length rules) i rule refl within read
+-- the overlaps of a row before the next one join
+abbrev pub RowJoins : List Pair → ℕ → Pair → List Overlap → ℕ → Type 0
+RowJoins rules i first overlaps next = (k : ℕ) (d : Overlap) → k < next → JoinsAt rules i first (get_or overlaps k d)
 
 some-injective : {x y : Pair} → Some x ≡ Some y → x ≡ y
 some-injective e = cc
 
-one_rule : (rules : List Pair) (i k : ℕ) (rule other : Pair) → slice_get rules i ≡ Some rule → slice_get rules k ≡ Some other → k ≡ i → other ≡ rule
-one_rule rules i k rule other is_rule is_other e = some-injective (sym is_other ∙ ap (slice_get rules) e ∙ is_rule)
+-- the rule at the index of an overlap
+pub rule_within : (rules : List Pair) (l : List ℕ) (overlaps : List Overlap) (k : ℕ) (one : Overlap) → AreOverlaps rules l overlaps
+    → k < length overlaps → one ≡ get_or overlaps k one → one.rule < length rules
+rule_within rules l overlaps k one row within is_one =
+    let found = row.each k one within in
+    let index : one.rule ≡ (get_or overlaps k one).rule = ap (λ (o : Overlap). o.rule) is_one in
+    let low = slice_get_within rules _ found.rule found.is_rule in
+    omega arith
 
--- what holds of the overlaps of rules i and j holds of those of the same rules by other names
-along_rules : (rules : List Pair) (i j k l q : ℕ) (first second one other : Pair) → slice_get rules i ≡ Some first → slice_get rules j ≡ Some second
-    → k ≡ i → l ≡ j → OverlapOf rules k l q one other → (OverlapOf rules i j q first second → IsResolved rules (critical_pair first second q))
-    → IsResolved rules (critical_pair one other q)
-along_rules rules i j k l q first second one other is_first is_second e f overlap joins =
-    let one_is : one ≡ first = one_rule rules i k first one is_first overlap.is_first e in
-    let other_is : other ≡ second = one_rule rules j l second other is_second overlap.is_second f in
-    let meets : Overlaps first.0 second.0 q =
-    let P : Pair → Type 0 = λ rule. Overlaps rule.0 other.0 q in
-    let Q : Pair → Type 0 = λ rule. Overlaps first.0 rule.0 q in
-    subst Q other_is (subst P one_is overlap.overlaps) in
-    let here : OverlapOf rules i j q first second = record {
-      is_first = is_first;
-      is_second = is_second;
-      overlaps = meets;
-      proper = λ same. overlap.proper (e ∙ same ∙ sym f);
-    } in
-    let R : Pair → Type 0 = λ rule. IsResolved rules (critical_pair first rule q) in
-    let S : Pair → Type 0 = λ rule. IsResolved rules (critical_pair rule other q) in
-    subst S (sym one_is) (subst R (sym other_is) (joins here))
+-- what is read at that index
+pub rule_at : (rules : List Pair) (l : List ℕ) (overlaps : List Overlap) (k : ℕ) (one : Overlap) (rule : Pair)
+    → AreOverlaps rules l overlaps → k < length overlaps → one ≡ get_or overlaps k one → rule ≡ get_or rules one.rule rule → slice_get rules one.rule ≡ Some rule
+rule_at rules l overlaps k one rule row within is_one read =
+    slice_get_read rules (length rules) one.rule rule refl (rule_within rules l overlaps k one row within is_one) read
 
--- the overlaps at the places from here up to the next place join
-pub earlier_to_place : (rules : List Pair) (i j here next : ℕ) (first second : Pair) → slice_get rules i ≡ Some first → slice_get rules j ≡ Some second
-    → EarlierJoin rules i j here
-    → ((q : ℕ) → here ≤ q → q < next → OverlapOf rules i j q first second → IsResolved rules (critical_pair first second q))
-    → EarlierJoin rules i j next
-earlier_to_place rules i j here next first second is_first is_second earlier joins k l q one other (inl low) overlap =
-    earlier k l q one other (inl low) overlap
-earlier_to_place rules i j here next first second is_first is_second earlier joins k l q one other (inr (same, inl low)) overlap =
-    earlier k l q one other (inr (same, inl low)) overlap
-earlier_to_place rules i j here next first second is_first is_second earlier joins k l q one other (inr (same, inr (same', low))) overlap =
-    elim (cases_lt q here) [
-      | inl tried ↦ earlier k l q one other (inr (same, inr (same', tried))) overlap
-      | inr later ↦ along_rules rules i j k l q first second one other is_first is_second same same' overlap (joins q later low)
-    ]
+-- where the critical pair with the rule at that index joins, the overlap does
+pub same_second : (rules : List Pair) (i : ℕ) (first : Pair) (one : Overlap) (second : Pair) → slice_get rules one.rule ≡ Some second
+    → IsResolved rules (critical_pair first second one.place) → JoinsAt rules i first one
+same_second rules i first one second is_second joins other overlap =
+    let P : Pair → Type 0 = λ rule. IsResolved rules (critical_pair first rule one.place) in
+    subst P (some-injective (sym is_second ∙ overlap.is_second)) joins
 
--- past the last overlap of rules i and j come those of i and the next rule
-pub earlier_to_second : (rules : List Pair) (i j here : ℕ) (first second : Pair) → slice_get rules i ≡ Some first → slice_get rules j ≡ Some second
-    → EarlierJoin rules i j here → NoOverlapFrom first.0 second.0 here → EarlierJoin rules i (j + 1) 0
-earlier_to_second rules i j here first second is_first is_second earlier none k l q one other (inl low) overlap =
-    earlier k l q one other (inl low) overlap
-earlier_to_second rules i j here first second is_first is_second earlier none k l q one other (inr (same, inr (same', low))) overlap =
-    absurd (omega arith)
-earlier_to_second rules i j here first second is_first is_second earlier none k l q one other (inr (same, inl low)) overlap =
-    elim (cases_lt l j) [
-      | inl before ↦ earlier k l q one other (inr (same, inl before)) overlap
-      | inr at_last ↦
-          let last : l ≡ j = omega arith in
-          elim (cases_lt q here) [
-            | inl tried ↦ earlier k l q one other (inr (same, inr (last, tried))) overlap
-            | inr later ↦
-                along_rules rules i j k l q first second one other is_first is_second same last overlap
-                (λ here_overlap. absurd (none q later here_overlap.overlaps))
-          ]
-    ]
+-- the rule that is read at the index of an overlap is the one that overlaps
+pub overlaps_second : (rules : List Pair) (l : List ℕ) (overlaps : List Overlap) (k : ℕ) (one : Overlap) (second : Pair)
+    → AreOverlaps rules l overlaps → k < length overlaps → one ≡ get_or overlaps k one → slice_get rules one.rule ≡ Some second → Overlaps l second.0 one.place
+overlaps_second rules l overlaps k one second row within is_one is_second =
+    let P : Overlap → Type 0 = λ o. OverlapsRule rules l o.rule o.place in
+    let found = subst P (sym is_one) (row.each k one within) in
+    let same : found.rule ≡ second = some-injective (sym found.is_rule ∙ is_second) in
+    let Q : Pair → Type 0 = λ pair. Overlaps l pair.0 one.place in
+    subst Q same found.overlaps
 
-joins_at : {rules : List Pair} {i j : ℕ} {first second : Pair} (place q : ℕ) → place ≡ q
-    → (OverlapOf rules i j place first second → IsResolved rules (critical_pair first second place))
-    → OverlapOf rules i j q first second → IsResolved rules (critical_pair first second q)
-joins_at {rules = rules} {i = i} {j = j} {first = first} {second = second} place q same joins =
-    let P : ℕ → Type 0 = λ p. OverlapOf rules i j p first second → IsResolved rules (critical_pair first second p) in
-    subst P same joins
+module _ (rules : List Pair) (i : ℕ) (first : Pair) (overlaps : List Overlap) (is_first : slice_get rules i ≡ Some first)
+    (row : AreOverlaps rules first.0 overlaps) (earlier : EarlierJoin rules i 0 0) where
+  -- an overlap of the row that isn't past the next one joins
+  row_joins : (next l q : ℕ) (one other : Pair) → RowJoins rules i first overlaps next → OverlapOf rules i l q one other
+      → ((k : ℕ) (d : Overlap) → next ≤ k → k < length overlaps → get_or overlaps k d ≡ record { rule = l; place = q } → ⊥)
+      → IsResolved rules (critical_pair one other q)
+  row_joins next l q one other joins overlap not_later =
+      let here : Overlap = record { rule = l; place = q } in
+      let is_one : one ≡ first = some-injective (sym overlap.is_first ∙ is_first) in
+      let P : Pair → Type 0 = λ rule. OverlapOf rules i l q rule other in
+      let mine : OverlapOf rules i l q first other = subst P is_one overlap in
+      let listed = row.all here (record { rule = other; is_rule = mine.is_second; overlaps = mine.overlaps }) in
+      let k = listed.0 in
+      let Q : Pair → Type 0 = λ rule. IsResolved rules (critical_pair rule other q) in
+      elim (cases_lt k next) [
+        | inl before ↦
+            let R : Overlap → Type 0 = λ o. JoinsAt rules i first o in
+            subst Q (sym is_one) (subst R listed.2 (joins k here before) other mine)
+        | inr later ↦ absurd (not_later k here later listed.1 listed.2)
+      ]
 
-module _ (rules : List Pair) (i j : ℕ) (first second : Pair) (is_first : slice_get rules i ≡ Some first)
-    (is_second : slice_get rules j ≡ Some second) (before : Search) (tried : Tried rules i j first second before) where
-  -- the search's next overlap is one of the two rules' left sides
-  found_overlap : (place : ℕ) → IsFirstOverlap before.first before.second before.here place → Overlaps first.0 second.0 place
-  found_overlap place found =
-      let P : List ℕ → Type 0 = λ l. Overlaps l before.second place in
-      let Q : List ℕ → Type 0 = λ m. Overlaps first.0 m place in
-      subst Q tried.second_is (subst P tried.first_is found.overlaps)
+  -- all overlaps before the next one of the row join
+  pub earlier_in_row : (next : ℕ) (at : Overlap) → RowJoins rules i first overlaps next → next < length overlaps
+      → at ≡ get_or overlaps next at → EarlierJoin rules i at.rule at.place
+  earlier_in_row next at joins within is_at k l q one other (inl low) overlap = earlier k l q one other (inl low) overlap
+  earlier_in_row next at joins within is_at k l q one other (inr (same, low)) overlap =
+      let P : ℕ → Type 0 = λ n. OverlapOf rules n l q one other in
+      row_joins next l q one other joins (subst P same overlap) (λ m d from inside e.
+      let before : IsBefore (record { rule = l; place = q }) at = low in
+      elim (cases_eq m next) [
+        | inl here ↦
+            let is_same : record { rule = l; place = q } ≡ at =
+            sym e ∙ ap (λ n. get_or overlaps n d) here ∙ get_or_default overlaps next d at within ∙ sym is_at in
+            let index : l ≡ at.rule = ap (λ (o : Overlap). o.rule) is_same in
+            let place : q ≡ at.place = ap (λ (o : Overlap). o.place) is_same in
+            absurd (let no : ⊥ = omega (arith, before) in no)
+        | inr apart ↦
+            let ascends : IsBefore (get_or overlaps next d) (get_or overlaps m d) = row.ascending next m d (omega arith) inside in
+            let is_here : get_or overlaps next d ≡ at = get_or_default overlaps next d at within ∙ sym is_at in
+            let index : (get_or overlaps next d).rule ≡ at.rule = ap (λ (o : Overlap). o.rule) is_here in
+            let place : (get_or overlaps next d).place ≡ at.place = ap (λ (o : Overlap). o.place) is_here in
+            let index' : (get_or overlaps m d).rule ≡ l = ap (λ (o : Overlap). o.rule) e in
+            let place' : (get_or overlaps m d).place ≡ q = ap (λ (o : Overlap). o.place) e in
+            absurd (let no : ⊥ = omega (arith, before, ascends) in no)
+      ])
 
-  search_overlap : (place : ℕ) → Overlaps first.0 second.0 place → Overlaps before.first before.second place
-  search_overlap place overlaps =
-      let P : List ℕ → Type 0 = λ l. Overlaps l second.0 place in
-      let Q : List ℕ → Type 0 = λ m. Overlaps before.first m place in
-      subst Q (sym tried.second_is) (subst P (sym tried.first_is) overlaps)
+  -- past the row come the overlaps in which the next rule begins
+  pub row_all : (next : ℕ) → RowJoins rules i first overlaps next → length overlaps ≤ next → EarlierJoin rules (i + 1) 0 0
+  row_all next joins past k l q one other (inl low) overlap = elim (cases_lt k i) [
+    | inl before ↦ earlier k l q one other (inl before) overlap
+    | inr from ↦
+        let same : k ≡ i = omega arith in
+        let P : ℕ → Type 0 = λ n. OverlapOf rules n l q one other in
+        row_joins next l q one other joins (subst P same overlap) (λ m d later inside e. omega arith)
+  ]
+  row_all next joins past k l q one other (inr (same, low)) overlap = absurd (let no : ⊥ = omega (arith, low) in no)
 
-  -- all overlaps before the one that is found join
-  earlier_to_found : (place : ℕ) → IsFirstOverlap before.first before.second before.here place → EarlierJoin rules i j place
-  earlier_to_found place found =
-      earlier_to_place rules i j before.here place first second is_first is_second tried.earlier
-      (λ q low high overlap. absurd (found.first q low high (search_overlap q overlap.overlaps)))
+  -- one more overlap of the row joins
+  pub row_more : (next : ℕ) (at : Overlap) → RowJoins rules i first overlaps next → next < length overlaps
+      → at ≡ get_or overlaps next at → JoinsAt rules i first at → RowJoins rules i first overlaps (next + 1)
+  row_more next at joins within is_at here k d low = elim (cases_lt k next) [
+    | inl before ↦ joins k d before
+    | inr from ↦
+        let same : k ≡ next = omega arith in
+        let is_here : at ≡ get_or overlaps k d =
+        is_at ∙ get_or_default overlaps next at d within ∙ ap (λ n. get_or overlaps n d) (sym same) in
+        subst (JoinsAt rules i first) is_here here
+  ]
 
-  pub tried_more : (after : Search) (place : ℕ) → IsFirstOverlap before.first before.second before.here place
-      → after ≡ record before { here = suc place }
-      → (OverlapOf rules i j place first second → IsResolved rules (critical_pair first second place)) → Tried rules i j first second after
-  tried_more after place found e joins =
-      let next : Tried rules i j first second (record before { here = suc place }) = record {
-        first_is = tried.first_is;
-        second_is = tried.second_is;
-        earlier = earlier_to_place rules i j place (suc place) first second is_first is_second (earlier_to_found place found)
-            (λ q low high overlap. let same : place ≡ q = omega arith in joins_at place q same joins overlap);
-      } in
-      let P : Search → Type 0 = λ search. Tried rules i j first second search in
-      subst P (sym e) next
-
-  pub unjoined_found : (place : ℕ) (u v : List ℕ) → IsFirstOverlap before.first before.second before.here place → (i ≡ j → 0 < place)
-      → IsUnresolved rules (critical_pair first second place) u v → IsFirstUnjoined rules i j place u v
-  unjoined_found place u v found proper parts = record {
+  -- the next overlap of the row is the first that doesn't join
+  pub unjoined_in_row : (next : ℕ) (at : Overlap) (second : Pair) (u v : List ℕ) → RowJoins rules i first overlaps next
+      → next < length overlaps → at ≡ get_or overlaps next at → slice_get rules at.rule ≡ Some second → (i ≡ at.rule → 0 < at.place)
+      → IsUnresolved rules (critical_pair first second at.place) u v → IsFirstUnjoined rules i at.rule at.place u v
+  unjoined_in_row next at second u v joins within is_at is_second proper parts = record {
     first = first;
     second = second;
-    overlap = record { is_first = is_first; is_second = is_second; overlaps = found_overlap place found; proper = proper };
+    overlap = record {
+      is_first = is_first;
+      is_second = is_second;
+      overlaps = overlaps_second rules first.0 overlaps next at second row within is_at is_second;
+      proper = proper;
+    };
     parts = parts;
-    earlier = earlier_to_found place found;
+    earlier = earlier_in_row next at joins within is_at;
   }
-
-  pub tried_all : NoOverlapFrom before.first before.second before.here → EarlierJoin rules i (j + 1) 0
-  tried_all none =
-      earlier_to_second rules i j before.here first second is_first is_second tried.earlier
-      (λ place low overlaps. none place low (search_overlap place overlaps))

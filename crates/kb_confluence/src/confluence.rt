@@ -1,11 +1,12 @@
 //! The test for confluence.
 
-ghost use Rattle.std.specs.Prelude.{◌≡◌, ◌↔◌, ◌+◌, ◌^◌, ◌<◌, ◌≤◌, IfOk, length};
+ghost use Rattle.std.specs.Prelude.{◌≡◌, ◌↔◌, ◌+◌, ◌^◌, ◌<◌, ◌≤◌, IfOk, Some, length, slice_get};
 ghost use Rattle.kb_word.specs.Overlap.{Overlaps, IsConfluent, critical_pair};
+ghost use Rattle.kb_overlap.specs.Overlapping.{AreOverlaps};
 ghost use Rattle.kb_confluence.specs.Unjoined.{EarlierJoin};
 ghost use Rattle.kb_confluence.specs.Answers.{MatchVerdict, IsVerdict, GivesCounterexample, Resolves};
 
-use kb_overlap::{pair_at, places};
+use kb_overlap::{LeftSides, Overlap, pair_at};
 use kb_rules::{Reducer, Rule, Rules};
 use kb_word::{Memory, Word};
 use std::alloc::Global;
@@ -56,8 +57,11 @@ fn check_rules<R: Reducer>(alloc: Global, rules: &[Rule], reducer: &R) -> Result
     requires size { length rules.now ≤ 2 ^ 31 }
     ensures { IfOk result (IsVerdict rules.now) }
 {
-    for i in 0..rules.len() {
-        match check_row(alloc, rules, reducer, i)? {
+    let left_sides = LeftSides::of(alloc, rules)?;
+    let mut overlaps = Vec::new(alloc);
+    for (i, first) in rules.iter().enumerate() {
+        left_sides.overlaps(first.left(), &mut overlaps)?;
+        match check_row(alloc, rules, reducer, i, first, &overlaps)? {
             Verdict::Yes => {}
             no => return Ok(no),
         }
@@ -65,46 +69,25 @@ fn check_rules<R: Reducer>(alloc: Global, rules: &[Rule], reducer: &R) -> Result
     Ok(Verdict::Yes)
 }
 
-/// The verdict on the overlaps in which the rule of this index begins first.
+/// The verdict on the overlaps in which the rule of this index begins first, by all overlaps of its left side.
 fn check_row<R: Reducer>(
     alloc: Global,
     rules: &[Rule],
     reducer: &R,
     i: usize,
+    first: &Rule,
+    overlaps: &[Overlap],
 ) -> Result<Verdict, Memory>
     requires reducer { R.rules reducer.now ≡ rules.now }
     requires size { length rules.now ≤ 2 ^ 31 }
-    requires index { i < length rules.now }
+    requires first { slice_get rules.now i ≡ Some first.now }
+    requires overlaps { AreOverlaps rules.now first.now.0 overlaps.now }
     requires earlier { EarlierJoin rules.now i 0 0 }
     ensures { IfOk result (MatchVerdict (EarlierJoin rules.now (i + 1) 0 0) rules.now) }
 {
-    for j in 0..rules.len() {
-        match check_pair(alloc, rules, reducer, i, j)? {
-            Verdict::Yes => {}
-            no => return Ok(no),
-        }
-    }
-    Ok(Verdict::Yes)
-}
-
-/// The verdict on the overlaps of two rules, by their indices.
-fn check_pair<R: Reducer>(
-    alloc: Global,
-    rules: &[Rule],
-    reducer: &R,
-    i: usize,
-    j: usize,
-) -> Result<Verdict, Memory>
-    requires reducer { R.rules reducer.now ≡ rules.now }
-    requires size { length rules.now ≤ 2 ^ 31 }
-    requires first { i < length rules.now }
-    requires second { j < length rules.now }
-    requires earlier { EarlierJoin rules.now i j 0 }
-    ensures { IfOk result (MatchVerdict (EarlierJoin rules.now i (j + 1) 0) rules.now) }
-{
-    let first = &rules[i];
-    let second = &rules[j];
-    for place in places(first.left(), second.left()) {
+    for overlap in overlaps {
+        let (j, place) = (overlap.rule, overlap.place as u64);
+        let second = &rules[j];
         // A rule with itself at place 0 is one replacement, and no overlap.
         if i == j && place == 0 {
             continue;

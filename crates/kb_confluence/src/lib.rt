@@ -6,6 +6,12 @@
 //! congruent to it; `least_by_the_same_congruence` carries that over to any other list of pairs that
 //! generates the same congruence, such as a presentation's relations.
 //!
+//! The test goes over the rules in list order. For each one `kb_overlap` finds all overlaps of its left side, ascending
+//! by the second rule and then by the place, without trying the rules one by one; a rule with itself at place 0 is left
+//! out. So the first critical pair whose words have different normal forms is the one to name.
+//! `proofs/Checking.antt` follows the test, `proofs/Replacements.antt` and `proofs/Newman.antt` have the critical pair
+//! criterion and Newman's lemma.
+//!
 //! Below are `kb_word`, `kb_rules` and `kb_overlap`; above are the commands that work with confluent rules.
 #![tactic(auto)]
 

@@ -1,2 +1,6 @@
 pub mod Superposed
-mod Searching
+mod Keys
+mod Lists
+mod Walking
+mod Collecting
+mod Indexing

@@ -6,7 +6,7 @@ use Rattle.std.proofs.Math.Nat.{suc-add}
 use Rattle.kb_word.specs.Words.{Pair}
 use Rattle.kb_word.specs.Overlap.{Overlaps, superposition, critical_pair}
 use Rattle.kb_word.specs.Congruence.{Replaces}
-use Rattle.kb_overlap.specs.Search.{AgreeAsFar}
+use Rattle.kb_overlap.specs.Agreement.{AgreeAsFar}
 
 pub All-drop : (P : ℕ → Type 0) (n : ℕ) (xs : List ℕ) → All P xs → All P (drop n xs)
 All-drop P n xs all k d within = rw get_or-drop (all (n + k) d (omega (arith, length-drop n xs)))
@@ -14,7 +14,7 @@ All-drop P n xs all k d within = rw get_or-drop (all (n + k) d (omega (arith, le
 some-injective : {x y : ℕ} → Some x ≡ Some y → x ≡ y
 some-injective e = cc
 
-slice_get-drop : (n : ℕ) (xs : List ℕ) (k : ℕ) → slice_get (drop n xs) k ≡ slice_get xs (n + k)
+pub slice_get-drop : (n : ℕ) (xs : List ℕ) (k : ℕ) → slice_get (drop n xs) k ≡ slice_get xs (n + k)
 slice_get-drop zero xs k = rw zero-add refl
 slice_get-drop (suc n) [] k = refl
 slice_get-drop (suc n) (x ∷ xs) k = rw suc-add (slice_get-drop n xs k)
@@ -35,7 +35,7 @@ agreeing-lengthened (x ∷ xs) (y ∷ ys) agree =
     cc
 
 -- from the place on, the left side agrees with the other
-overlap-agrees : (l m : List ℕ) (place : ℕ) → Overlaps l m place → AgreeAsFar (drop place l) m
+pub overlap-agrees : (l m : List ℕ) (place : ℕ) → Overlaps l m place → AgreeAsFar (drop place l) m
 overlap-agrees l m place overlap k low high =
     slice_get-drop place l k ∙ overlap.agree k (omega (arith, length-drop place l)) high
 

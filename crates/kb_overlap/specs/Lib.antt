@@ -1,1 +1,3 @@
-pub mod Search
+pub mod Agreement
+pub mod Overlapping
+pub mod Sides

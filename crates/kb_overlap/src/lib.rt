@@ -1,27 +1,42 @@
 //! Overlaps of words, and the critical pairs of rules whose left sides overlap.
 //!
-//! The public contract: `places` goes over exactly the places at which two words overlap, in ascending
-//! order (`meets` tells of one place), `pair_at` builds the critical pair of two rules at a place, and
-//! `overlaps_are_superpositions` says what that pair is: the superposition with one left side replaced.
-//! Containment and equal words are overlaps; a caller leaves out a rule with itself at place 0.
+//! Two words overlap at a place of the first where from there on their letters agree as far as both go; so
+//! containment and equal words are overlaps. Whether rules are confluent is decided by the critical pairs of all
+//! overlaps of their left sides.
 //!
-//! Below is `kb_word`, with the definitions of overlap and critical pair; above is `kb_confluence`.
+//! # The public contract
+//!
+//! - `LeftSides::of` takes any list of rules: left sides may be equal, or contain one another, or be empty.
+//!   `LeftSides::overlaps` then finds all overlaps of a word with them: `AreOverlaps` (specs/Overlapping.antt) says
+//!   that they are exactly the overlaps, strictly ascending by the rule's index and then by the place. A caller
+//!   leaves out a rule with itself at place 0.
+//! - `meets` tells whether two words overlap at a place.
+//! - `pair_at` builds the critical pair of two rules at a place, and `overlaps_are_superpositions` says what that
+//!   pair is: the superposition with one left side replaced.
+//!
+//! # How all overlaps are found
+//!
+//! In lexicographic order, with a prefix before its extensions, the left sides serve as a trie: those that begin
+//! with given letters stand side by side, and first among them those that are these letters. From each place of
+//! the word on a walk reads its letters, and narrows the part of left sides that begin with what was read by binary
+//! search (src/walk.rt). Left sides that end on the way are contained in the word; those that are left at the end
+//! of the word overlap with that end. The walk ends where no left side is left. So a letter that is read costs a few
+//! binary searches, and left sides that don't overlap cost nothing.
+//!
+//! # The proofs
+//!
+//! `proofs/Walking.antt` follows the walk at one place, `proofs/Collecting.antt` goes over the places, and
+//! `proofs/Indexing.antt` has what sorting gives: the left sides in order, and the overlaps with left sides as
+//! overlaps with rules. `proofs/Superposed.antt` has the equations of critical pairs.
+//!
+//! Below are `kb_word`, with the definitions of overlap and critical pair, and `kb_rules`; above is `kb_confluence`.
 #![tactic(auto)]
 
+mod left_sides;
 mod meeting;
 mod pair;
-mod search;
+mod walk;
 
-ghost use Rattle.std.specs.Prelude.{◌≡◌};
-
-use kb_word::Word;
+pub use left_sides::{LeftSides, Overlap};
 pub use meeting::meets;
 pub use pair::{overlaps_are_superpositions, pair_at};
-pub use search::Places;
-
-/// Goes over the places of `l` at which the words overlap, in ascending order.
-pub fn places<'a>(l: &'a Word, m: &'a Word) -> Places<'a>
-    ensures { result ≡ record { first = l.now; second = m.now; here = 0 } }
-{
-    Places::new(l, m)
-}

@@ -1,6 +1,6 @@
-use Rattle.kb_confluence.specs.Unjoined.{EarlierJoin}
+use Rattle.kb_confluence.proofs.Checking.{RowJoins}
 use Rattle.kb_confluence.proofs.confluence.check_row.Given as goal
 
--- each overlap of the rule with an earlier one joins
-abbrev pub invariant-loop-j : goal.invariant-loop-j
-invariant-loop-j g l = EarlierJoin l.rules l.i l.j 0
+-- the overlaps of the row so far join
+abbrev pub invariant-loop-overlap : goal.invariant-loop-overlap
+invariant-loop-overlap g l = RowJoins l.rules l.i l.first l.overlaps l.overlap-index
