@@ -1,9 +1,9 @@
 -- Steps of the automaton along the failure links.
-use Rattle.std.proofs.Common.{◌≡◌, ◌≢◌, ℕ, ◌+◌, ◌-◌, ◌<◌, ◌≤◌, ◌⊎◌, List, [], ◌∷◌, ◌++◌, length, get_or, drop, refl, sym, ap, ◌∙◌, subst, inl, inr, arith}
+use Rattle.std.proofs.Common.{◌≡◌, ℕ, ◌+◌, ◌-◌, ◌<◌, ◌≤◌, List, [], ◌∷◌, ◌++◌, length, get_or, drop, refl, sym, ap, ◌∙◌, subst, inl, inr, arith}
 use Rattle.kb_word.specs.Words.{EndsWith}
 use Rattle.kb_index.specs.declared.edge.Edge.{Edge}
 use Rattle.kb_index.specs.Edges.{AreEdges, edge_at, word}
-use Rattle.kb_index.specs.Children.{IsChild, IsNoChild}
+use Rattle.kb_index.specs.Children.{IsChild, IsNoChild, IsRootChild}
 use Rattle.kb_index.specs.Links.{AreLinks, IsLongestSuffix, LeadsFrom}
 use Rattle.kb_index.proofs.Words.{word_root}
 use Rattle.kb_index.proofs.States.{FromEdge, from_edge, same_state}
@@ -155,3 +155,18 @@ pub child_from : (edges : List Edge) (state letter at child : ℕ) → at ≤ st
 child_from edges state letter at child lower is some =
     let same : child - 1 ≡ is.place = omega (arith, is.is) in
     omega (arith, ap (λ (k : ℕ). (edge_at edges k).parent) same, is.parent)
+
+-- state 0 is reached, whose child by the letter is known
+pub step_root : (edges : List Edge) → AreEdges edges → (state letter child : ℕ) → Falling edges state letter 0
+    → IsRootChild edges letter child → FromEdge child → IsLongestSuffix edges (word edges state ++ letter ∷ []) (word edges child)
+step_root edges rise state letter child falling is root = step_none edges rise state letter falling (is.none refl)
+step_root edges rise state letter child falling is (edge_to place) =
+    step_found edges rise state letter 0 (place + 1) falling (is.some (omega arith))
+
+pub root_from : (edges : List Edge) (state letter child : ℕ) → IsRootChild edges letter child → LeadsFrom edges state child
+root_from edges state letter child is some = child_from edges state letter 0 child (omega arith) (is.some some) some
+
+pub root_within : (edges : List Edge) (letter child : ℕ) → IsRootChild edges letter child → FromEdge child → child ≤ length edges
+root_within edges letter child is root = omega arith
+root_within edges letter child is (edge_to place) =
+    let one = is.some (omega arith) in omega (arith, one.is, one.within)

@@ -2,9 +2,10 @@
 //!
 //! [`Index`] meets the clauses of `kb_rules::Reducer`, word for word those that the plain scan meets, so it gives the
 //! same normal forms: of the left sides that end at the letter read last, the first in list order is replaced. Where the
-//! scan tries each rule at each letter, the index takes a few steps whose number doesn't depend on how many rules there
-//! are. Making it takes time that grows with the letters of all left sides, up to the logarithm of a sort. Want of
-//! memory is the one free answer.
+//! scan tries each rule at each letter, the index goes from state to state: reading n letters takes n steps down the trie
+//! and at most as many up, however many rules there are. Making the index takes time that grows with the number of
+//! letters of all left sides, times the logarithm of the number of rules, since each level is sorted. Want of memory is
+//! the one free answer.
 //!
 //! How it is made (Aho and Corasick, 1975; Sims, Computation with Finitely Presented Groups, 3.5):
 //!
@@ -13,7 +14,8 @@
 //!   level, in the order of the states that they lead from and of their letters. So states with longer words come later,
 //!   and the edges from one state stand together.
 //! - `children`: where the edges from each state begin. A child is found by halving, in time that grows as the logarithm
-//!   of the number of the state's children, however many letters there are.
+//!   of the number of the state's children, however many letters there are. State 0, at which most searches end, has a
+//!   row with its child by each letter.
 //! - `links`: each state's failure link, to the state of the longest proper suffix of its word, and the step by a letter,
 //!   which follows the links to a state with a child by the letter. Links lead to earlier states, so steps end.
 //! - `owners`: each state's rule, the first in list order whose left side ends the state's word.

@@ -93,6 +93,7 @@ fn next_state(automaton: &Automaton, states: &[usize], letter: Letter) -> usize
     step(
         &automaton.edges,
         &automaton.firsts,
+        &automaton.roots,
         &automaton.links,
         state,
         letter.number(),
