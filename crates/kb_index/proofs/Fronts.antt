@@ -76,11 +76,6 @@ states_next edges rise w states x state are within stepped =
       longest = longest_more edges rise w (word edges (get_or states last 0)) (word edges state) x stands.longest stepped;
     }
 
-pub last_within : (edges : List Edge) (w : List ℕ) (states : List ℕ) → AreStates edges w states
-    → get_or states (length states - 1) 0 ≤ length edges
-last_within edges w states are =
-    let stands = are.each (length states - 1) (omega (arith, are.count)) in stands.within
-
 at_left : (rules : List Pair) (place : ℕ) (rule : Pair) → slice_get rules place ≡ Some rule → left_at rules place ≡ rule.0
 at_left [] place rule is = absurd (none-some rule is)
 at_left (first ∷ rules) zero rule is = ap (λ (r : Pair). r.0) (same_Some first rule is)

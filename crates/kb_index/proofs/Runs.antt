@@ -22,18 +22,6 @@ parents_rise edges rise i j order within =
           omega (arith, ap (λ (k : ℕ). (edge_at edges k).parent) same)
     ]
 
--- the first edge from a state on is no later for the next state
-pub firsts_rise : (edges : List Edge) (state first next : ℕ) → IsFirst edges state first → IsFirst edges (state + 1) next
-    → first ≤ next
-firsts_rise edges state first next here there =
-    elim (cases_lt next first) [
-      | inl before ↦
-          let one = here.earlier next before in
-          let two = there.later next (omega arith) (omega (arith, here.within)) in
-          absurd (omega arith)
-      | inr fine ↦ omega arith
-    ]
-
 -- an edge of the run leads from the state
 pub run_parent : (edges : List Edge) (state first next i : ℕ) → IsFirst edges state first → IsFirst edges (state + 1) next
     → first ≤ i → i < next → (edge_at edges i).parent ≡ state
@@ -70,20 +58,6 @@ child_runs edges state letter child first next here there is =
       | inr late ↦ let more = there.later is.place late is.within in absurd (omega (arith, is.parent))
     ] in
     (from, upto)
-
--- the first edge that isn't from an earlier state
-pub first_here : (edges : List Edge) (state first : ℕ) → AreEdges edges → first ≤ length edges
-    → ((i : ℕ) → i < first → (edge_at edges i).parent < state)
-    → (first < length edges → state ≤ (edge_at edges first).parent) → IsFirst edges state first
-first_here edges state first rise within earlier here =
-    record {
-      within = within;
-      earlier = earlier;
-      later = λ i from upto.
-          let one = here (omega arith) in
-          let two = parents_rise edges rise first i from upto in
-          omega arith;
-    }
 
 -- what holds of each number with its place, with a number more
 pub numbers_push : (P : ℕ → ℕ → Type 0) (xs : List ℕ) (x : ℕ) → ((i : ℕ) → i < length xs → P i (get_or xs i 0)) → P (length xs) x
@@ -122,22 +96,4 @@ row_whole edges row first rise next short each letter =
                 ];
             some = λ some. absurd (omega arith);
           })
-    ]
-
-pub root_first : (edges : List Edge) → IsFirst edges 0 0
-root_first edges =
-    record { within = omega arith; earlier = λ i less. absurd (omega arith); later = λ i from within. omega arith }
-
-pub firsts_push : (edges : List Edge) (firsts : List ℕ) (first : ℕ)
-    → ((state : ℕ) → state < length firsts → IsFirst edges state (get_or firsts state 0))
-    → IsFirst edges (length firsts) first
-    → (state : ℕ) → state < length (firsts ++ first ∷ []) → IsFirst edges state (get_or (firsts ++ first ∷ []) state 0)
-firsts_push edges firsts first each here state within =
-    elim (cases_lt state (length firsts)) [
-      | inl earlier ↦
-          subst (IsFirst edges state) (sym (get_or_append_left firsts (first ∷ []) 0 state earlier)) (each state earlier)
-      | inr late ↦
-          let same : length firsts ≡ state = omega (arith, length_push firsts first) in
-          let there : IsFirst edges state first = subst (λ (k : ℕ). IsFirst edges k first) same here in
-          subst (IsFirst edges state) (sym (get_or_push firsts first 0 state same)) there
     ]

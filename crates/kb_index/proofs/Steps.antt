@@ -59,10 +59,6 @@ pub record Falling (edges : List Edge) (state letter at : ℕ) : Type 0 where
   pub all : (parent child : ℕ) → parent ≤ length edges → IsChild edges parent letter child
       → EndsWith (word edges state) (word edges parent) → EndsWith (word edges at) (word edges parent)
 
-pub falling_first : (edges : List Edge) (state letter : ℕ) → Falling edges state letter state
-falling_first edges state letter =
-    record { lower = omega arith; ends = ends_all (word edges state); all = λ parent child within is ends. ends }
-
 -- the child's word is that of the state with the letter more
 pub child_ends : (edges : List Edge) → AreEdges edges → (w : List ℕ) (state letter child : ℕ) → IsChild edges state letter child
     → EndsWith w (word edges state) → EndsWith (w ++ letter ∷ []) (word edges child)
@@ -162,11 +158,3 @@ pub step_root : (edges : List Edge) → AreEdges edges → (state letter child :
 step_root edges rise state letter child falling is root = step_none edges rise state letter falling (is.none refl)
 step_root edges rise state letter child falling is (edge_to place) =
     step_found edges rise state letter 0 (place + 1) falling (is.some (omega arith))
-
-pub root_from : (edges : List Edge) (state letter child : ℕ) → IsRootChild edges letter child → LeadsFrom edges state child
-root_from edges state letter child is some = child_from edges state letter 0 child (omega arith) (is.some some) some
-
-pub root_within : (edges : List Edge) (letter child : ℕ) → IsRootChild edges letter child → FromEdge child → child ≤ length edges
-root_within edges letter child is root = omega arith
-root_within edges letter child is (edge_to place) =
-    let one = is.some (omega arith) in omega (arith, one.is, one.within)

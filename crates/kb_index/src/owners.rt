@@ -27,7 +27,8 @@ pub fn owners_of(
     requires roots { AreRootChildren edges.now roots.now }
     requires links { AreLinks edges.now links.now }
     requires count { length links.now ≡ length edges.now + 1 }
-    ensures { IfOk result (λ owners. AreOwners rules.now edges.now (length edges.now + 1) owners.items) }
+    ensures { IfOk result
+        (λ owners. AreOwners rules.now edges.now (length edges.now + 1) owners.items) }
 {
     let mut owners = own(alloc, rules, edges, firsts, roots, links)?;
     for state in 1..owners.len() {
