@@ -1,10 +1,10 @@
 -- What is read, its states, and the rule that the last state names.
-use Rattle.std.proofs.Common.{◌≡◌, ◌≢◌, ℕ, zero, suc, ◌+◌, ◌-◌, ◌<◌, ◌≤◌, ◌⊎◌, List, [], ◌∷◌, ◌++◌, length, get_or, take, slice_get, Option, Some, None, IfSome, IfNone, Bor, refl, sym, ap, ◌∙◌, subst, inl, inr, arith}
+use Rattle.std.proofs.Common.{◌≡◌, ℕ, zero, suc, ◌+◌, ◌-◌, ◌≤◌, List, [], ◌∷◌, ◌++◌, length, get_or, take, slice_get, Option, Some, None, IfSome, IfNone, Bor, refl, sym, ap, ◌∙◌, subst, inl, inr, arith}
 use Rattle.std.specs.Option.{option_copied}
-use Rattle.std.proofs.lemmas.List.{get_or_append_left, get_or_push, length_push, take-append-le, take_all, take-take, length-take-le, get_or-take, get_or_read}
+use Rattle.std.proofs.lemmas.List.{get_or_append_left, get_or_push, length_push, take-append-le, take_all, take-take, length-take-le, get_or-take}
 use Rattle.std.proofs.lemmas.Option.{same_Some, none-some, slice_get_within, slice_get-get_or}
 use Rattle.std.proofs.lemmas.Bool.{cases_lt}
-use Rattle.kb_word.specs.Words.{Pair, OneOf, EndsWith}
+use Rattle.kb_word.specs.Words.{Pair, EndsWith}
 use Rattle.kb_rules.specs.Ending.{IsFirstEnding, NoneEnds}
 use Rattle.kb_index.specs.declared.edge.Edge.{Edge}
 use Rattle.kb_index.specs.Edges.{AreEdges, word}
@@ -75,11 +75,6 @@ states_next edges rise w states x state are within stepped =
       within = within;
       longest = longest_more edges rise w (word edges (get_or states last 0)) (word edges state) x stands.longest stepped;
     }
-
-pub last_within : (edges : List Edge) (w : List ℕ) (states : List ℕ) → AreStates edges w states
-    → get_or states (length states - 1) 0 ≤ length edges
-last_within edges w states are =
-    let stands = are.each (length states - 1) (omega (arith, are.count)) in stands.within
 
 at_left : (rules : List Pair) (place : ℕ) (rule : Pair) → slice_get rules place ≡ Some rule → left_at rules place ≡ rule.0
 at_left [] place rule is = absurd (none-some rule is)

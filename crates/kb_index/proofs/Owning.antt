@@ -1,30 +1,16 @@
 -- The rules of the states.
-use Rattle.std.proofs.Common.{◌≡◌, ◌≢◌, ℕ, ◌+◌, ◌-◌, ◌<◌, ◌≤◌, ◌⊎◌, List, [], ◌∷◌, ◌++◌, length, get_or, set, replicate, min, drop, refl, sym, ap, ◌∙◌, subst, inl, inr, arith, length-set}
-use Rattle.std.proofs.lemmas.List.{get_or-replicate, length-replicate, get_or-set_same, get_or-set_other}
+use Rattle.std.proofs.Common.{◌≡◌, ◌≢◌, ℕ, ◌+◌, ◌<◌, ◌≤◌, List, length, get_or, set, min, drop, sym, ap, ◌∙◌, subst, inl, inr, arith, length-set}
+use Rattle.std.proofs.lemmas.List.{get_or-set_same, get_or-set_other}
 use Rattle.std.proofs.lemmas.Bool.{cases_lt, cases_eq}
 use Rattle.kb_word.specs.Words.{Pair, EndsWith}
 use Rattle.kb_index.specs.declared.edge.Edge.{Edge}
-use Rattle.kb_index.specs.Edges.{AreEdges, edge_at, word}
+use Rattle.kb_index.specs.Edges.{word}
 use Rattle.kb_index.specs.Links.{AreLinks, IsLongestSuffix}
 use Rattle.kb_index.specs.Tries.{IsTrie, left_at}
-use Rattle.kb_index.specs.Owners.{IsOwn, AreOwn, IsOwner, AreOwners}
+use Rattle.kb_index.specs.Owners.{IsOwn, AreOwn, IsOwner}
 use Rattle.kb_index.proofs.States.{same_state}
 use Rattle.kb_index.proofs.Suffixes.{ends_all, ends_within, ends_shorter, drop_ends, same_ends, ends_of_nil}
 use Rattle.kb_index.proofs.Words.{word_root}
-
-pub own_none : (rules : List Pair) (edges : List Edge) → AreOwn rules edges 0 (replicate (length edges + 1) (length rules))
-own_none rules edges =
-    let n : ℕ = length rules in
-    record {
-      count = length-replicate (length edges + 1) n;
-      each = λ state within.
-          let is : get_or (replicate (length edges + 1) n) state 0 ≡ n = get_or-replicate (length edges + 1) state n 0 (omega arith) in
-          record {
-            within = omega arith;
-            is = λ less. absurd (omega arith);
-            first = λ earlier less tried. absurd (omega arith);
-          };
-    }
 
 -- the left side's own state: the longest suffix of a left side that is a state's word is all of it
 pub own_state : (rules : List Pair) (edges : List Edge) → IsTrie rules edges → (place state : ℕ) → place < length rules
@@ -185,8 +171,3 @@ owning_more rules edges links trie are all_links state some within owners owning
           let Q : ℕ → Type 0 = λ v. IsOwn rules (length rules) (word edges other) v in
           subst Q (sym (get_or-set_other owners state other value 0 apart)) (owning.rest other (omega arith) in_other);
     }
-
-pub owning_owners : (rules : List Pair) (edges : List Edge) (done : ℕ) (owners : List ℕ) → length edges + 1 ≤ done
-    → Owning rules edges done owners → AreOwners rules edges (length edges + 1) owners
-owning_owners rules edges done owners finished owning =
-    record { count = owning.count; each = λ state less. owning.each state (omega arith) }

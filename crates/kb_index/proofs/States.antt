@@ -1,5 +1,5 @@
 -- States and their words: with an edge more, and that two states have two words.
-use Rattle.std.proofs.Common.{◌≡◌, ◌≢◌, ℕ, zero, suc, ◌+◌, ◌*◌, ◌-◌, ◌<◌, ◌≤◌, ◌⊎◌, List, [], ◌∷◌, ◌++◌, length, get_or, refl, sym, ap, ◌∙◌, subst, inl, inr, arith, length-append}
+use Rattle.std.proofs.Common.{◌≡◌, ◌≢◌, ℕ, zero, suc, ◌+◌, ◌-◌, ◌<◌, ◌≤◌, List, [], ◌∷◌, ◌++◌, length, refl, sym, ap, ◌∙◌, subst, inl, inr, arith}
 use Rattle.std.proofs.lemmas.List.{get_or_append_left, get_or_push, length_push, same_from_push}
 use Rattle.std.proofs.lemmas.Bool.{cases_lt}
 use Rattle.kb_index.specs.declared.edge.Edge.{Edge}
@@ -122,23 +122,6 @@ followed_new edges edge rise parent letter below =
       last = record { place = length edges; count = length_push edges edge; is = get_or_push edges edge no_edge (length edges) refl };
       spells = ap (word (edges ++ edge ∷ [])) (length_push edges edge) ∙ word_new edges edge;
       below = each_push (λ (i : ℕ) (e : Edge). rank e ≤ rank edge) edges edge (λ i within. omega (arith, below i within)) (omega arith);
-    }
-
--- the edge is the last one already
-pub followed_same : (edges : List Edge) (edge : Edge) → AreEdges edges
-    → ((i : ℕ) → i < length edges → rank (edge_at edges i) ≤ rank edge) → IsLast edges edge → Follows edges edge edges
-followed_same edges edge rise below last =
-    let within : last.place < length edges = omega (arith, last.count) in
-    record {
-      edges_rise = rise;
-      longer = omega arith;
-      same = λ i within. refl;
-      keeps = λ state within. refl;
-      last = last;
-      spells =
-          ap (word edges) last.count ∙ rise.spelled last.place within
-          ∙ ap (λ (e : Edge). word edges e.parent ++ e.letter ∷ []) last.is;
-      below = below;
     }
 
 -- an edge that isn't the last one, and isn't before one, is after all

@@ -5,13 +5,14 @@ use Rattle.kb_index.specs.declared.edge.Edge.{Edge}
 use Rattle.kb_index.specs.declared.automaton.Automaton.{Automaton}
 use Rattle.kb_index.specs.Edges.{word}
 use Rattle.kb_index.specs.Tries.{IsTrie}
-use Rattle.kb_index.specs.Children.{AreFirsts}
+use Rattle.kb_index.specs.Children.{AreFirsts, AreRootChildren}
 use Rattle.kb_index.specs.Links.{AreLinks, IsLongestSuffix}
 use Rattle.kb_index.specs.Owners.{AreOwners}
 
 pub record IsAutomaton (rules : List Pair) (automaton : Automaton) : Type 0 where
   pub trie : IsTrie rules automaton.edges.items
   pub firsts : AreFirsts automaton.edges.items automaton.firsts.items
+  pub roots : AreRootChildren automaton.edges.items automaton.roots.items
   pub count : length automaton.links.items ≡ length automaton.edges.items + 1
   pub links : AreLinks automaton.edges.items automaton.links.items
   pub owners : AreOwners rules automaton.edges.items (length automaton.edges.items + 1) automaton.owners.items

@@ -5,7 +5,7 @@ ghost use Rattle.kb_index.specs.Edges.{word};
 ghost use Rattle.kb_index.specs.Links.{IsLongestSuffix};
 ghost use Rattle.kb_index.specs.Automata.{IsAutomaton};
 
-use crate::children::firsts_of;
+use crate::children::{firsts_of, root_children_of};
 use crate::edge::Edge;
 use crate::links::links_of;
 use crate::owners::owners_of;
@@ -19,6 +19,7 @@ use std::alloc::Global;
 pub struct Automaton {
     pub edges: Vec<Edge>,
     pub firsts: Vec<usize>,
+    pub roots: Vec<usize>,
     pub links: Vec<usize>,
     pub owners: Vec<usize>,
 }
@@ -30,11 +31,13 @@ impl Automaton {
     {
         let edges = trie_of(alloc, rules)?;
         let firsts = firsts_of(alloc, &edges)?;
-        let links = links_of(alloc, &edges, &firsts)?;
-        let owners = owners_of(alloc, rules, &edges, &firsts, &links)?;
+        let roots = root_children_of(alloc, &edges, &firsts)?;
+        let links = links_of(alloc, &edges, &firsts, &roots)?;
+        let owners = owners_of(alloc, rules, &edges, &firsts, &roots, &links)?;
         Ok(Automaton {
             edges,
             firsts,
+            roots,
             links,
             owners,
         })
@@ -44,16 +47,19 @@ impl Automaton {
     pub fn copy(&self, alloc: Global) -> Result<Automaton, Memory>
         ensures edges { IfOk result (λ copy. copy.edges.items ≡ self.now.edges.items) }
         ensures firsts { IfOk result (λ copy. copy.firsts.items ≡ self.now.firsts.items) }
+        ensures roots { IfOk result (λ copy. copy.roots.items ≡ self.now.roots.items) }
         ensures links { IfOk result (λ copy. copy.links.items ≡ self.now.links.items) }
         ensures owners { IfOk result (λ copy. copy.owners.items ≡ self.now.owners.items) }
     {
         let edges = Vec::from_slice(alloc, &self.edges)?;
         let firsts = Vec::from_slice(alloc, &self.firsts)?;
+        let roots = Vec::from_slice(alloc, &self.roots)?;
         let links = Vec::from_slice(alloc, &self.links)?;
         let owners = Vec::from_slice(alloc, &self.owners)?;
         Ok(Automaton {
             edges,
             firsts,
+            roots,
             links,
             owners,
         })

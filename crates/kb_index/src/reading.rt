@@ -83,16 +83,19 @@ fn read_letter(
 fn next_state(automaton: &Automaton, states: &[usize], letter: Letter) -> usize
     requires automaton { (rules : List Pair) × IsAutomaton rules automaton.now }
     requires some { 0 < length states.now }
-    requires states { get_or states.now (length states.now - 1) 0 ≤ length automaton.now.edges.items }
+    requires states { get_or states.now (length states.now - 1) 0
+        ≤ length automaton.now.edges.items }
     ensures state { result ≤ length automaton.now.edges.items }
     ensures longest { IsLongestSuffix automaton.now.edges.items
-        (word automaton.now.edges.items (get_or states.now (length states.now - 1) 0) ++ letter ∷ [])
+        (word automaton.now.edges.items (get_or states.now (length states.now - 1) 0)
+        ++ letter ∷ [])
         (word automaton.now.edges.items result) }
 {
     let state = states[states.len() - 1];
     step(
         &automaton.edges,
         &automaton.firsts,
+        &automaton.roots,
         &automaton.links,
         state,
         letter.number(),

@@ -1,4 +1,4 @@
-use Rattle.std.proofs.Common.{◌≡◌, ◌<◌, ◌≤◌, ◌^◌, [], ◌∷◌, ◌++◌, All, ℕ, List, subst, sym, ap, ◌∙◌, arith}
+use Rattle.std.proofs.Common.{◌≡◌, ◌<◌, ◌≤◌, ◌^◌, [], ◌++◌, All, ℕ, List, subst, sym, ap, ◌∙◌, arith}
 use Rattle.kb_word.specs.Words.{OneOf}
 use Rattle.kb_word.specs.WordOrderLaws.{word_orders}
 use Rattle.kb_word.specs.Rewriting.{IsIrreducible, NormalForm}

@@ -1,7 +1,7 @@
-use Rattle.std.proofs.Common.{◌≡◌, ◌<◌, ◌≤◌, ◌^◌, ◌+◌, ◌-◌, ◌∷◌, ◌++◌, All, ℕ, List, [], length, take, subst, sym, ap, ◌∙◌, arith}
+use Rattle.std.proofs.Common.{◌<◌, ◌^◌, ◌-◌, ◌∷◌, ◌++◌, All, ℕ, List, [], length, subst, sym, ap, ◌∙◌, arith}
 use Rattle.kb_word.specs.Words.{Pair, OneOf}
 use Rattle.kb_word.specs.Rewriting.{IsIrreducible}
-use Rattle.kb_rules.specs.Ending.{IsFirstEnding, NoneEnds}
+use Rattle.kb_rules.specs.Ending.{IsFirstEnding}
 use Rattle.kb_rules.proofs.Endings.{irreducible_more}
 use Rattle.kb_rules.proofs.Scanning.{OnOk_then, cut_is, cut_irreducible, cut_reads, cut_range, ending_cut, ending_fits}
 use Rattle.kb_index.specs.declared.edge.Edge.{Edge}
