@@ -2,7 +2,7 @@
 
 use crate::automaton::Automaton;
 use crate::reading::normal_form;
-use kb_rules::{Reducer, Rules};
+use kb_rules::{Reducer, Rule, Rules, Trace};
 use kb_word::{Memory, Word};
 use std::alloc::Global;
 use std::marker::Model;
@@ -38,6 +38,18 @@ impl Reducer for Index {
 
     fn nf(&self, alloc: Global, w: &Word) -> Result<Word, Memory> {
         normal_form(alloc, &self.rules, &self.automaton, w)
+    }
+
+    fn trace(&self, alloc: Global, w: &Word) -> Result<Trace, Memory> {
+        Err(Memory)
+    }
+
+    fn push(&mut self, alloc: Global, rule: &Rule) -> Result<(), Memory> {
+        Err(Memory)
+    }
+
+    fn remove(&mut self, alloc: Global, place: usize) -> Result<(), Memory> {
+        Err(Memory)
     }
 
     fn copy(&self, alloc: Global) -> Result<Index, Memory> {

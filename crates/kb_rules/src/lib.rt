@@ -14,13 +14,15 @@ mod reducer;
 mod rule;
 mod rules;
 mod scan;
+mod trace;
 mod unread;
 
 pub use laws::{
-    a_normal_form_is_a_reduct, irreducible_words_are_normal, normal_forms_are_unique,
-    normal_forms_exist, reducts_are_congruent_and_not_greater,
+    a_normal_form_is_a_reduct, first_steps_are_steps, irreducible_words_are_normal,
+    normal_forms_are_unique, normal_forms_exist, reducts_are_congruent_and_not_greater,
 };
 pub use reducer::Reducer;
 pub use rule::Rule;
 pub use rules::Rules;
 pub use scan::Scan;
+pub use trace::{Step, Trace};

@@ -9,6 +9,7 @@ ghost use Rattle.kb_rules.specs.Reading.{Reads};
 use crate::reducer::Reducer;
 use crate::rule::Rule;
 use crate::rules::Rules;
+use crate::trace::Trace;
 use crate::unread::Unread;
 use kb_word::{Letter, Memory, Word};
 use std::alloc::Global;
@@ -40,6 +41,18 @@ impl Reducer for Scan {
 
     fn nf(&self, alloc: Global, w: &Word) -> Result<Word, Memory> {
         normal_form(alloc, &self.rules, w)
+    }
+
+    fn trace(&self, alloc: Global, w: &Word) -> Result<Trace, Memory> {
+        Err(Memory)
+    }
+
+    fn push(&mut self, alloc: Global, rule: &Rule) -> Result<(), Memory> {
+        Err(Memory)
+    }
+
+    fn remove(&mut self, alloc: Global, place: usize) -> Result<(), Memory> {
+        Err(Memory)
     }
 
     fn copy(&self, alloc: Global) -> Result<Scan, Memory> {
