@@ -23,14 +23,14 @@ pub record Growing (rules : List Pair) (before : List Edge) (depth : ℕ) (waiti
   pub longer : length before ≤ length edges
   pub keeps : (state : ℕ) → state ≤ length before → word edges state ≡ word before state
   pub bare : (i k : ℕ) (d : Waiting) → i < length before → k < length waiting
-    → (edge_at edges i).parent < (get_or waiting k d).edge.parent
+      → (edge_at edges i).parent < (get_or waiting k d).edge.parent
   pub parents : (i : ℕ) → i < length edges → (edge_at edges i).parent ≤ length before
   pub after : (i k : ℕ) (d : Waiting) → i < length edges → done ≤ k → k < length waiting
-    → rank (edge_at edges i) ≤ rank_of (get_or waiting k d)
+      → rank (edge_at edges i) ≤ rank_of (get_or waiting k d)
   pub states : (k : ℕ) (d : Waiting) → k < done → HasState edges (take (depth + 1) (left_at rules (get_or waiting k d).rule))
   pub each : All (IsWaiting rules edges (depth + 1) (length before + 1)) next
   pub all : (k : ℕ) (d : Waiting) → k < done → depth + 1 < length (left_at rules (get_or waiting k d).rule)
-    → WaitsOf next (get_or waiting k d).rule
+      → WaitsOf next (get_or waiting k d).rule
 
 pub growing_first : (rules : List Pair) (before : List Edge) (depth : ℕ) (waiting : List Waiting) → AreEdges before
     → AreWaiting rules before depth waiting → Growing rules before depth waiting 0 before []

@@ -27,7 +27,7 @@ pub record AreEdges (edges : List Edge) : Type 0 where
   pub letters : (i : ℕ) → i < length edges → (edge_at edges i).letter < 65536
   pub rising : (i j : ℕ) → i < j → j < length edges → rank (edge_at edges i) < rank (edge_at edges j)
   pub spelled : (i : ℕ) → i < length edges
-    → word edges (i + 1) ≡ word edges (edge_at edges i).parent ++ (edge_at edges i).letter ∷ []
+      → word edges (i + 1) ≡ word edges (edge_at edges i).parent ++ (edge_at edges i).letter ∷ []
 
 -- the last edge
 pub record IsLast (edges : List Edge) (edge : Edge) : Type 0 where
