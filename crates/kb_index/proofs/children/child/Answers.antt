@@ -1,9 +1,9 @@
-use Rattle.std.proofs.Common.{◌≡◌, ℕ, ◌+◌, ◌-◌, ◌/◌, ◌<◌, ◌≤◌, List, length, get_or, arith, ap, sym, ◌∙◌, inl, inr}
+use Rattle.std.proofs.Common.{◌≡◌, ℕ, ◌+◌, ◌/◌, ◌≤◌, List, get_or, arith, ap, inl, inr}
 use Rattle.std.proofs.lemmas.Bool.{cases_lt}
 use Rattle.kb_index.specs.declared.edge.Edge.{Edge}
 use Rattle.kb_index.specs.Edges.{edge_at}
-use Rattle.kb_index.specs.Children.{IsFirst, IsChild}
-use Rattle.kb_index.proofs.Runs.{run_rises, run_parent, child_runs}
+use Rattle.kb_index.specs.Children.{IsFirst}
+use Rattle.kb_index.proofs.Runs.{run_rises, child_runs}
 use Rattle.kb_index.proofs.children.child.Goals as goal
 use Rattle.kb_index.proofs.children.child.Goals.{then-edges-place, else-edges-place}
 
