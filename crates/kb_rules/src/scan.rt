@@ -53,7 +53,7 @@ impl Reducer for Scan {
     }
 
     fn remove(&mut self, _alloc: Global, place: usize) -> Result<(), Memory> {
-        let _removed = self.rules.remove(place);
+        self.rules.remove(place);
         Ok(())
     }
 
