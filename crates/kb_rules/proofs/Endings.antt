@@ -5,7 +5,10 @@ use Rattle.std.proofs.lemmas.List.Prefix.{end_rest}
 use Rattle.std.proofs.lemmas.Option.{same_Some, none-some}
 use Rattle.kb_word.specs.Words.{Pair, OneOf, EndsWith}
 use Rattle.kb_word.specs.Rewriting.{IsIrreducible, FirstRewrite}
-use Rattle.kb_rules.specs.Ending.{IsFirstEnding, NoneEnds}
+use Rattle.kb_rules.specs.Ending.{IsFirstEnding, EndsFirst, NoneEnds}
+use Rattle.kb_rules.specs.declared.trace.Step.{Step}
+use Rattle.kb_rules.specs.Steps.{IsFirstStep}
+use Rattle.kb_rules.proofs.Listed.{NoneBefore}
 use Rattle.kb_rules.proofs.Lists.{cases_list, FromEnd, from_end}
 use Rattle.kb_rules.proofs.Lists.FromEnd.{empty, last}
 
@@ -40,6 +43,13 @@ later rule rules w apart f =
 here : (rule : Pair) (rules : List Pair) (w : List ℕ) → EndsWith w rule.0 → IsFirstEnding (rule ∷ rules) w rule
 here rule rules w ends =
     record { index = 0; is_rule = refl; ends = ends; first = λ earlier other below is _. absurd (omega arith) }
+
+-- a rule is the first one, where its left side ends the word and no earlier one does
+pub ends_first : (rules : List Pair) (w : List ℕ) (index : ℕ) (rule : Pair) → slice_get rules index ≡ Some rule → EndsWith w rule.0
+    → NoneBefore (λ (pair : Pair). EndsWith w pair.0) rules index
+    → EndsFirst rules w index rule
+ends_first rules w index rule is_rule ends none =
+    (record { index = index; is_rule = is_rule; ends = ends; first = none }, refl)
 
 -- some rule is the first whose left side ends the word
 abbrev pub SomeEnds : List Pair → List ℕ → Type 0
@@ -112,3 +122,12 @@ first_rewrite_at rules front x rest rule irreducible f =
       shortest = λ prefix part split some. proper rules front x irreducible prefix part (whole ∙ split) (from_end part) some;
       first = subst P whole f.first;
     }
+
+-- that rewrite is a step, at the place where the front without the left side ends
+pub first_step_at : (rules : List Pair) (front : List ℕ) (x : ℕ) (rest : List ℕ) (rule : Pair) (step : Step)
+    → IsIrreducible (OneOf rules) front
+    → (f : IsFirstEnding rules (front ++ x ∷ []) rule) → f.index ≡ step.rule → length f.ends.0 ≡ step.place
+    → IsFirstStep rules (front ++ x ∷ rest) step (f.ends.0 ++ rule.1 ++ rest)
+unfolding first_rewrite_at
+first_step_at rules front x rest rule step irreducible f by at =
+    record { rewrite = first_rewrite_at rules front x rest rule irreducible f; by = by; at = at }

@@ -9,6 +9,10 @@ pub record IsFirstEnding (rules : List Pair) (w : List ℕ) (rule : Pair) : Type
   pub ends : EndsWith w rule.0
   pub first : (earlier : ℕ) (other : Pair) → earlier < index → slice_get rules earlier ≡ Some other → ¬ EndsWith w other.0
 
+-- the rule is the first one whose left side ends the word, and it stands at the index
+abbrev pub EndsFirst : List Pair → List ℕ → ℕ → Pair → Type 0
+EndsFirst rules w index rule = (found : IsFirstEnding rules w rule) × (found.index ≡ index)
+
 -- no rule's left side ends the word
 abbrev pub NoneEnds : List Pair → List ℕ → Type 0
 NoneEnds rules w = (pair : Pair) → OneOf rules pair → ¬ EndsWith w pair.0
