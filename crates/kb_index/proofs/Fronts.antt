@@ -1,5 +1,5 @@
 -- What is read, its states, and the rule that the last state names.
-use Rattle.std.proofs.Common.{◌≡◌, ℕ, zero, suc, ◌+◌, ◌-◌, ◌<◌, ◌≤◌, List, [], ◌∷◌, ◌++◌, length, get_or, take, slice_get, Some, None, refl, sym, ap, ◌∙◌, subst, inl, inr, arith}
+use Rattle.std.proofs.Common.{◌≡◌, ℕ, zero, suc, ◌+◌, ◌-◌, ◌≤◌, List, [], ◌∷◌, ◌++◌, length, get_or, take, slice_get, Some, None, refl, sym, ap, ◌∙◌, subst, inl, inr, arith}
 use Rattle.std.proofs.lemmas.List.{get_or_append_left, get_or_push, length_push, take-append-le, take_all, take-take, length-take-le, get_or-take}
 use Rattle.std.proofs.lemmas.Option.{same_Some, none-some, slice_get_within, slice_get-get_or}
 use Rattle.std.proofs.lemmas.Bool.{cases_lt}
@@ -7,11 +7,10 @@ use Rattle.kb_word.specs.Words.{Pair, EndsWith}
 use Rattle.kb_rules.specs.Ending.{NoneEnds}
 use Rattle.kb_index.specs.declared.edge.Edge.{Edge}
 use Rattle.kb_index.specs.Edges.{AreEdges, word}
-use Rattle.kb_index.specs.Tries.{IsTrie, left_at}
+use Rattle.kb_index.specs.Tries.{left_at}
 use Rattle.kb_index.specs.Links.{IsLongestSuffix}
 use Rattle.kb_index.specs.Owners.{IsOwner}
 use Rattle.kb_index.specs.Automata.{AreStates, StandsFor}
-use Rattle.kb_index.proofs.Suffixes.{ends_within}
 use Rattle.kb_index.proofs.Steps.{longest_more}
 use Rattle.kb_index.proofs.Linking.{longest_nil}
 
@@ -84,26 +83,6 @@ pub at_left : (rules : List Pair) (place : ℕ) (rule : Pair) → slice_get rule
 at_left [] place rule is = absurd (none-some rule is)
 at_left (first ∷ rules) zero rule is = ap (λ (r : Pair). r.0) (same_Some first rule is)
 at_left (first ∷ rules) (suc place) rule is = at_left rules place rule is
-
--- a left side that ends what is read ends the word of its state
-left_ends : (rules : List Pair) (edges : List Edge) → IsTrie rules edges → (read : List ℕ) (state place : ℕ) → place < length rules
-    → StandsFor edges read state → EndsWith read (left_at rules place) → EndsWith (word edges state) (left_at rules place)
-left_ends rules edges trie read state place within stands ends =
-    let has = trie.complete place within in
-    let P : List ℕ → Type 0 = λ v. EndsWith read v in
-    let Q : List ℕ → Type 0 = λ v. EndsWith (word edges state) v in
-    subst Q has.is (stands.longest.longest has.state has.within (subst P (sym has.is) ends))
-
--- the first rule whose left side ends the state's word is the first whose left side ends what is read
-pub owner_read : (rules : List Pair) (edges : List Edge) → IsTrie rules edges → (read : List ℕ) (state place : ℕ)
-    → StandsFor edges read state → IsOwner rules (word edges state) place → IsOwner rules read place
-owner_read rules edges trie read state place stands owner =
-    record {
-      within = owner.within;
-      ends = λ less. ends_within read (word edges state) (left_at rules place) stands.longest.ends (owner.ends less);
-      first = λ earlier less ends.
-          owner.first earlier less (left_ends rules edges trie read state earlier (omega (arith, owner.within)) stands ends);
-    }
 
 pub none_past : (rules : List Pair) (place : ℕ) → None ≡ slice_get rules place → length rules ≤ place
 none_past rules place is =

@@ -5,10 +5,11 @@ ghost use Rattle.kb_word.specs.Words.{Pair, OneOf, EndsWith};
 ghost use Rattle.kb_word.specs.Rewriting.{IsIrreducible, NormalForm};
 ghost use Rattle.kb_rules.specs.Steps.{IsFirstStep, Leads};
 ghost use Rattle.kb_index.specs.Automata.{IsAutomaton, AreStates, StandsFor};
-ghost use Rattle.kb_index.specs.Owners.{IsOwner};
+ghost use Rattle.kb_index.specs.Lookups.{IsLookup};
 
 use crate::automaton::Automaton;
 use crate::links::step;
+use crate::lookup::Lookup;
 use crate::unread::Unread;
 use kb_rules::{Rule, Rules, Step, Trace};
 use kb_word::{Letter, Memory, Word};
@@ -25,17 +26,17 @@ struct Front {
 pub fn normal_form(
     alloc: Global,
     list: &Rules,
-    automaton: &Automaton,
+    lookup: &Lookup,
     w: &Word,
 ) -> Result<Word, Memory>
-    requires { IsAutomaton list.now.rules automaton.now }
+    requires { IsLookup list.now.rules lookup.now }
     ensures { IfOk result (λ m. NormalForm list.now.rules w.now m) }
 {
     // A use of the list brings its invariant, that the rules decrease.
     let _rules = list.as_slice();
     let mut front = nothing_read(alloc)?;
     let mut unread = Unread::of(alloc, w)?;
-    while let Some(_) = next_step(list, automaton, &mut front, &mut unread)? {}
+    while let Some(_) = next_step(list, lookup, &mut front, &mut unread)? {}
     Ok(front.word)
 }
 
@@ -43,10 +44,10 @@ pub fn normal_form(
 pub fn trace(
     alloc: Global,
     list: &Rules,
-    automaton: &Automaton,
+    lookup: &Lookup,
     w: &Word,
 ) -> Result<Trace, Memory>
-    requires { IsAutomaton list.now.rules automaton.now }
+    requires { IsLookup list.now.rules lookup.now }
     ensures normal { IfOk result (λ trace. NormalForm list.now.rules w.now trace.word) }
     ensures steps { IfOk result (λ trace.
         Leads (IsFirstStep list.now.rules) w.now trace.steps.items trace.word) }
@@ -56,7 +57,7 @@ pub fn trace(
     let mut front = nothing_read(alloc)?;
     let mut unread = Unread::of(alloc, w)?;
     let mut steps = Vec::new(alloc);
-    while let Some(step) = next_step(list, automaton, &mut front, &mut unread)? {
+    while let Some(step) = next_step(list, lookup, &mut front, &mut unread)? {
         steps.push(step)?;
     }
     Ok(Trace {
@@ -80,16 +81,16 @@ fn nothing_read(alloc: Global) -> Result<Front, Memory>
 /// What is read is irreducible.
 fn next_step(
     list: &Rules,
-    automaton: &Automaton,
+    lookup: &Lookup,
     front: &mut Front,
     unread: &mut Unread,
 ) -> Result<Option<Step>, Memory>
-    requires automaton { IsAutomaton list.now.rules automaton.now }
-    requires states { AreStates automaton.now.edges.items front.old.word front.old.states.items }
+    requires lookup { IsLookup list.now.rules lookup.now }
+    requires states { AreStates lookup.now.settled.edges.items front.old.word front.old.states.items }
     requires irreducible { IsIrreducible (OneOf list.now.rules) front.old.word }
     requires range { All (λ x. x < 2 ^ 16) (front.old.word ++ unread.old) }
     ensures states { OnOk result
-        (AreStates automaton.now.edges.items front.new.word front.new.states.items) }
+        (AreStates lookup.now.settled.edges.items front.new.word front.new.states.items) }
     ensures irreducible { OnOk result (IsIrreducible (OneOf list.now.rules) front.new.word) }
     ensures range { IfOk result (λ found.
         IfSome found (λ _. All (λ x. x < 2 ^ 16) (front.new.word ++ unread.new))) }
@@ -99,7 +100,7 @@ fn next_step(
         IfNone found (front.new.word ≡ front.old.word ++ unread.old)) }
 {
     while let Some(letter) = unread.next() {
-        if let Some(step) = read_letter(list, automaton, front, letter, unread)? {
+        if let Some(step) = read_letter(list, lookup, front, letter, unread)? {
             return Ok(Some(step));
         }
     }
@@ -109,17 +110,17 @@ fn next_step(
 /// Reads a letter: it joins the front, at whose end a left side is then replaced, if one stands there.
 fn read_letter(
     list: &Rules,
-    automaton: &Automaton,
+    lookup: &Lookup,
     front: &mut Front,
     letter: Letter,
     unread: &mut Unread,
 ) -> Result<Option<Step>, Memory>
-    requires automaton { IsAutomaton list.now.rules automaton.now }
-    requires states { AreStates automaton.now.edges.items front.old.word front.old.states.items }
+    requires lookup { IsLookup list.now.rules lookup.now }
+    requires states { AreStates lookup.now.settled.edges.items front.old.word front.old.states.items }
     requires irreducible { IsIrreducible (OneOf list.now.rules) front.old.word }
     requires range { All (λ x. x < 2 ^ 16) (front.old.word ++ letter ∷ unread.old) }
     ensures states { OnOk result
-        (AreStates automaton.now.edges.items front.new.word front.new.states.items) }
+        (AreStates lookup.now.settled.edges.items front.new.word front.new.states.items) }
     ensures irreducible { OnOk result (IsIrreducible (OneOf list.now.rules) front.new.word) }
     ensures range { OnOk result (All (λ x. x < 2 ^ 16) (front.new.word ++ unread.new)) }
     ensures some { IfOk result (λ found. IfSome found (λ step. IsFirstStep list.now.rules
@@ -128,8 +129,8 @@ fn read_letter(
         IfNone found (front.new.word ≡ front.old.word ++ letter ∷ [])) }
     ensures unread { IfOk result (λ found. IfNone found (unread.new ≡ unread.old)) }
 {
-    let state = advance(automaton, front, letter)?;
-    let place = first_ending(list, automaton, state, &front.word);
+    let state = advance(&lookup.settled, front, letter)?;
+    let place = lookup.first_ending(state, &front.word);
     let Some(rule) = list.get(place) else {
         return Ok(None);
     };
@@ -162,15 +163,6 @@ fn advance(automaton: &Automaton, front: &mut Front, letter: Letter) -> Result<u
     front.word.push(letter)?;
     front.states.push(state)?;
     Ok(state)
-}
-
-/// The place in the list of the first rule whose left side ends what is read up to a state, or the number of rules.
-fn first_ending(list: &Rules, automaton: &Automaton, state: usize, read: &Word) -> usize
-    requires automaton { IsAutomaton list.now.rules automaton.now }
-    requires state { StandsFor automaton.now.edges.items read.now state }
-    ensures { IsOwner list.now.rules read.now result }
-{
-    automaton.owners[state]
 }
 
 /// Cuts the left side off the front that it ends. How many letters are left is returned.

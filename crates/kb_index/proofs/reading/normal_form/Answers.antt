@@ -11,7 +11,7 @@ use Rattle.kb_index.proofs.reading.normal_form.Goals as goal
 pub loop-unread-init : goal.loop-unread-init
 loop-unread-init c =
     let rules = c.args.list.now.rules in
-    let edges = c.args.automaton.now.edges.items in
+    let edges = c.args.lookup.now.settled.edges.items in
     let front = c.in_ok-front.front in
     let whole : front.word ++ c.in_ok-unread.unread ≡ c.args.w.now =
     ap (λ w. w ++ c.in_ok-unread.unread) c.in_ok-front.ensures.word ∙ c.in_ok-unread.ensures.ok in

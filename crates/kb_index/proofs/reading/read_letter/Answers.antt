@@ -13,7 +13,7 @@ returns-in_default-clause-irreducible c =
     let front : List ℕ = c.args.front.now.word in
     let P : List ℕ → Type 0 = λ w. IsIrreducible (OneOf rules) w in
     let Q : List ℕ → Type 0 = λ w. IsOwner rules w c.first_ending-place.result in
-    let owner : Q (front ++ c.args.letter ∷ []) = subst Q c.in_ok-state.ensures.word c.first_ending-place.ensures in
+    let owner : Q (front ++ c.args.letter ∷ []) = subst Q c.in_ok-state.ensures.word (c.first_ending-place.ensures c.args.list.now.rules c.requires.lookup) in
     let past : length rules ≤ c.first_ending-place.result = none_past rules c.first_ending-place.result c.in_default.ensures.rule in
     subst P (sym c.in_ok-state.ensures.word)
     (irreducible_more rules front c.args.letter c.requires.irreducible
@@ -22,11 +22,11 @@ returns-in_default-clause-irreducible c =
 pub cut-kept-requires-clause-ends : goal.cut-kept-requires-clause-ends
 cut-kept-requires-clause-ends c =
     owner_ends c.args.list.now.rules c.advance.new.front.word c.first_ending-place.result c.in-Some.rule.now
-    c.first_ending-place.ensures (sym c.in-Some.ensures.rule)
+    (c.first_ending-place.ensures c.args.list.now.rules c.requires.lookup) (sym c.in-Some.ensures.rule)
 
 pub returns-clause-states : goal.returns-clause-states
 returns-clause-states c =
-    front_cut c.args.automaton.now.edges.items c.advance.new.front.word c.cut-kept.new.front.word c.advance.new.front.states.items
+    front_cut c.args.lookup.now.settled.edges.items c.advance.new.front.word c.cut-kept.new.front.word c.advance.new.front.states.items
     c.cut-kept.new.front.states.items c.cut-kept.result (omega (arith, c.cut-kept.ensures.kept)) c.in_ok-state.ensures.states
     c.cut-kept.ensures.word c.cut-kept.ensures.states
 
@@ -39,7 +39,7 @@ returns-clause-irreducible c =
     let C : List ℕ → Type 0 = λ w. IsCut w c.in-Some.rule.now.0 c.cut-kept.result c.cut-kept.new.front.word in
     let cut : C c.advance.new.front.word = record { at = c.cut-kept.ensures.kept; is = c.cut-kept.ensures.word } in
     cut_irreducible rules front c.args.letter c.first_ending-place.result c.in-Some.rule.now c.cut-kept.result c.cut-kept.new.front.word
-    c.requires.irreducible (subst Q pushed c.first_ending-place.ensures) (sym c.in-Some.ensures.rule) (subst C pushed cut)
+    c.requires.irreducible (subst Q pushed (c.first_ending-place.ensures c.args.list.now.rules c.requires.lookup)) (sym c.in-Some.ensures.rule) (subst C pushed cut)
 
 pub returns-clause-some : goal.returns-clause-some
 returns-clause-some c =
@@ -51,7 +51,7 @@ returns-clause-some c =
     let C : List ℕ → Type 0 = λ w. IsCut w c.in-Some.rule.now.0 c.cut-kept.result c.cut-kept.new.front.word in
     let cut : C c.advance.new.front.word = record { at = c.cut-kept.ensures.kept; is = c.cut-kept.ensures.word } in
     cut_step rules front c.args.letter unread c.first_ending-place.result c.in-Some.rule.now c.cut-kept.result c.cut-kept.new.front.word
-    c.put_back.new.self c.requires.irreducible (subst Q pushed c.first_ending-place.ensures) (sym c.in-Some.ensures.rule) (subst C pushed cut)
+    c.put_back.new.self c.requires.irreducible (subst Q pushed (c.first_ending-place.ensures c.args.list.now.rules c.requires.lookup)) (sym c.in-Some.ensures.rule) (subst C pushed cut)
     (c.in_ok-put_back.ensures.ok ∙ ap (λ (r : List ℕ). r ++ unread) c.right.ensures)
 
 pub returns-clause-range : goal.returns-clause-range
@@ -65,6 +65,6 @@ returns-clause-range c =
     let R : List ℕ → Type 0 = λ w. All (λ x. x < 2 ^ 16) w in
     let cut : C c.advance.new.front.word = record { at = c.cut-kept.ensures.kept; is = c.cut-kept.ensures.word } in
     cut_range (λ x. x < 2 ^ 16) rules front c.args.letter unread c.first_ending-place.result c.in-Some.rule.now c.cut-kept.result
-    c.cut-kept.new.front.word c.put_back.new.self (subst Q pushed c.first_ending-place.ensures) (sym c.in-Some.ensures.rule) (subst C pushed cut)
+    c.cut-kept.new.front.word c.put_back.new.self (subst Q pushed (c.first_ending-place.ensures c.args.list.now.rules c.requires.lookup)) (sym c.in-Some.ensures.rule) (subst C pushed cut)
     (c.in_ok-put_back.ensures.ok ∙ ap (λ (r : List ℕ). r ++ unread) c.right.ensures) c.requires.range
     (subst R c.right.ensures c.put_back.ensures.range)

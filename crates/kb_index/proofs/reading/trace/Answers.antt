@@ -13,7 +13,7 @@ use Rattle.kb_index.proofs.reading.trace.Goals as goal
 pub loop-steps-init : goal.loop-steps-init
 loop-steps-init c =
     let rules = c.args.list.now.rules in
-    let edges = c.args.automaton.now.edges.items in
+    let edges = c.args.lookup.now.settled.edges.items in
     let front = c.in_ok-front.front in
     let whole : front.word ++ c.in_ok-unread.unread ≡ c.args.w.now =
     ap (λ w. w ++ c.in_ok-unread.unread) c.in_ok-front.ensures.word ∙ c.in_ok-unread.ensures.ok in

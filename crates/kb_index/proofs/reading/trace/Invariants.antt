@@ -9,7 +9,7 @@ use Rattle.kb_index.proofs.reading.trace.Given as goal
 
 abbrev pub invariant-loop-steps : goal.invariant-loop-steps
 invariant-loop-steps l = record {
-  states : AreStates l.automaton.edges.items l.front.word l.front.states.items;
+  states : AreStates l.lookup.settled.edges.items l.front.word l.front.states.items;
   irreducible : IsIrreducible (OneOf l.list.rules) l.front.word;
   range : All (λ x. x < 2 ^ 16) (l.front.word ++ l.unread);
   leads : (m : List ℕ) → NormalForm l.list.rules (l.front.word ++ l.unread) m → NormalForm l.list.rules l.w m;
