@@ -1,15 +1,15 @@
 -- A level of the trie: what holds when some of those that waited have gone on.
-use Rattle.std.proofs.Common.{◌≡◌, ◌≢◌, ℕ, ◌+◌, ◌*◌, ◌-◌, ◌<◌, ◌≤◌, ◌⊎◌, Bool, true, false, cond, nat_lt, List, [], ◌∷◌, ◌++◌, All, length, get_or, take, refl, sym, ap, ◌∙◌, subst, inl, inr, arith}
+use Rattle.std.proofs.Common.{◌≡◌, ℕ, ◌+◌, ◌<◌, ◌≤◌, Bool, true, false, cond, nat_lt, List, [], ◌∷◌, ◌++◌, All, length, get_or, take, refl, sym, ap, ◌∙◌, subst, inl, inr, arith}
 use Rattle.std.specs.List.{Contains}
 use Rattle.std.specs.List.Sorted.{IsNonDecreasingBy, IsPermutation}
 use Rattle.std.proofs.lemmas.List.{take_more, take_all, nil_from_length, get_or_read}
-use Rattle.std.proofs.lemmas.List.Elements.{All-append, All-cons, All-nil, All-weaker, Contains-append_left, Contains-append_right, All-contains}
+use Rattle.std.proofs.lemmas.List.Elements.{All-append, All-cons, All-nil, All-weaker, Contains-append_left, Contains-append_right}
 use Rattle.std.proofs.lemmas.List.Sorted.{All-permutation, Contains-permutation}
 use Rattle.std.proofs.lemmas.Bool.{cases_lt, ltb-true, lt-ltb}
 use Rattle.kb_word.specs.Words.{Pair}
 use Rattle.kb_index.specs.declared.edge.Edge.{Edge}
 use Rattle.kb_index.specs.declared.trie.Waiting.{Waiting}
-use Rattle.kb_index.specs.Edges.{AreEdges, IsLast, edge_at, rank, word}
+use Rattle.kb_index.specs.Edges.{AreEdges, edge_at, rank, word}
 use Rattle.kb_index.specs.Tries.{HasState, IsTrie, left_at}
 use Rattle.kb_index.specs.Growing.{AreWaiting, Follows, IsGrown, IsWaiting, rank_of, waits}
 use Rattle.kb_index.proofs.Words.{word_root}
@@ -23,14 +23,14 @@ pub record Growing (rules : List Pair) (before : List Edge) (depth : ℕ) (waiti
   pub longer : length before ≤ length edges
   pub keeps : (state : ℕ) → state ≤ length before → word edges state ≡ word before state
   pub bare : (i k : ℕ) (d : Waiting) → i < length before → k < length waiting
-    → (edge_at edges i).parent < (get_or waiting k d).edge.parent
+      → (edge_at edges i).parent < (get_or waiting k d).edge.parent
   pub parents : (i : ℕ) → i < length edges → (edge_at edges i).parent ≤ length before
   pub after : (i k : ℕ) (d : Waiting) → i < length edges → done ≤ k → k < length waiting
-    → rank (edge_at edges i) ≤ rank_of (get_or waiting k d)
+      → rank (edge_at edges i) ≤ rank_of (get_or waiting k d)
   pub states : (k : ℕ) (d : Waiting) → k < done → HasState edges (take (depth + 1) (left_at rules (get_or waiting k d).rule))
   pub each : All (IsWaiting rules edges (depth + 1) (length before + 1)) next
   pub all : (k : ℕ) (d : Waiting) → k < done → depth + 1 < length (left_at rules (get_or waiting k d).rule)
-    → WaitsOf next (get_or waiting k d).rule
+      → WaitsOf next (get_or waiting k d).rule
 
 pub growing_first : (rules : List Pair) (before : List Edge) (depth : ℕ) (waiting : List Waiting) → AreEdges before
     → AreWaiting rules before depth waiting → Growing rules before depth waiting 0 before []

@@ -7,3 +7,4 @@ pub mod Growth
 pub mod Linking
 pub mod Owning
 pub mod Fronts
+pub mod Stepping

@@ -1,16 +1,16 @@
 -- The failure links, state by state.
-use Rattle.std.proofs.Common.{◌≡◌, ◌≢◌, ℕ, ◌+◌, ◌-◌, ◌<◌, ◌≤◌, ◌⊎◌, List, [], ◌∷◌, ◌++◌, length, get_or, drop, refl, sym, ap, ◌∙◌, subst, inl, inr, arith}
+use Rattle.std.proofs.Common.{◌≡◌, ℕ, ◌+◌, ◌-◌, ◌<◌, ◌≤◌, List, [], ◌∷◌, ◌++◌, length, get_or, drop, sym, ap, ◌∙◌, subst, inl, inr, arith}
 use Rattle.std.proofs.lemmas.List.{get_or_append_left, get_or_push, length_push, drop-append-le}
 use Rattle.std.proofs.lemmas.Bool.{cases_lt}
 use Rattle.kb_index.specs.declared.edge.Edge.{Edge}
 use Rattle.kb_index.specs.Edges.{AreEdges, edge_at, word}
 use Rattle.kb_index.specs.Links.{AreLinks, IsLongestSuffix, LeadsFrom}
 use Rattle.kb_index.proofs.Words.{word_root}
-use Rattle.kb_index.proofs.States.{word_some, FromEdge, from_edge}
+use Rattle.kb_index.proofs.States.{FromEdge, from_edge}
 use Rattle.kb_index.proofs.States.FromEdge.{root, edge_to}
 use Rattle.kb_index.proofs.Runs.{parents_rise}
-use Rattle.kb_index.proofs.Steps.{longest_more, ends_root}
-use Rattle.kb_index.proofs.Suffixes.{ends_nil, ends_all}
+use Rattle.kb_index.proofs.Steps.{longest_more}
+use Rattle.kb_index.proofs.Suffixes.{ends_all}
 
 -- the longest suffix of the empty word
 pub longest_nil : (edges : List Edge) → IsLongestSuffix edges [] (word edges 0)

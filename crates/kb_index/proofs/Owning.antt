@@ -1,10 +1,10 @@
 -- The rules of the states.
-use Rattle.std.proofs.Common.{◌≡◌, ◌≢◌, ℕ, ◌+◌, ◌-◌, ◌<◌, ◌≤◌, ◌⊎◌, List, [], ◌∷◌, ◌++◌, length, get_or, set, replicate, min, drop, refl, sym, ap, ◌∙◌, subst, inl, inr, arith, length-set}
+use Rattle.std.proofs.Common.{◌≡◌, ◌≢◌, ℕ, ◌+◌, ◌<◌, ◌≤◌, List, length, get_or, set, replicate, min, drop, sym, ap, ◌∙◌, subst, inl, inr, arith, length-set}
 use Rattle.std.proofs.lemmas.List.{get_or-replicate, length-replicate, get_or-set_same, get_or-set_other}
 use Rattle.std.proofs.lemmas.Bool.{cases_lt, cases_eq}
 use Rattle.kb_word.specs.Words.{Pair, EndsWith}
 use Rattle.kb_index.specs.declared.edge.Edge.{Edge}
-use Rattle.kb_index.specs.Edges.{AreEdges, edge_at, word}
+use Rattle.kb_index.specs.Edges.{word}
 use Rattle.kb_index.specs.Links.{AreLinks, IsLongestSuffix}
 use Rattle.kb_index.specs.Tries.{IsTrie, left_at}
 use Rattle.kb_index.specs.Owners.{IsOwn, AreOwn, IsOwner, AreOwners}

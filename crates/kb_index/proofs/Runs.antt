@@ -1,10 +1,10 @@
 -- The edges that lead from one state stand together, in the order of their letters.
-use Rattle.std.proofs.Common.{◌≡◌, ◌≢◌, ℕ, ◌+◌, ◌*◌, ◌-◌, ◌<◌, ◌≤◌, ◌⊎◌, List, [], ◌∷◌, ◌++◌, length, get_or, refl, sym, ap, ◌∙◌, subst, inl, inr, arith}
+use Rattle.std.proofs.Common.{◌≡◌, ℕ, ◌+◌, ◌<◌, ◌≤◌, List, [], ◌∷◌, ◌++◌, length, get_or, sym, ap, subst, inl, inr, arith}
 use Rattle.std.proofs.lemmas.List.{get_or_append_left, get_or_push, length_push}
 use Rattle.std.proofs.lemmas.Bool.{cases_lt}
 use Rattle.kb_index.specs.declared.edge.Edge.{Edge}
-use Rattle.kb_index.specs.Edges.{AreEdges, edge_at, rank}
-use Rattle.kb_index.specs.Children.{AreFirsts, IsFirst, IsChild}
+use Rattle.kb_index.specs.Edges.{AreEdges, edge_at}
+use Rattle.kb_index.specs.Children.{IsFirst, IsChild}
 
 -- states rise along the edges
 pub parents_rise : (edges : List Edge) → AreEdges edges → (i j : ℕ) → i ≤ j → j < length edges

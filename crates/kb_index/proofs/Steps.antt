@@ -1,5 +1,5 @@
 -- Steps of the automaton along the failure links.
-use Rattle.std.proofs.Common.{◌≡◌, ◌≢◌, ℕ, ◌+◌, ◌-◌, ◌<◌, ◌≤◌, ◌⊎◌, List, [], ◌∷◌, ◌++◌, length, get_or, drop, refl, sym, ap, ◌∙◌, subst, inl, inr, arith}
+use Rattle.std.proofs.Common.{◌≡◌, ℕ, ◌+◌, ◌-◌, ◌<◌, ◌≤◌, List, [], ◌∷◌, ◌++◌, length, get_or, drop, refl, sym, ap, ◌∙◌, subst, inl, inr, arith}
 use Rattle.kb_word.specs.Words.{EndsWith}
 use Rattle.kb_index.specs.declared.edge.Edge.{Edge}
 use Rattle.kb_index.specs.Edges.{AreEdges, edge_at, word}
@@ -57,7 +57,7 @@ pub record Falling (edges : List Edge) (state letter at : ℕ) : Type 0 where
   pub lower : at ≤ state
   pub ends : EndsWith (word edges state) (word edges at)
   pub all : (parent child : ℕ) → parent ≤ length edges → IsChild edges parent letter child
-    → EndsWith (word edges state) (word edges parent) → EndsWith (word edges at) (word edges parent)
+      → EndsWith (word edges state) (word edges parent) → EndsWith (word edges at) (word edges parent)
 
 pub falling_first : (edges : List Edge) (state letter : ℕ) → Falling edges state letter state
 falling_first edges state letter =

@@ -1,9 +1,7 @@
 -- Suffixes of words.
-use Rattle.std.proofs.Common.{◌≡◌, ◌≢◌, ℕ, ◌+◌, ◌⊎◌, List, [], ◌∷◌, ◌++◌, length, drop, refl, sym, ap, ◌∙◌, subst, inl, inr, arith, append_assoc, length-append}
-use Rattle.std.proofs.lemmas.List.{append-nil, same_from_push, drop-append-le, nil_from_length}
+use Rattle.std.proofs.Common.{◌≡◌, ℕ, ◌⊎◌, List, [], ◌∷◌, ◌++◌, length, drop, refl, sym, ap, ◌∙◌, inl, inr, arith, append_assoc, length-append}
+use Rattle.std.proofs.lemmas.List.{append-nil, same_from_push, nil_from_length}
 use Rattle.kb_word.specs.Words.{EndsWith}
-use Rattle.kb_rules.proofs.Lists.{FromEnd, from_end}
-use Rattle.kb_rules.proofs.Lists.FromEnd.{empty, last}
 
 pub ends_nil : (w : List ℕ) → EndsWith w []
 ends_nil w = (w, sym (append-nil w))

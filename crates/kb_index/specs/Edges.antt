@@ -1,5 +1,5 @@
 -- The edges of a trie, and the words that its states stand for.
-use Rattle.std.specs.Prelude.{◌≡◌, ℕ, ◌+◌, ◌*◌, ◌-◌, ◌<◌, ◌≤◌, ◌^◌, List, [], ◌∷◌, ◌++◌, length, get_or}
+use Rattle.std.specs.Prelude.{◌≡◌, ℕ, ◌+◌, ◌*◌, ◌<◌, ◌≤◌, List, [], ◌∷◌, ◌++◌, length, get_or}
 use Rattle.kb_index.specs.declared.edge.Edge.{Edge}
 
 abbrev pub no_edge : Edge
@@ -27,7 +27,7 @@ pub record AreEdges (edges : List Edge) : Type 0 where
   pub letters : (i : ℕ) → i < length edges → (edge_at edges i).letter < 65536
   pub rising : (i j : ℕ) → i < j → j < length edges → rank (edge_at edges i) < rank (edge_at edges j)
   pub spelled : (i : ℕ) → i < length edges
-    → word edges (i + 1) ≡ word edges (edge_at edges i).parent ++ (edge_at edges i).letter ∷ []
+      → word edges (i + 1) ≡ word edges (edge_at edges i).parent ++ (edge_at edges i).letter ∷ []
 
 -- the last edge
 pub record IsLast (edges : List Edge) (edge : Edge) : Type 0 where

@@ -1,5 +1,5 @@
 -- A trie that is made level by level.
-use Rattle.std.specs.Prelude.{◌≡◌, ℕ, ◌+◌, ◌<◌, ◌≤◌, List, [], ◌∷◌, ◌++◌, All, length, get_or, take, cond, nat_lt}
+use Rattle.std.specs.Prelude.{◌≡◌, ℕ, ◌<◌, ◌≤◌, List, [], ◌∷◌, ◌++◌, All, length, get_or, take, cond, nat_lt}
 use Rattle.std.specs.List.{Contains}
 use Rattle.kb_word.specs.Words.{Pair}
 use Rattle.kb_index.specs.declared.edge.Edge.{Edge}
@@ -31,7 +31,7 @@ pub record AreWaiting (rules : List Pair) (edges : List Edge) (depth : ℕ) (wai
   pub bare : (i : ℕ) → i < length edges → (edge_at edges i).parent < start
   pub each : All (IsWaiting rules edges depth start) waiting
   pub all : (place : ℕ) → place < length rules → depth < length (left_at rules place)
-    → (one : Waiting) × Contains waiting one × (one.rule ≡ place)
+      → (one : Waiting) × Contains waiting one × (one.rule ≡ place)
 
 -- what waits of a rule at a state: nothing, where its left side has no further letter
 abbrev pub waits : List Pair → ℕ → ℕ → ℕ → List Waiting

@@ -1,5 +1,5 @@
 -- Longest suffixes, and failure links.
-use Rattle.std.specs.Prelude.{◌≡◌, ℕ, ◌+◌, ◌-◌, ◌<◌, ◌≤◌, List, length, get_or, drop}
+use Rattle.std.specs.Prelude.{ℕ, ◌-◌, ◌<◌, ◌≤◌, List, length, get_or, drop}
 use Rattle.kb_word.specs.Words.{EndsWith}
 use Rattle.kb_index.specs.declared.edge.Edge.{Edge}
 use Rattle.kb_index.specs.Edges.{edge_at, word}
@@ -13,7 +13,7 @@ pub record IsLongestSuffix (edges : List Edge) (w u : List ℕ) : Type 0 where
 pub record AreLinks (edges : List Edge) (links : List ℕ) : Type 0 where
   pub falls : (state : ℕ) → 0 < state → state < length links → get_or links state 0 < state
   pub longest : (state : ℕ) → state < length links
-    → IsLongestSuffix edges (drop 1 (word edges state)) (word edges (get_or links state 0))
+      → IsLongestSuffix edges (drop 1 (word edges state)) (word edges (get_or links state 0))
 
 -- the edge to a state, unless that is state 0, leads from this state or from an earlier one
 abbrev pub LeadsFrom : List Edge → ℕ → ℕ → Type 0

@@ -8,7 +8,7 @@ use crate::edge::Edge;
 use kb_word::Memory;
 use std::alloc::Global;
 
-/// For each state, the first edge that leads from it or from a later state.
+/// For each state, and for one after the last, how many edges lead from earlier states: the place of its first edge.
 pub fn firsts_of(alloc: Global, edges: &[Edge]) -> Result<Vec<usize>, Memory>
     requires { AreEdges edges.now }
     ensures { IfOk result (λ firsts. AreFirsts edges.now firsts.items) }
@@ -32,18 +32,22 @@ pub fn child(edges: &[Edge], firsts: &[usize], state: usize, letter: u16) -> Opt
     ensures some { IfSome result (IsChild edges.now state letter) }
     ensures none { IfNone result (IsNoChild edges.now state letter) }
 {
-    let (mut low, end) = (firsts[state], firsts[state + 1]);
-    let mut high = end;
-    while low < high {
-        let middle = low + (high - low) / 2;
-        if edges[middle].letter < letter {
-            low = middle + 1;
-        } else {
-            high = middle;
-        }
+    let mut place = firsts[state];
+    let mut count = firsts[state + 1] - place;
+    if count == 0 {
+        return None;
     }
-    if low < end && edges[low].letter == letter {
-        Some(low + 1)
+    while count > 1 {
+        let half = count / 2;
+        place = if edges[place + half].letter <= letter {
+            place + half
+        } else {
+            place
+        };
+        count -= half;
+    }
+    if edges[place].letter == letter {
+        Some(place + 1)
     } else {
         None
     }

@@ -1,7 +1,7 @@
 //! The reducer that reads a word by an automaton.
 
 use crate::automaton::Automaton;
-use crate::reading::normal_form;
+use crate::reading::{normal_form, trace};
 use kb_rules::{Reducer, Rule, Rules, Trace};
 use kb_word::{Memory, Word};
 use std::alloc::Global;
@@ -41,7 +41,7 @@ impl Reducer for Index {
     }
 
     fn trace(&self, alloc: Global, w: &Word) -> Result<Trace, Memory> {
-        Err(Memory)
+        trace(alloc, &self.rules, &self.automaton, w)
     }
 
     fn push(&mut self, alloc: Global, rule: &Rule) -> Result<(), Memory> {

@@ -1,7 +1,8 @@
 //! The answers of rules: normal forms.
 
+use kb_index::Index;
 use kb_lines::Answerer;
-use kb_rules::{Reducer, Scan};
+use kb_rules::Reducer;
 use kb_word::{Memory, Word};
 use kb_wordreader::WordReader;
 use std::alloc::Global;
@@ -10,7 +11,7 @@ use std::alloc::Global;
 #[derive(Drop)]
 pub(crate) struct NormalForms {
     pub(crate) reader: WordReader,
-    pub(crate) scan: Scan,
+    pub(crate) index: Index,
 }
 
 impl Answerer for NormalForms {
@@ -19,13 +20,13 @@ impl Answerer for NormalForms {
 
     ghost parts = { λ it. parts_of it.reader.presentation };
 
-    ghost answers = { λ it. NormalForm it.scan.rules };
+    ghost answers = { λ it. NormalForm it.index.rules };
 
     fn reader(&self) -> &WordReader {
         &self.reader
     }
 
     fn answer(&self, alloc: Global, word: &Word) -> Result<Word, Memory> {
-        self.scan.nf(alloc, word)
+        self.index.nf(alloc, word)
     }
 }

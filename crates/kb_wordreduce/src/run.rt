@@ -18,9 +18,10 @@ use crate::word_reduce::WordReduce;
 use kb_confluence::{
     Verdict, check, least_by_the_same_congruence, normal_forms_by_confluent_rules_are_least,
 };
+use kb_index::Index;
 use kb_io::{Shelf, Sink, Source};
 use kb_lines::{Stop, answer_lines};
-use kb_rules::{Reducer, Rules, Scan};
+use kb_rules::{Reducer, Rules};
 use kb_task::{Cert, Refusal, Status, Task, Which, load_presentation, print_line};
 use kb_word::{Memory, Names, Presentation, Word, print_word};
 use kb_wordreader::WordReader;
@@ -84,12 +85,12 @@ fn answer_by<I: Source, O: Sink>(
         Ok(rules) => rules,
         Err(Memory) => return Status::Memory,
     };
-    let scan = match Scan::of(alloc, &rules) {
-        Ok(scan) => scan,
+    let index = match Index::of(alloc, &rules) {
+        Ok(index) => index,
         Err(Memory) => return Status::Memory,
     };
-    match check(alloc, &rules, &scan, workers) {
-        Ok(Verdict::Yes) => answer_all(alloc, presentation, &rules, scan, input, out),
+    match check(alloc, &rules, &index, workers) {
+        Ok(Verdict::Yes) => answer_all(alloc, presentation, &rules, index, input, out),
         Ok(Verdict::No { u, v, .. }) => print_no(alloc, &presentation, u, v, out),
         Err(Memory) => Status::Memory,
     }
@@ -100,14 +101,14 @@ fn answer_all<I: Source, O: Sink>(
     alloc: Global,
     presentation: Presentation,
     rules: &Rules,
-    scan: Scan,
+    index: Index,
     input: &mut I,
     out: &mut O,
 ) -> Status
     requires oriented { AreOriented (Below presentation.order)
         (relations (parts_of presentation)) rules.now.rules }
     requires confluent { IsConfluent rules.now.rules }
-    requires scan { scan.rules ≡ rules.now.rules }
+    requires index { index.rules ≡ rules.now.rules }
     ensures { (shelf : ShelfState) → IsRun (AnswersMean (parts_of presentation)) StoresNothing
         (outside shelf (I.state input.old) (O.state out.old))
         (outside shelf (I.state input.new) (O.state out.new)) result }
@@ -119,7 +120,7 @@ fn answer_all<I: Source, O: Sink>(
     let Ok(reader) = WordReader::new(alloc, presentation) else {
         return Status::Memory;
     };
-    let normal_forms = NormalForms { reader, scan };
+    let normal_forms = NormalForms { reader, index };
     match answer_lines(alloc, &normal_forms, input, out) {
         Ok(()) => Status::Yes,
         Err(stop) => status_of(stop),

@@ -2,7 +2,7 @@ use Rattle.std.proofs.Common.{◌≡◌, ℕ, ◌+◌, ◌<◌, ◌≤◌, List,
 use Rattle.std.proofs.lemmas.List.{length_push, get_or_read}
 use Rattle.kb_index.specs.declared.edge.Edge.{Edge}
 use Rattle.kb_index.specs.Edges.{edge_at, word}
-use Rattle.kb_index.specs.Links.{AreLinks, IsLongestSuffix, LeadsFrom}
+use Rattle.kb_index.specs.Links.{AreLinks, IsLongestSuffix}
 use Rattle.kb_index.proofs.Linking.{links_first, links_push, link_of_first, link_of_child, step_earlier}
 use Rattle.kb_index.proofs.links.links_of.Goals as goal
 use Rattle.kb_index.proofs.links.links_of.Goals.{then-edge-eq0, else-edge-eq0}

@@ -1,4 +1,4 @@
-use Rattle.std.proofs.Common.{◌≡◌, ℕ, ◌+◌, length}
+use Rattle.std.proofs.Common.{◌≡◌, ◌+◌, length}
 use Rattle.kb_index.specs.Links.{AreLinks}
 use Rattle.kb_index.proofs.links.links_of.Given as goal
 

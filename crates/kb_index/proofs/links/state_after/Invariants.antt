@@ -1,4 +1,4 @@
-use Rattle.std.proofs.Common.{ℕ, ◌≤◌, length, take}
+use Rattle.std.proofs.Common.{◌≤◌, length, take}
 use Rattle.kb_index.specs.Edges.{word}
 use Rattle.kb_index.specs.Links.{IsLongestSuffix}
 use Rattle.kb_index.proofs.links.state_after.Given as goal

@@ -1,4 +1,4 @@
-use Rattle.std.proofs.Common.{◌≡◌, ℕ, ◌<◌, ◌≤◌, arith, subst}
+use Rattle.std.proofs.Common.{ℕ, ◌<◌, arith, subst}
 use Rattle.kb_index.specs.Children.{IsNoChild}
 use Rattle.kb_index.proofs.Steps.{Falling, step_found, step_none, step_falls}
 use Rattle.kb_index.proofs.links.step.Goals as goal

@@ -1,4 +1,4 @@
-use Rattle.std.proofs.Common.{ℕ, ◌<◌, ◌≤◌, length}
+use Rattle.std.proofs.Common.{◌<◌, length}
 use Rattle.kb_index.proofs.Steps.{Falling}
 use Rattle.kb_index.proofs.links.step.Given as goal
 

@@ -1,6 +1,6 @@
 use Rattle.std.proofs.Common.{◌≡◌, ℕ, ◌+◌, ◌<◌, ◌≤◌, List, length, get_or, set, min, arith, ap, sym, ◌∙◌, subst}
 use Rattle.std.proofs.lemmas.List.{get_or_read}
-use Rattle.kb_index.proofs.Owning.{Owning, owning_first, owning_more, owning_owners}
+use Rattle.kb_index.proofs.Owning.{Owning, owning_first, owning_more}
 use Rattle.kb_index.proofs.owners.owners_of.Goals as goal
 
 pub loop-state-init : goal.loop-state-init

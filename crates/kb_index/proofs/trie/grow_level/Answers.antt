@@ -1,11 +1,11 @@
-use Rattle.std.proofs.Common.{◌≡◌, ℕ, ◌+◌, ◌<◌, ◌≤◌, List, ◌∷◌, [], ◌++◌, length, get_or, arith, ap, sym, ◌∙◌, subst}
+use Rattle.std.proofs.Common.{◌≡◌, ℕ, ◌+◌, ◌<◌, List, ◌++◌, length, get_or, arith, ap, ◌∙◌}
 use Rattle.std.proofs.lemmas.List.{get_or_default}
 use Rattle.kb_word.specs.Words.{Pair}
 use Rattle.kb_index.specs.declared.edge.Edge.{Edge}
 use Rattle.kb_index.specs.declared.trie.Waiting.{Waiting}
 use Rattle.kb_index.specs.Edges.{no_edge}
 use Rattle.kb_index.specs.Growing.{waits}
-use Rattle.kb_index.proofs.Growth.{growing_first, growing_more, growing_grown, growing_waits}
+use Rattle.kb_index.proofs.Growth.{growing_more, growing_grown, growing_waits}
 use Rattle.kb_index.proofs.trie.grow_level.Goals as goal
 
 pub loop-waiting-preserved : goal.loop-waiting-preserved

@@ -1,10 +1,10 @@
-use Rattle.std.proofs.Common.{◌≡◌, ℕ, ◌+◌, ◌<◌, ◌≤◌, List, [], length, arith, rules, ap, sym, ◌∙◌, subst}
+use Rattle.std.proofs.Common.{List, rules, sym, subst}
 use Rattle.std.proofs.lemmas.List.Sorted.{IsNonDecreasingBy-from_sort_by_key}
 use Rattle.std.specs.List.Sorted.{IsNonDecreasingBy}
 use Rattle.kb_index.specs.declared.edge.Edge.{Edge}
 use Rattle.kb_index.specs.declared.trie.Waiting.{Waiting}
 use Rattle.kb_index.specs.Growing.{AreWaiting, IsGrown, rank_of}
-use Rattle.kb_index.proofs.Growth.{grown_none, grown_trie, waiting_sorted}
+use Rattle.kb_index.proofs.Growth.{grown_none, waiting_sorted}
 use Rattle.kb_index.proofs.trie.trie_of.Goals as goal
 
 pub loop-depth-init : goal.loop-depth-init

@@ -1,4 +1,4 @@
-use Rattle.std.proofs.Common.{◌≡◌, ℕ, ◌+◌, ◌<◌, ◌≤◌, arith, ap, sym, ◌∙◌, subst}
+use Rattle.std.proofs.Common.{arith}
 use Rattle.kb_index.proofs.Growth.{root_more}
 use Rattle.kb_index.proofs.trie.wait_at_root.Goals as goal
 
