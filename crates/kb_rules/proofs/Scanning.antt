@@ -14,6 +14,12 @@ pub record IsCut (w left : List ℕ) (place : ℕ) (w' : List ℕ) : Type 0 wher
   pub at : place ≡ length w - length left
   pub is : w' ≡ take place w
 
+-- the cut is made by the lengths that are read
+pub is_cut : {w whole left own front' : List ℕ} {n m : ℕ} → w ≡ whole → own ≡ left → n ≡ length w → m ≡ length own
+    → front' ≡ take (n - m) w → IsCut whole left (n - m) front'
+is_cut {n = n} {m = m} same side long short cut =
+    record { at = cc (long, ap length same, short, ap length side); is = cut ∙ ap (take (n - m)) same }
+
 -- it is what stands before the left side
 pub cut_before : {rules : List Pair} {w : List ℕ} {index : ℕ} {rule : Pair} {place : ℕ} {w' : List ℕ}
     → IsCut w rule.0 place w' → (f : IsFirstEnding rules w index rule) → (length f.ends.0 ≡ place) × (w' ≡ f.ends.0)
