@@ -1,17 +1,13 @@
 -- Steps of rewriting: what they keep, and a step more at the end.
-use Rattle.std.proofs.Common.{◌≡◌, Option, None, IfSome, IfNone, IsTrue, is_some, ℕ, ◌-◌, ◌<◌, ◌^◌, List, [], ◌∷◌, ◌++◌, All, length, take, slice_get, Some, refl, sym, ap, ◌∙◌, subst, arith, append_assoc, length-append}
-use Rattle.std.proofs.lemmas.Option.{same_Some, none-some}
+use Rattle.std.proofs.Common.{◌≡◌, Option, None, IfSome, IsTrue, is_some, ℕ, ◌<◌, ◌^◌, List, [], ◌∷◌, ◌++◌, All, slice_get, Some, refl, sym, subst}
 use Rattle.kb_word.specs.Words.{Pair, OneOf}
 use Rattle.kb_word.specs.WordOrders.{Below}
 use Rattle.kb_word.specs.WordOrderLaws.{word_orders, order_rank, order_rank_falls}
 use Rattle.kb_word.specs.declared.word_order.WordOrder.{WordOrder}
 use Rattle.kb_word.specs.Rewriting.{IsIrreducible, AreDecreasing, NormalForm}
-use Rattle.kb_rules.specs.Ending.{IsFirstEnding}
 use Rattle.kb_rules.specs.declared.trace.Step.{Step}
 use Rattle.kb_rules.specs.Steps.{IsFirstStep, IsStep, Leads}
-use Rattle.kb_rules.proofs.Endings.{first_step_at}
 use Rattle.kb_rules.proofs.Exists.{first_rewrite_below}
-use Rattle.kb_rules.proofs.Scanning.{ending_cut}
 use Rattle.kb_rules.proofs.Unique.{irreducible_is_normal, normal_form_more}
 
 -- the first rewrite of a word is a step
@@ -61,32 +57,7 @@ pub step_falls : {rules : List Pair} {u v : List ℕ} {step : Step} (order : Wor
 step_falls {rules = rules} {u = u} {v = v} order decreasing f before after =
     order_rank_falls order v u after before (first_rewrite_below (word_orders order) rules decreasing u v f.rewrite)
 
--- with the left side cut off and the right side put back the step is made
-pub cut_step : {rules : List Pair} {rule : Pair} (front : List ℕ) (x : ℕ) (rest front' rest' : List ℕ) (step : Step)
-    → IsIrreducible (OneOf rules) front
-    → (f : IsFirstEnding rules (front ++ x ∷ []) rule) → f.index ≡ step.rule
-    → step.place ≡ length (front ++ x ∷ []) - length rule.0
-    → front' ≡ take (length (front ++ x ∷ []) - length rule.0) (front ++ x ∷ [])
-    → rest' ≡ rule.1 ++ rest → IsFirstStep rules (front ++ x ∷ rest) step (front' ++ rest')
-cut_step {rules = rules} {rule = rule} front x rest front' rest' step irreducible f by at cut back =
-    let before : front' ≡ f.ends.0 = cut ∙ ending_cut f in
-    let same : f.ends.0 ++ rule.1 ++ rest ≡ front' ++ rest' = append_assoc f.ends.0 rule.1 rest ∙ cc (before, back) in
-    let long : length f.ends.0 ≡ step.place =
-    omega (arith, at, ap length f.ends.1, length-append f.ends.0 rule.0) in
-    let P : List ℕ → Type 0 = λ v. IsFirstStep rules (front ++ x ∷ rest) step v in
-    subst P same (first_step_at rules front x rest rule step irreducible f by long)
-
 -- what is found, where something is
 pub found : {X : Type 0} {P : X → Type 0} (o : Option X) → IfSome o P → IsTrue (is_some o) → (x : X) × P x
 found (Some x) holds some = (x, holds)
 found None holds some = absurd (cc some)
-
--- what holds of the thing that is found
-pub found_as : {X : Type 0} (P : X → Type 0) (o : Option X) (x : X) → o ≡ Some x → IfSome o P → P x
-found_as P (Some y) x same holds = subst P (same_Some y x same) holds
-found_as P None x same holds = absurd (none-some x same)
-
--- what holds where nothing is found
-pub found_none : {X : Type 0} {P : Type 0} (o : Option X) → o ≡ None → IfNone o P → P
-found_none (Some x) same holds = absurd (none-some x (sym same))
-found_none None same holds = holds

@@ -3,7 +3,7 @@
 ghost use Rattle.std.specs.Prelude.{◌≡◌, ◌<◌, ◌^◌, [], ◌∷◌, ◌++◌, IfOk, OnOk, IfSome, IfNone, All};
 ghost use Rattle.kb_word.specs.Words.{OneOf};
 ghost use Rattle.kb_word.specs.Rewriting.{IsIrreducible, NormalForm};
-ghost use Rattle.kb_rules.specs.Ending.{EndsFirst, NoneEnds};
+ghost use Rattle.kb_rules.specs.Ending.{IsFirstEnding, NoneEnds};
 ghost use Rattle.kb_rules.specs.Steps.{IsFirstStep, Leads};
 
 use crate::reducer::Reducer;
@@ -139,7 +139,7 @@ fn read_letter(
 
 /// The first rule in list order whose left side ends the word, after its place in the list.
 fn first_ending<'a>(list: &'a Rules, word: &Word) -> Option<(usize, &'a Rule)>
-    ensures some { IfSome result (λ found. EndsFirst list.now.rules word.now found.0 found.1.now) }
+    ensures some { IfSome result (λ found. IsFirstEnding list.now.rules word.now found.0 found.1.now) }
     ensures none { IfNone result (NoneEnds list.now.rules word.now) }
 {
     for (index, rule) in list.as_slice().iter().enumerate() {

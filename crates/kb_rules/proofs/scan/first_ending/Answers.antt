@@ -1,8 +1,7 @@
 use Rattle.std.proofs.Common.{◌≡◌, ◌<◌, ◌≤◌, length, slice_get, List, Some, rules, refl, subst}
 use Rattle.std.proofs.lemmas.Option.{slice_get_read}
 use Rattle.kb_word.specs.Words.{Pair, EndsWith}
-use Rattle.kb_rules.specs.Ending.{EndsFirst, NoneEnds}
-use Rattle.kb_rules.proofs.Endings.{ends_first}
+use Rattle.kb_rules.specs.Ending.{IsFirstEnding, NoneEnds}
 use Rattle.kb_rules.proofs.Listed.{NoneBefore-more, NoneBefore-all}
 use Rattle.kb_rules.proofs.scan.first_ending.Goals as goal
 
@@ -13,8 +12,8 @@ returns-then-ends_with-clause-some c =
     let is : slice_get items c.loop-index.index ≡ Some c.rule-item.result =
     slice_get_read items (length items) c.loop-index.index c.rule-item.result refl within c.rule-item.is in
     let ends : EndsWith c.args.word.now c.rule-item.result.0 = search rules in
-    let P : List Pair → Type 0 = λ pairs. EndsFirst pairs c.args.word.now c.loop-index.index c.rule-item.result in
-    subst P c.as_slice-rule-items.ensures.rules (ends_first items c.args.word.now c.loop-index.index c.rule-item.result is ends c.loop-index.invariant)
+    let P : List Pair → Type 0 = λ pairs. IsFirstEnding pairs c.args.word.now c.loop-index.index c.rule-item.result in
+    subst P c.as_slice-rule-items.ensures.rules (record { is_rule = is; ends = ends; first = c.loop-index.invariant })
 
 pub loop-index-preserved : goal.loop-index-preserved
 loop-index-preserved c =

@@ -5,7 +5,7 @@ use Rattle.kb_word.specs.WordOrderLaws.{word_orders}
 use Rattle.kb_rules.specs.declared.trace.Step.{Step}
 use Rattle.kb_rules.specs.Steps.{IsFirstStep, Leads}
 use Rattle.kb_rules.proofs.Exists.{empty_irreducible}
-use Rattle.kb_rules.proofs.Tracing.{found_as, found_none, leads_normal, leads_push, step_falls}
+use Rattle.kb_rules.proofs.Tracing.{leads_normal, leads_push, step_falls}
 use Rattle.kb_rules.proofs.scan.trace.Goals as goal
 
 pub loop-steps-init : goal.loop-steps-init
@@ -23,7 +23,7 @@ loop-steps-init c =
 
 pub loop-steps-smaller : goal.loop-steps-smaller
 loop-steps-smaller c =
-    let step = found_as _ c.in_ok-step.field-0 c.in-Some.step c.in-Some.is c.in_ok-step.ensures.some in
+    let step = rw c.in-Some.is at c.in_ok-step.ensures.some in
     step_falls c.args.list.now.order c.as_slice-rules.ensures.decreasing step c.loop-steps.invariant.range c.in_ok-step.ensures.range
 
 pub loop-steps-preserved : goal.loop-steps-preserved
@@ -31,8 +31,7 @@ loop-steps-preserved c =
     let allowed = IsFirstStep c.args.list.now.rules in
     let before = c.loop-steps.front ++ c.loop-steps.unread in
     let after = c.next_step.new.front ++ c.next_step.new.unread in
-    let step : allowed before c.in-Some.step after =
-    found_as (λ (step : Step). allowed before step after) c.in_ok-step.field-0 c.in-Some.step c.in-Some.is c.in_ok-step.ensures.some in
+    let step : allowed before c.in-Some.step after = rw c.in-Some.is at c.in_ok-step.ensures.some in
     let L : List Step → Type 0 = λ steps. Leads allowed c.args.w.now steps after in
     record {
       irreducible = c.in_ok-step.ensures.irreducible;
@@ -43,6 +42,6 @@ loop-steps-preserved c =
 
 pub returns-clause-normal : goal.returns-clause-normal
 returns-clause-normal c =
-    let read = found_none c.in_ok-step.field-0 c.in_default.is c.in_ok-step.ensures.none in
+    let read = rw c.in_default.is at c.in_ok-step.ensures.none in
     let L : List ℕ → Type 0 = λ v. Leads (IsFirstStep c.args.list.now.rules) c.args.w.now c.loop-steps.steps.items v in
     leads_normal c.args.w.now c.loop-steps.steps.items c.next_step.new.front (subst L (sym read) c.loop-steps.invariant.leads) c.in_ok-step.ensures.irreducible
