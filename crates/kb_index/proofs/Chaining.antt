@@ -110,7 +110,7 @@ pub record Following (rules : List Pair) (first : ℕ) (numbers : List ℕ) (w :
   pub is : 0 < rest → left_at rules (rest - 1) ≡ w
   pub found : best < length numbers → IsSuch (λ left. left ≡ w) rules first (get_or numbers best 0)
   pub passed : (place p : ℕ) → place < length rules → left_at rules place ≡ w → rest ≤ place → p < best
-    → get_or numbers p 0 ≢ first + place
+      → get_or numbers p 0 ≢ first + place
 
 pub following_first : (rules : List Pair) (first : ℕ) (numbers : List ℕ) (w : List ℕ) (tried head : ℕ) → tried ≡ length rules
     → IsHead rules tried w head → Following rules first numbers w head (length numbers)

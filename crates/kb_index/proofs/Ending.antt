@@ -77,7 +77,7 @@ pub record Searching (rules : List Pair) (edges : List Edge) (read : List ℕ) (
   pub ends : EndsWith read (word edges state)
   pub found : best < length numbers → IsSuch (EndsWith read) rules 0 (get_or numbers best 0)
   pub rest : (p : ℕ) → p < best → IsSuch (EndsWith read) rules 0 (get_or numbers p 0)
-    → EndsWith (word edges state) (left_at rules (get_or numbers p 0 - 0))
+      → EndsWith (word edges state) (left_at rules (get_or numbers p 0 - 0))
 
 -- the left side that ends a state's word ends the word of the state's end
 at_end : (rules : List Pair) (automaton : Automaton) → IsAutomaton rules automaton → (state place : ℕ) → state ≤ length automaton.edges.items

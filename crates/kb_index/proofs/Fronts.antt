@@ -4,7 +4,7 @@ use Rattle.std.proofs.lemmas.List.{get_or_append_left, get_or_push, length_push,
 use Rattle.std.proofs.lemmas.Option.{same_Some, none-some, slice_get_within, slice_get-get_or}
 use Rattle.std.proofs.lemmas.Bool.{cases_lt}
 use Rattle.kb_word.specs.Words.{Pair, EndsWith}
-use Rattle.kb_rules.specs.Ending.{NoneEnds}
+use Rattle.kb_rules.specs.Ending.{IsFirstEnding, NoneEnds}
 use Rattle.kb_index.specs.declared.edge.Edge.{Edge}
 use Rattle.kb_index.specs.Edges.{AreEdges, word}
 use Rattle.kb_index.specs.Tries.{left_at}
@@ -74,15 +74,21 @@ states_next edges rise w states x state are within stepped =
       longest = longest_more edges rise w (word edges (get_or states last 0)) (word edges state) x stands.longest stepped;
     }
 
-pub last_within : (edges : List Edge) (w : List ℕ) (states : List ℕ) → AreStates edges w states
-    → get_or states (length states - 1) 0 ≤ length edges
-last_within edges w states are =
-    let stands = are.each (length states - 1) (omega (arith, are.count)) in stands.within
-
-pub at_left : (rules : List Pair) (place : ℕ) (rule : Pair) → slice_get rules place ≡ Some rule → left_at rules place ≡ rule.0
+at_left : (rules : List Pair) (place : ℕ) (rule : Pair) → slice_get rules place ≡ Some rule → left_at rules place ≡ rule.0
 at_left [] place rule is = absurd (none-some rule is)
 at_left (first ∷ rules) zero rule is = ap (λ (r : Pair). r.0) (same_Some first rule is)
 at_left (first ∷ rules) (suc place) rule is = at_left rules place rule is
+
+-- the rule at the place is the first whose left side ends the word
+pub owner_ending : (rules : List Pair) (w : List ℕ) (place : ℕ) (rule : Pair) → IsOwner rules w place → slice_get rules place ≡ Some rule
+    → IsFirstEnding rules w place rule
+owner_ending rules w place rule owner is =
+    let P : List ℕ → Type 0 = λ v. EndsWith w v in
+    record {
+      is_rule = is;
+      ends = subst P (at_left rules place rule is) (owner.ends (slice_get_within rules place rule is));
+      first = λ earlier other less one ends. owner.first earlier less (subst P (sym (at_left rules earlier other one)) ends);
+    }
 
 pub none_past : (rules : List Pair) (place : ℕ) → None ≡ slice_get rules place → length rules ≤ place
 none_past rules place is =

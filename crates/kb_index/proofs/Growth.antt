@@ -10,7 +10,7 @@ use Rattle.kb_word.specs.Words.{Pair}
 use Rattle.kb_index.specs.declared.edge.Edge.{Edge}
 use Rattle.kb_index.specs.declared.trie.Waiting.{Waiting}
 use Rattle.kb_index.specs.Edges.{AreEdges, edge_at, rank, word}
-use Rattle.kb_index.specs.Tries.{HasState, IsTrie, left_at}
+use Rattle.kb_index.specs.Tries.{HasState, left_at}
 use Rattle.kb_index.specs.Growing.{AreWaiting, Follows, IsGrown, IsWaiting, rank_of, waits}
 use Rattle.kb_index.proofs.Words.{word_root}
 
@@ -31,28 +31,6 @@ pub record Growing (rules : List Pair) (before : List Edge) (depth : ℕ) (waiti
   pub each : All (IsWaiting rules edges (depth + 1) (length before + 1)) next
   pub all : (k : ℕ) (d : Waiting) → k < done → depth + 1 < length (left_at rules (get_or waiting k d).rule)
       → WaitsOf next (get_or waiting k d).rule
-
-pub growing_first : (rules : List Pair) (before : List Edge) (depth : ℕ) (waiting : List Waiting) → AreEdges before
-    → AreWaiting rules before depth waiting → Growing rules before depth waiting 0 before []
-growing_first rules before depth waiting rise are =
-    record {
-      rise = rise;
-      longer = omega arith;
-      keeps = λ state within. refl;
-      bare = λ i k d in_edges in_waiting.
-          let one = are.bare i in_edges in
-          let two = are.each k d in_waiting in
-          omega (arith, two.level);
-      parents = λ i within. omega (arith, rise.parents i within);
-      after = λ i k d in_edges from in_waiting.
-          let one = are.bare i in_edges in
-          let two = are.each k d in_waiting in
-          let small = rise.letters i in_edges in
-          omega (arith, two.level);
-      states = λ k d below. absurd (omega arith);
-      each = All-nil (IsWaiting rules before (depth + 1) (length before + 1));
-      all = λ k d below longer. absurd (omega arith);
-    }
 
 -- a state stays with its word
 state_kept : (before after : List Edge) (w : List ℕ) → length before ≤ length after
@@ -281,22 +259,10 @@ grown_none rules =
           };
     }
 
-pub grown_trie : (rules : List Pair) (edges : List Edge) (depth longest : ℕ) → longest ≤ depth
-    → ((place : ℕ) → place < length rules → length (left_at rules place) ≤ longest) → IsGrown rules edges depth → IsTrie rules edges
-grown_trie rules edges depth longest deep bound grown =
-    record {
-      edges_rise = grown.edges_rise;
-      complete = λ place within. grown.complete place within (omega (arith, bound place within));
-    }
-
 -- the rules before this one wait at the root
 pub record AtRoot (rules : List Pair) (done : ℕ) (waiting : List Waiting) : Type 0 where
   pub each : All (IsWaiting rules [] 0 0) waiting
   pub all : (place : ℕ) → place < done → 0 < length (left_at rules place) → WaitsOf waiting place
-
-pub root_first : (rules : List Pair) → AtRoot rules 0 []
-root_first rules =
-    record { each = All-nil (IsWaiting rules [] 0 0); all = λ place below longer. absurd (omega arith) }
 
 pub root_more : (rules : List Pair) (rule : ℕ) (waiting waiting' : List Waiting) → rule < length rules
     → All (λ letter. letter < 65536) (left_at rules rule)
@@ -330,14 +296,4 @@ root_more rules rule waiting waiting' within range pushed at =
                 let C : List Waiting → Type 0 = λ ws. Contains ws new in
                 (new, subst C (sym pushed) (Contains-append_right waiting (waits rules 0 0 rule) new (contains_waits rules 0 0 rule long)), same)
           ];
-    }
-
-pub root_waits : (rules : List Pair) (done : ℕ) (waiting : List Waiting) → length rules ≤ done → AtRoot rules done waiting
-    → AreWaiting rules [] 0 waiting
-root_waits rules done waiting finished at =
-    record {
-      start = 0;
-      bare = λ i within. absurd (omega arith);
-      each = at.each;
-      all = λ place within longer. at.all place (omega arith) longer;
     }

@@ -11,4 +11,3 @@ pub mod Walking
 pub mod Recents
 pub mod Numbering
 pub mod Fronts
-pub mod Stepping

@@ -1,10 +1,11 @@
 -- The edges that lead from one state stand together, in the order of their letters.
-use Rattle.std.proofs.Common.{◌≡◌, ℕ, ◌+◌, ◌<◌, ◌≤◌, List, [], ◌∷◌, ◌++◌, length, get_or, sym, ap, subst, inl, inr, arith}
-use Rattle.std.proofs.lemmas.List.{get_or_append_left, get_or_push, length_push}
+use Rattle.std.proofs.Common.{◌≡◌, ℕ, ◌+◌, ◌<◌, ◌≤◌, List, [], ◌∷◌, ◌++◌, length, get_or, Option, Some, None, IfSome, IfNone, sym, ap, subst, inl, inr, arith}
+use Rattle.std.proofs.lemmas.List.{get_or_append_left, get_or_push, length_push, get_or_past}
+use Rattle.std.specs.Option.{unwrap_or}
 use Rattle.std.proofs.lemmas.Bool.{cases_lt}
 use Rattle.kb_index.specs.declared.edge.Edge.{Edge}
 use Rattle.kb_index.specs.Edges.{AreEdges, edge_at}
-use Rattle.kb_index.specs.Children.{IsFirst, IsChild}
+use Rattle.kb_index.specs.Children.{AreRootChildren, IsRootChild, IsFirst, IsChild, IsNoChild}
 
 -- states rise along the edges
 pub parents_rise : (edges : List Edge) → AreEdges edges → (i j : ℕ) → i ≤ j → j < length edges
@@ -19,18 +20,6 @@ parents_rise edges rise i j order within =
       | inr late ↦
           let same : i ≡ j = omega arith in
           omega (arith, ap (λ (k : ℕ). (edge_at edges k).parent) same)
-    ]
-
--- the first edge from a state on is no later for the next state
-pub firsts_rise : (edges : List Edge) (state first next : ℕ) → IsFirst edges state first → IsFirst edges (state + 1) next
-    → first ≤ next
-firsts_rise edges state first next here there =
-    elim (cases_lt next first) [
-      | inl before ↦
-          let one = here.earlier next before in
-          let two = there.later next (omega arith) (omega (arith, here.within)) in
-          absurd (omega arith)
-      | inr fine ↦ omega arith
     ]
 
 -- an edge of the run leads from the state
@@ -70,30 +59,41 @@ child_runs edges state letter child first next here there is =
     ] in
     (from, upto)
 
--- the first edge that isn't from an earlier state
-pub first_here : (edges : List Edge) (state first : ℕ) → AreEdges edges → first ≤ length edges
-    → ((i : ℕ) → i < first → (edge_at edges i).parent < state)
-    → (first < length edges → state ≤ (edge_at edges first).parent) → IsFirst edges state first
-first_here edges state first rise within earlier here =
-    record {
-      within = within;
-      earlier = earlier;
-      later = λ i from upto.
-          let one = here (omega arith) in
-          let two = parents_rise edges rise first i from upto in
-          omega arith;
-    }
-
-pub firsts_push : (edges : List Edge) (firsts : List ℕ) (first : ℕ)
-    → ((state : ℕ) → state < length firsts → IsFirst edges state (get_or firsts state 0))
-    → IsFirst edges (length firsts) first
-    → (state : ℕ) → state < length (firsts ++ first ∷ []) → IsFirst edges state (get_or (firsts ++ first ∷ []) state 0)
-firsts_push edges firsts first each here state within =
-    elim (cases_lt state (length firsts)) [
-      | inl earlier ↦
-          subst (IsFirst edges state) (sym (get_or_append_left firsts (first ∷ []) 0 state earlier)) (each state earlier)
+-- what holds of each number with its place, with a number more
+pub numbers_push : (P : ℕ → ℕ → Type 0) (xs : List ℕ) (x : ℕ) → ((i : ℕ) → i < length xs → P i (get_or xs i 0)) → P (length xs) x
+    → (i : ℕ) → i < length (xs ++ x ∷ []) → P i (get_or (xs ++ x ∷ []) i 0)
+numbers_push P xs x each last i within =
+    elim (cases_lt i (length xs)) [
+      | inl earlier ↦ subst (P i) (sym (get_or_append_left xs (x ∷ []) 0 i earlier)) (each i earlier)
       | inr late ↦
-          let same : length firsts ≡ state = omega (arith, length_push firsts first) in
-          let there : IsFirst edges state first = subst (λ (k : ℕ). IsFirst edges k first) same here in
-          subst (IsFirst edges state) (sym (get_or_push firsts first 0 state same)) there
+          let same : length xs ≡ i = omega (arith, length_push xs x) in
+          let there : P i x = subst (λ (k : ℕ). P k x) same last in
+          subst (P i) (sym (get_or_push xs x 0 i same)) there
+    ]
+
+-- a child of state 0, where one is found
+pub root_child : (edges : List Edge) (letter : ℕ) (found : Option ℕ) → IfSome found (IsChild edges 0 letter)
+    → IfNone found (IsNoChild edges 0 letter) → IsRootChild edges letter (unwrap_or found 0)
+root_child edges letter None some none = record { none = λ is. none; some = λ is. absurd (omega arith) }
+root_child edges letter (Some child) some none =
+    record { none = λ is. absurd (omega (arith, some.is)); some = λ is. some }
+
+-- the row is whole when it ends with the last letter of a child
+pub row_whole : (edges : List Edge) (row : List ℕ) (first : ℕ) → AreEdges edges → IsFirst edges 1 first
+    → ((i : ℕ) → i < first → (edge_at edges i).letter < length row)
+    → ((letter : ℕ) → letter < length row → IsRootChild edges letter (get_or row letter 0)) → AreRootChildren edges row
+row_whole edges row first rise next short each letter =
+    elim (cases_lt letter (length row)) [
+      | inl within ↦ each letter within
+      | inr past ↦
+          let Q : ℕ → Type 0 = λ c. IsRootChild edges letter c in
+          subst Q (sym (get_or_past row letter 0 past))
+          (record {
+            none = λ same child is.
+                elim (cases_lt is.place first) [
+                  | inl run ↦ omega (arith, short is.place run, is.letter_is)
+                  | inr late ↦ omega (arith, next.later is.place late is.within, is.parent)
+                ];
+            some = λ some. absurd (omega arith);
+          })
     ]

@@ -133,23 +133,6 @@ followed_new edges edge rise parent letter below =
       below = each_push (λ (i : ℕ) (e : Edge). rank e ≤ rank edge) edges edge (λ i within. omega (arith, below i within)) (omega arith);
     }
 
--- the edge is the last one already
-pub followed_same : (edges : List Edge) (edge : Edge) → AreEdges edges
-    → ((i : ℕ) → i < length edges → rank (edge_at edges i) ≤ rank edge) → IsLast edges edge → Follows edges edge edges
-followed_same edges edge rise below last =
-    let within : last.place < length edges = omega (arith, last.count) in
-    record {
-      edges_rise = rise;
-      longer = omega arith;
-      same = λ i within. refl;
-      keeps = λ state within. refl;
-      last = last;
-      spells =
-          ap (word edges) last.count ∙ rise.spelled last.place within
-          ∙ ap (λ (e : Edge). word edges e.parent ++ e.letter ∷ []) last.is;
-      below = below;
-    }
-
 -- an edge that isn't the last one, and isn't before one, is after all
 pub after_all : (edges : List Edge) (edge : Edge) → AreEdges edges → edge.letter < 65536
     → ((i : ℕ) → i < length edges → rank (edge_at edges i) ≤ rank edge) → (¬ IsLast edges edge)

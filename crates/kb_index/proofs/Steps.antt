@@ -3,7 +3,7 @@ use Rattle.std.proofs.Common.{◌≡◌, ℕ, ◌+◌, ◌-◌, ◌<◌, ◌≤�
 use Rattle.kb_word.specs.Words.{EndsWith}
 use Rattle.kb_index.specs.declared.edge.Edge.{Edge}
 use Rattle.kb_index.specs.Edges.{AreEdges, edge_at, word}
-use Rattle.kb_index.specs.Children.{IsChild, IsNoChild}
+use Rattle.kb_index.specs.Children.{IsChild, IsNoChild, IsRootChild}
 use Rattle.kb_index.specs.Links.{AreLinks, IsLongestSuffix, LeadsFrom}
 use Rattle.kb_index.proofs.Words.{word_root}
 use Rattle.kb_index.proofs.States.{FromEdge, from_edge, edges_tree, same_state}
@@ -58,10 +58,6 @@ pub record Falling (edges : List Edge) (state letter at : ℕ) : Type 0 where
   pub ends : EndsWith (word edges state) (word edges at)
   pub all : (parent child : ℕ) → parent ≤ length edges → IsChild edges parent letter child
       → EndsWith (word edges state) (word edges parent) → EndsWith (word edges at) (word edges parent)
-
-pub falling_first : (edges : List Edge) (state letter : ℕ) → Falling edges state letter state
-falling_first edges state letter =
-    record { lower = omega arith; ends = ends_all (word edges state); all = λ parent child within is ends. ends }
 
 -- the child's word is that of the state with the letter more
 pub child_ends : (edges : List Edge) → AreEdges edges → (w : List ℕ) (state letter child : ℕ) → IsChild edges state letter child
@@ -155,3 +151,10 @@ pub child_from : (edges : List Edge) (state letter at child : ℕ) → at ≤ st
 child_from edges state letter at child lower is some =
     let same : child - 1 ≡ is.place = omega (arith, is.is) in
     omega (arith, ap (λ (k : ℕ). (edge_at edges k).parent) same, is.parent)
+
+-- state 0 is reached, whose child by the letter is known
+pub step_root : (edges : List Edge) → AreEdges edges → (state letter child : ℕ) → Falling edges state letter 0
+    → IsRootChild edges letter child → FromEdge child → IsLongestSuffix edges (word edges state ++ letter ∷ []) (word edges child)
+step_root edges rise state letter child falling is root = step_none edges rise state letter falling (is.none refl)
+step_root edges rise state letter child falling is (edge_to place) =
+    step_found edges rise state letter 0 (place + 1) falling (is.some (omega arith))

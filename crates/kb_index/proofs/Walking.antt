@@ -39,14 +39,16 @@ child_below (suc bound) edges tree t below within (states.edge_to place) u x mor
     let here : place < length edges = omega arith in
     let e : Edge = edge_at edges place in
     let parent : e.parent ≤ place = tree.parents place here in
-    let both = same_from_push (word edges e.parent) u e.letter x (sym (tree.spelled place here) ∙ is) in
-    (place + 1, record {
-      place = place;
-      within = here;
-      is = refl;
-      parent = same_state edges tree e.parent state (omega arith) in_edges (both.0 ∙ sym same);
-      letter_is = both.1;
-    })
+    let both = same_from_push (word edges e.parent) u e.letter x (sym (tree.spelled place here) ∙ is) in (
+      place + 1,
+      record {
+        place = place;
+        within = here;
+        is = refl;
+        parent = same_state edges tree e.parent state (omega arith) in_edges (both.0 ∙ sym same);
+        letter_is = both.1;
+      },
+    )
 child_below (suc bound) edges tree t below within (states.edge_to place) u x more (last rest y) is state in_edges same =
     let here : place < length edges = omega arith in
     let e : Edge = edge_at edges place in
@@ -67,7 +69,7 @@ pub record Walking (rules : List Pair) (edges : List Edge) (first : ℕ) (number
   pub at : word edges state ≡ reverse (drop rest read)
   pub found : best < length numbers → IsSuch (EndsWith read) rules first (get_or numbers best 0)
   pub longer : (p : ℕ) → p < best → IsSuch (EndsWith read) rules first (get_or numbers p 0)
-    → length read < rest + length (left_at rules (get_or numbers p 0 - first))
+      → length read < rest + length (left_at rules (get_or numbers p 0 - first))
 
 pub walking_first : (rules : List Pair) (recent : Recent) → IsRecent rules recent → (first : ℕ) (numbers read : List ℕ)
     → Walking rules recent.edges.keys first numbers read (length read) 0 (length numbers)

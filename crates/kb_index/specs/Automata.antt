@@ -5,7 +5,7 @@ use Rattle.kb_index.specs.declared.edge.Edge.{Edge}
 use Rattle.kb_index.specs.declared.automaton.Automaton.{Automaton}
 use Rattle.kb_index.specs.Edges.{word}
 use Rattle.kb_index.specs.Tries.{IsTrie, left_at}
-use Rattle.kb_index.specs.Children.{AreFirsts}
+use Rattle.kb_index.specs.Children.{AreFirsts, AreRootChildren}
 use Rattle.kb_index.specs.Links.{AreLinks, IsLongestSuffix}
 use Rattle.kb_index.specs.Chains.{AreBefore, AreHeads}
 use Rattle.kb_index.specs.Ends.{AreEnds}
@@ -18,6 +18,7 @@ pub record IsAutomaton (rules : List Pair) (automaton : Automaton) : Type 0 wher
   pub lefts : HaveLefts rules
   pub trie : IsTrie rules automaton.edges.items
   pub firsts : AreFirsts automaton.edges.items automaton.firsts.items
+  pub roots : AreRootChildren automaton.edges.items automaton.roots.items
   pub link_count : length automaton.links.items ≡ length automaton.edges.items + 1
   pub links : AreLinks automaton.edges.items automaton.links.items
   pub head_count : length automaton.chains.heads.items ≡ length automaton.edges.items + 1

@@ -25,3 +25,12 @@ pub record IsChild (edges : List Edge) (state letter child : ℕ) : Type 0 where
 -- no edge by the letter leads from the state
 abbrev pub IsNoChild : List Edge → ℕ → ℕ → Type 0
 IsNoChild edges state letter = (child : ℕ) → ¬ IsChild edges state letter child
+
+-- the child of state 0 by the letter, or 0 where there is none
+pub record IsRootChild (edges : List Edge) (letter child : ℕ) : Type 0 where
+  pub none : child ≡ 0 → IsNoChild edges 0 letter
+  pub some : 0 < child → IsChild edges 0 letter child
+
+-- the children of state 0 by their letters; a later letter has none
+abbrev pub AreRootChildren : List Edge → List ℕ → Type 0
+AreRootChildren edges row = (letter : ℕ) → IsRootChild edges letter (get_or row letter 0)

@@ -9,7 +9,7 @@ pub record IsEnd (edges : List Edge) (heads : List ℕ) (state end : ℕ) : Type
   pub upto : end ≤ state
   pub ends : EndsWith (word edges state) (word edges end)
   pub longest : (other : ℕ) → other ≤ length edges → 0 < get_or heads other 0
-    → EndsWith (word edges state) (word edges other) → EndsWith (word edges end) (word edges other)
+      → EndsWith (word edges state) (word edges other) → EndsWith (word edges end) (word edges other)
 
 pub record AreEnds (edges : List Edge) (heads ends : List ℕ) : Type 0 where
   pub each : (state : ℕ) → state < length ends → IsEnd edges heads state (get_or ends state 0)

@@ -10,7 +10,8 @@ use Rattle.kb_index.specs.Tries.{HasState, left_at}
 -- each left side that isn't longer than the depth is a state's word
 pub record IsGrown (rules : List Pair) (edges : List Edge) (depth : ℕ) : Type 0 where
   pub edges_rise : AreEdges edges
-  pub complete : (place : ℕ) → place < length rules → length (left_at rules place) ≤ depth → HasState edges (left_at rules place)
+  pub complete : (place : ℕ) → place < length rules → length (left_at rules place) ≤ depth
+      → HasState edges (left_at rules place)
 
 abbrev pub rank_of : Waiting → ℕ
 rank_of waiting = rank waiting.edge

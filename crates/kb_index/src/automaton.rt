@@ -1,17 +1,17 @@
 //! The automaton of a list of rules.
 
-ghost use Rattle.std.specs.Prelude.{◌≡◌, ◌≢◌, ℕ, List, ◌<◌, ◌≤◌, ◌+◌, [], IfOk, OnOk, length};
+ghost use Rattle.std.specs.Prelude.{◌≡◌, ℕ, List, ◌≤◌, ◌+◌, IfOk, length};
 ghost use Rattle.kb_word.specs.Words.{Pair, EndsWith};
-ghost use Rattle.kb_index.specs.Edges.{AreEdges, word};
-ghost use Rattle.kb_index.specs.Children.{AreFirsts};
+ghost use Rattle.kb_index.specs.Edges.{word};
+ghost use Rattle.kb_index.specs.Children.{AreFirsts, AreRootChildren};
 ghost use Rattle.kb_index.specs.Links.{AreLinks};
-ghost use Rattle.kb_index.specs.Tries.{IsTrie, left_at};
+ghost use Rattle.kb_index.specs.Tries.{IsTrie};
 ghost use Rattle.kb_index.specs.Chains.{AreBefore, AreHeads, Rise};
 ghost use Rattle.kb_index.specs.Live.{IsFirstSuch};
 ghost use Rattle.kb_index.specs.Automata.{IsAutomaton, StandsFor, HaveLefts};
 
 use crate::chains::{Chains, first_live};
-use crate::children::firsts_of;
+use crate::children::{firsts_of, root_children_of};
 use crate::edge::Edge;
 use crate::ends::ends_of;
 use crate::links::{links_of, state_after};
@@ -26,6 +26,7 @@ use std::alloc::Global;
 pub struct Automaton {
     pub edges: Vec<Edge>,
     pub firsts: Vec<usize>,
+    pub roots: Vec<usize>,
     pub links: Vec<usize>,
     pub chains: Chains,
     pub ends: Vec<usize>,
@@ -39,12 +40,14 @@ impl Automaton {
     {
         let edges = trie_of(alloc, rules)?;
         let firsts = firsts_of(alloc, &edges)?;
-        let links = links_of(alloc, &edges, &firsts)?;
-        let chains = chains_of(alloc, rules, &edges, &firsts, &links)?;
+        let roots = root_children_of(alloc, &edges, &firsts)?;
+        let links = links_of(alloc, &edges, &firsts, &roots)?;
+        let chains = chains_of(alloc, rules, &edges, &firsts, &roots, &links)?;
         let ends = ends_of(alloc, &edges, &links, &chains.heads)?;
         Ok(Automaton {
             edges,
             firsts,
+            roots,
             links,
             chains,
             ends,
@@ -78,10 +81,12 @@ fn chains_of(
     rules: &[Rule],
     edges: &[Edge],
     firsts: &[usize],
+    roots: &[usize],
     links: &[usize],
 ) -> Result<Chains, Memory>
     requires trie { IsTrie rules.now edges.now }
     requires firsts { AreFirsts edges.now firsts.now }
+    requires roots { AreRootChildren edges.now roots.now }
     requires links { AreLinks edges.now links.now }
     requires count { length links.now ≡ length edges.now + 1 }
     ensures states { IfOk result (λ chains. length chains.heads.items ≡ length edges.now + 1) }
@@ -92,7 +97,7 @@ fn chains_of(
 {
     let mut chains = Chains::none(alloc, edges.len() + 1)?;
     for rule in rules {
-        let state = state_after(edges, firsts, links, rule.left());
+        let state = state_after(edges, firsts, roots, links, rule.left());
         chains.add(state)?;
     }
     Ok(chains)

@@ -1,8 +1,8 @@
 //! The children of a state.
 
-ghost use Rattle.std.specs.Prelude.{◌≡◌, ℕ, ◌<◌, ◌≤◌, ◌+◌, IfOk, IfSome, IfNone, length};
-ghost use Rattle.kb_index.specs.Edges.{AreEdges};
-ghost use Rattle.kb_index.specs.Children.{AreFirsts, IsChild, IsNoChild};
+ghost use Rattle.std.specs.Prelude.{◌≡◌, ℕ, ◌<◌, ◌≤◌, ◌+◌, ◌^◌, IfOk, IfSome, IfNone, length, get_or};
+ghost use Rattle.kb_index.specs.Edges.{AreEdges, edge_at};
+ghost use Rattle.kb_index.specs.Children.{AreFirsts, AreRootChildren, IsChild, IsNoChild};
 
 use crate::edge::Edge;
 use kb_word::Memory;
@@ -22,6 +22,36 @@ pub fn firsts_of(alloc: Global, edges: &[Edge]) -> Result<Vec<usize>, Memory>
         firsts.push(first)?;
     }
     Ok(firsts)
+}
+
+/// The children of state 0 by their letters, with 0 for none. The row ends with the last letter that has one.
+pub fn root_children_of(
+    alloc: Global,
+    edges: &[Edge],
+    firsts: &[usize],
+) -> Result<Vec<usize>, Memory>
+    requires edges { AreEdges edges.now }
+    requires firsts { AreFirsts edges.now firsts.now }
+    ensures { IfOk result (λ row. AreRootChildren edges.now row.items) }
+{
+    let mut row = Vec::new(alloc);
+    for letter in 0..root_letters(edges, firsts) {
+        row.push(child(edges, firsts, 0, letter as u16).unwrap_or(0))?;
+    }
+    Ok(row)
+}
+
+/// One more than the last letter by which state 0 has a child, or 0 where it has none.
+fn root_letters(edges: &[Edge], firsts: &[usize]) -> u32
+    requires edges { AreEdges edges.now }
+    requires firsts { AreFirsts edges.now firsts.now }
+    ensures above { (i : ℕ) → i < get_or firsts.now 1 0 → (edge_at edges.now i).letter < result }
+    ensures most { result ≤ 2 ^ 16 }
+{
+    match firsts[1].checked_sub(1) {
+        Some(last) => u32::from(edges[last].letter) + 1,
+        None => 0,
+    }
 }
 
 /// The state to which the letter leads from a state.

@@ -2,7 +2,7 @@
 
 ghost use Rattle.std.specs.Prelude.{◌≡◌, ℕ, ◌<◌, ◌≤◌, ◌+◌, ◌∷◌, ◌++◌, [], IfOk, length};
 ghost use Rattle.kb_index.specs.Edges.{AreEdges, word};
-ghost use Rattle.kb_index.specs.Children.{AreFirsts};
+ghost use Rattle.kb_index.specs.Children.{AreFirsts, AreRootChildren};
 ghost use Rattle.kb_index.specs.Links.{AreLinks, IsLongestSuffix, LeadsFrom};
 
 use crate::children::child;
@@ -11,9 +11,15 @@ use kb_word::{Memory, Word};
 use std::alloc::Global;
 
 /// The failure links of all states, in their order.
-pub fn links_of(alloc: Global, edges: &[Edge], firsts: &[usize]) -> Result<Vec<usize>, Memory>
+pub fn links_of(
+    alloc: Global,
+    edges: &[Edge],
+    firsts: &[usize],
+    roots: &[usize],
+) -> Result<Vec<usize>, Memory>
     requires edges { AreEdges edges.now }
     requires firsts { AreFirsts edges.now firsts.now }
+    requires roots { AreRootChildren edges.now roots.now }
     ensures count { IfOk result (λ links. length links.items ≡ length edges.now + 1) }
     ensures links { IfOk result (λ links. AreLinks edges.now links.items) }
 {
@@ -22,7 +28,14 @@ pub fn links_of(alloc: Global, edges: &[Edge], firsts: &[usize]) -> Result<Vec<u
         let link = if edge.parent == 0 {
             0
         } else {
-            step(edges, firsts, &links, links[edge.parent], edge.letter)
+            step(
+                edges,
+                firsts,
+                roots,
+                &links,
+                links[edge.parent],
+                edge.letter,
+            )
         };
         links.push(link)?;
     }
@@ -30,9 +43,17 @@ pub fn links_of(alloc: Global, edges: &[Edge], firsts: &[usize]) -> Result<Vec<u
 }
 
 /// The state after a letter more: the child by the letter of the first state that has one, along the links.
-pub fn step(edges: &[Edge], firsts: &[usize], links: &[usize], state: usize, letter: u16) -> usize
+pub fn step(
+    edges: &[Edge],
+    firsts: &[usize],
+    roots: &[usize],
+    links: &[usize],
+    state: usize,
+    letter: u16,
+) -> usize
     requires edges { AreEdges edges.now }
     requires firsts { AreFirsts edges.now firsts.now }
+    requires roots { AreRootChildren edges.now roots.now }
     requires links { AreLinks edges.now links.now }
     requires state { state < length links.now }
     requires count { length links.now ≤ length edges.now + 1 }
@@ -42,21 +63,26 @@ pub fn step(edges: &[Edge], firsts: &[usize], links: &[usize], state: usize, let
         (word edges.now result) }
 {
     let mut at = state;
-    loop {
+    while at > 0 {
         if let Some(child) = child(edges, firsts, at, letter) {
             return child;
         }
-        if at == 0 {
-            return 0;
-        }
         at = links[at];
     }
+    roots.get(letter as usize).copied().unwrap_or(0)
 }
 
 /// The state after all letters of a word.
-pub fn state_after(edges: &[Edge], firsts: &[usize], links: &[usize], read: &Word) -> usize
+pub fn state_after(
+    edges: &[Edge],
+    firsts: &[usize],
+    roots: &[usize],
+    links: &[usize],
+    read: &Word,
+) -> usize
     requires edges { AreEdges edges.now }
     requires firsts { AreFirsts edges.now firsts.now }
+    requires roots { AreRootChildren edges.now roots.now }
     requires links { AreLinks edges.now links.now }
     requires count { length links.now ≡ length edges.now + 1 }
     ensures state { result ≤ length edges.now }
@@ -64,7 +90,7 @@ pub fn state_after(edges: &[Edge], firsts: &[usize], links: &[usize], read: &Wor
 {
     let mut state = 0;
     for letter in read.letters() {
-        state = step(edges, firsts, links, state, letter.number());
+        state = step(edges, firsts, roots, links, state, letter.number());
     }
     state
 }

@@ -1,6 +1,6 @@
 //! Reading a word from left to right by the automaton.
 
-ghost use Rattle.std.specs.Prelude.{◌≡◌, List, ◌+◌, ◌<◌, ◌^◌, [], ◌∷◌, ◌++◌, IfOk, OnOk, IfSome, IfNone, All, length, take};
+ghost use Rattle.std.specs.Prelude.{◌≡◌, List, ◌+◌, ◌-◌, ◌<◌, ◌^◌, [], ◌∷◌, ◌++◌, IfOk, OnOk, IfSome, IfNone, All, length, take};
 ghost use Rattle.kb_word.specs.Words.{Pair, OneOf, EndsWith};
 ghost use Rattle.kb_word.specs.Rewriting.{IsIrreducible, NormalForm};
 ghost use Rattle.kb_rules.specs.Steps.{IsFirstStep, Leads};
@@ -23,12 +23,7 @@ struct Front {
 }
 
 /// The normal form.
-pub fn normal_form(
-    alloc: Global,
-    list: &Rules,
-    lookup: &Lookup,
-    w: &Word,
-) -> Result<Word, Memory>
+pub fn normal_form(alloc: Global, list: &Rules, lookup: &Lookup, w: &Word) -> Result<Word, Memory>
     requires { IsLookup list.now.rules lookup.now }
     ensures { IfOk result (λ m. NormalForm list.now.rules w.now m) }
 {
@@ -41,12 +36,7 @@ pub fn normal_form(
 }
 
 /// The normal form, with the steps that lead to it.
-pub fn trace(
-    alloc: Global,
-    list: &Rules,
-    lookup: &Lookup,
-    w: &Word,
-) -> Result<Trace, Memory>
+pub fn trace(alloc: Global, list: &Rules, lookup: &Lookup, w: &Word) -> Result<Trace, Memory>
     requires { IsLookup list.now.rules lookup.now }
     ensures normal { IfOk result (λ trace. NormalForm list.now.rules w.now trace.word) }
     ensures steps { IfOk result (λ trace.
@@ -156,6 +146,7 @@ fn advance(automaton: &Automaton, front: &mut Front, letter: Letter) -> Result<u
     let state = step(
         &automaton.edges,
         &automaton.firsts,
+        &automaton.roots,
         &automaton.links,
         last,
         letter.number(),
@@ -169,7 +160,7 @@ fn advance(automaton: &Automaton, front: &mut Front, letter: Letter) -> Result<u
 fn cut(front: &mut Front, rule: &Rule) -> usize
     requires ends { EndsWith front.old.word rule.now.0 }
     requires count { length front.old.states.items ≡ length front.old.word + 1 }
-    ensures kept { result + length rule.now.0 ≡ length front.old.word }
+    ensures kept { result ≡ length front.old.word - length rule.now.0 }
     ensures word { front.new.word ≡ take result front.old.word }
     ensures states { front.new.states.items ≡ take (result + 1) front.old.states.items }
 {

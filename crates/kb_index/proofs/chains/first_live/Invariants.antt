@@ -9,7 +9,7 @@ invariant-loop-rest l = record {
   within : l.best ≤ length l.numbers;
   rest : l.rest ≤ length l.before;
   following : (rules : List Pair) → (w : List ℕ) → AreBefore rules l.before → IsHead rules (length l.before) w l.head
-    → length l.before ≡ length rules → Following rules l.first l.numbers w l.rest l.best;
+      → length l.before ≡ length rules → Following rules l.first l.numbers w l.rest l.best;
 }
 
 abbrev pub decreases-loop-rest : goal.decreases-loop-rest

@@ -3,9 +3,10 @@ use Rattle.kb_word.specs.Words.{OneOf}
 use Rattle.kb_word.specs.WordOrderLaws.{word_orders}
 use Rattle.kb_word.specs.Rewriting.{IsIrreducible, NormalForm}
 use Rattle.kb_rules.proofs.Exists.{empty_irreducible}
+use Rattle.kb_rules.proofs.Tracing.{step_falls}
+use Rattle.kb_rules.proofs.Unique.{normal_form_more}
 use Rattle.kb_index.specs.Automata.{AreStates}
 use Rattle.kb_index.proofs.Fronts.{states_first}
-use Rattle.kb_index.proofs.Stepping.{step_falls, step_leads}
 use Rattle.kb_index.proofs.reading.normal_form.Goals as goal
 
 pub loop-unread-init : goal.loop-unread-init
@@ -30,7 +31,7 @@ pub loop-unread-smaller : goal.loop-unread-smaller
 loop-unread-smaller c =
     let step = rw c.in-Some.is at c.in_ok-next_step.ensures.some in
     let range = rw c.in-Some.is at c.in_ok-next_step.ensures.range in
-    step_falls c.args.list.now.order c.as_slice-rules.ensures.decreasing c.loop-unread.invariant.range range step
+    step_falls c.args.list.now.order c.as_slice-rules.ensures.decreasing step c.loop-unread.invariant.range range
 
 pub loop-unread-preserved : goal.loop-unread-preserved
 loop-unread-preserved c =
@@ -40,5 +41,5 @@ loop-unread-preserved c =
       states = c.in_ok-next_step.ensures.states;
       irreducible = c.in_ok-next_step.ensures.irreducible;
       range = range;
-      leads = λ m normal. c.loop-unread.invariant.leads m (step_leads step normal);
+      leads = λ m normal. c.loop-unread.invariant.leads m (normal_form_more step.rewrite normal);
     }

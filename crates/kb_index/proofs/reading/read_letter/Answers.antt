@@ -1,28 +1,32 @@
-use Rattle.std.proofs.Common.{◌≡◌, ℕ, ◌<◌, ◌≤◌, ◌^◌, ◌∷◌, ◌++◌, All, List, [], length, subst, sym, ap, ◌∙◌, arith}
+use Rattle.std.proofs.Common.{ℕ, ◌<◌, ◌^◌, ◌∷◌, ◌++◌, All, List, [], subst, sym, ap, ◌∙◌, arith}
 use Rattle.kb_word.specs.Words.{Pair, OneOf}
 use Rattle.kb_word.specs.Rewriting.{IsIrreducible}
+use Rattle.kb_rules.specs.Ending.{IsFirstEnding}
 use Rattle.kb_rules.proofs.Endings.{irreducible_more}
+use Rattle.kb_rules.proofs.Scanning.{IsCut, cut_irreducible, cut_step, cut_range}
 use Rattle.kb_index.specs.Owners.{IsOwner}
-use Rattle.kb_index.proofs.Fronts.{front_cut, none_past, owner_none}
-use Rattle.kb_index.proofs.Stepping.{IsCut, owner_ends, cut_irreducible, cut_step, cut_range}
+use Rattle.kb_index.proofs.Fronts.{front_cut, none_past, owner_ending, owner_none}
 use Rattle.kb_index.proofs.reading.read_letter.Goals as goal
 
 pub returns-in_default-clause-irreducible : goal.returns-in_default-clause-irreducible
 returns-in_default-clause-irreducible c =
     let rules : List Pair = c.args.list.now.rules in
-    let front : List ℕ = c.args.front.now.word in
+    let place : ℕ = c.first_ending-place.result in
     let P : List ℕ → Type 0 = λ w. IsIrreducible (OneOf rules) w in
-    let Q : List ℕ → Type 0 = λ w. IsOwner rules w c.first_ending-place.result in
-    let owner : Q (front ++ c.args.letter ∷ []) = subst Q c.in_ok-state.ensures.word (c.first_ending-place.ensures c.args.list.now.rules c.requires.lookup) in
-    let past : length rules ≤ c.first_ending-place.result = none_past rules c.first_ending-place.result c.in_default.ensures.rule in
+    let Q : List ℕ → Type 0 = λ w. IsOwner rules w place in
+    let owner : Q (c.args.front.now.word ++ c.args.letter ∷ []) =
+    subst Q c.in_ok-state.ensures.word (c.first_ending-place.ensures rules c.requires.lookup) in
     subst P (sym c.in_ok-state.ensures.word)
-    (irreducible_more rules front c.args.letter c.requires.irreducible
-    (owner_none rules (front ++ c.args.letter ∷ []) c.first_ending-place.result owner past))
+    (irreducible_more rules c.args.front.now.word c.args.letter c.requires.irreducible
+    (owner_none rules (c.args.front.now.word ++ c.args.letter ∷ []) place owner (none_past rules place c.in_default.ensures.rule)))
 
 pub cut-kept-requires-clause-ends : goal.cut-kept-requires-clause-ends
 cut-kept-requires-clause-ends c =
-    owner_ends c.args.list.now.rules c.advance.new.front.word c.first_ending-place.result c.in-Some.rule.now
-    (c.first_ending-place.ensures c.args.list.now.rules c.requires.lookup) (sym c.in-Some.ensures.rule)
+    let rules : List Pair = c.args.list.now.rules in
+    let first : IsFirstEnding rules c.advance.new.front.word c.first_ending-place.result c.in-Some.rule.now =
+    owner_ending rules c.advance.new.front.word c.first_ending-place.result c.in-Some.rule.now
+    (c.first_ending-place.ensures rules c.requires.lookup) (sym c.in-Some.ensures.rule) in
+    first.ends
 
 pub returns-clause-states : goal.returns-clause-states
 returns-clause-states c =
@@ -34,37 +38,40 @@ pub returns-clause-irreducible : goal.returns-clause-irreducible
 returns-clause-irreducible c =
     let rules : List Pair = c.args.list.now.rules in
     let front : List ℕ = c.args.front.now.word in
-    let pushed : c.advance.new.front.word ≡ front ++ c.args.letter ∷ [] = c.in_ok-state.ensures.word in
-    let Q : List ℕ → Type 0 = λ w. IsOwner rules w c.first_ending-place.result in
+    let F : List ℕ → Type 0 = λ w. IsFirstEnding rules w c.first_ending-place.result c.in-Some.rule.now in
     let C : List ℕ → Type 0 = λ w. IsCut w c.in-Some.rule.now.0 c.cut-kept.result c.cut-kept.new.front.word in
+    let first : F c.advance.new.front.word =
+    owner_ending rules c.advance.new.front.word c.first_ending-place.result c.in-Some.rule.now
+    (c.first_ending-place.ensures rules c.requires.lookup) (sym c.in-Some.ensures.rule) in
     let cut : C c.advance.new.front.word = record { at = c.cut-kept.ensures.kept; is = c.cut-kept.ensures.word } in
-    cut_irreducible rules front c.args.letter c.first_ending-place.result c.in-Some.rule.now c.cut-kept.result c.cut-kept.new.front.word
-    c.requires.irreducible (subst Q pushed (c.first_ending-place.ensures c.args.list.now.rules c.requires.lookup)) (sym c.in-Some.ensures.rule) (subst C pushed cut)
+    cut_irreducible front c.args.letter c.requires.irreducible (subst F c.in_ok-state.ensures.word first) (subst C c.in_ok-state.ensures.word cut)
 
 pub returns-clause-some : goal.returns-clause-some
 returns-clause-some c =
     let rules : List Pair = c.args.list.now.rules in
     let front : List ℕ = c.args.front.now.word in
-    let unread : List ℕ = c.args.unread.now in
-    let pushed : c.advance.new.front.word ≡ front ++ c.args.letter ∷ [] = c.in_ok-state.ensures.word in
-    let Q : List ℕ → Type 0 = λ w. IsOwner rules w c.first_ending-place.result in
+    let F : List ℕ → Type 0 = λ w. IsFirstEnding rules w c.first_ending-place.result c.in-Some.rule.now in
     let C : List ℕ → Type 0 = λ w. IsCut w c.in-Some.rule.now.0 c.cut-kept.result c.cut-kept.new.front.word in
+    let first : F c.advance.new.front.word =
+    owner_ending rules c.advance.new.front.word c.first_ending-place.result c.in-Some.rule.now
+    (c.first_ending-place.ensures rules c.requires.lookup) (sym c.in-Some.ensures.rule) in
     let cut : C c.advance.new.front.word = record { at = c.cut-kept.ensures.kept; is = c.cut-kept.ensures.word } in
-    cut_step rules front c.args.letter unread c.first_ending-place.result c.in-Some.rule.now c.cut-kept.result c.cut-kept.new.front.word
-    c.put_back.new.self c.requires.irreducible (subst Q pushed (c.first_ending-place.ensures c.args.list.now.rules c.requires.lookup)) (sym c.in-Some.ensures.rule) (subst C pushed cut)
-    (c.in_ok-put_back.ensures.ok ∙ ap (λ (r : List ℕ). r ++ unread) c.right.ensures)
+    let back = c.in_ok-put_back.ensures.ok ∙ ap (λ (r : List ℕ). r ++ c.args.unread.now) c.right.ensures in
+    cut_step front c.args.letter c.args.unread.now c.put_back.new.self c.requires.irreducible
+    (subst F c.in_ok-state.ensures.word first) (subst C c.in_ok-state.ensures.word cut) back
 
 pub returns-clause-range : goal.returns-clause-range
 returns-clause-range c =
     let rules : List Pair = c.args.list.now.rules in
     let front : List ℕ = c.args.front.now.word in
-    let unread : List ℕ = c.args.unread.now in
-    let pushed : c.advance.new.front.word ≡ front ++ c.args.letter ∷ [] = c.in_ok-state.ensures.word in
-    let Q : List ℕ → Type 0 = λ w. IsOwner rules w c.first_ending-place.result in
+    let F : List ℕ → Type 0 = λ w. IsFirstEnding rules w c.first_ending-place.result c.in-Some.rule.now in
     let C : List ℕ → Type 0 = λ w. IsCut w c.in-Some.rule.now.0 c.cut-kept.result c.cut-kept.new.front.word in
     let R : List ℕ → Type 0 = λ w. All (λ x. x < 2 ^ 16) w in
+    let first : F c.advance.new.front.word =
+    owner_ending rules c.advance.new.front.word c.first_ending-place.result c.in-Some.rule.now
+    (c.first_ending-place.ensures rules c.requires.lookup) (sym c.in-Some.ensures.rule) in
     let cut : C c.advance.new.front.word = record { at = c.cut-kept.ensures.kept; is = c.cut-kept.ensures.word } in
-    cut_range (λ x. x < 2 ^ 16) rules front c.args.letter unread c.first_ending-place.result c.in-Some.rule.now c.cut-kept.result
-    c.cut-kept.new.front.word c.put_back.new.self (subst Q pushed (c.first_ending-place.ensures c.args.list.now.rules c.requires.lookup)) (sym c.in-Some.ensures.rule) (subst C pushed cut)
-    (c.in_ok-put_back.ensures.ok ∙ ap (λ (r : List ℕ). r ++ unread) c.right.ensures) c.requires.range
-    (subst R c.right.ensures c.put_back.ensures.range)
+    let back = c.in_ok-put_back.ensures.ok ∙ ap (λ (r : List ℕ). r ++ c.args.unread.now) c.right.ensures in
+    let right = subst R c.right.ensures c.put_back.ensures.range in
+    cut_range (λ x. x < 2 ^ 16) front c.args.letter c.args.unread.now c.put_back.new.self
+    (subst F c.in_ok-state.ensures.word first) (subst C c.in_ok-state.ensures.word cut) back c.requires.range right

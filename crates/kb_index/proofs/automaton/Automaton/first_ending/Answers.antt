@@ -44,7 +44,7 @@ loop-end-preserved c =
       searching = λ rules read of stands.
           let P : ℕ → Type 0 = λ e. Searching rules automaton.edges.items read numbers e c.min-best.result in
           let Q : ℕ → Type 0 = λ b. Searching rules automaton.edges.items read numbers
-            (get_or automaton.ends.items (get_or automaton.links.items state 0) 0) b in
+          (get_or automaton.ends.items (get_or automaton.links.items state 0) 0) b in
           let H : ℕ → Type 0 = λ h. IsHead rules (length automaton.chains.before.items) (word automaton.edges.items state) h in
           let B : List ℕ → Type 0 = λ before. AreBefore rules before in
           let L : List ℕ → Type 0 = λ before. IsHead rules (length before) (word automaton.edges.items state) c.index-head.result.now in

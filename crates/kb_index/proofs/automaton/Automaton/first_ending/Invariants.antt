@@ -9,7 +9,7 @@ invariant-loop-end l = record {
   within : l.best ≤ length l.numbers;
   state : l.end ≤ length l.self.edges.items;
   searching : (rules : List Pair) → (read : List ℕ) → IsAutomaton rules l.self → StandsFor l.self.edges.items read l.state
-    → Searching rules l.self.edges.items read l.numbers l.end l.best;
+      → Searching rules l.self.edges.items read l.numbers l.end l.best;
 }
 
 abbrev pub decreases-loop-end : goal.decreases-loop-end

@@ -10,7 +10,7 @@ invariant-loop-rest l = record {
   rest : l.rest ≤ length l.letters;
   within : l.state ≤ length l.self.edges.keys;
   walking : (rules : List Pair) → IsRecent rules l.self
-    → Walking rules l.self.edges.keys l.first l.numbers l.letters l.rest l.state l.best;
+      → Walking rules l.self.edges.keys l.first l.numbers l.letters l.rest l.state l.best;
 }
 
 abbrev pub decreases-loop-rest : goal.decreases-loop-rest
