@@ -1,6 +1,5 @@
 -- What is read, its states, and the rule that the last state names.
-use Rattle.std.proofs.Common.{◌≡◌, ℕ, zero, suc, ◌+◌, ◌-◌, ◌≤◌, List, [], ◌∷◌, ◌++◌, length, get_or, take, slice_get, Option, Some, None, IfSome, IfNone, Bor, refl, sym, ap, ◌∙◌, subst, inl, inr, arith}
-use Rattle.std.specs.Option.{option_copied}
+use Rattle.std.proofs.Common.{◌≡◌, ℕ, zero, suc, ◌+◌, ◌-◌, ◌≤◌, List, [], ◌∷◌, ◌++◌, length, get_or, take, slice_get, Some, None, refl, sym, ap, ◌∙◌, subst, inl, inr, arith}
 use Rattle.std.proofs.lemmas.List.{get_or_append_left, get_or_push, length_push, take-append-le, take_all, take-take, length-take-le, get_or-take}
 use Rattle.std.proofs.lemmas.Option.{same_Some, none-some, slice_get_within, slice_get-get_or}
 use Rattle.std.proofs.lemmas.Bool.{cases_lt}
@@ -8,11 +7,10 @@ use Rattle.kb_word.specs.Words.{Pair, EndsWith}
 use Rattle.kb_rules.specs.Ending.{IsFirstEnding, NoneEnds}
 use Rattle.kb_index.specs.declared.edge.Edge.{Edge}
 use Rattle.kb_index.specs.Edges.{AreEdges, word}
-use Rattle.kb_index.specs.Tries.{IsTrie, left_at}
+use Rattle.kb_index.specs.Tries.{left_at}
 use Rattle.kb_index.specs.Links.{IsLongestSuffix}
 use Rattle.kb_index.specs.Owners.{IsOwner}
 use Rattle.kb_index.specs.Automata.{AreStates, StandsFor}
-use Rattle.kb_index.proofs.Suffixes.{ends_within}
 use Rattle.kb_index.proofs.Steps.{longest_more}
 use Rattle.kb_index.proofs.Linking.{longest_nil}
 
@@ -81,56 +79,29 @@ at_left [] place rule is = absurd (none-some rule is)
 at_left (first ∷ rules) zero rule is = ap (λ (r : Pair). r.0) (same_Some first rule is)
 at_left (first ∷ rules) (suc place) rule is = at_left rules place rule is
 
--- a left side that ends what is read ends the word of its state
-left_ends : (rules : List Pair) (edges : List Edge) → IsTrie rules edges → (read : List ℕ) (state place : ℕ) (rule : Pair)
-    → StandsFor edges read state → slice_get rules place ≡ Some rule → EndsWith read rule.0
-    → EndsWith (word edges state) (left_at rules place)
-left_ends rules edges trie read state place rule stands is ends =
-    let has = trie.complete place (slice_get_within rules place rule is) in
-    let P : List ℕ → Type 0 = λ v. EndsWith read v in
-    let Q : List ℕ → Type 0 = λ v. EndsWith (word edges state) v in
-    subst Q has.is (stands.longest.longest has.state has.within (subst P (sym (has.is ∙ at_left rules place rule is)) ends))
-
-pub owner_first : (rules : List Pair) (edges : List Edge) → IsTrie rules edges → (state place : ℕ) (rule : Pair)
-    → IsOwner rules (word edges state) place → slice_get rules place ≡ Some rule
-    → (read : List ℕ) → StandsFor edges read state → IsFirstEnding rules read rule
-owner_first rules edges trie state place rule owner is read stands =
-    let P : List ℕ → Type 0 = λ v. EndsWith read v in
-    let there : EndsWith (word edges state) (left_at rules place) = owner.ends (slice_get_within rules place rule is) in
+-- the rule at the place is the first whose left side ends the word
+pub owner_ending : (rules : List Pair) (w : List ℕ) (place : ℕ) (rule : Pair) → IsOwner rules w place → slice_get rules place ≡ Some rule
+    → IsFirstEnding rules w place rule
+owner_ending rules w place rule owner is =
+    let P : List ℕ → Type 0 = λ v. EndsWith w v in
     record {
-      index = place;
       is_rule = is;
-      ends = subst P (at_left rules place rule is) (ends_within read (word edges state) (left_at rules place) stands.longest.ends there);
-      first = λ earlier other less one ends.
-          owner.first earlier less (left_ends rules edges trie read state earlier other stands one ends);
+      ends = subst P (at_left rules place rule is) (owner.ends (slice_get_within rules place rule is));
+      first = λ earlier other less one ends. owner.first earlier less (subst P (sym (at_left rules earlier other one)) ends);
     }
 
-pub owner_none : (rules : List Pair) (edges : List Edge) → IsTrie rules edges → (state place : ℕ)
-    → IsOwner rules (word edges state) place → length rules ≤ place
-    → (read : List ℕ) → StandsFor edges read state → NoneEnds rules read
-owner_none rules edges trie state place owner past read stands pair one ends =
-    owner.first one.0 (omega (arith, slice_get_within rules one.0 pair one.1))
-    (left_ends rules edges trie read state one.0 pair stands one.1 ends)
-
-none_past : (rules : List Pair) (place : ℕ) → None ≡ slice_get rules place → length rules ≤ place
+pub none_past : (rules : List Pair) (place : ℕ) → None ≡ slice_get rules place → length rules ≤ place
 none_past rules place is =
     elim (cases_lt place (length rules)) [
       | inl within ↦ absurd (none-some (get_or rules place ([], [])) (is ∙ slice_get-get_or rules place ([], []) within))
       | inr past ↦ past
     ]
 
-pub ending_some : (rules : List Pair) (edges : List Edge) → IsTrie rules edges → (state place : ℕ)
-    → IsOwner rules (word edges state) place → (found : Option (Bor Pair)) → option_copied found ≡ slice_get rules place
-    → IfSome found (λ rule. (read : List ℕ) → StandsFor edges read state → IsFirstEnding rules read rule.now)
-ending_some rules edges trie state place owner None is = tt
-ending_some rules edges trie state place owner (Some rule) is = owner_first rules edges trie state place rule.now owner (sym is)
-
-pub ending_none : (rules : List Pair) (edges : List Edge) → IsTrie rules edges → (state place : ℕ)
-    → IsOwner rules (word edges state) place → (found : Option (Bor Pair)) → option_copied found ≡ slice_get rules place
-    → IfNone found ((read : List ℕ) → StandsFor edges read state → NoneEnds rules read)
-ending_none rules edges trie state place owner None is =
-    owner_none rules edges trie state place owner (none_past rules place is)
-ending_none rules edges trie state place owner (Some rule) is = tt
+-- where no rule's left side ends the word
+pub owner_none : (rules : List Pair) (w : List ℕ) (place : ℕ) → IsOwner rules w place → length rules ≤ place → NoneEnds rules w
+owner_none rules w place owner past pair one ends =
+    let P : List ℕ → Type 0 = λ v. EndsWith w v in
+    owner.first one.0 (omega (arith, slice_get_within rules one.0 pair one.1)) (subst P (sym (at_left rules one.0 pair one.1)) ends)
 
 -- the same, where the states are named otherwise
 pub letter_stands : (edges : List Edge) → AreEdges edges → (w : List ℕ) (states given : List ℕ) (x state : ℕ) → given ≡ states

@@ -5,5 +5,9 @@ pub mod Runs
 pub mod Steps
 pub mod Growth
 pub mod Linking
-pub mod Owning
+pub mod Chaining
+pub mod Ending
+pub mod Walking
+pub mod Recents
+pub mod Numbering
 pub mod Fronts

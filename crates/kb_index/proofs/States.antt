@@ -3,7 +3,7 @@ use Rattle.std.proofs.Common.{◌≡◌, ◌≢◌, ℕ, zero, suc, ◌+◌, ◌
 use Rattle.std.proofs.lemmas.List.{get_or_append_left, get_or_push, length_push, same_from_push}
 use Rattle.std.proofs.lemmas.Bool.{cases_lt}
 use Rattle.kb_index.specs.declared.edge.Edge.{Edge}
-use Rattle.kb_index.specs.Edges.{AreEdges, IsLast, edge_at, no_edge, rank, word}
+use Rattle.kb_index.specs.Edges.{AreEdges, IsLast, IsTree, edge_at, no_edge, rank, word}
 use Rattle.kb_index.specs.Growing.{Follows}
 use Rattle.kb_index.proofs.Words.{word_root, word_old, word_new}
 
@@ -65,11 +65,10 @@ rise_push edges edge rise parent letter below =
           (word_new edges edge ∙ ap (λ (w : List ℕ). w ++ edge.letter ∷ []) (sym (word_old edges edge edge.parent parent)));
     }
 
--- no state but state 0 stands for the empty word
-pub word_some : (edges : List Edge) → AreEdges edges → (i : ℕ) → i < length edges → word edges (i + 1) ≢ []
-word_some edges rise i within none =
-    let e : Edge = edge_at edges i in
-    omega (arith, ap length (sym (rise.spelled i within) ∙ none), length_push (word edges e.parent) e.letter)
+pub same_edge : (e f : Edge) → e.parent ≡ f.parent → e.letter ≡ f.letter → e ≡ f
+same_edge e f parents letters =
+    let by : ℕ → ℕ → Edge = λ p l. record { parent = p; letter = l } in
+    ap (λ (p : ℕ). by p e.letter) parents ∙ ap (λ (l : ℕ). by f.parent l) letters
 
 same_rank : (edges : List Edge) → AreEdges edges → (i j : ℕ) → i < length edges → j < length edges
     → (edge_at edges i).parent ≡ (edge_at edges j).parent → (edge_at edges i).letter ≡ (edge_at edges j).letter → i ≡ j
@@ -78,37 +77,47 @@ same_rank edges rise i j in_i in_j parents letters =
     let two : j < i → ⊥ = λ less. omega (arith, rise.rising j i less in_i) in
     omega (arith, one, two)
 
-same_below : (bound : ℕ) (edges : List Edge) → AreEdges edges → (a b : ℕ) → a < bound → a ≤ length edges → b ≤ length edges
+pub edges_tree : (edges : List Edge) → AreEdges edges → IsTree edges
+edges_tree edges rise =
+    record {
+      parents = rise.parents;
+      apart = λ i j in_i in_j same.
+          same_rank edges rise i j in_i in_j (ap (λ (e : Edge). e.parent) same) (ap (λ (e : Edge). e.letter) same);
+      spelled = rise.spelled;
+    }
+
+-- no state but state 0 stands for the empty word
+pub word_some : (edges : List Edge) → IsTree edges → (i : ℕ) → i < length edges → word edges (i + 1) ≢ []
+word_some edges tree i within none =
+    let e : Edge = edge_at edges i in
+    omega (arith, ap length (sym (tree.spelled i within) ∙ none), length_push (word edges e.parent) e.letter)
+
+same_below : (bound : ℕ) (edges : List Edge) → IsTree edges → (a b : ℕ) → a < bound → a ≤ length edges → b ≤ length edges
     → word edges a ≡ word edges b → FromEdge a → FromEdge b → a ≡ b
-same_below zero edges rise a b below in_a in_b same one two = absurd (omega arith)
-same_below (suc bound) edges rise a b below in_a in_b same root root = refl
-same_below (suc bound) edges rise a b below in_a in_b same root (edge_to j) =
-    absurd (word_some edges rise j (omega arith) (sym same ∙ word_root edges))
-same_below (suc bound) edges rise a b below in_a in_b same (edge_to i) root =
-    absurd (word_some edges rise i (omega arith) (same ∙ word_root edges))
-same_below (suc bound) edges rise a b below in_a in_b same (edge_to i) (edge_to j) =
+same_below zero edges tree a b below in_a in_b same one two = absurd (omega arith)
+same_below (suc bound) edges tree a b below in_a in_b same root root = refl
+same_below (suc bound) edges tree a b below in_a in_b same root (edge_to j) =
+    absurd (word_some edges tree j (omega arith) (sym same ∙ word_root edges))
+same_below (suc bound) edges tree a b below in_a in_b same (edge_to i) root =
+    absurd (word_some edges tree i (omega arith) (same ∙ word_root edges))
+same_below (suc bound) edges tree a b below in_a in_b same (edge_to i) (edge_to j) =
     let in_i : i < length edges = omega arith in
     let in_j : j < length edges = omega arith in
     let e : Edge = edge_at edges i in
     let f : Edge = edge_at edges j in
-    let at_e : e.parent ≤ i = rise.parents i in_i in
-    let at_f : f.parent ≤ j = rise.parents j in_j in
+    let at_e : e.parent ≤ i = tree.parents i in_i in
+    let at_f : f.parent ≤ j = tree.parents j in_j in
     let both = same_from_push (word edges e.parent) (word edges f.parent) e.letter f.letter
-    (sym (rise.spelled i in_i) ∙ same ∙ rise.spelled j in_j) in
+    (sym (tree.spelled i in_i) ∙ same ∙ tree.spelled j in_j) in
     let parents : e.parent ≡ f.parent =
-    same_below bound edges rise e.parent f.parent (omega arith) (omega arith) (omega arith) both.0 (from_edge e.parent) (from_edge f.parent) in
-    ap (λ (k : ℕ). k + 1) (same_rank edges rise i j in_i in_j parents both.1)
+    same_below bound edges tree e.parent f.parent (omega arith) (omega arith) (omega arith) both.0 (from_edge e.parent) (from_edge f.parent) in
+    ap (λ (k : ℕ). k + 1) (tree.apart i j in_i in_j (same_edge e f parents both.1))
 
 -- two states stand for two words
-pub same_state : (edges : List Edge) → AreEdges edges → (a b : ℕ) → a ≤ length edges → b ≤ length edges
+pub same_state : (edges : List Edge) → IsTree edges → (a b : ℕ) → a ≤ length edges → b ≤ length edges
     → word edges a ≡ word edges b → a ≡ b
-same_state edges rise a b in_a in_b same =
-    same_below (a + 1) edges rise a b (omega arith) in_a in_b same (from_edge a) (from_edge b)
-
-pub same_edge : (e f : Edge) → e.parent ≡ f.parent → e.letter ≡ f.letter → e ≡ f
-same_edge e f parents letters =
-    let by : ℕ → ℕ → Edge = λ p l. record { parent = p; letter = l } in
-    ap (λ (p : ℕ). by p e.letter) parents ∙ ap (λ (l : ℕ). by f.parent l) letters
+same_state edges tree a b in_a in_b same =
+    same_below (a + 1) edges tree a b (omega arith) in_a in_b same (from_edge a) (from_edge b)
 
 -- the edge is added
 pub followed_new : (edges : List Edge) (edge : Edge) → AreEdges edges → edge.parent ≤ length edges → edge.letter < 65536

@@ -6,7 +6,7 @@ use Rattle.kb_index.specs.Edges.{AreEdges, edge_at, word}
 use Rattle.kb_index.specs.Children.{IsChild, IsNoChild, IsRootChild}
 use Rattle.kb_index.specs.Links.{AreLinks, IsLongestSuffix, LeadsFrom}
 use Rattle.kb_index.proofs.Words.{word_root}
-use Rattle.kb_index.proofs.States.{FromEdge, from_edge, same_state}
+use Rattle.kb_index.proofs.States.{FromEdge, from_edge, edges_tree, same_state}
 use Rattle.kb_index.proofs.States.FromEdge.{root, edge_to}
 use Rattle.kb_index.proofs.Suffixes.{ends_nil, ends_all, ends_within, ends_push, ends_pop, ends_shorter, drop_ends, ends_of_nil}
 
@@ -112,7 +112,7 @@ none_at edges rise state letter falling none other (edge_to place) within ends =
     let inner : EndsWith (word edges 0) (word edges e.parent) = falling.all e.parent (place + 1) (omega arith) one split.0 in
     let P : List ℕ → Type 0 = λ w. EndsWith w (word edges e.parent) in
     let empty : word edges e.parent ≡ [] = ends_of_nil (word edges e.parent) (subst P (word_root edges) inner) in
-    let at_root : e.parent ≡ 0 = same_state edges rise e.parent 0 (omega arith) (omega arith) (empty ∙ sym (word_root edges)) in
+    let at_root : e.parent ≡ 0 = same_state edges (edges_tree edges rise) e.parent 0 (omega arith) (omega arith) (empty ∙ sym (word_root edges)) in
     let Q : ℕ → Type 0 = λ s. IsChild edges s letter (place + 1) in
     absurd (none (place + 1) (subst Q at_root one))
 
@@ -141,7 +141,7 @@ step_falls edges links rise are state letter at within in_edges some falling non
           elim (ends_shorter (word edges at) (word edges parent) (falling.all parent child in_parent is ends)) [
             | inl same ↦
                 let Q : ℕ → Type 0 = λ s. IsChild edges s letter child in
-                absurd (none child (subst Q (same_state edges rise parent at in_parent in_edges same) is))
+                absurd (none child (subst Q (same_state edges (edges_tree edges rise) parent at in_parent in_edges same) is))
             | inr shorter ↦ longest.longest parent in_parent shorter
           ];
     }

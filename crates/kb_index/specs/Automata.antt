@@ -1,21 +1,32 @@
 -- The automaton of a list of rules, and the states after the letters of a word.
-use Rattle.std.specs.Prelude.{◌≡◌, ℕ, ◌+◌, ◌≤◌, List, length, get_or, take}
+use Rattle.std.specs.Prelude.{◌≡◌, ◌≢◌, ℕ, ◌+◌, ◌<◌, ◌≤◌, List, [], length, get_or, take}
 use Rattle.kb_word.specs.Words.{Pair}
 use Rattle.kb_index.specs.declared.edge.Edge.{Edge}
 use Rattle.kb_index.specs.declared.automaton.Automaton.{Automaton}
 use Rattle.kb_index.specs.Edges.{word}
-use Rattle.kb_index.specs.Tries.{IsTrie}
+use Rattle.kb_index.specs.Tries.{IsTrie, left_at}
 use Rattle.kb_index.specs.Children.{AreFirsts, AreRootChildren}
 use Rattle.kb_index.specs.Links.{AreLinks, IsLongestSuffix}
-use Rattle.kb_index.specs.Owners.{AreOwners}
+use Rattle.kb_index.specs.Chains.{AreBefore, AreHeads}
+use Rattle.kb_index.specs.Ends.{AreEnds}
+
+-- no left side is empty
+abbrev pub HaveLefts : List Pair → Type 0
+HaveLefts rules = (place : ℕ) → place < length rules → left_at rules place ≢ []
 
 pub record IsAutomaton (rules : List Pair) (automaton : Automaton) : Type 0 where
+  pub lefts : HaveLefts rules
   pub trie : IsTrie rules automaton.edges.items
   pub firsts : AreFirsts automaton.edges.items automaton.firsts.items
   pub roots : AreRootChildren automaton.edges.items automaton.roots.items
-  pub count : length automaton.links.items ≡ length automaton.edges.items + 1
+  pub link_count : length automaton.links.items ≡ length automaton.edges.items + 1
   pub links : AreLinks automaton.edges.items automaton.links.items
-  pub owners : AreOwners rules automaton.edges.items (length automaton.edges.items + 1) automaton.owners.items
+  pub head_count : length automaton.chains.heads.items ≡ length automaton.edges.items + 1
+  pub rule_count : length automaton.chains.before.items ≡ length rules
+  pub heads : AreHeads rules (word automaton.edges.items) (length rules) automaton.chains.heads.items
+  pub before : AreBefore rules automaton.chains.before.items
+  pub end_count : length automaton.ends.items ≡ length automaton.edges.items + 1
+  pub ends : AreEnds automaton.edges.items automaton.chains.heads.items automaton.ends.items
 
 -- the state's word is the longest suffix of w that is a state's word
 pub record StandsFor (edges : List Edge) (w : List ℕ) (state : ℕ) : Type 0 where

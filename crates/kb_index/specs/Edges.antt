@@ -21,6 +21,13 @@ words_from words (edge ∷ edges) = words_from (words ++ (get_or words edge.pare
 unfoldable pub word : List Edge → ℕ → List ℕ
 word edges state = get_or (words_from ([] ∷ []) edges) state []
 
+-- edges that each lead from an earlier state, no two of them by one letter from one state
+pub record IsTree (edges : List Edge) : Type 0 where
+  pub parents : (i : ℕ) → i < length edges → (edge_at edges i).parent ≤ i
+  pub apart : (i j : ℕ) → i < length edges → j < length edges → edge_at edges i ≡ edge_at edges j → i ≡ j
+  pub spelled : (i : ℕ) → i < length edges
+      → word edges (i + 1) ≡ word edges (edge_at edges i).parent ++ (edge_at edges i).letter ∷ []
+
 -- edges that rise, each from an earlier state than the one that it leads to
 pub record AreEdges (edges : List Edge) : Type 0 where
   pub parents : (i : ℕ) → i < length edges → (edge_at edges i).parent ≤ i

@@ -3,5 +3,10 @@ pub mod Tries
 pub mod Growing
 pub mod Children
 pub mod Links
+pub mod Chains
+pub mod Ends
+pub mod Live
 pub mod Owners
 pub mod Automata
+pub mod Recents
+pub mod Lookups

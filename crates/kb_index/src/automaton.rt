@@ -1,67 +1,104 @@
 //! The automaton of a list of rules.
 
-ghost use Rattle.std.specs.Prelude.{◌≡◌, ◌≤◌, ◌∷◌, ◌++◌, [], IfOk, length};
+ghost use Rattle.std.specs.Prelude.{◌≡◌, ℕ, List, ◌≤◌, ◌+◌, IfOk, length};
+ghost use Rattle.kb_word.specs.Words.{Pair, EndsWith};
 ghost use Rattle.kb_index.specs.Edges.{word};
-ghost use Rattle.kb_index.specs.Links.{IsLongestSuffix};
-ghost use Rattle.kb_index.specs.Automata.{IsAutomaton};
+ghost use Rattle.kb_index.specs.Children.{AreFirsts, AreRootChildren};
+ghost use Rattle.kb_index.specs.Links.{AreLinks};
+ghost use Rattle.kb_index.specs.Tries.{IsTrie};
+ghost use Rattle.kb_index.specs.Chains.{AreBefore, AreHeads, Rise};
+ghost use Rattle.kb_index.specs.Live.{IsFirstSuch};
+ghost use Rattle.kb_index.specs.Automata.{IsAutomaton, StandsFor, HaveLefts};
 
+use crate::chains::{Chains, first_live};
 use crate::children::{firsts_of, root_children_of};
 use crate::edge::Edge;
-use crate::links::links_of;
-use crate::owners::owners_of;
+use crate::ends::ends_of;
+use crate::links::{links_of, state_after};
 use crate::trie::trie_of;
 use kb_rules::Rule;
 use kb_word::Memory;
 use std::alloc::Global;
 
-/// The automaton: the trie of the left sides, and for each of its states the failure link and the rule.
+/// The automaton: the trie of the left sides, and for each of its states the failure link, the rules with the state's word,
+/// and the state of the longest suffix that has rules.
 #[derive(Debug, Drop)]
 pub struct Automaton {
     pub edges: Vec<Edge>,
     pub firsts: Vec<usize>,
     pub roots: Vec<usize>,
     pub links: Vec<usize>,
-    pub owners: Vec<usize>,
+    pub chains: Chains,
+    pub ends: Vec<usize>,
 }
 
 impl Automaton {
     /// The automaton of these rules.
     pub fn of(alloc: Global, rules: &[Rule]) -> Result<Automaton, Memory>
+        requires { HaveLefts rules.now }
         ensures { IfOk result (IsAutomaton rules.now) }
     {
         let edges = trie_of(alloc, rules)?;
         let firsts = firsts_of(alloc, &edges)?;
         let roots = root_children_of(alloc, &edges, &firsts)?;
         let links = links_of(alloc, &edges, &firsts, &roots)?;
-        let owners = owners_of(alloc, rules, &edges, &firsts, &roots, &links)?;
+        let chains = chains_of(alloc, rules, &edges, &firsts, &roots, &links)?;
+        let ends = ends_of(alloc, &edges, &links, &chains.heads)?;
         Ok(Automaton {
             edges,
             firsts,
             roots,
             links,
-            owners,
+            chains,
+            ends,
         })
     }
 
-    /// The same automaton.
-    pub fn copy(&self, alloc: Global) -> Result<Automaton, Memory>
-        ensures edges { IfOk result (λ copy. copy.edges.items ≡ self.now.edges.items) }
-        ensures firsts { IfOk result (λ copy. copy.firsts.items ≡ self.now.firsts.items) }
-        ensures roots { IfOk result (λ copy. copy.roots.items ≡ self.now.roots.items) }
-        ensures links { IfOk result (λ copy. copy.links.items ≡ self.now.links.items) }
-        ensures owners { IfOk result (λ copy. copy.owners.items ≡ self.now.owners.items) }
+    /// The first place among the numbers at which a rule stands whose left side ends what is read up to a state, or how
+    /// many numbers there are. The automaton's rules have the numbers from 0 on.
+    pub fn first_ending(&self, numbers: &[usize], state: usize) -> usize
+        requires automaton { (rules : List Pair) × IsAutomaton rules self.now }
+        requires rise { Rise numbers.now }
+        requires state { state ≤ length self.now.edges.items }
+        ensures { (rules : List Pair) (read : List ℕ) → IsAutomaton rules self.now
+            → StandsFor self.now.edges.items read state
+            → IsFirstSuch (EndsWith read) rules 0 numbers.now result }
     {
-        let edges = Vec::from_slice(alloc, &self.edges)?;
-        let firsts = Vec::from_slice(alloc, &self.firsts)?;
-        let roots = Vec::from_slice(alloc, &self.roots)?;
-        let links = Vec::from_slice(alloc, &self.links)?;
-        let owners = Vec::from_slice(alloc, &self.owners)?;
-        Ok(Automaton {
-            edges,
-            firsts,
-            roots,
-            links,
-            owners,
-        })
+        let mut best = numbers.len();
+        let mut end = self.ends[state];
+        while end > 0 {
+            let head = self.chains.heads[end];
+            best = best.min(first_live(numbers, 0, &self.chains.before, head));
+            end = self.ends[self.links[end]];
+        }
+        best
     }
+}
+
+/// The chains of the states' rules.
+fn chains_of(
+    alloc: Global,
+    rules: &[Rule],
+    edges: &[Edge],
+    firsts: &[usize],
+    roots: &[usize],
+    links: &[usize],
+) -> Result<Chains, Memory>
+    requires trie { IsTrie rules.now edges.now }
+    requires firsts { AreFirsts edges.now firsts.now }
+    requires roots { AreRootChildren edges.now roots.now }
+    requires links { AreLinks edges.now links.now }
+    requires count { length links.now ≡ length edges.now + 1 }
+    ensures states { IfOk result (λ chains. length chains.heads.items ≡ length edges.now + 1) }
+    ensures count { IfOk result (λ chains. length chains.before.items ≡ length rules.now) }
+    ensures heads { IfOk result
+        (λ chains. AreHeads rules.now (word edges.now) (length rules.now) chains.heads.items) }
+    ensures before { IfOk result (λ chains. AreBefore rules.now chains.before.items) }
+{
+    let mut chains = Chains::none(alloc, edges.len() + 1)?;
+    for rule in rules {
+        let state = state_after(edges, firsts, roots, links, rule.left());
+        chains.add(state)?;
+    }
+    Ok(chains)
 }

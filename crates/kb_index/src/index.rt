@@ -1,28 +1,30 @@
 //! The reducer that reads a word by an automaton.
 
-use crate::automaton::Automaton;
-use crate::reading::normal_form;
-use kb_rules::{Reducer, Rules};
+ghost use Rattle.std.specs.Prelude.{◌≡◌};
+
+use crate::lookup::Lookup;
+use crate::reading::{normal_form, trace};
+use kb_rules::{Reducer, Rule, Rules, Trace};
 use kb_word::{Memory, Word};
 use std::alloc::Global;
 use std::marker::Model;
 
 /// A reducer that reads the word from left to right by the automaton of the left sides.
-#[derive(Debug, Drop)]
+#[derive(Drop)]
 pub struct Index {
     rules: Rules,
-    automaton: Automaton,
+    lookup: Lookup,
 }
 
 impl Model for Index {
     ghost use Rattle.kb_rules.specs.OrderedRules.{OrderedRules};
-    ghost use Rattle.kb_index.specs.Automata.{IsAutomaton};
+    ghost use Rattle.kb_index.specs.Lookups.{IsLookup};
 
     ghost Value = { OrderedRules };
 
     ghost view = { λ index. index.rules };
 
-    ghost invariant = { λ index. IsAutomaton index.rules.rules index.automaton };
+    ghost invariant = { λ index. IsLookup index.rules.rules index.lookup };
 }
 
 impl Reducer for Index {
@@ -32,17 +34,49 @@ impl Reducer for Index {
 
     fn of(alloc: Global, list: &Rules) -> Result<Index, Memory> {
         let rules = list.copy(alloc)?;
-        let automaton = Automaton::of(alloc, rules.as_slice())?;
-        Ok(Index { rules, automaton })
+        let lookup = Lookup::of(alloc, rules.as_slice())?;
+        Ok(Index { rules, lookup })
     }
 
     fn nf(&self, alloc: Global, w: &Word) -> Result<Word, Memory> {
-        normal_form(alloc, &self.rules, &self.automaton, w)
+        normal_form(alloc, &self.rules, &self.lookup, w)
+    }
+
+    fn trace(&self, alloc: Global, w: &Word) -> Result<Trace, Memory> {
+        trace(alloc, &self.rules, &self.lookup, w)
+    }
+
+    fn push(&mut self, alloc: Global, rule: &Rule) -> Result<(), Memory> {
+        self.settle_if_due(alloc)?;
+        let rule = rule.copy(alloc)?;
+        let number = self.lookup.next_number();
+        self.lookup.recent.push(rule.left())?;
+        self.lookup.numbers.reserve(1)?;
+        self.rules.push(rule)?;
+        self.lookup.numbers.push(number)?;
+        Ok(())
+    }
+
+    fn remove(&mut self, alloc: Global, place: usize) -> Result<(), Memory> {
+        self.settle_if_due(alloc)?;
+        let _rule = self.rules.remove(place);
+        let _number = self.lookup.numbers.remove(place);
+        Ok(())
     }
 
     fn copy(&self, alloc: Global) -> Result<Index, Memory> {
-        let rules = self.rules.copy(alloc)?;
-        let automaton = self.automaton.copy(alloc)?;
-        Ok(Index { rules, automaton })
+        Index::of(alloc, &self.rules)
+    }
+}
+
+impl Index {
+    /// Makes the lookup anew where that is due. The rules stay.
+    fn settle_if_due(&mut self, alloc: Global) -> Result<(), Memory>
+        ensures { self.new ≡ self.old }
+    {
+        if self.lookup.is_due() {
+            self.lookup = Lookup::of(alloc, self.rules.as_slice())?;
+        }
+        Ok(())
     }
 }

@@ -38,12 +38,15 @@
 #![tactic(auto)]
 
 mod automaton;
+mod chains;
 mod children;
 mod edge;
+mod ends;
 mod index;
 mod links;
-mod owners;
+mod lookup;
 mod reading;
+mod recent;
 mod trie;
 mod unread;
 

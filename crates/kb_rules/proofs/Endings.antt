@@ -6,6 +6,7 @@ use Rattle.std.proofs.lemmas.Option.{same_Some, none-some}
 use Rattle.kb_word.specs.Words.{Pair, OneOf, EndsWith}
 use Rattle.kb_word.specs.Rewriting.{IsIrreducible, FirstRewrite}
 use Rattle.kb_rules.specs.Ending.{IsFirstEnding, NoneEnds}
+use Rattle.kb_rules.specs.Steps.{IsFirstStep}
 use Rattle.kb_rules.proofs.Lists.{cases_list, FromEnd, from_end}
 use Rattle.kb_rules.proofs.Lists.FromEnd.{empty, last}
 
@@ -25,35 +26,35 @@ none_here rule rules w apart none pair zero is ends =
 none_here rule rules w apart none pair (suc index) is ends = none pair (index, is) ends
 
 first_later : (rule : Pair) (rules : List Pair) (w : List ℕ) → (¬ EndsWith w rule.0)
-    → {first_rule : Pair} (f : IsFirstEnding rules w first_rule)
-    → (earlier : ℕ) (other : Pair) → earlier < suc f.index → slice_get (rule ∷ rules) earlier ≡ Some other
+    → {index : ℕ} {first_rule : Pair} → IsFirstEnding rules w index first_rule
+    → (earlier : ℕ) (other : Pair) → earlier < suc index → slice_get (rule ∷ rules) earlier ≡ Some other
     → ¬ EndsWith w other.0
 first_later rule rules w apart f zero other below is ends =
     let P : Pair → Type 0 = λ r. EndsWith w r.0 in apart (subst P (sym (same_Some rule other is)) ends)
 first_later rule rules w apart f (suc earlier) other below is ends = f.first earlier other (omega arith) is ends
 
-later : (rule : Pair) (rules : List Pair) (w : List ℕ) → (¬ EndsWith w rule.0) → {other : Pair}
-    → IsFirstEnding rules w other → IsFirstEnding (rule ∷ rules) w other
+later : (rule : Pair) (rules : List Pair) (w : List ℕ) → (¬ EndsWith w rule.0) → {index : ℕ} {other : Pair}
+    → IsFirstEnding rules w index other → IsFirstEnding (rule ∷ rules) w (suc index) other
 later rule rules w apart f =
-    record { index = suc f.index; is_rule = f.is_rule; ends = f.ends; first = first_later rule rules w apart f }
+    record { is_rule = f.is_rule; ends = f.ends; first = first_later rule rules w apart f }
 
-here : (rule : Pair) (rules : List Pair) (w : List ℕ) → EndsWith w rule.0 → IsFirstEnding (rule ∷ rules) w rule
+here : (rule : Pair) (rules : List Pair) (w : List ℕ) → EndsWith w rule.0 → IsFirstEnding (rule ∷ rules) w 0 rule
 here rule rules w ends =
-    record { index = 0; is_rule = refl; ends = ends; first = λ earlier other below is _. absurd (omega arith) }
+    record { is_rule = refl; ends = ends; first = λ earlier other below is _. absurd (omega arith) }
 
 -- some rule is the first whose left side ends the word
 abbrev pub SomeEnds : List Pair → List ℕ → Type 0
-SomeEnds rules w = (rule : Pair) × IsFirstEnding rules w rule
+SomeEnds rules w = (index : ℕ) × (rule : Pair) × IsFirstEnding rules w index rule
 
 -- some rule's left side ends the word, the first such one being known, or none does
 pub cases_ending : (rules : List Pair) (w : List ℕ) → SomeEnds rules w ⊎ NoneEnds rules w
 cases_ending [] w = inr (λ pair one ends. absurd (none-some pair one.1))
 cases_ending (rule ∷ rules) w =
     elim (cases_ends w rule.0) [
-      | inl ends ↦ inl (rule, here rule rules w ends)
+      | inl ends ↦ inl (0, rule, here rule rules w ends)
       | inr apart ↦
           elim (cases_ending rules w) [
-            | inl f ↦ inl (f.0, later rule rules w apart f.1)
+            | inl f ↦ inl (suc f.0, f.1, later rule rules w apart f.2)
             | inr none ↦ inr (λ pair one. none_here rule rules w apart none pair one.0 one.1)
           ]
     ]
@@ -93,17 +94,17 @@ proper rules front x irreducible prefix rest whole (last part y) some =
     irreducible_front rules prefix part (subst P e irreducible)
 
 -- The first rewrite: an irreducible front with a letter more that ends with a left side.
-pub first_rewrite_at : (rules : List Pair) (front : List ℕ) (x : ℕ) (rest : List ℕ) (rule : Pair)
+pub first_rewrite_at : (rules : List Pair) (front : List ℕ) (x : ℕ) (rest : List ℕ) (index : ℕ) (rule : Pair)
     → IsIrreducible (OneOf rules) front
-    → (f : IsFirstEnding rules (front ++ x ∷ []) rule)
+    → (f : IsFirstEnding rules (front ++ x ∷ []) index rule)
     → FirstRewrite rules (front ++ x ∷ rest) (f.ends.0 ++ rule.1 ++ rest)
-first_rewrite_at rules front x rest rule irreducible f =
+first_rewrite_at rules front x rest index rule irreducible f =
     let whole : front ++ x ∷ [] ≡ f.ends.0 ++ rule.0 = f.ends.1 in
     let P : List ℕ → Type 0 =
-    λ w. (earlier : ℕ) (other : Pair) → earlier < f.index → slice_get rules earlier ≡ Some other → ¬ EndsWith w other.0 in
+    λ w. (earlier : ℕ) (other : Pair) → earlier < index → slice_get rules earlier ≡ Some other → ¬ EndsWith w other.0 in
     record {
       before = f.ends.0;
-      index = f.index;
+      index = index;
       rule = rule;
       after = rest;
       is_rule = f.is_rule;
@@ -112,3 +113,12 @@ first_rewrite_at rules front x rest rule irreducible f =
       shortest = λ prefix part split some. proper rules front x irreducible prefix part (whole ∙ split) (from_end part) some;
       first = subst P whole f.first;
     }
+
+-- that rewrite is a step, at the place where the front without the left side ends
+pub first_step_at : (rules : List Pair) (front : List ℕ) (x : ℕ) (rest : List ℕ) (index : ℕ) (rule : Pair) (place : ℕ)
+    → IsIrreducible (OneOf rules) front
+    → (f : IsFirstEnding rules (front ++ x ∷ []) index rule) → length f.ends.0 ≡ place
+    → IsFirstStep rules (front ++ x ∷ rest) (record { place = place; rule = index }) (f.ends.0 ++ rule.1 ++ rest)
+unfolding first_rewrite_at
+first_step_at rules front x rest index rule place irreducible f at =
+    record { rewrite = first_rewrite_at rules front x rest index rule irreducible f; by = refl; at = at }

@@ -37,7 +37,7 @@ reading_from rules front (x ∷ rest) irreducible =
     let next : IsIrreducible (OneOf rules) (front ++ x ∷ []) → Reading rules ((front ++ x ∷ []) ++ rest) =
     reading_from rules (front ++ x ∷ []) rest in
     elim (cases_ending rules (front ++ x ∷ [])) [
-      | inl f ↦ rewritten (f.1.ends.0 ++ f.0.1 ++ rest) (first_rewrite_at rules front x rest f.0 irreducible f.1)
+      | inl f ↦ rewritten (f.2.ends.0 ++ f.1.1 ++ rest) (first_rewrite_at rules front x rest f.0 f.1 irreducible f.2)
       | inr none ↦
           let P : List ℕ → Type 0 = Reading rules in
           subst P (append_assoc front (x ∷ []) rest) (next (irreducible_more rules front x irreducible none))

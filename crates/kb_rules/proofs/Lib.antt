@@ -5,3 +5,4 @@ pub mod Exists
 pub mod Reducts
 pub mod Listed
 pub mod Scanning
+pub mod Tracing

@@ -2,6 +2,7 @@
 use Rattle.std.proofs.Common.{◌≡◌, ℕ, zero, suc, ◌+◌, ◌<◌, ◌≤◌, ◌⊎◌, List, [], ◌∷◌, ◌++◌, length, slice_get, get_or, Some, refl, sym, ap, ◌∙◌, subst, inl, inr, arith}
 use Rattle.std.proofs.lemmas.Option.{same_Some, none-some, slice_get_read, slice_get_within}
 use Rattle.std.proofs.lemmas.Bool.{cases_lt}
+use Rattle.std.specs.List.{remove}
 use Rattle.kb_word.specs.Words.{Pair, OneOf}
 use Rattle.kb_word.specs.Rewriting.{AreDecreasing}
 
@@ -22,6 +23,21 @@ AreDecreasing-push below rules rule decreasing less other one =
       | inl before ↦ decreasing other before
       | inr same ↦ let P : Pair → Type 0 = λ p. below p.1 p.0 in subst P same less
     ]
+
+-- what is one of the list with an element taken out is one of the list
+one_of_removed : (pairs : List Pair) (at : ℕ) (pair : Pair) (index : ℕ) → slice_get (remove pairs at) index ≡ Some pair
+    → OneOf pairs pair
+one_of_removed [] zero pair index is = absurd (none-some pair is)
+one_of_removed [] (suc at) pair index is = absurd (none-some pair is)
+one_of_removed (p ∷ pairs) zero pair index is = (suc index, is)
+one_of_removed (p ∷ pairs) (suc at) pair zero is = (0, is)
+one_of_removed (p ∷ pairs) (suc at) pair (suc index) is =
+    let later = one_of_removed pairs at pair index is in (suc later.0, later.1)
+
+-- rules stay decreasing with one of them taken out
+pub AreDecreasing-remove : (below : List ℕ → List ℕ → Type 0) (rules : List Pair) (at : ℕ) → AreDecreasing below rules
+    → AreDecreasing below (remove rules at)
+AreDecreasing-remove below rules at decreasing rule one = decreasing rule (one_of_removed rules at rule one.0 one.1)
 
 -- no pair of the first n has the property
 abbrev pub NoneBefore : (Pair → Type 0) → List Pair → ℕ → Type 0

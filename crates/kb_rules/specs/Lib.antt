@@ -1,4 +1,4 @@
 pub mod OrderedRules
 pub mod Ending
-pub mod Reading
 pub mod Sides
+pub mod Steps

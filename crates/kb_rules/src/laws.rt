@@ -6,6 +6,8 @@ ghost use Rattle.kb_word.specs.WordOrders.{Below};
 ghost use Rattle.kb_word.specs.declared.word_order.WordOrder.{WordOrder};
 ghost use Rattle.kb_word.specs.Congruence.{Congruent};
 ghost use Rattle.kb_word.specs.Rewriting.{AreDecreasing, IsIrreducible, NormalForm, ReducesTo};
+ghost use Rattle.kb_rules.specs.declared.trace.Step.{Step};
+ghost use Rattle.kb_rules.specs.Steps.{IsFirstStep, IsStep, Leads};
 
 /// A word has one normal form at most, whatever the rules are.
 pub fn normal_forms_are_unique()
@@ -39,4 +41,10 @@ pub fn reducts_are_congruent_and_not_greater()
     ensures not_greater { (order : WordOrder) (rules : List Pair) (u v : Letters)
         → AreDecreasing (Below order) rules → ReducesTo (OneOf rules) u v
         → (v ≡ u) ⊎ Below order v u }
+{}
+
+/// First rewrites replace left sides by right sides, at the places that their steps name.
+pub fn first_steps_are_steps()
+    ensures { (rules : List Pair) (u v : Letters) (steps : List Step)
+        → Leads (IsFirstStep rules) u steps v → Leads (IsStep rules) u steps v }
 {}

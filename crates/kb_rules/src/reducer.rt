@@ -3,12 +3,17 @@
 //! [`Scan`](crate::Scan) tries the rules one after another; a reducer that looks left sides up in an index
 //! meets the same clauses, and so gives the same words.
 
-ghost use Rattle.std.specs.Prelude.{◌≡◌, List, IfOk};
+ghost use Rattle.std.specs.Prelude.{◌≡◌, ◌<◌, List, [], ◌∷◌, ◌++◌, length, IfOk, OnOk, OnErr};
+ghost use Rattle.std.specs.List.{remove};
 ghost use Rattle.kb_word.specs.Words.{Pair};
+ghost use Rattle.kb_word.specs.WordOrders.{Below};
 ghost use Rattle.kb_word.specs.Rewriting.{NormalForm};
 ghost use Rattle.kb_word.specs.declared.word_order.WordOrder.{WordOrder};
+ghost use Rattle.kb_rules.specs.Steps.{IsFirstStep, Leads};
 
+use crate::rule::Rule;
 use crate::rules::Rules;
+use crate::trace::Trace;
 use kb_word::{Memory, Word};
 use std::alloc::Global;
 
@@ -28,6 +33,27 @@ pub trait Reducer: Sized + Drop {
     /// The normal form of w.
     fn nf(&self, alloc: Global, w: &Word) -> Result<Word, Memory>
         ensures { IfOk result (λ m. NormalForm (rules self.now) w.now m) };
+
+    /// The normal form of w, with the steps that lead to it.
+    fn trace(&self, alloc: Global, w: &Word) -> Result<Trace, Memory>
+        ensures normal { IfOk result (λ trace. NormalForm (rules self.now) w.now trace.word) }
+        ensures steps { IfOk result (λ trace.
+            Leads (IsFirstStep (rules self.now)) w.now trace.steps.items trace.word) };
+
+    /// Adds a rule at the end of the list. After want of memory the list is as it was.
+    fn push(&mut self, alloc: Global, rule: &Rule) -> Result<(), Memory>
+        requires { Below (order self.old) rule.now.1 rule.now.0 }
+        ensures ok { OnOk result (rules self.new ≡ rules self.old ++ rule.now ∷ []) }
+        ensures err { OnErr result (rules self.new ≡ rules self.old) }
+        ensures order { order self.new ≡ order self.old };
+
+    /// Takes the rule at a place out of the list; the others stay in their order. After want of memory the list is
+    /// as it was.
+    fn remove(&mut self, alloc: Global, place: usize) -> Result<(), Memory>
+        requires { place < length (rules self.old) }
+        ensures ok { OnOk result (rules self.new ≡ remove (rules self.old) place) }
+        ensures err { OnErr result (rules self.new ≡ rules self.old) }
+        ensures order { order self.new ≡ order self.old };
 
     /// A reducer by the same rules.
     fn copy(&self, alloc: Global) -> Result<Self, Memory>

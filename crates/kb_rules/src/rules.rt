@@ -1,6 +1,7 @@
 //! Lists of rules.
 
-ghost use Rattle.std.specs.Prelude.{◌≡◌, ◌↔◌, [], ◌∷◌, ◌++◌, IsTrue, IfOk, OnOk, OnErr, length, slice_get};
+ghost use Rattle.std.specs.Prelude.{◌≡◌, ◌↔◌, ◌<◌, [], ◌∷◌, ◌++◌, IsTrue, IfOk, OnOk, OnErr, length, slice_get, Some};
+ghost use Rattle.std.specs.List.{remove};
 ghost use Rattle.std.specs.Option.{option_copied};
 ghost use Rattle.kb_word.specs.Words.{OneOf};
 ghost use Rattle.kb_word.specs.WordOrders.{Below};
@@ -76,6 +77,16 @@ impl Rules {
     {
         self.rules.push(rule)?;
         Ok(())
+    }
+
+    /// Takes the rule at an index out of the list; the others stay in their order.
+    pub fn remove(&mut self, index: usize) -> Rule
+        requires { index < length self.old.rules }
+        ensures rule { slice_get self.old.rules index ≡ Some result }
+        ensures rules { self.new.rules ≡ remove self.old.rules index }
+        ensures order { self.new.order ≡ self.old.order }
+    {
+        self.rules.remove(index)
     }
 
     /// How many rules there are.

@@ -39,6 +39,7 @@ impl Unread {
     pub fn next(&mut self) -> Option<Letter>
         ensures some { IfSome result (λ letter. self.old ≡ letter ∷ self.new) }
         ensures none { IfNone result (self.old ≡ []) }
+        ensures rest { IfNone result (self.new ≡ []) }
         ensures range { All (λ letter. letter < 2 ^ 16) self.old }
     {
         self.stack.pop()

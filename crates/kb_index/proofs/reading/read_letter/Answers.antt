@@ -1,109 +1,77 @@
-use Rattle.std.proofs.Common.{◌<◌, ◌^◌, ◌-◌, ◌∷◌, ◌++◌, All, ℕ, List, [], length, subst, sym, ap, ◌∙◌, arith}
+use Rattle.std.proofs.Common.{ℕ, ◌<◌, ◌^◌, ◌∷◌, ◌++◌, All, List, [], subst, sym, ap, ◌∙◌, arith}
 use Rattle.kb_word.specs.Words.{Pair, OneOf}
 use Rattle.kb_word.specs.Rewriting.{IsIrreducible}
 use Rattle.kb_rules.specs.Ending.{IsFirstEnding}
 use Rattle.kb_rules.proofs.Endings.{irreducible_more}
-use Rattle.kb_rules.proofs.Scanning.{OnOk_then, cut_is, cut_irreducible, cut_reads, cut_range, ending_cut, ending_fits}
-use Rattle.kb_index.specs.declared.edge.Edge.{Edge}
-use Rattle.kb_index.specs.Automata.{AreStates, StandsFor}
-use Rattle.kb_index.proofs.Fronts.{letter_stands, front_pushed, front_cut}
+use Rattle.kb_rules.proofs.Scanning.{IsCut, cut_irreducible, cut_step, cut_range}
+use Rattle.kb_index.specs.Owners.{IsOwner}
+use Rattle.kb_index.proofs.Fronts.{front_cut, none_past, owner_ending, owner_none}
 use Rattle.kb_index.proofs.reading.read_letter.Goals as goal
 
-pub returns-in-None-clause-states : goal.returns-in-None-clause-states
-returns-in-None-clause-states c =
-    let edges : List Edge = c.args.automaton.now.edges.items in
-    let front = c.args.front.now in
-    let stands : StandsFor edges (front.word ++ c.args.letter ∷ []) c.next_state-state.result =
-    letter_stands edges c.requires.automaton.trie.edges_rise front.word front.states.items c.deref.result.now c.args.letter c.next_state-state.result
-    c.deref.ensures.value c.requires.states c.next_state-state.ensures.state c.next_state-state.ensures.longest in
-    front_pushed edges front.word c.push.new.self front.states.items c.push-2.new.self.items c.args.letter c.next_state-state.result
-    c.requires.states stands c.in_ok-push.ensures.ok c.in_ok-push-2.ensures.items
-
-pub returns-in-None-clause-irreducible : goal.returns-in-None-clause-irreducible
-returns-in-None-clause-irreducible c =
-    let edges : List Edge = c.args.automaton.now.edges.items in
+pub returns-in_default-clause-irreducible : goal.returns-in_default-clause-irreducible
+returns-in_default-clause-irreducible c =
     let rules : List Pair = c.args.list.now.rules in
-    let front = c.args.front.now in
-    let stands : StandsFor edges (front.word ++ c.args.letter ∷ []) c.next_state-state.result =
-    letter_stands edges c.requires.automaton.trie.edges_rise front.word front.states.items c.deref.result.now c.args.letter c.next_state-state.result
-    c.deref.ensures.value c.requires.states c.next_state-state.ensures.state c.next_state-state.ensures.longest in
+    let place : ℕ = c.first_ending-place.result in
     let P : List ℕ → Type 0 = λ w. IsIrreducible (OneOf rules) w in
-    subst P (sym c.in_ok-push.ensures.ok)
-    (irreducible_more rules front.word c.args.letter c.requires.irreducible (c.in-None.ensures.none (front.word ++ c.args.letter ∷ []) stands))
+    let Q : List ℕ → Type 0 = λ w. IsOwner rules w place in
+    let owner : Q (c.args.front.now.word ++ c.args.letter ∷ []) =
+    subst Q c.in_ok-state.ensures.word (c.first_ending-place.ensures rules c.requires.lookup) in
+    subst P (sym c.in_ok-state.ensures.word)
+    (irreducible_more rules c.args.front.now.word c.args.letter c.requires.irreducible
+    (owner_none rules (c.args.front.now.word ++ c.args.letter ∷ []) place owner (none_past rules place c.in_default.ensures.rule)))
 
-pub overflow_sub-kept : goal.overflow_sub-kept
-overflow_sub-kept c =
-    let edges : List Edge = c.args.automaton.now.edges.items in
+pub cut-kept-requires-clause-ends : goal.cut-kept-requires-clause-ends
+cut-kept-requires-clause-ends c =
     let rules : List Pair = c.args.list.now.rules in
-    let front = c.args.front.now in
-    let stands : StandsFor edges (front.word ++ c.args.letter ∷ []) c.next_state-state.result =
-    letter_stands edges c.requires.automaton.trie.edges_rise front.word front.states.items c.deref.result.now c.args.letter c.next_state-state.result
-    c.deref.ensures.value c.requires.states c.next_state-state.ensures.state c.next_state-state.ensures.longest in
-    let f : IsFirstEnding rules (front.word ++ c.args.letter ∷ []) c.in-Some.rule.now =
-    c.in-Some.ensures.some (front.word ++ c.args.letter ∷ []) stands in
-    omega (arith, ending_fits f, c.len.ensures, c.len-in-Some.ensures, ap length c.left.ensures, ap length c.in_ok-push.ensures.ok)
+    let first : IsFirstEnding rules c.advance.new.front.word c.first_ending-place.result c.in-Some.rule.now =
+    owner_ending rules c.advance.new.front.word c.first_ending-place.result c.in-Some.rule.now
+    (c.first_ending-place.ensures rules c.requires.lookup) (sym c.in-Some.ensures.rule) in
+    first.ends
 
-pub returns-in-Some-clause-states : goal.returns-in-Some-clause-states
-returns-in-Some-clause-states c =
-    let edges : List Edge = c.args.automaton.now.edges.items in
-    let front = c.args.front.now in
-    let stands : StandsFor edges (front.word ++ c.args.letter ∷ []) c.next_state-state.result =
-    letter_stands edges c.requires.automaton.trie.edges_rise front.word front.states.items c.deref.result.now c.args.letter c.next_state-state.result
-    c.deref.ensures.value c.requires.states c.next_state-state.ensures.state c.next_state-state.ensures.longest in
-    let pushed : AreStates edges c.push.new.self c.push-2.new.self.items =
-    front_pushed edges front.word c.push.new.self front.states.items c.push-2.new.self.items c.args.letter c.next_state-state.result
-    c.requires.states stands c.in_ok-push.ensures.ok c.in_ok-push-2.ensures.items in
-    let kept : ℕ = c.len.result - c.len-in-Some.result in
-    OnOk_then c.put_back.result c.put_back.ensures.ok
-    (λ back.
-    front_cut edges c.push.new.self c.truncate.new.self c.push-2.new.self.items c.truncate-in-Some.new.self.items kept
-    (omega (arith, c.len.ensures)) pushed c.truncate.ensures c.truncate-in-Some.ensures.items)
+pub returns-clause-states : goal.returns-clause-states
+returns-clause-states c =
+    front_cut c.args.lookup.now.settled.edges.items c.advance.new.front.word c.cut-kept.new.front.word c.advance.new.front.states.items
+    c.cut-kept.new.front.states.items c.cut-kept.result (omega (arith, c.cut-kept.ensures.kept)) c.in_ok-state.ensures.states
+    c.cut-kept.ensures.word c.cut-kept.ensures.states
 
-pub returns-in-Some-clause-irreducible : goal.returns-in-Some-clause-irreducible
-returns-in-Some-clause-irreducible c =
-    let edges : List Edge = c.args.automaton.now.edges.items in
+pub returns-clause-irreducible : goal.returns-clause-irreducible
+returns-clause-irreducible c =
     let rules : List Pair = c.args.list.now.rules in
-    let front = c.args.front.now in
-    let stands : StandsFor edges (front.word ++ c.args.letter ∷ []) c.next_state-state.result =
-    letter_stands edges c.requires.automaton.trie.edges_rise front.word front.states.items c.deref.result.now c.args.letter c.next_state-state.result
-    c.deref.ensures.value c.requires.states c.next_state-state.ensures.state c.next_state-state.ensures.longest in
-    let f : IsFirstEnding rules (front.word ++ c.args.letter ∷ []) c.in-Some.rule.now =
-    c.in-Some.ensures.some (front.word ++ c.args.letter ∷ []) stands in
-    let cut = cut_is c.in-Some.rule.now.0 c.in_ok-push.ensures.ok c.len.ensures (c.len-in-Some.ensures ∙ ap length c.left.ensures) c.truncate.ensures in
-    let P : List ℕ → Type 0 = λ w. IsIrreducible (OneOf rules) w in
-    OnOk_then c.put_back.result c.put_back.ensures.ok
-    (λ back. subst P (sym (cut ∙ ending_cut f)) (cut_irreducible front.word c.args.letter c.requires.irreducible f))
+    let front : List ℕ = c.args.front.now.word in
+    let F : List ℕ → Type 0 = λ w. IsFirstEnding rules w c.first_ending-place.result c.in-Some.rule.now in
+    let C : List ℕ → Type 0 = λ w. IsCut w c.in-Some.rule.now.0 c.cut-kept.result c.cut-kept.new.front.word in
+    let first : F c.advance.new.front.word =
+    owner_ending rules c.advance.new.front.word c.first_ending-place.result c.in-Some.rule.now
+    (c.first_ending-place.ensures rules c.requires.lookup) (sym c.in-Some.ensures.rule) in
+    let cut : C c.advance.new.front.word = record { at = c.cut-kept.ensures.kept; is = c.cut-kept.ensures.word } in
+    cut_irreducible front c.args.letter c.requires.irreducible (subst F c.in_ok-state.ensures.word first) (subst C c.in_ok-state.ensures.word cut)
 
-pub returns-in-Some-clause-reads : goal.returns-in-Some-clause-reads
-returns-in-Some-clause-reads c =
-    let edges : List Edge = c.args.automaton.now.edges.items in
+pub returns-clause-some : goal.returns-clause-some
+returns-clause-some c =
     let rules : List Pair = c.args.list.now.rules in
-    let front = c.args.front.now in
-    let stands : StandsFor edges (front.word ++ c.args.letter ∷ []) c.next_state-state.result =
-    letter_stands edges c.requires.automaton.trie.edges_rise front.word front.states.items c.deref.result.now c.args.letter c.next_state-state.result
-    c.deref.ensures.value c.requires.states c.next_state-state.ensures.state c.next_state-state.ensures.longest in
-    let f : IsFirstEnding rules (front.word ++ c.args.letter ∷ []) c.in-Some.rule.now =
-    c.in-Some.ensures.some (front.word ++ c.args.letter ∷ []) stands in
-    let cut = cut_is c.in-Some.rule.now.0 c.in_ok-push.ensures.ok c.len.ensures (c.len-in-Some.ensures ∙ ap length c.left.ensures) c.truncate.ensures in
-    OnOk_then c.put_back.result c.put_back.ensures.ok
-    (λ back.
-    let rest = back ∙ ap (λ r. r ++ c.args.unread.now) c.right.ensures in
-    cut_reads front.word c.args.letter c.args.unread.now c.truncate.new.self c.put_back.new.self c.requires.irreducible f cut rest)
+    let front : List ℕ = c.args.front.now.word in
+    let F : List ℕ → Type 0 = λ w. IsFirstEnding rules w c.first_ending-place.result c.in-Some.rule.now in
+    let C : List ℕ → Type 0 = λ w. IsCut w c.in-Some.rule.now.0 c.cut-kept.result c.cut-kept.new.front.word in
+    let first : F c.advance.new.front.word =
+    owner_ending rules c.advance.new.front.word c.first_ending-place.result c.in-Some.rule.now
+    (c.first_ending-place.ensures rules c.requires.lookup) (sym c.in-Some.ensures.rule) in
+    let cut : C c.advance.new.front.word = record { at = c.cut-kept.ensures.kept; is = c.cut-kept.ensures.word } in
+    let back = c.in_ok-put_back.ensures.ok ∙ ap (λ (r : List ℕ). r ++ c.args.unread.now) c.right.ensures in
+    cut_step front c.args.letter c.args.unread.now c.put_back.new.self c.requires.irreducible
+    (subst F c.in_ok-state.ensures.word first) (subst C c.in_ok-state.ensures.word cut) back
 
-pub returns-in-Some-clause-range : goal.returns-in-Some-clause-range
-returns-in-Some-clause-range c =
-    let edges : List Edge = c.args.automaton.now.edges.items in
+pub returns-clause-range : goal.returns-clause-range
+returns-clause-range c =
     let rules : List Pair = c.args.list.now.rules in
-    let front = c.args.front.now in
-    let stands : StandsFor edges (front.word ++ c.args.letter ∷ []) c.next_state-state.result =
-    letter_stands edges c.requires.automaton.trie.edges_rise front.word front.states.items c.deref.result.now c.args.letter c.next_state-state.result
-    c.deref.ensures.value c.requires.states c.next_state-state.ensures.state c.next_state-state.ensures.longest in
-    let f : IsFirstEnding rules (front.word ++ c.args.letter ∷ []) c.in-Some.rule.now =
-    c.in-Some.ensures.some (front.word ++ c.args.letter ∷ []) stands in
-    let cut = cut_is c.in-Some.rule.now.0 c.in_ok-push.ensures.ok c.len.ensures (c.len-in-Some.ensures ∙ ap length c.left.ensures) c.truncate.ensures in
+    let front : List ℕ = c.args.front.now.word in
+    let F : List ℕ → Type 0 = λ w. IsFirstEnding rules w c.first_ending-place.result c.in-Some.rule.now in
+    let C : List ℕ → Type 0 = λ w. IsCut w c.in-Some.rule.now.0 c.cut-kept.result c.cut-kept.new.front.word in
     let R : List ℕ → Type 0 = λ w. All (λ x. x < 2 ^ 16) w in
-    OnOk_then c.put_back.result c.put_back.ensures.ok
-    (λ back.
-    let rest = back ∙ ap (λ r. r ++ c.args.unread.now) c.right.ensures in
+    let first : F c.advance.new.front.word =
+    owner_ending rules c.advance.new.front.word c.first_ending-place.result c.in-Some.rule.now
+    (c.first_ending-place.ensures rules c.requires.lookup) (sym c.in-Some.ensures.rule) in
+    let cut : C c.advance.new.front.word = record { at = c.cut-kept.ensures.kept; is = c.cut-kept.ensures.word } in
+    let back = c.in_ok-put_back.ensures.ok ∙ ap (λ (r : List ℕ). r ++ c.args.unread.now) c.right.ensures in
     let right = subst R c.right.ensures c.put_back.ensures.range in
-    cut_range (λ x. x < 2 ^ 16) front.word c.args.letter c.args.unread.now c.truncate.new.self c.put_back.new.self f cut rest c.requires.range right)
+    cut_range (λ x. x < 2 ^ 16) front c.args.letter c.args.unread.now c.put_back.new.self
+    (subst F c.in_ok-state.ensures.word first) (subst C c.in_ok-state.ensures.word cut) back c.requires.range right

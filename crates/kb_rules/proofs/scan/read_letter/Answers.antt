@@ -1,48 +1,36 @@
-use Rattle.std.proofs.Common.{◌<◌, ◌^◌, ◌∷◌, ◌++◌, All, ℕ, List, [], length, subst, sym, ap, ◌∙◌}
+use Rattle.std.proofs.Common.{◌<◌, ◌^◌, ◌++◌, All, ℕ, List, subst, sym, ap, ◌∙◌}
 use Rattle.kb_word.specs.Words.{OneOf}
 use Rattle.kb_word.specs.Rewriting.{IsIrreducible}
-use Rattle.kb_rules.specs.Ending.{IsFirstEnding, NoneEnds}
+use Rattle.kb_rules.specs.Ending.{NoneEnds}
 use Rattle.kb_rules.proofs.Endings.{irreducible_more}
-use Rattle.kb_rules.proofs.Scanning.{OnOk_then, cut_is, cut_irreducible, cut_reads, cut_range, ending_cut}
+use Rattle.kb_rules.proofs.Scanning.{is_cut, cut_irreducible, cut_step, cut_range}
 use Rattle.kb_rules.proofs.scan.read_letter.Goals as goal
 
-pub returns-in-None-clause-irreducible : goal.returns-in-None-clause-irreducible
-returns-in-None-clause-irreducible c =
+pub returns-in_default-clause-irreducible : goal.returns-in_default-clause-irreducible
+returns-in_default-clause-irreducible c =
     let P : List ℕ → Type 0 = λ w. IsIrreducible (OneOf c.args.list.now.rules) w in
     let Q : List ℕ → Type 0 = λ w. NoneEnds c.args.list.now.rules w in
     subst P (sym c.in_ok-push.ensures.ok)
-    (irreducible_more c.args.list.now.rules c.args.front.now c.args.letter c.requires.irreducible (subst Q c.in_ok-push.ensures.ok c.in-None.ensures.none))
+    (irreducible_more c.args.list.now.rules c.args.front.now c.args.letter c.requires.irreducible (subst Q c.in_ok-push.ensures.ok c.in_default.ensures.none))
 
-pub returns-in-Some-clause-irreducible : goal.returns-in-Some-clause-irreducible
-returns-in-Some-clause-irreducible c =
-    let P : List ℕ → Type 0 = λ w. IsIrreducible (OneOf c.args.list.now.rules) w in
-    let Q : List ℕ → Type 0 = λ w. IsFirstEnding c.args.list.now.rules w c.in-Some.rule.now in
-    let f : IsFirstEnding c.args.list.now.rules (c.args.front.now ++ c.args.letter ∷ []) c.in-Some.rule.now =
-    subst Q c.in_ok-push.ensures.ok c.in-Some.ensures.some in
-    let cut = cut_is c.in-Some.rule.now.0 c.in_ok-push.ensures.ok c.len.ensures (c.len-in-Some.ensures ∙ ap length c.left.ensures) c.truncate.ensures in
-    OnOk_then c.put_back.result c.put_back.ensures.ok
-    (λ _. subst P (sym (cut ∙ ending_cut f)) (cut_irreducible c.args.front.now c.args.letter c.requires.irreducible f))
+pub returns-clause-irreducible : goal.returns-clause-irreducible
+returns-clause-irreducible c =
+    let first = rw c.in_ok-push.ensures.ok at c.in-Some.ensures.some in
+    let cut = is_cut c.in_ok-push.ensures.ok c.left.ensures c.len.ensures c.len-2.ensures c.truncate.ensures in
+    cut_irreducible c.args.front.now c.args.letter c.requires.irreducible first cut
 
-pub returns-in-Some-clause-reads : goal.returns-in-Some-clause-reads
-returns-in-Some-clause-reads c =
-    let Q : List ℕ → Type 0 = λ w. IsFirstEnding c.args.list.now.rules w c.in-Some.rule.now in
-    let f : IsFirstEnding c.args.list.now.rules (c.args.front.now ++ c.args.letter ∷ []) c.in-Some.rule.now =
-    subst Q c.in_ok-push.ensures.ok c.in-Some.ensures.some in
-    let cut = cut_is c.in-Some.rule.now.0 c.in_ok-push.ensures.ok c.len.ensures (c.len-in-Some.ensures ∙ ap length c.left.ensures) c.truncate.ensures in
-    OnOk_then c.put_back.result c.put_back.ensures.ok
-    (λ back.
-    let rest = back ∙ ap (λ r. r ++ c.args.unread.now) c.right.ensures in
-    cut_reads c.args.front.now c.args.letter c.args.unread.now c.truncate.new.self c.put_back.new.self c.requires.irreducible f cut rest)
+pub returns-clause-some : goal.returns-clause-some
+returns-clause-some c =
+    let first = rw c.in_ok-push.ensures.ok at c.in-Some.ensures.some in
+    let cut = is_cut c.in_ok-push.ensures.ok c.left.ensures c.len.ensures c.len-2.ensures c.truncate.ensures in
+    let back = c.in_ok-put_back.ensures.ok ∙ ap (λ r. r ++ c.args.unread.now) c.right.ensures in
+    cut_step c.args.front.now c.args.letter c.args.unread.now c.put_back.new.self c.requires.irreducible first cut back
 
-pub returns-in-Some-clause-range : goal.returns-in-Some-clause-range
-returns-in-Some-clause-range c =
-    let Q : List ℕ → Type 0 = λ w. IsFirstEnding c.args.list.now.rules w c.in-Some.rule.now in
+pub returns-clause-range : goal.returns-clause-range
+returns-clause-range c =
+    let first = rw c.in_ok-push.ensures.ok at c.in-Some.ensures.some in
+    let cut = is_cut c.in_ok-push.ensures.ok c.left.ensures c.len.ensures c.len-2.ensures c.truncate.ensures in
+    let back = c.in_ok-put_back.ensures.ok ∙ ap (λ r. r ++ c.args.unread.now) c.right.ensures in
     let R : List ℕ → Type 0 = λ w. All (λ x. x < 2 ^ 16) w in
-    let f : IsFirstEnding c.args.list.now.rules (c.args.front.now ++ c.args.letter ∷ []) c.in-Some.rule.now =
-    subst Q c.in_ok-push.ensures.ok c.in-Some.ensures.some in
-    let cut = cut_is c.in-Some.rule.now.0 c.in_ok-push.ensures.ok c.len.ensures (c.len-in-Some.ensures ∙ ap length c.left.ensures) c.truncate.ensures in
-    OnOk_then c.put_back.result c.put_back.ensures.ok
-    (λ back.
-    let rest = back ∙ ap (λ r. r ++ c.args.unread.now) c.right.ensures in
     let right = subst R c.right.ensures c.put_back.ensures.range in
-    cut_range (λ x. x < 2 ^ 16) c.args.front.now c.args.letter c.args.unread.now c.truncate.new.self c.put_back.new.self f cut rest c.requires.range right)
+    cut_range (λ x. x < 2 ^ 16) c.args.front.now c.args.letter c.args.unread.now c.put_back.new.self first cut back c.requires.range right

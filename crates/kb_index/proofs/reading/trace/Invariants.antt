@@ -1,0 +1,18 @@
+use Rattle.std.proofs.Common.{◌<◌, ◌^◌, ◌++◌, All}
+use Rattle.kb_word.specs.Words.{OneOf}
+use Rattle.kb_word.specs.WordOrderLaws.{order_rank}
+use Rattle.kb_word.specs.Rewriting.{IsIrreducible}
+use Rattle.kb_rules.specs.Steps.{IsFirstStep, Leads}
+use Rattle.kb_index.specs.Automata.{AreStates}
+use Rattle.kb_index.proofs.reading.trace.Given as goal
+
+abbrev pub invariant-loop-steps : goal.invariant-loop-steps
+invariant-loop-steps l = record {
+  states : AreStates l.lookup.settled.edges.items l.front.word l.front.states.items;
+  irreducible : IsIrreducible (OneOf l.list.rules) l.front.word;
+  range : All (λ x. x < 2 ^ 16) (l.front.word ++ l.unread);
+  leads : Leads (IsFirstStep l.list.rules) l.w l.steps.items (l.front.word ++ l.unread);
+}
+
+abbrev pub decreases-loop-steps : goal.decreases-loop-steps
+decreases-loop-steps l = order_rank l.list.order (l.front.word ++ l.unread)

@@ -1,0 +1,36 @@
+//! The states at which rules apply.
+
+ghost use Rattle.std.specs.Prelude.{◌≡◌, ◌+◌, IfOk, length};
+ghost use Rattle.kb_index.specs.Edges.{AreEdges};
+ghost use Rattle.kb_index.specs.Links.{AreLinks};
+ghost use Rattle.kb_index.specs.Ends.{AreEnds};
+
+use crate::edge::Edge;
+use kb_word::Memory;
+use std::alloc::Global;
+
+/// For each state the one of the longest suffix of its word that has rules, or state 0.
+pub fn ends_of(
+    alloc: Global,
+    edges: &[Edge],
+    links: &[usize],
+    heads: &[usize],
+) -> Result<Vec<usize>, Memory>
+    requires edges { AreEdges edges.now }
+    requires links { AreLinks edges.now links.now }
+    requires count { length links.now ≡ length edges.now + 1 }
+    requires heads { length heads.now ≡ length edges.now + 1 }
+    ensures count { IfOk result (λ ends. length ends.items ≡ length edges.now + 1) }
+    ensures ends { IfOk result (λ ends. AreEnds edges.now heads.now ends.items) }
+{
+    let mut ends = vec![in alloc; 0]?;
+    for state in 1..heads.len() {
+        let end = if heads[state] > 0 {
+            state
+        } else {
+            ends[links[state]]
+        };
+        ends.push(end)?;
+    }
+    Ok(ends)
+}

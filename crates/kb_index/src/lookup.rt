@@ -1,0 +1,76 @@
+//! Where the rules of a list are found.
+
+ghost use Rattle.std.specs.Prelude.{◌≡◌, ℕ, List, ◌+◌, IfOk, length};
+ghost use Rattle.kb_word.specs.Words.{Pair};
+ghost use Rattle.kb_index.specs.Automata.{HaveLefts, StandsFor};
+ghost use Rattle.kb_index.specs.Lookups.{IsLookup};
+ghost use Rattle.kb_index.specs.Owners.{IsOwner};
+
+use crate::automaton::Automaton;
+use crate::recent::Recent;
+use kb_rules::Rule;
+use kb_word::{Memory, Word};
+use std::alloc::Global;
+
+/// How many rules may come, or go, before all is made anew, beyond as many as there are.
+const SPARE: usize = 16;
+
+/// The rules of a list by their left sides. Each rule has a number, which it keeps while others come and go: numbers rise
+/// along the list. A rule that went leaves its number behind in the automaton, but not among the numbers of the list.
+#[derive(Drop)]
+pub struct Lookup {
+    /// The numbers of the list's rules.
+    pub numbers: Vec<usize>,
+    /// The rules with the first numbers.
+    pub settled: Automaton,
+    /// The rules with the numbers after them.
+    pub recent: Recent,
+}
+
+impl Lookup {
+    /// The lookup of these rules, which are all settled.
+    pub fn of(alloc: Global, rules: &[Rule]) -> Result<Lookup, Memory>
+        requires { HaveLefts rules.now }
+        ensures { IfOk result (IsLookup rules.now) }
+    {
+        let mut numbers = Vec::with_capacity(alloc, rules.len())?;
+        for number in 0..rules.len() {
+            numbers.push(number)?;
+        }
+        let settled = Automaton::of(alloc, rules)?;
+        let recent = Recent::none(alloc)?;
+        Ok(Lookup {
+            numbers,
+            settled,
+            recent,
+        })
+    }
+
+    /// The place in the list of the first rule whose left side ends what is read up to a state, or the number of rules.
+    pub fn first_ending(&self, state: usize, read: &Word) -> usize
+        requires lookup { (rules : List Pair) × IsLookup rules self.now }
+        requires state { StandsFor self.now.settled.edges.items read.now state }
+        ensures { (rules : List Pair) → IsLookup rules self.now → IsOwner rules read.now result }
+    {
+        let first = self.settled.chains.before.len();
+        let settled = self.settled.first_ending(&self.numbers, state);
+        settled.min(self.recent.first_ending(&self.numbers, first, read))
+    }
+
+    /// The number of the rule that comes next.
+    pub fn next_number(&self) -> usize
+        ensures { result ≡ length self.now.settled.chains.before.items
+            + length self.now.recent.chains.before.items }
+    {
+        self.settled.chains.before.len() + self.recent.chains.before.len()
+    }
+
+    /// Whether to make all anew: when as many rules came as were settled, or as many went as are left.
+    pub fn is_due(&self) -> bool {
+        let settled = self.settled.chains.before.len();
+        let recent = self.recent.chains.before.len();
+        let left = self.numbers.len();
+        let gone = (settled + recent).saturating_sub(left);
+        recent > settled + SPARE || gone > left + SPARE
+    }
+}
