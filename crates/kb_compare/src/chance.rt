@@ -1,6 +1,6 @@
 //! Words and rules at random.
 
-ghost use Rattle.std.specs.Prelude.{◌≡◌, ◌<◌, IfOk, IfSome};
+ghost use Rattle.std.specs.Prelude.{◌≡◌, ◌<◌, IfOk};
 ghost use Rattle.kb_word.specs.WordOrders.{Below};
 ghost use Rattle.kb_word.specs.declared.word_order.WordOrder.TheVariants.{ShortLex};
 
@@ -39,28 +39,28 @@ pub fn some_word(
     word(alloc, chance, letters, len)
 }
 
-/// A rule by the shortlex order, unless chance makes two equal words.
+/// A rule by the shortlex order. Where chance makes two equal words, the greater one has a letter more.
 pub fn rule(
     alloc: Global,
     chance: &mut Xoshiro256PlusPlus,
     letters: u16,
     most: usize,
-) -> Result<Option<Rule>, Memory>
+) -> Result<Rule, Memory>
     requires { 0 < letters }
-    ensures { IfOk result (λ rule. IfSome rule (λ rule. Below ShortLex rule.1 rule.0)) }
+    ensures { IfOk result (λ rule. Below ShortLex rule.1 rule.0) }
 {
-    let one = some_word(alloc, chance, letters, most)?;
+    let mut one = some_word(alloc, chance, letters, most)?;
     let other = some_word(alloc, chance, letters, most)?;
     if WordOrder::ShortLex.less(&one, &other) {
-        return Ok(Some(Rule::new(other, one)));
+        return Ok(Rule::new(other, one));
     }
-    if WordOrder::ShortLex.less(&other, &one) {
-        return Ok(Some(Rule::new(one, other)));
+    if !WordOrder::ShortLex.less(&other, &one) {
+        one.push(Letter::new(1))?;
     }
-    Ok(None)
+    Ok(Rule::new(one, other))
 }
 
-/// A list of at most so many rules.
+/// A list of so many rules.
 pub fn rules(
     alloc: Global,
     chance: &mut Xoshiro256PlusPlus,
@@ -73,9 +73,7 @@ pub fn rules(
 {
     let mut rules = Rules::new(alloc, WordOrder::ShortLex);
     for _ in 0..count {
-        if let Some(rule) = rule(alloc, chance, letters, most)? {
-            rules.push(rule)?;
-        }
+        rules.push(rule(alloc, chance, letters, most)?)?;
     }
     Ok(rules)
 }

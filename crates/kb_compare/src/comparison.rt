@@ -4,6 +4,7 @@ ghost use Rattle.std.specs.Prelude.{◌≡◌, ◌<◌};
 ghost use Rattle.kb_word.specs.declared.word_order.WordOrder.TheVariants.{ShortLex};
 
 use crate::chance;
+use crate::change::Change;
 use anyhow::ensure;
 use kb_index::Index;
 use kb_rules::{Reducer, Rules, Scan};
@@ -61,18 +62,12 @@ fn agree_on_changes(alloc: Global, chance: &mut Xoshiro256PlusPlus) -> Result<bo
     let rules = Rules::new(alloc, WordOrder::ShortLex);
     let mut scan = Scan::of(alloc, &rules)?;
     let mut index = Index::of(alloc, &rules)?;
-    let mut count = 0usize;
+    let mut count = 0;
     for _ in 0..CHANGES {
-        if count > 0 && chance.random_range(0..3u8) == 0 {
-            let place = chance.random_range(0..count);
-            scan.remove(alloc, place)?;
-            index.remove(alloc, place)?;
-            count -= 1;
-        } else if let Some(rule) = chance::rule(alloc, chance, letters, 4)? {
-            scan.push(alloc, &rule)?;
-            index.push(alloc, &rule)?;
-            count += 1;
-        }
+        let change = Change::at_random(alloc, chance, letters, 4, count)?;
+        change.apply(alloc, &mut scan)?;
+        change.apply(alloc, &mut index)?;
+        count = change.count_after(count);
         if !agree_on_word(alloc, chance, letters, &scan, &index)? {
             return Ok(false);
         }

@@ -6,18 +6,19 @@
 //! run. The program prints what it compared, and ends with status 1 where something differs.
 //!
 //! With words on the command line it measures one reducer instead: `reduce REDUCER RULES LETTERS` makes so many rules at
-//! random and reduces a word of so many letters, and `change REDUCER COUNT` makes so many changes of a list: two rules are
-//! put in, one is taken out, and so on. `REDUCER` is `scan` or `index`. bench/run times these runs.
+//! random and reduces a word of so many letters, and `change REDUCER COUNT` makes so many changes of a list: rules are
+//! put in and taken out at random. `REDUCER` is `scan` or `index`. bench/run times these runs.
 //!
 //! # How it is made
 //!
-//! - `chance` makes words and rules at random.
+//! - `chance` makes words and rules at random, and `change` changes of a list of rules.
 //! - `comparison` compares the reducers, and `measured` has the runs that are timed.
 //!
 //! Below are `kb_rules` with the plain scan and `kb_index` with the index; nothing is above.
 #![tactic(auto)]
 
 mod chance;
+mod change;
 mod comparison;
 mod measured;
 

@@ -1,11 +1,11 @@
 //! The runs that are timed.
 
 use crate::chance;
+use crate::change::Change;
 use anyhow::bail;
 use kb_index::Index;
 use kb_rules::{Reducer, Rules, Scan};
 use kb_word::{Memory, WordOrder};
-use rand::RngExt;
 use rand_core::SeedableRng;
 use rand_xoshiro::Xoshiro256PlusPlus;
 use std::alloc::Global;
@@ -49,19 +49,15 @@ fn reduce<R: Reducer>(alloc: Global, rules: usize, letters: usize) -> Result<usi
     Ok(reducer.nf(alloc, &w)?.len())
 }
 
-/// Puts in so many rules, takes one out after each second of them, and returns how many there are then.
+/// Makes so many changes of a list, from no rules on, and returns how many rules there are then.
 fn change<R: Reducer>(alloc: Global, changes: usize) -> Result<usize, Memory> {
     let mut chance = Xoshiro256PlusPlus::seed_from_u64(SEED);
     let mut reducer = R::of(alloc, &Rules::new(alloc, WordOrder::ShortLex))?;
-    let mut count = 0usize;
-    for turn in 0..changes {
-        if turn % 3 == 2 && count > 0 {
-            reducer.remove(alloc, chance.random_range(0..count))?;
-            count -= 1;
-        } else if let Some(rule) = chance::rule(alloc, &mut chance, LETTERS, MOST)? {
-            reducer.push(alloc, &rule)?;
-            count += 1;
-        }
+    let mut count = 0;
+    for _ in 0..changes {
+        let change = Change::at_random(alloc, &mut chance, LETTERS, MOST, count)?;
+        change.apply(alloc, &mut reducer)?;
+        count = change.count_after(count);
     }
     Ok(count)
 }
