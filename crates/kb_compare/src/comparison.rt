@@ -1,0 +1,94 @@
+//! The comparison of the reducers.
+
+ghost use Rattle.std.specs.Prelude.{◌≡◌, ◌<◌};
+ghost use Rattle.kb_word.specs.declared.word_order.WordOrder.TheVariants.{ShortLex};
+
+use crate::chance;
+use crate::change::Change;
+use anyhow::ensure;
+use kb_index::Index;
+use kb_rules::{Reducer, Rules, Scan};
+use kb_word::{Memory, Word, WordOrder};
+use rand::RngExt;
+use rand_core::SeedableRng;
+use rand_xoshiro::Xoshiro256PlusPlus;
+use std::alloc::Global;
+
+/// Where chance begins.
+const SEED: u64 = 20_261_127;
+
+/// So many lists of rules are made, and so many that change.
+const LISTS: usize = 300;
+
+/// So many words are reduced by each list.
+const WORDS: usize = 20;
+
+/// So many times a list changes.
+const CHANGES: usize = 40;
+
+/// Compares the reducers on words by lists of rules, and prints how much was compared.
+pub fn compare(rt: &impl Print, alloc: Global) -> anyhow::Result<()> {
+    let mut chance = Xoshiro256PlusPlus::seed_from_u64(SEED);
+    for _ in 0..LISTS {
+        ensure!(agree_on_list(alloc, &mut chance)?, "a list gives different normal forms");
+    }
+    println!(rt; "{LISTS} lists of rules: the same normal forms of {WORDS} words each, by the same steps")?;
+    for _ in 0..LISTS {
+        ensure!(agree_on_changes(alloc, &mut chance)?, "a changed list gives different normal forms");
+    }
+    println!(rt; "{LISTS} lists that change {CHANGES} times: the same after each change")?;
+    Ok(())
+}
+
+/// Whether both reducers give the same, by a list of rules.
+fn agree_on_list(alloc: Global, chance: &mut Xoshiro256PlusPlus) -> Result<bool, Memory> {
+    let letters = chance.random_range(1..=4u16);
+    let most = chance.random_range(1..=5usize);
+    let count = chance.random_range(0..=12usize);
+    let rules = chance::rules(alloc, chance, letters, most, count)?;
+    let scan = Scan::of(alloc, &rules)?;
+    let index = Index::of(alloc, &rules)?;
+    for _ in 0..WORDS {
+        if !agree_on_word(alloc, chance, letters, &scan, &index)? {
+            return Ok(false);
+        }
+    }
+    Ok(true)
+}
+
+/// Whether both reducers give the same after each change of a list: a rule is put in, or taken out.
+fn agree_on_changes(alloc: Global, chance: &mut Xoshiro256PlusPlus) -> Result<bool, Memory> {
+    let letters = chance.random_range(1..=4u16);
+    let rules = Rules::new(alloc, WordOrder::ShortLex);
+    let mut scan = Scan::of(alloc, &rules)?;
+    let mut index = Index::of(alloc, &rules)?;
+    let mut count = 0;
+    for _ in 0..CHANGES {
+        let change = Change::at_random(alloc, chance, letters, 4, count)?;
+        change.apply(alloc, &mut scan)?;
+        change.apply(alloc, &mut index)?;
+        count = change.count_after(count);
+        if !agree_on_word(alloc, chance, letters, &scan, &index)? {
+            return Ok(false);
+        }
+    }
+    Ok(true)
+}
+
+/// Whether both reducers give the same normal form of a word by the same steps.
+fn agree_on_word(
+    alloc: Global,
+    chance: &mut Xoshiro256PlusPlus,
+    letters: u16,
+    scan: &Scan,
+    index: &Index,
+) -> Result<bool, Memory>
+    requires { 0 < letters }
+{
+    let w = chance::some_word(alloc, chance, letters, 20)?;
+    let one = scan.trace(alloc, &w)?;
+    let other = index.trace(alloc, &w)?;
+    Ok(one.word == index.nf(alloc, &w)?
+        && other.word == scan.nf(alloc, &w)?
+        && one.steps.as_slice() == other.steps.as_slice())
+}
