@@ -30,11 +30,19 @@ const CHANGES: usize = 40;
 pub fn compare(rt: &impl Print, alloc: Global) -> anyhow::Result<()> {
     let mut chance = Xoshiro256PlusPlus::seed_from_u64(SEED);
     for _ in 0..LISTS {
-        ensure!(agree_on_list(alloc, &mut chance)?, "a list gives different normal forms");
+        ensure!(
+            agree_on_list(alloc, &mut chance)?,
+            "a list gives different normal forms"
+        );
     }
-    println!(rt; "{LISTS} lists of rules: the same normal forms of {WORDS} words each, by the same steps")?;
+    println!(rt;
+        "{LISTS} lists of rules: the same normal forms of {WORDS} words each, by the same steps"
+    )?;
     for _ in 0..LISTS {
-        ensure!(agree_on_changes(alloc, &mut chance)?, "a changed list gives different normal forms");
+        ensure!(
+            agree_on_changes(alloc, &mut chance)?,
+            "a changed list gives different normal forms"
+        );
     }
     println!(rt; "{LISTS} lists that change {CHANGES} times: the same after each change")?;
     Ok(())
@@ -88,7 +96,9 @@ fn agree_on_word(
     let w = chance::some_word(alloc, chance, letters, 20)?;
     let one = scan.trace(alloc, &w)?;
     let other = index.trace(alloc, &w)?;
-    Ok(one.word == index.nf(alloc, &w)?
-        && other.word == scan.nf(alloc, &w)?
-        && one.steps.as_slice() == other.steps.as_slice())
+    Ok(
+        one.word == index.nf(alloc, &w)?
+            && other.word == scan.nf(alloc, &w)?
+            && one.steps.as_slice() == other.steps.as_slice(),
+    )
 }

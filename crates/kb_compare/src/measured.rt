@@ -37,7 +37,8 @@ pub fn measure(rt: &impl Print, alloc: Global, words: &[String]) -> anyhow::Resu
 
 /// The number that a word of the command line is, and 0 where it is none.
 fn number(word: Option<&String>) -> usize {
-    word.and_then(|word| word.parse::<usize>().ok()).unwrap_or(0)
+    word.and_then(|word| word.parse::<usize>().ok())
+        .unwrap_or(0)
 }
 
 /// Reduces a word of so many letters at random by so many rules at random, and returns how many letters are left.

@@ -1,11 +1,13 @@
 //! A reducer that reads a word by an automaton of the left sides.
 //!
 //! [`Index`] meets the clauses of `kb_rules::Reducer`, word for word those that the plain scan meets, so it gives
-//! the same normal forms: of the left sides that end at the letter read last, the first in list order is replaced.
-//! Where the scan tries each rule at each letter, the index goes from state to state, however many rules there are:
-//! while no rule applies, n letters take at most 2 n moves along edges and links. Making the index takes time that
-//! grows with the number of letters of all left sides, times the logarithm of the number of rules, since each level
-//! is sorted. Want of memory is the one free answer.
+//! the same normal forms by the same steps: of the left sides that end at the letter read last, the first in list
+//! order is replaced. Where the scan tries each rule at each letter, the index goes from state to state, however many
+//! rules there are: while no rule applies and none has come since the index was made, n letters take at most 2 n
+//! moves along edges and links. Making the index takes time that grows with the number of letters of all left sides,
+//! times the logarithm of the number of rules, since each level is sorted. A rule that comes or goes takes, over a
+//! long run, about as much for its own left side, and a rule that goes also moves the later ones one place down. Want
+//! of memory is the one free answer, and leaves the list of rules as it was.
 //!
 //! How it is made (Aho and Corasick, 1975; Sims, Computation with Finitely Presented Groups, 3.5):
 //!
@@ -19,19 +21,32 @@
 //! - `links`: each state's failure link, to the state of the longest proper suffix of its word, and the step by a
 //!   letter, which follows the links to a state with a child by the letter. Links lead to earlier states, so steps
 //!   end.
-//! - `owners`: each state's rule, the first in list order whose left side ends the state's word.
+//! - `chains`: the rules of each state, those whose left side is its word: the last of them, and for each rule the
+//!   one before it. `ends`: for each state the one of the longest suffix of its word that has rules. `automaton` puts
+//!   all these together; it never changes.
+//! - `recent`: the rules that came after the automaton was made: a trie of the left sides read from their ends, which
+//!   takes a further rule letter by letter. What is read is looked up in it from its last letter on. Where no rule
+//!   came, it costs nothing.
+//! - `lookup`: the automaton and the recent rules, and the numbers of the list's rules. A rule has a number of its
+//!   own, which stays the same while others come and go, and the numbers rise along the list. A rule that goes only
+//!   loses its number: chains are followed past rules that have none. When as many rules came as the automaton has,
+//!   or as many went as are left, all is made anew at the next change.
 //! - `reading`: a word is read letter by letter. A stack keeps the state after each letter of what is read, so that
 //!   after a replacement reading goes on from the state before it; the right side is put back to be read
-//!   (`unread`).
+//!   (`unread`). Reading goes from one replacement to the next; each is a step of the trace.
 //!
-//! The invariant that carries the proof is `IsLongestSuffix` of specs/Links.antt: the state's word is the longest
-//! suffix of what is read that is a state's word. Each left side is a state's word (`IsTrie`), so a left side ends
-//! what is read exactly where it ends the state's word, and the state's rule is the one of the first rewrite.
+//! The invariant that carries the proof of reading is `IsLongestSuffix` of specs/Links.antt: the state's word is the
+//! longest suffix of what is read that is a state's word. Each left side is a state's word (`IsTrie`), so a left side
+//! ends what is read exactly where it ends the state's word, and along the ends all such left sides are met. That of
+//! the whole is `IsLookup` of specs/Lookups.antt: the rules of the list are, by their numbers, among those of the
+//! automaton (`IsAutomaton`) and those that came later (`IsRecent`), and the first place of the list at which a rule
+//! of either kind ends what is read (`IsFirstSuch` of specs/Live.antt) gives the rule of the first rewrite (`IsOwner`).
 //!
 //! The definitions are in specs/, and the lemmas in proofs/: `Words` and `States` on the states and their words,
-//! `Growth` on a level of the trie, `Runs` on children, `Steps` and `Linking` on links, `Owning` on the rules of
-//! states, and `Fronts` on reading. That reading ends, and what one letter does to a word, are lemmas of
-//! `kb_rules`.
+//! `Growth` on a level of the trie, `Runs` on children, `Steps` and `Linking` on links, `Chaining` on chains, `Ending`
+//! on the rules of the automaton that end what is read, `Recents` and `Walking` on those that came later, `Numbering`
+//! on the numbers of the list's rules, and `Fronts` on reading. What a step does to a word, and that steps come to an
+//! end, are lemmas of `kb_rules`.
 //!
 //! Below are `kb_word`, with words and the definitions of rewriting, and `kb_rules`, with rules and the contract of
 //! reducers; above are the commands that reduce words.

@@ -1,6 +1,6 @@
 //! Where the rules of a list are found.
 
-ghost use Rattle.std.specs.Prelude.{◌≡◌, ℕ, List, ◌+◌, IfOk, length};
+ghost use Rattle.std.specs.Prelude.{◌≡◌, List, ◌+◌, IfOk, length};
 ghost use Rattle.kb_word.specs.Words.{Pair};
 ghost use Rattle.kb_index.specs.Automata.{HaveLefts, StandsFor};
 ghost use Rattle.kb_index.specs.Lookups.{IsLookup};

@@ -1,6 +1,6 @@
 //! The rules that came after the automaton was made.
 
-ghost use Rattle.std.specs.Prelude.{◌≡◌, ◌≢◌, ℕ, List, ◌<◌, ◌≤◌, ◌+◌, ◌^◌, [], ◌∷◌, ◌++◌, IfOk, OnOk, OnErr, IfSome, IfNone, length};
+ghost use Rattle.std.specs.Prelude.{◌≡◌, ◌≢◌, List, ◌<◌, ◌≤◌, ◌+◌, ◌^◌, [], ◌∷◌, ◌++◌, IfOk, OnOk, OnErr, IfSome, IfNone, length};
 ghost use Rattle.kb_word.specs.Words.{Pair, EndsWith};
 ghost use Rattle.kb_index.specs.Edges.{word};
 ghost use Rattle.kb_index.specs.Children.{IsChild, IsNoChild};
