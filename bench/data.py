@@ -86,8 +86,44 @@ def free_commutative(rank):
         for i in range(rank)
         for j in range(i + 1, rank)
     )
+    return presentation(names, [""], equations)
+
+
+def free_abelian(rank):
+    """The free abelian group of this rank: any two letters of different generators commute."""
+    pairs = [(f"x{number}", f"X{number}") for number in range(1, rank + 1)]
+    names = [name for pair in pairs for name in pair]
+    inverses = [name for pair in pairs for name in reversed(pair)]
+    equations = ",\n".join(
+        f"    [{greater}*{less},{less}*{greater}]"
+        for i in range(rank)
+        for j in range(i + 1, rank)
+        for greater in pairs[j]
+        for less in pairs[i]
+    )
+    return presentation(names, inverses, equations)
+
+
+def coxeter_a(rank):
+    """The Coxeter group of type A of this rank, the symmetric group on rank + 1 letters, by its confluent rules."""
+    names = [f"s{number}" for number in range(1, rank + 1)]
+    equations = [
+        f"    [{names[j]}*{names[i]},{names[i]}*{names[j]}]" for i in range(rank) for j in range(i + 2, rank)
+    ]
+    for i in range(1, rank):
+        for j in range(i):
+            fall = [names[k] for k in range(i - 1, j - 1, -1)]
+            left = "*".join([names[i], *fall, names[i]])
+            right = "*".join([names[i - 1], names[i], *fall])
+            equations.append(f"    [{left},{right}]")
+    return presentation(names, names, ",\n".join(equations))
+
+
+def presentation(names, inverses, equations):
+    """The text of a presentation file."""
     return (
         "_RWS := rec(\n  isRWS := true,\n"
         f"  generatorOrder := [{','.join(names)}],\n"
+        f"  inverses := [{','.join(inverses)}],\n"
         f"  equations := [\n{equations}\n  ]\n);\n"
     )

@@ -49,3 +49,28 @@ def measure_words(program, room, examples):
             reduce(what, file, lambda: data.longest_word(names))
             continue
         reduce(f"{rank * (rank - 1) // 2} commuting equations, checked", file, lambda: b"x2*x1\n")
+    for what, text, word in (
+        ("free abelian, rank 20, checked", data.free_abelian(20), "x2*x1"),
+        ("free abelian, rank 40, checked", data.free_abelian(40), "x2*x1"),
+        ("Coxeter group of type A8, checked", data.coxeter_a(8), "s2*s1"),
+    ):
+        file = f"{room}/group"
+        with open(file, "w", encoding="ascii") as it:
+            it.write(text)
+        reduce(what, file, lambda: f"{word}\n".encode())
+
+
+def measure_reducers(program):
+    """Prints the figures of the program that runs one reducer: `kb_compare`."""
+    million = 1_000_000
+    for reducer, count, sizes in (
+        ("scan", million // 100, (10, 100, 1_000)),
+        ("index", million, (10, 100, 1_000, 10_000)),
+    ):
+        for size in sizes:
+            what = f"{reducer}: {count:,} letters by {size:,} rules"
+            words = [program, "reduce", reducer, str(size), str(count)]
+            measure(what, words, rate=(count / million, "million letters"))
+    for reducer, changes in (("scan", 10_000), ("index", 10_000), ("index", 30_000)):
+        what = f"{reducer}: {changes:,} rules put in or taken out"
+        measure(what, [program, "change", reducer, str(changes)], rate=(changes / million, "million changes"))
