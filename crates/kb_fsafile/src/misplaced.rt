@@ -174,10 +174,7 @@ fn live_along(alloc: Global, table: &Table, edges: &[(u32, u32)]) -> Result<Vec<
 fn backward(alloc: Global, edges: &[(u32, u32)]) -> Result<Vec<(u32, u32)>, Memory>
     ensures { IfOk result (λ back. back.items ≡ turned edges.now) }
 {
-    let back = edges
-        .iter()
-        .map(|edge| (edge.1, edge.0))
-        .collect(alloc)?;
+    let back = edges.iter().map(|edge| (edge.1, edge.0)).collect(alloc)?;
     Ok(back)
 }
 
