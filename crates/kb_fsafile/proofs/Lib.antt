@@ -1,4 +1,5 @@
 pub mod Cleanings
+pub mod EdgeLemmas
 pub mod FieldFaults
 pub mod HeldFields
 pub mod KindLemmas

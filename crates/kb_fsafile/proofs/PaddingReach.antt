@@ -12,7 +12,7 @@ use Rattle.kb_reach.specs.Moves.{AreBackward}
 use Rattle.kb_reach.proofs.MoveLemmas.{edge_from_step}
 use Rattle.kb_reach.proofs.Reaching.{marked_set, marked_kept, marked_before}
 use Rattle.kb_fsafile.specs.Misplaced.{IsMisplaced}
-use Rattle.kb_fsafile.specs.Cleaning.{Pads, pads, AreMet, AreReachMarks, IsPaddedMove, ArePaddedTargets, is_out_of_place, is_misplaced}
+use Rattle.kb_fsafile.specs.Cleaning.{turned, Pads, pads, AreMet, AreReachMarks, IsPaddedMove, ArePaddedTargets, is_out_of_place, is_misplaced}
 use Rattle.kb_fsafile.specs.declared.misplaced.Track.{Track}
 use Rattle.kb_fsafile.specs.declared.misplaced.Track.TheVariants.{First, Second}
 
@@ -46,9 +46,6 @@ true_from_Pads Second n symbol is = eq-eqb (second_letter n symbol) (n + 1) is
 -- the moves forwards
 abbrev turn : ℕ × ℕ → ℕ × ℕ
 turn edge = (edge.1, edge.0)
-
-abbrev pub turned : List (ℕ × ℕ) → List (ℕ × ℕ)
-turned edges = map (λ (edge : ℕ × ℕ). (edge.1, edge.0)) edges
 
 module _ (table : Table) (edges : List (ℕ × ℕ)) (symbols : List ℕ) (is : IsTable table)
     (backward : AreBackward table (suc (length table.rows)) 0 edges symbols) where

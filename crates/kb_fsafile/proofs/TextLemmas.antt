@@ -16,7 +16,7 @@ use Rattle.kb_fsa.proofs.Lookups.{lookup_from_target, entry_from_lookup, All-mov
 use Rattle.kb_fsafile.specs.Holds.{HoldsCount, HoldsAlphabet, plain, pairs, HoldsStates, HoldsInitial, HoldsAccepting, HoldsTable}
 use Rattle.kb_fsafile.specs.Faults.{HasSize, HasFieldFault, HasFsaFault}
 use Rattle.kb_fsafile.specs.Reading.{HasLetters, IsAcceptingState, HasAcceptingStates}
-use Rattle.kb_fsafile.specs.RowsRead.{HasRows, HasTable, most_symbols, IsCleaningFault}
+use Rattle.kb_fsafile.specs.RowsRead.{HasRows, HasTable, TableOf, most_symbols, IsCleaningFault}
 use Rattle.kb_fsafile.specs.declared.accepting.Accepting.{Accepting}
 use Rattle.kb_fsafile.specs.declared.error.FsaError.{FsaError}
 use Rattle.kb_fsafile.specs.declared.error.FsaError.TheVariants as errors
@@ -160,3 +160,9 @@ text_fault bytes text (errors.Syntax at) formed shallow fault = absurd fault
 text_fault bytes text (errors.TooDeep at) formed shallow fault = absurd fault
 text_fault bytes text errors.Memory formed shallow fault = tt
 text_fault bytes text error formed shallow fault = (text, formed, shallow, fault)
+
+-- a fault of the cleaned table is one of the bytes
+pub table_fault : (bytes : List ℕ) (names : List (List ℕ)) (alphabet : Alphabet) (read : Table) (error : FsaError) → TableOf bytes names alphabet read
+    → IsCleaningFault alphabet read error → HasFsaFault bytes error
+table_fault bytes names alphabet read error of_text fault =
+    text_fault bytes of_text.text error of_text.formed of_text.shallow (cleaning_fault of_text.text.fields names alphabet read error of_text.has.holds fault)

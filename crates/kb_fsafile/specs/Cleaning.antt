@@ -1,5 +1,5 @@
 -- Dropping the misplaced moves of a table of pairs: which states texts lead to, and by which symbols.
-use Rattle.std.specs.Prelude.{◌≡◌, ◌≢◌, ℕ, suc, ◌+◌, ◌*◌, ◌<◌, nat_eq, Bool, true, false, not, ◌&&◌, ◌||◌, List, [], ◌∷◌, length, get_or, Any}
+use Rattle.std.specs.Prelude.{◌≡◌, ◌≢◌, ◌↔◌, ℕ, suc, ◌+◌, ◌*◌, ◌<◌, nat_eq, Bool, true, false, not, ◌&&◌, ◌||◌, List, [], ◌∷◌, length, map, get_or, Any, Contains}
 use Rattle.std.specs.List.{filter}
 use Rattle.kb_fsa.specs.PairSymbols.{pads_first, pads_second}
 use Rattle.kb_fsa.specs.Table.{Moves, Table, state_after}
@@ -7,6 +7,22 @@ use Rattle.kb_reach.specs.Graphs.{IsMarked, source, end}
 use Rattle.kb_fsafile.specs.Misplaced.{PadsFirst, PadsSecond}
 use Rattle.kb_fsafile.specs.declared.misplaced.Track.{Track}
 use Rattle.kb_fsafile.specs.declared.misplaced.Track.TheVariants.{First, Second}
+
+-- the edges the other way round
+abbrev pub turned : List (ℕ × ℕ) → List (ℕ × ℕ)
+turned edges = map (λ (edge : ℕ × ℕ). (edge.1, edge.0)) edges
+
+-- the lists have the same edges, each perhaps several times
+abbrev pub HaveSameEdges : List (ℕ × ℕ) → List (ℕ × ℕ) → Type 0
+HaveSameEdges edges others = (x y : ℕ) → Contains edges (x, y) ↔ Contains others (x, y)
+
+-- The edges are those along the first moves, which are listed backwards. Where a state is kept for a target, an edge leads
+-- from it there.
+pub record AreForward (backward : List (ℕ × ℕ)) (done count : ℕ) (edges : List (ℕ × ℕ)) (latest : List ℕ) : Type 0 where
+  pub one_each : length latest ≡ count
+  pub sound : (x y : ℕ) → Contains edges (x, y) → (place : ℕ) × ((place < done) × (get_or backward place (0, 0) ≡ (y, x)))
+  pub complete : (place : ℕ) → place < done → Contains edges (end backward place, source backward place)
+  pub latest_is : (target : ℕ) → get_or latest target 0 ≢ 0 → Contains edges (get_or latest target 0, target)
 
 -- the symbol has padding on the track
 abbrev pub Pads : Track → ℕ → ℕ → Type 0

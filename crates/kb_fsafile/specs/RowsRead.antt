@@ -2,13 +2,16 @@
 use Rattle.std.specs.Prelude.{◌≡◌, ◌≢◌, ℕ, ◌+◌, ◌*◌, ◌<◌, ◌≤◌, ◌^◌, nat_eq, not, ℤ, pos, List, map, length, filter, All, AllPairs, Option, Some}
 use Rattle.std.specs.BTreeMap.{BTreeMap, get}
 use Rattle.std.specs.Ordering.{nat_cmp}
-use Rattle.kb_record.specs.Tree.{Value, list_value, Fields, Places}
+use Rattle.kb_record.specs.Tree.{Value, list_value, Fields, Places, TextTree}
+use Rattle.kb_record.specs.Grammar.{TextOf}
+use Rattle.kb_record.specs.Nesting.{deepest, text_nesting}
 use Rattle.kb_fields.specs.Fields.{value_at, place_count}
 use Rattle.kb_fsa.specs.Table.{Moves, IsRow, Ascends, lookup, target, Table, IsTable, HasSymbols}
+use Rattle.kb_fsa.specs.Language.{generators}
 use Rattle.kb_fsa.specs.declared.alphabet.Alphabet.{Alphabet}
 use Rattle.kb_fsa.specs.declared.alphabet.Alphabet.TheVariants.{Plain, Pair}
 use Rattle.kb_fsafile.specs.Kinds.{list_of_numbers, list_of_entries, numbered_from}
-use Rattle.kb_fsafile.specs.Holds.{HoldsStates, HoldsInitial, HoldsAccepting, HoldsRow, HoldsRows, HoldsMoves}
+use Rattle.kb_fsafile.specs.Holds.{HoldsStates, HoldsInitial, HoldsAccepting, HoldsRow, HoldsRows, HoldsMoves, HoldsTable}
 use Rattle.kb_fsafile.specs.Misplaced.{IsPaddingFault}
 use Rattle.kb_fsafile.specs.Faults.{ListsRows, HasSize, HasFieldFault}
 use Rattle.kb_fsafile.specs.declared.format.Format.{Format}
@@ -118,6 +121,20 @@ pub record HasTable (given : Fields) (size : ℕ) (read : Table) : Type 0 where
 abbrev pub most_symbols : Alphabet → ℕ
 most_symbols (Plain n) = n
 most_symbols (Pair n) = (n + 1) * (n + 1)
+
+-- the fields have this table over these letters, as it stands
+pub record HasLetteredTable (given : Fields) (names : List (List ℕ)) (alphabet : Alphabet) (read : Table) : Type 0 where
+  pub holds : HoldsTable given names alphabet read
+  pub few : generators alphabet ≤ 65534
+  pub symbols : HasSymbols (most_symbols alphabet) read
+  pub is_table : IsTable read
+
+-- the bytes are a text that has it
+pub record TableOf (bytes : List ℕ) (names : List (List ℕ)) (alphabet : Alphabet) (read : Table) : Type 0 where
+  pub text : TextTree
+  pub formed : TextOf bytes text
+  pub shallow : text_nesting text ≤ deepest
+  pub has : HasLetteredTable text.fields names alphabet read
 
 -- why the table is refused: it is one of pairs and accepts a text that isn't padded
 abbrev pub IsCleaningFault : Alphabet → Table → FsaError → Type 0

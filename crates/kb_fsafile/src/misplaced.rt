@@ -1,17 +1,18 @@
 //! Tables of pairs without the moves that no padded text takes.
 
-ghost use Rattle.std.specs.Prelude.{◌≡◌, ◌≢◌, ◌↔◌, ◌≤◌, ◌+◌, ◌-◌, ◌*◌, ◌^◌, ◌<◌, ℕ, suc, false, not, List, length, map, get_or, All, IsTrue, IfOk, IfErr};
+ghost use Rattle.std.specs.Prelude.{◌≡◌, ◌≢◌, ◌↔◌, ◌≤◌, ◌+◌, ◌-◌, ◌*◌, ◌^◌, ◌<◌, ℕ, suc, false, not, List, length, map, get_or, ◌∷◌, All, IsTrue, IfOk, IfErr, OnOk};
 ghost use Rattle.std.specs.List.{filter};
 ghost use Rattle.kb_fsa.specs.declared.alphabet.Alphabet.TheVariants.{Pair};
-ghost use Rattle.kb_fsa.specs.Table.{HasSymbols, state_after};
+ghost use Rattle.kb_fsa.specs.Table.{HasSymbols, state_after, AcceptsFrom};
 ghost use Rattle.kb_fsa.specs.Padding.{IsPadded};
+ghost use Rattle.kb_reach.specs.Graphs.{IsMarked, IsReached};
 ghost use Rattle.kb_reach.specs.Moves.{AreBackward};
 ghost use Rattle.kb_fsafile.specs.Misplaced.{IsCleaned, IsPaddingFault};
-ghost use Rattle.kb_fsafile.specs.Cleaning.{pads, AreReachMarks, ArePaddedTargets, is_misplaced, is_dropped, IsAccepted, kept_rows};
+ghost use Rattle.kb_fsafile.specs.Cleaning.{turned, HaveSameEdges, pads, AreReachMarks, ArePaddedTargets, is_misplaced, is_dropped, IsAccepted, kept_rows};
 
 use crate::error::FsaError;
 use kb_fsa::{PairSymbols, Row, Table};
-use kb_reach::{Backward, live, reached, reversed};
+use kb_reach::{Backward, reached, reversed};
 use kb_word::Memory;
 use std::alloc::Global;
 
@@ -26,15 +27,29 @@ pub(crate) fn without_misplaced(alloc: Global, n: u16, read: Table) -> Result<Ta
     ensures texts { IfOk result (λ table. (text : List ℕ) → state_after table text ≢ 0 → IsPadded n text) }
     ensures fault { IfErr result (IsPaddingFault n read) }
 {
-    let moves = reversed(alloc, &read)?;
-    let reach = reach_of(alloc, n, &read, &moves)?;
-    let live = live(alloc, &read, &moves)?;
-    if accepts_misplaced(n, &moves, &reach, live.as_slice()) {
-        return Err(FsaError::PaddingInside);
-    }
+    let reach = checked_reach(alloc, n, &read)?;
     let rows = kept_rows(alloc, n, read.rows(), &reach)?;
     let accepting = Vec::from_slice(alloc, read.accepting())?;
     Ok(Table::new(read.initial(), rows, accepting))
+}
+
+/// What leads to the states of the table, which is refused where a misplaced move lies on an accepted text. The moves
+/// that are listed for that are let go.
+fn checked_reach(alloc: Global, n: u16, table: &Table) -> Result<Reach, FsaError>
+    requires generators { n ≤ 65534 }
+    requires symbols { HasSymbols ((n + 1) * (n + 1)) table.now }
+    ensures reach { IfOk result (λ reach. AreReachMarks n table.now reach.marks.items reach.first.items reach.second.items) }
+    ensures padded { OnOk result ((text : List ℕ) → AcceptsFrom table.now table.now.initial text → IsPadded n text) }
+    ensures fault { IfErr result (IsPaddingFault n table.now) }
+{
+    let moves = reversed(alloc, table)?;
+    let edges = forward(alloc, moves.edges.as_slice(), table.rows().len() + 1)?;
+    let reach = reach_of(alloc, n, table, &moves, edges.as_slice())?;
+    let live = live_along(alloc, table, edges.as_slice())?;
+    if accepts_misplaced(n, &moves, &reach, live.as_slice()) {
+        return Err(FsaError::PaddingInside);
+    }
+    Ok(reach)
 }
 
 /// One of the words of a pair, letter by letter, and its padding.
@@ -100,20 +115,43 @@ fn is_marked(marks: &[bool], state: u32) -> bool
     marks.get(state as usize).copied().unwrap_or(false)
 }
 
-/// What leads to the states of the table, whose moves these are.
-fn reach_of(alloc: Global, n: u16, table: &Table, moves: &Backward) -> Result<Reach, Memory>
+/// The edges along moves that are listed backwards. One that is already the latest to its target isn't added again: of
+/// moves that are listed state by state each edge stands once.
+fn forward(alloc: Global, backward: &[(u32, u32)], count: usize) -> Result<Vec<(u32, u32)>, Memory>
+    requires { All (λ edge. (edge.0 < count) × (0 < edge.1)) backward.now }
+    ensures { IfOk result (λ edges. HaveSameEdges edges.items (turned backward.now)) }
+{
+    let mut latest = vec![in alloc; 0; count]?;
+    let mut edges = Vec::new(alloc);
+    for (target, state) in backward {
+        if latest[*target as usize] != *state {
+            latest[*target as usize] = *state;
+            edges.push((*state, *target))?;
+        }
+    }
+    Ok(edges)
+}
+
+/// What leads to the states of the table, whose moves these are, along these edges.
+fn reach_of(
+    alloc: Global,
+    n: u16,
+    table: &Table,
+    moves: &Backward,
+    edges: &[(u32, u32)],
+) -> Result<Reach, Memory>
     requires generators { n ≤ 65534 }
     requires moves { AreBackward table.now (suc (length table.now.rows)) 0 moves.now.edges.items moves.now.symbols.items }
+    requires edges { HaveSameEdges edges.now (turned moves.now.edges.items) }
     ensures { IfOk result (λ reach. AreReachMarks n table.now reach.marks.items reach.first.items reach.second.items) }
 {
-    let edges = forward(alloc, moves)?;
     let mut start = vec![in alloc; false; table.rows().len() + 1]?;
     start[table.initial() as usize] = true;
-    let marks = reached(alloc, edges.as_slice(), start.as_slice())?;
+    let marks = reached(alloc, edges, start.as_slice())?;
     let targets = padded_targets(alloc, n, Track::First, moves, marks.as_slice())?;
-    let first = reached(alloc, edges.as_slice(), targets.as_slice())?;
+    let first = reached(alloc, edges, targets.as_slice())?;
     let targets = padded_targets(alloc, n, Track::Second, moves, marks.as_slice())?;
-    let second = reached(alloc, edges.as_slice(), targets.as_slice())?;
+    let second = reached(alloc, edges, targets.as_slice())?;
     Ok(Reach {
         marks,
         first,
@@ -121,16 +159,23 @@ fn reach_of(alloc: Global, n: u16, table: &Table, moves: &Backward) -> Result<Re
     })
 }
 
-/// The moves forwards.
-fn forward(alloc: Global, moves: &Backward) -> Result<Vec<(u32, u32)>, Memory>
-    ensures { IfOk result (λ edges. edges.items ≡ map (λ (edge : ℕ × ℕ). (edge.1, edge.0)) moves.now.edges.items) }
+/// For state 0, that is no state, and the states from 1 on, whether edges of the table lead to acceptance.
+fn live_along(alloc: Global, table: &Table, edges: &[(u32, u32)]) -> Result<Vec<bool>, Memory>
+    requires { All (λ edge. (edge.0 < length table.now.rows + 1) × (edge.1 < length table.now.rows + 1)) edges.now }
+    ensures { IfOk result (λ marks. (state : ℕ) → IsMarked marks.items state ↔ IsReached (turned edges.now) (false ∷ table.now.accepting) state) }
 {
-    let edges = moves
-        .edges
-        .iter()
-        .map(|edge| (edge.1, edge.0))
-        .collect(alloc)?;
-    Ok(edges)
+    let back = backward(alloc, edges)?;
+    let mut seeds = vec![in alloc; false]?;
+    seeds.extend_from_slice(table.accepting())?;
+    reached(alloc, back.as_slice(), seeds.as_slice())
+}
+
+/// The edges backwards.
+fn backward(alloc: Global, edges: &[(u32, u32)]) -> Result<Vec<(u32, u32)>, Memory>
+    ensures { IfOk result (λ back. back.items ≡ turned edges.now) }
+{
+    let back = edges.iter().map(|edge| (edge.1, edge.0)).collect(alloc)?;
+    Ok(back)
 }
 
 /// The marks of the targets of moves from marked states by symbols with padding on the track.

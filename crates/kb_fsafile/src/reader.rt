@@ -8,12 +8,12 @@ ghost use Rattle.kb_fields.specs.Fields.{fields_view};
 ghost use Rattle.kb_fsa.specs.Language.{IsAutomaton, generators};
 ghost use Rattle.kb_fsa.specs.Table.{IsTable, HasSymbols};
 ghost use Rattle.kb_fsafile.specs.Misplaced.{IsCleaned};
-ghost use Rattle.kb_fsafile.specs.Holds.{HoldsAutomaton, AutomatonOf};
+ghost use Rattle.kb_fsafile.specs.Holds.{AutomatonOf};
 ghost use Rattle.kb_fsafile.specs.Faults.{HasSize, HasFieldFault, HasFsaFault};
-ghost use Rattle.kb_fsafile.specs.RowsRead.{HasTable, most_symbols, IsCleaningFault};
+ghost use Rattle.kb_fsafile.specs.RowsRead.{HasTable, HasLetteredTable, TableOf, most_symbols, IsCleaningFault};
 
 use crate::accepting::read_accepting;
-use crate::alphabet::read_alphabet;
+use crate::alphabet::{Letters, read_alphabet};
 use crate::error::FsaError;
 use crate::fields::check_once;
 use crate::header::check_is_fsa;
@@ -35,8 +35,18 @@ pub fn read(alloc: Global, bytes: &[u8]) -> Result<(Names, Fsa), FsaError>
     ensures read { IfOk result (λ found. AutomatonOf bytes.now found.0 found.1) }
     ensures fault { IfErr result (HasFsaFault bytes.now) }
 {
+    let (letters, table) = table_of(alloc, bytes)?;
+    let table = automaton_table(alloc, letters.alphabet, table)?;
+    Ok((letters.names, Fsa::new(letters.alphabet, table)))
+}
+
+/// The letters and the table that the bytes say, as it stands. The tree of the text is let go.
+fn table_of(alloc: Global, bytes: &[u8]) -> Result<(Letters, Table), FsaError>
+    ensures read { IfOk result (λ found. TableOf bytes.now found.0.names found.0.alphabet found.1) }
+    ensures fault { IfErr result (HasFsaFault bytes.now) }
+{
     let text = text_of(alloc, bytes)?;
-    automaton_of(alloc, text.fields.as_slice())
+    lettered_table(alloc, text.fields.as_slice())
 }
 
 /// The tree of the bytes, which are a text of a record.
@@ -48,20 +58,20 @@ fn text_of<'a>(alloc: Global, bytes: &'a [u8]) -> Result<Rec<'a>, FsaError>
     Ok(parse(alloc, bytes)?)
 }
 
-/// The automaton that fields say. Field by field, in the order in which a file is refused.
-fn automaton_of<'a>(
+/// The letters and the table that fields say. Field by field, in the order in which a file is refused.
+fn lettered_table<'a>(
     alloc: Global,
     fields: &[(&'a str, Value<'a>)],
-) -> Result<(Names, Fsa), FsaError>
-    ensures read { IfOk result (λ found. HoldsAutomaton (fields_view fields.now) found.0 found.1) }
+) -> Result<(Letters, Table), FsaError>
+    ensures read { IfOk result
+        (λ found. HasLetteredTable (fields_view fields.now) found.0.names found.0.alphabet found.1) }
     ensures fault { IfErr result (HasFieldFault (fields_view fields.now)) }
 {
     check_once(alloc, fields)?;
     check_is_fsa(fields)?;
     let letters = read_alphabet(alloc, fields)?;
     let table = read_table(alloc, fields, letters.size)?;
-    let table = automaton_table(alloc, letters.alphabet, table)?;
-    Ok((letters.names, Fsa::new(letters.alphabet, table)))
+    Ok((letters, table))
 }
 
 /// The table that fields say, as it stands.

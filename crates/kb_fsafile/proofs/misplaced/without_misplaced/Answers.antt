@@ -1,4 +1,4 @@
-use Rattle.std.proofs.Common.{◌≡◌, ◌≢◌, ◌↔◌, ◌*◌, ◌+◌, ◌-◌, ℕ, Bool, List, sym, ap, ◌∙◌, subst}
+use Rattle.std.proofs.Common.{◌≡◌, ◌≢◌, ◌*◌, ◌+◌, ◌-◌, ℕ, Bool, List, sym, ap, ◌∙◌, subst}
 use Rattle.std.proofs.lemmas.Bool.{false≢true}
 use Rattle.kb_fsa.specs.Table.{Moves, Table, IsTable, HasSymbols, IsLive, state_after}
 use Rattle.kb_fsa.specs.Padding.{IsPadded}
@@ -15,19 +15,6 @@ same_table {initial'} {rows} {rows'} {accepting} one two three =
     let R : List Moves → Table = λ rs. record { initial = initial'; rows = rs; accepting = accepting } in
     let A : List Bool → Table = λ bs. record { initial = initial'; rows = rows'; accepting = bs } in
     ap I one ∙ ap R two ∙ ap A three
-
-live_same : (table : Table) (live others : List Bool) → others ≡ live → ((state : ℕ) → IsMarked live state ↔ IsLive table state)
-    → (state : ℕ) → IsMarked others state ↔ IsLive table state
-live_same table live others same are state = subst (λ (ls : List Bool). IsMarked ls state ↔ IsLive table state) (sym same) (are state)
-
-pub returns-then-accepts_misplaced-clause-fault : goal.returns-then-accepts_misplaced-clause-fault
-returns-then-accepts_misplaced-clause-fault c =
-    let read = c.args.read in
-    let reach = c.in_ok-reach.reach in
-    let found = c.accepts_misplaced.ensures.0 c.if-accepts_misplaced.true in
-    unpadded_text c.args.n read c.in_ok-moves.moves.edges.items c.in_ok-moves.moves.symbols.items (subst IsTable c.read.view_is c.read.invariant)
-    c.in_ok-moves.ensures reach.marks.items reach.first.items reach.second.items c.as_slice.result.now c.in_ok-reach.ensures
-    (live_same read c.in_ok-live.live.items c.as_slice.result.now c.as_slice.ensures.value c.in_ok-live.ensures.live) found.0 found.1
 
 pub new-requires : goal.new-requires
 new-requires c =
@@ -46,11 +33,8 @@ returns-clause-cleaned c =
     let same = same_table c.initial.ensures.initial (c.in_ok-rows.ensures ∙ ap (kept_rows dropped 1) c.rows.ensures.rows)
     (c.in_ok-accepting.ensures.items ∙ c.accepting.ensures.accepting) in (
       subst (IsWithoutMisplaced c.args.n read) (sym (c.new.ensures ∙ same))
-          (without_misplaced_moves c.args.n read reach.marks.items reach.first.items reach.second.items c.rows.ensures.table c.in_ok-reach.ensures),
-      padded_where_accepted c.args.n read c.in_ok-moves.moves.edges.items c.in_ok-moves.moves.symbols.items c.rows.ensures.table
-          c.in_ok-moves.ensures reach.marks.items reach.first.items reach.second.items c.as_slice.result.now c.in_ok-reach.ensures
-          (live_same read c.in_ok-live.live.items c.as_slice.result.now c.as_slice.ensures.value c.in_ok-live.ensures.live) c.requires.symbols
-          (λ place accepted. false≢true (sym c.if-accepts_misplaced.false ∙ c.accepts_misplaced.ensures.1 (place, accepted))),
+          (without_misplaced_moves c.args.n read reach.marks.items reach.first.items reach.second.items c.rows.ensures.table c.in_ok-reach.ensures.reach),
+      c.in_ok-reach.ensures.padded,
     )
 
 pub returns-clause-symbols : goal.returns-clause-symbols
@@ -62,7 +46,7 @@ returns-clause-symbols c =
     let same = same_table c.initial.ensures.initial (c.in_ok-rows.ensures ∙ ap (kept_rows dropped 1) c.rows.ensures.rows)
     (c.in_ok-accepting.ensures.items ∙ c.accepting.ensures.accepting) in
     subst (HasSymbols ((n + 1) * (n + 1) - 1)) (sym (c.new.ensures ∙ same))
-    (symbols_without n read reach.marks.items reach.first.items reach.second.items c.rows.ensures.table c.in_ok-reach.ensures c.requires.symbols)
+    (symbols_without n read reach.marks.items reach.first.items reach.second.items c.rows.ensures.table c.in_ok-reach.ensures.reach c.requires.symbols)
 
 pub returns-clause-texts : goal.returns-clause-texts
 returns-clause-texts c =
@@ -73,4 +57,4 @@ returns-clause-texts c =
     let same = same_table c.initial.ensures.initial (c.in_ok-rows.ensures ∙ ap (kept_rows dropped 1) c.rows.ensures.rows)
     (c.in_ok-accepting.ensures.items ∙ c.accepting.ensures.accepting) in
     subst (λ (table : Table). (text : List ℕ) → state_after table text ≢ 0 → IsPadded n text) (sym (c.new.ensures ∙ same))
-    (texts_without n read reach.marks.items reach.first.items reach.second.items c.rows.ensures.table c.in_ok-reach.ensures c.requires.symbols)
+    (texts_without n read reach.marks.items reach.first.items reach.second.items c.rows.ensures.table c.in_ok-reach.ensures.reach c.requires.symbols)

@@ -1,16 +1,9 @@
-use Rattle.std.proofs.Common.{ℕ, List, subst}
-use Rattle.std.specs.Borrow.{Bor}
-use Rattle.kb_record.specs.View.{text_view}
-use Rattle.kb_record.specs.declared.tree.Value.{Value}
-use Rattle.kb_fields.specs.Fields.{fields_view}
-use Rattle.kb_fields.proofs.Outcomes.{IfErr_then}
-use Rattle.kb_fsafile.specs.Faults.{HasFieldFault}
-use Rattle.kb_fsafile.proofs.TextLemmas.{text_fault}
+use Rattle.std.proofs.lemmas.Result.{err_from_is_err_and}
+use Rattle.kb_fsafile.proofs.TextLemmas.{table_fault}
 use Rattle.kb_fsafile.proofs.reader.read.Goals as goal
 
-pub returns-clause-fault : goal.returns-clause-fault
-returns-clause-fault c =
-    IfErr_then c.automaton_of.result c.automaton_of.ensures.fault (λ error fault.
-    let P : List (Bor (List ℕ) × Value) → Type 0 = λ fields. HasFieldFault (fields_view fields) error in
-    text_fault c.args.bytes.now (text_view c.in_ok-text.text) error c.in_ok-text.ensures.read c.in_ok-text.ensures.shallow
-    (subst P c.as_slice.ensures.value fault))
+pub returns-in_err-table-clause-fault : goal.returns-in_err-table-clause-fault
+returns-in_err-table-clause-fault c =
+    let p = err_from_is_err_and c.from_residual-in_err-table.result c.from_residual-in_err-table.ensures.1 in
+    rw (p.1, p.2) (table_fault c.args.bytes.now c.in_ok-letters.letters.names c.in_ok-letters.letters.alphabet c.in_ok-letters.table _
+    c.in_ok-letters.ensures.read c.in_err-table.ensures.fault)
