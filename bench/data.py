@@ -119,6 +119,46 @@ def coxeter_a(rank):
     return presentation(names, names, ",\n".join(equations))
 
 
+def coxeter_d(rank):
+    """The Coxeter group of type D of this rank, as signed permutations, by its reduced complete rewriting system."""
+
+    def swap(place, sign):
+        image = list(range(1, rank + 1))
+        image[place], image[place + 1] = sign * image[place + 1], sign * image[place]
+        return tuple(image)
+
+    names = [f"s{number}" for number in range(1, rank + 1)]
+    generators = [swap(0, -1), *(swap(place, 1) for place in range(rank - 1))]
+    rules = complete_rules(generators, tuple(range(1, rank + 1)))
+    spelled = ["*".join(names[letter] for letter in side) or "IdWord" for rule in rules for side in rule]
+    equations = (f"    [{left},{right}]" for left, right in zip(spelled[::2], spelled[1::2]))
+    return presentation(names, names, ",\n".join(equations))
+
+
+def complete_rules(generators, one):
+    """The shortlex reduced complete rewriting system of a finite group of signed permutations: the words that are not
+    least, all of whose factors are, with the least words equal to them."""
+
+    def times(element, generator):
+        return tuple((1 if value > 0 else -1) * element[abs(value) - 1] for value in generator)
+
+    least, order = {one: ()}, [one]
+    for element in order:
+        for letter, generator in enumerate(generators):
+            product = times(element, generator)
+            if product not in least:
+                least[product] = (*least[element], letter)
+                order.append(product)
+    words = set(least.values())
+    rules = []
+    for element in order:
+        for letter, generator in enumerate(generators):
+            word = (*least[element], letter)
+            if word not in words and (len(word) == 1 or word[1:] in words):
+                rules.append((word, least[times(element, generator)]))
+    return rules
+
+
 def presentation(names, inverses, equations):
     """The text of a presentation file."""
     return (
