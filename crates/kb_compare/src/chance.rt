@@ -39,7 +39,7 @@ pub fn some_word(
     word(alloc, chance, letters, len)
 }
 
-/// A rule by the shortlex order. Where chance makes two equal words, the greater one has a letter more.
+/// A rule at random, with sides of at most so many letters, or one more.
 pub fn rule(
     alloc: Global,
     chance: &mut Xoshiro256PlusPlus,
@@ -49,15 +49,23 @@ pub fn rule(
     requires { 0 < letters }
     ensures { IfOk result (λ rule. Below ShortLex rule.1 rule.0) }
 {
-    let mut one = some_word(alloc, chance, letters, most)?;
+    let one = some_word(alloc, chance, letters, most)?;
     let other = some_word(alloc, chance, letters, most)?;
+    oriented(one, other)
+}
+
+/// The rule of two words by the shortlex order. Where they are equal, the left side has a letter more.
+pub fn oriented(one: Word, other: Word) -> Result<Rule, Memory>
+    ensures { IfOk result (λ rule. Below ShortLex rule.1 rule.0) }
+{
     if WordOrder::ShortLex.less(&one, &other) {
         return Ok(Rule::new(other, one));
     }
-    if !WordOrder::ShortLex.less(&other, &one) {
-        one.push(Letter::new(1))?;
+    let mut left = one;
+    if !WordOrder::ShortLex.less(&other, &left) {
+        left.push(Letter::new(1))?;
     }
-    Ok(Rule::new(one, other))
+    Ok(Rule::new(left, other))
 }
 
 /// A list of so many rules.

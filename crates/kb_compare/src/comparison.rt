@@ -7,8 +7,8 @@ use crate::chance;
 use crate::change::Change;
 use anyhow::ensure;
 use kb_index::Index;
-use kb_rules::{Reducer, Rules, Scan};
-use kb_word::{Memory, Word, WordOrder};
+use kb_rules::{Reducer, Rules, Scan, Step};
+use kb_word::{Letter, Memory, Word, WordOrder};
 use rand::RngExt;
 use rand_core::SeedableRng;
 use rand_xoshiro::Xoshiro256PlusPlus;
@@ -28,6 +28,12 @@ const CHANGES: usize = 40;
 
 /// Compares the reducers on words by lists of rules, and prints how much was compared.
 pub fn compare(rt: &impl Print, alloc: Global) -> anyhow::Result<()> {
+    let rules = one_side_twice(alloc)?;
+    ensure!(
+        goes_by_list_order::<Scan>(alloc, &rules)? && goes_by_list_order::<Index>(alloc, &rules)?,
+        "one left side twice gives another normal form"
+    );
+    println!(rt; "three rules, one left side twice: b*b*a is IdWord, by rules 1, 1 and 2")?;
     let mut chance = Xoshiro256PlusPlus::seed_from_u64(SEED);
     for _ in 0..LISTS {
         ensure!(
@@ -46,6 +52,37 @@ pub fn compare(rt: &impl Print, alloc: Global) -> anyhow::Result<()> {
     }
     println!(rt; "{LISTS} lists that change {CHANGES} times: the same after each change")?;
     Ok(())
+}
+
+/// The rules `b*a -> a`, `a -> IdWord` and `b*a -> b`.
+fn one_side_twice(alloc: Global) -> Result<Rules, Memory> {
+    let sides: [(&[u16], &[u16]); 3] = [(&[2, 1], &[1]), (&[1], &[]), (&[2, 1], &[2])];
+    let mut rules = Rules::new(alloc, WordOrder::ShortLex);
+    for (left, right) in &sides {
+        let rule = chance::oriented(spelled(alloc, left)?, spelled(alloc, right)?)?;
+        rules.push(rule)?;
+    }
+    Ok(rules)
+}
+
+/// Whether these rules reduce `b*b*a` to the empty word, by the first rule twice and then by the second.
+fn goes_by_list_order<R: Reducer>(alloc: Global, rules: &Rules) -> Result<bool, Memory> {
+    let trace = R::of(alloc, rules)?.trace(alloc, &spelled(alloc, &[2, 2, 1])?)?;
+    let steps = [
+        Step { place: 1, rule: 0 },
+        Step { place: 0, rule: 0 },
+        Step { place: 0, rule: 1 },
+    ];
+    Ok(trace.word.is_empty() && trace.steps.as_slice() == steps.as_slice())
+}
+
+/// The word of letters by their numbers.
+fn spelled(alloc: Global, numbers: &[u16]) -> Result<Word, Memory> {
+    let mut word = Word::new(alloc);
+    for number in numbers {
+        word.push(Letter::new(*number))?;
+    }
+    Ok(word)
 }
 
 /// Whether both reducers give the same, by a list of rules.

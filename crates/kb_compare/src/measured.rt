@@ -1,5 +1,9 @@
 //! The runs that are timed.
 
+ghost use Rattle.std.specs.Prelude.{◌≡◌, IfOk};
+ghost use Rattle.kb_word.specs.WordOrders.{Below};
+ghost use Rattle.kb_word.specs.declared.word_order.WordOrder.TheVariants.{ShortLex};
+
 use crate::chance;
 use crate::change::Change;
 use anyhow::bail;
@@ -16,8 +20,8 @@ const SEED: u64 = 8;
 /// Rules and words are over so many letters.
 const LETTERS: u16 = 8;
 
-/// Left sides have at most so many letters.
-const MOST: usize = 12;
+/// Left sides have so many letters, so that few of them stand in a word at random.
+const SIDE: usize = 12;
 
 /// The run that the words of the command line name; prints how many letters are left, or rules.
 pub fn measure(rt: &impl Print, alloc: Global, words: &[String]) -> anyhow::Result<()> {
@@ -44,10 +48,23 @@ fn number(word: Option<&String>) -> usize {
 /// Reduces a word of so many letters at random by so many rules at random, and returns how many letters are left.
 fn reduce<R: Reducer>(alloc: Global, rules: usize, letters: usize) -> Result<usize, Memory> {
     let mut chance = Xoshiro256PlusPlus::seed_from_u64(SEED);
-    let rules = chance::rules(alloc, &mut chance, LETTERS, MOST, rules)?;
+    let rules = long_rules(alloc, &mut chance, rules)?;
     let reducer = R::of(alloc, &rules)?;
     let w = chance::word(alloc, &mut chance, LETTERS, letters)?;
     Ok(reducer.nf(alloc, &w)?.len())
+}
+
+/// So many rules whose left sides are long, with right sides of half their length at most.
+fn long_rules(alloc: Global, chance: &mut Xoshiro256PlusPlus, count: usize) -> Result<Rules, Memory>
+    ensures { IfOk result (λ rules. rules.order ≡ ShortLex) }
+{
+    let mut rules = Rules::new(alloc, WordOrder::ShortLex);
+    for _ in 0..count {
+        let left = chance::word(alloc, chance, LETTERS, SIDE)?;
+        let right = chance::some_word(alloc, chance, LETTERS, SIDE / 2)?;
+        rules.push(chance::oriented(left, right)?)?;
+    }
+    Ok(rules)
 }
 
 /// Makes so many changes of a list, from no rules on, and returns how many rules there are then.
@@ -56,7 +73,7 @@ fn change<R: Reducer>(alloc: Global, changes: usize) -> Result<usize, Memory> {
     let mut reducer = R::of(alloc, &Rules::new(alloc, WordOrder::ShortLex))?;
     let mut count = 0;
     for _ in 0..changes {
-        let change = Change::at_random(alloc, &mut chance, LETTERS, MOST, count)?;
+        let change = Change::at_random(alloc, &mut chance, LETTERS, SIDE, count)?;
         change.apply(alloc, &mut reducer)?;
         count = change.count_after(count);
     }
