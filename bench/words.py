@@ -52,8 +52,8 @@ def measure_words(program, room, examples):
     for what, text, word in (
         ("free abelian, rank 20, checked", data.free_abelian(20), "x2*x1"),
         ("free abelian, rank 40, checked", data.free_abelian(40), "x2*x1"),
-        ("Coxeter group of type A8, checked", data.coxeter_a(8), "s2*s1"),
-        ("Coxeter group of type D6, checked", data.coxeter_d(6), "s2*s1"),
+        ("Coxeter group of type A, rank 8, checked", data.coxeter_a(8), "s2*s1"),
+        ("Coxeter group of type D, rank 6, checked", data.coxeter_d(6), "s2*s1"),
     ):
         file = f"{room}/group"
         with open(file, "w", encoding="ascii") as it:
