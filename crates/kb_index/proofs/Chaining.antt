@@ -112,16 +112,6 @@ pub record Following (rules : List Pair) (first : ℕ) (numbers : List ℕ) (w :
   pub passed : (place p : ℕ) → place < length rules → left_at rules place ≡ w → rest ≤ place → p < best
       → get_or numbers p 0 ≢ first + place
 
-pub following_first : (rules : List Pair) (first : ℕ) (numbers : List ℕ) (w : List ℕ) (tried head : ℕ) → tried ≡ length rules
-    → IsHead rules tried w head → Following rules first numbers w head (length numbers)
-following_first rules first numbers w tried head all is =
-    record {
-      is = is.is;
-      found = λ less. absurd (omega arith);
-      passed = λ place p within left late less.
-          let early : place < head = is.last place (omega arith) left in absurd (omega arith);
-    }
-
 -- the place of a number among the numbers, or how many there are
 pub record IsPlace (numbers : List ℕ) (number place : ℕ) : Type 0 where
   pub within : place ≤ length numbers

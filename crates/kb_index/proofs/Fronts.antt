@@ -103,15 +103,6 @@ owner_none rules w place owner past pair one ends =
     let P : List ℕ → Type 0 = λ v. EndsWith w v in
     owner.first one.0 (omega (arith, slice_get_within rules one.0 pair one.1)) (subst P (sym (at_left rules one.0 pair one.1)) ends)
 
--- the same, where the states are named otherwise
-pub letter_stands : (edges : List Edge) → AreEdges edges → (w : List ℕ) (states given : List ℕ) (x state : ℕ) → given ≡ states
-    → AreStates edges w states → state ≤ length edges
-    → IsLongestSuffix edges (word edges (get_or given (length given - 1) 0) ++ x ∷ []) (word edges state)
-    → StandsFor edges (w ++ x ∷ []) state
-letter_stands edges rise w states given x state same are within stepped =
-    let P : List ℕ → Type 0 = λ ss. IsLongestSuffix edges (word edges (get_or ss (length ss - 1) 0) ++ x ∷ []) (word edges state) in
-    states_next edges rise w states x state are within (subst P same stepped)
-
 states_same : (edges : List Edge) (v w : List ℕ) (ss ts : List ℕ) → v ≡ w → ss ≡ ts → AreStates edges w ts → AreStates edges v ss
 states_same edges v w ss ts words states are =
     let P : List ℕ → Type 0 = λ u. AreStates edges u ts in

@@ -1,7 +1,7 @@
 -- The numbers of the list's rules.
 use Rattle.std.proofs.Common.{◌≡◌, ◌≢◌, ℕ, ◌+◌, ◌-◌, ◌<◌, ◌≤◌, List, [], ◌∷◌, ◌++◌, length, get_or, min, refl, sym, ap, ◌∙◌, subst, inl, inr, arith, append_assoc, length-append}
 use Rattle.std.specs.List.{remove}
-use Rattle.std.proofs.lemmas.List.{append-nil, get_or-append-add, get_or_append_left, get_or_push, length_push}
+use Rattle.std.proofs.lemmas.List.{get_or-append-add, get_or_append_left, get_or_push, length_push}
 use Rattle.std.proofs.lemmas.List.Edits.{get_or-remove_below, get_or-remove_above, length-remove}
 use Rattle.std.proofs.lemmas.Bool.{cases_lt}
 use Rattle.std.proofs.lemmas.Option.{slice_get-get_or}
@@ -26,31 +26,6 @@ no_rule = ([], [])
 pub record AreFirst (count : ℕ) (numbers : List ℕ) : Type 0 where
   pub count_is : length numbers ≡ count
   pub each : (place : ℕ) → place < length numbers → get_or numbers place 0 ≡ place
-
-pub first_more : (count : ℕ) (numbers : List ℕ) → AreFirst count numbers → AreFirst (count + 1) (numbers ++ count ∷ [])
-first_more count numbers are =
-    record {
-      count_is = length_push numbers count ∙ ap (λ (k : ℕ). k + 1) are.count_is;
-      each = λ place within.
-          elim (cases_lt place (length numbers)) [
-            | inl earlier ↦ get_or_append_left numbers (count ∷ []) 0 place earlier ∙ are.each place earlier
-            | inr late ↦
-                let same : length numbers ≡ place = omega (arith, length_push numbers count) in
-                get_or_push numbers count 0 place same ∙ sym are.count_is ∙ same
-          ];
-    }
-
--- each rule has its place as its number
-pub numbered_first : (rules : List Pair) (numbers : List ℕ) → AreFirst (length rules) numbers → AreNumbered rules (rules ++ []) numbers
-numbered_first rules numbers are =
-    record {
-      count = are.count_is;
-      rise = λ i j less within. omega (arith, are.each i (omega arith), are.each j within);
-      within = λ place within. omega (arith, are.each place within, ap length (append-nil rules), are.count_is);
-      same = λ place within.
-          ap (λ (k : ℕ). get_or rules k no_rule) (sym (are.each place within))
-          ∙ ap (λ (all : List Pair). get_or all (get_or numbers place 0) no_rule) (sym (append-nil rules));
-    }
 
 -- the left side of a rule of the list, by its number
 left_settled : (rules base later : List Pair) (numbers : List ℕ) → AreNumbered rules (base ++ later) numbers → (place : ℕ)

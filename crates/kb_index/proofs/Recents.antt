@@ -148,23 +148,6 @@ recent_grown rules recent recent' edge is parent none keys heads before =
       before = subst (AreBefore rules) (sym before) is.before;
     }
 
--- the same, where nothing changes
-pub recent_same : (rules : List Pair) (recent recent' : Recent) → IsRecent rules recent → recent'.edges.keys ≡ recent.edges.keys
-    → recent'.chains.heads.items ≡ recent.chains.heads.items → recent'.chains.before.items ≡ recent.chains.before.items → IsRecent rules recent'
-recent_same rules recent recent' is keys heads before =
-    let H : List Edge → Type 0 = λ es. AreHeads rules (spelled_by es) (length rules) recent'.chains.heads.items in
-    let I : List ℕ → Type 0 = λ hs. AreHeads rules (spelled_by recent.edges.keys) (length rules) hs in
-    let C : List Edge → Type 0 = λ es. (place : ℕ) → place < length rules → HasState es (reverse (left_at rules place)) in
-    record {
-      lefts = is.lefts;
-      tree = subst IsTree (sym keys) is.tree;
-      complete = subst C (sym keys) is.complete;
-      head_count = omega (arith, ap length heads, ap length keys, is.head_count);
-      rule_count = ap length before ∙ is.rule_count;
-      heads = subst H (sym keys) (subst I (sym heads) is.heads);
-      before = subst (AreBefore rules) (sym before) is.before;
-    }
-
 -- a rule more, at the state of its left side
 pub recent_added : (rules : List Pair) (rule : Pair) (recent recent' : Recent) (state : ℕ) → IsRecent rules recent
     → state ≤ length recent.edges.keys → word recent.edges.keys state ≡ reverse rule.0 → rule.0 ≢ []

@@ -187,13 +187,3 @@ walking_all rules edges first numbers read rest state best done bound walking =
           let longer : length read < rest + length left = walking.longer p less such in
           omega (arith, ap length such.is.1, length-append such.is.0 left);
     }
-
--- before any rule came nothing ends
-pub walking_none : (rules : List Pair) (read : List ℕ) (first : ℕ) (numbers : List ℕ) → length rules ≤ 0
-    → IsFirstSuch (EndsWith read) rules first numbers (length numbers)
-walking_none rules read first numbers none =
-    record {
-      within = omega arith;
-      is = λ less. absurd (omega arith);
-      least = λ p less such. omega (arith, such.from, such.upto);
-    }

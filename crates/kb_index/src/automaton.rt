@@ -20,8 +20,8 @@ use kb_rules::Rule;
 use kb_word::Memory;
 use std::alloc::Global;
 
-/// The automaton: the trie of the left sides, and for each of its states the failure link, the rules with the state's word,
-/// and the state of the longest suffix that has rules.
+/// The automaton: the trie of the left sides, and for each of its states the failure link, the rules with the
+/// state's word, and the state of the longest suffix that has rules.
 #[derive(Debug, Drop)]
 pub struct Automaton {
     pub edges: Vec<Edge>,
@@ -54,8 +54,8 @@ impl Automaton {
         })
     }
 
-    /// The first place among the numbers at which a rule stands whose left side ends what is read up to a state, or how
-    /// many numbers there are. The automaton's rules have the numbers from 0 on.
+    /// The first place among the numbers at which a rule stands whose left side ends what is read up to a
+    /// state, or how many numbers there are. The automaton's rules have the numbers from 0 on.
     pub fn first_ending(&self, numbers: &[usize], state: usize) -> usize
         requires automaton { (rules : List Pair) × IsAutomaton rules self.now }
         requires rise { Rise numbers.now }

@@ -8,8 +8,8 @@ ghost use Rattle.kb_index.specs.Live.{IsFirstSuch};
 use kb_word::Memory;
 use std::alloc::Global;
 
-/// The rules of each state: those whose left side the state stands for. A state has the last of its rules, and each rule
-/// the one before it. Rules are counted from 1, and 0 says that there is none.
+/// The rules of each state: those whose left side the state stands for. A state has the last of its rules,
+/// and each rule the one before it. Rules are counted from 1, and 0 says that there is none.
 #[derive(Debug, Drop)]
 pub struct Chains {
     /// For each state the last of its rules.
@@ -47,8 +47,8 @@ impl Chains {
     }
 }
 
-/// The first place among the numbers at which one of the chain's rules stands, or how many numbers there are. The rules
-/// of the chain have the numbers from the first one on.
+/// The first place among the numbers at which one of the chain's rules stands, or how many numbers there are.
+/// The rules of the chain have the numbers from the first one on.
 pub fn first_live(numbers: &[usize], first: usize, before: &[usize], head: usize) -> usize
     requires rise { Rise numbers.now }
     requires first { first + length before.now < 2 ^ 64 }

@@ -8,7 +8,8 @@ use crate::edge::Edge;
 use kb_word::Memory;
 use std::alloc::Global;
 
-/// For each state, and for one after the last, how many edges lead from earlier states: the place of its first edge.
+/// For each state, and for one after the last, how many edges lead from earlier states: the place of its
+/// first edge.
 pub fn firsts_of(alloc: Global, edges: &[Edge]) -> Result<Vec<usize>, Memory>
     requires { AreEdges edges.now }
     ensures { IfOk result (λ firsts. AreFirsts edges.now firsts.items) }

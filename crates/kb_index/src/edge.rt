@@ -2,8 +2,8 @@
 
 ghost use Rattle.std.specs.Prelude.{◌≡◌, ◌↔◌, IsTrue};
 
-/// An edge: the state that it leads from, and the number of its letter. The state that it leads to is its place in the
-/// list of edges, counted from 1.
+/// An edge: the state that it leads from, and the number of its letter. The state that it leads to is its
+/// place in the list of edges, counted from 1.
 #[derive(Clone, Copy, Debug, PartialEq, Eq, Hash)]
 pub struct Edge {
     pub parent: usize,

@@ -15,8 +15,9 @@ use std::alloc::Global;
 /// How many rules may come, or go, before all is made anew, beyond as many as there are.
 const SPARE: usize = 16;
 
-/// The rules of a list by their left sides. Each rule has a number, which it keeps while others come and go: numbers rise
-/// along the list. A rule that went leaves its number behind in the automaton, but not among the numbers of the list.
+/// The rules of a list by their left sides. Each rule has a number, which it keeps while others come and go:
+/// numbers rise along the list. A rule that went leaves its number behind in the automaton, but not among the
+/// numbers of the list.
 #[derive(Drop)]
 pub struct Lookup {
     /// The numbers of the list's rules.
@@ -46,7 +47,8 @@ impl Lookup {
         })
     }
 
-    /// The place in the list of the first rule whose left side ends what is read up to a state, or the number of rules.
+    /// The place in the list of the first rule whose left side ends what is read up to a state, or the number
+    /// of rules.
     pub fn first_ending(&self, state: usize, read: &Word) -> usize
         requires lookup { (rules : List Pair) × IsLookup rules self.now }
         requires state { StandsFor self.now.settled.edges.items read.now state }

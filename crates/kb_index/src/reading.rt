@@ -67,8 +67,8 @@ fn nothing_read(alloc: Global) -> Result<Front, Memory>
     })
 }
 
-/// Reads on to the first left side, and replaces it: the right side is put back, to be read. None says that all is read.
-/// What is read is irreducible.
+/// Reads on to the first left side, and replaces it: the right side is put back, to be read. None says that
+/// all is read. What is read is irreducible.
 fn next_step(
     list: &Rules,
     lookup: &Lookup,

@@ -14,8 +14,8 @@ use indexmap::IndexSet;
 use kb_word::{Memory, Word};
 use std::alloc::Global;
 
-/// The trie of the left sides, each read from its end, and the rules of its states. It takes further rules one by one. A
-/// word is looked up from its end on.
+/// The trie of the left sides, each read from its end, and the rules of its states. It takes further rules
+/// one by one. A word is looked up from its end on.
 #[derive(Drop)]
 pub struct Recent {
     pub edges: IndexSet<Edge>,
@@ -87,8 +87,8 @@ impl Recent {
         Some(place + 1)
     }
 
-    /// The first place among the numbers at which a rule stands whose left side ends what is read, or how many numbers
-    /// there are. The rules have the numbers from the first one on.
+    /// The first place among the numbers at which a rule stands whose left side ends what is read, or how
+    /// many numbers there are. The rules have the numbers from the first one on.
     pub fn first_ending(&self, numbers: &[usize], first: usize, read: &Word) -> usize
         requires recent { (rules : List Pair) × IsRecent rules self.now }
         requires rise { Rise numbers.now }

@@ -18,8 +18,8 @@ pub struct Waiting {
     pub rule: usize,
 }
 
-/// The trie of the left sides. Its edges come in the order of the states that they lead from, and of the letters where
-/// they lead from one state.
+/// The trie of the left sides. Its edges come in the order of the states that they lead from, and of the
+/// letters where they lead from one state.
 pub fn trie_of(alloc: Global, rules: &[Rule]) -> Result<Vec<Edge>, Memory>
     ensures { IfOk result (λ edges. IsTrie rules.now edges.items) }
 {
