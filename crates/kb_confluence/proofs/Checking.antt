@@ -5,7 +5,7 @@ use Rattle.std.proofs.lemmas.Bool.{cases_lt, cases_eq}
 use Rattle.std.proofs.lemmas.List.{get_or_default}
 use Rattle.std.proofs.lemmas.Option.{slice_get_read, slice_get_within}
 use Rattle.kb_word.specs.Words.{Pair}
-use Rattle.kb_word.specs.Overlap.{Overlaps, OverlapOf, IsResolved, IsUnresolved, critical_pair}
+use Rattle.kb_word.specs.Overlap.{Overlaps, OverlapOf, IsResolved, IsUnresolved, IsConfluent, critical_pair}
 use Rattle.kb_overlap.specs.Overlapping.{AreOverlaps, IsBefore, OverlapsRule}
 use Rattle.kb_overlap.specs.declared.left_sides.Overlap.{Overlap}
 use Rattle.kb_confluence.specs.Unjoined.{EarlierJoin, IsFirstUnjoined}
@@ -139,3 +139,9 @@ module _ (rules : List Pair) (i : ℕ) (first : Pair) (overlaps : List Overlap) 
     parts = parts;
     earlier = earlier_in_row next at joins within is_at;
   }
+
+-- all overlaps join, where each one does in which one of the first rules, as many as there are, begins first
+pub all_join : (rules : List Pair) (count : ℕ) → length rules ≤ count → EarlierJoin rules count 0 0 → IsConfluent rules
+all_join rules count past joins i j place first second overlap =
+    let within = slice_get_within rules i first overlap.is_first in
+    joins i j place first second (inl (omega (arith, past, within))) overlap

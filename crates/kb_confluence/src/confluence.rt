@@ -6,10 +6,11 @@ ghost use Rattle.kb_overlap.specs.Overlapping.{AreOverlaps};
 ghost use Rattle.kb_confluence.specs.Unjoined.{EarlierJoin};
 ghost use Rattle.kb_confluence.specs.Answers.{MatchVerdict, IsVerdict, GivesCounterexample, Resolves};
 
-use kb_overlap::{LeftSides, Overlap, pair_at};
-use kb_rules::{Reducer, Rule, Rules};
+use kb_overlap::{LeftSides, Overlap, pair_into};
+use kb_rules::{Reducer, Rule, Rules, Workspace};
 use kb_word::{Memory, Word};
 use std::alloc::Global;
+use std::mem::replace;
 
 /// What the test finds.
 #[derive(Debug, Drop)]
@@ -51,6 +52,26 @@ pub fn check<R: Reducer>(
     check_rules(alloc, rules.as_slice(), reducer)
 }
 
+/// The words of a critical pair, which become their normal forms, and the workspace for that: kept from one pair to
+/// the next. What they hold before and after counts for nothing.
+#[derive(Drop)]
+struct Buffers {
+    one: Word,
+    other: Word,
+    workspace: Workspace,
+}
+
+impl Buffers {
+    /// Buffers that have taken no memory yet.
+    fn new(alloc: Global) -> Buffers {
+        Buffers {
+            one: Word::new(alloc),
+            other: Word::new(alloc),
+            workspace: Workspace::new(alloc),
+        }
+    }
+}
+
 /// The verdict on these rules.
 fn check_rules<R: Reducer>(alloc: Global, rules: &[Rule], reducer: &R) -> Result<Verdict, Memory>
     requires reducer { R.rules reducer.now ≡ rules.now }
@@ -59,9 +80,10 @@ fn check_rules<R: Reducer>(alloc: Global, rules: &[Rule], reducer: &R) -> Result
 {
     let left_sides = LeftSides::of(alloc, rules)?;
     let mut overlaps = Vec::new(alloc);
+    let mut buffers = Buffers::new(alloc);
     for (i, first) in rules.iter().enumerate() {
         left_sides.overlaps(first.left(), &mut overlaps)?;
-        match check_row(alloc, rules, reducer, i, first, &overlaps)? {
+        match check_row(alloc, rules, reducer, i, first, &overlaps, &mut buffers)? {
             Verdict::Yes => {}
             no => return Ok(no),
         }
@@ -77,6 +99,7 @@ fn check_row<R: Reducer>(
     i: usize,
     first: &Rule,
     overlaps: &[Overlap],
+    buffers: &mut Buffers,
 ) -> Result<Verdict, Memory>
     requires reducer { R.rules reducer.now ≡ rules.now }
     requires size { length rules.now ≤ 2 ^ 31 }
@@ -92,7 +115,9 @@ fn check_row<R: Reducer>(
         if i == j && place == 0 {
             continue;
         }
-        if let Some((u, v)) = different_normal_forms(alloc, reducer, first, second, place)? {
+        if let Some((u, v)) = different_normal_forms(
+            alloc, reducer, first, second, place, buffers,
+        )? {
             let (i, j) = (i as u32 + 1, j as u32 + 1);
             return Ok(Verdict::No { i, j, place, u, v });
         }
@@ -107,19 +132,31 @@ fn different_normal_forms<R: Reducer>(
     first: &Rule,
     second: &Rule,
     place: u64,
+    buffers: &mut Buffers,
 ) -> Result<Option<(Word, Word)>, Memory>
     requires { Overlaps first.now.0 second.now.0 place }
     ensures { IfOk result (Resolves (R.rules reducer.now) (critical_pair first.now second.now place)) }
 {
-    let (one, other) = pair_at(
-        alloc,
+    let Buffers {
+        one,
+        other,
+        workspace,
+    } = buffers;
+    pair_into(
         first.left(),
         first.right(),
         second.left(),
         second.right(),
         place,
+        one,
+        other,
     )?;
-    let u = reducer.nf(alloc, &one)?;
-    let v = reducer.nf(alloc, &other)?;
-    Ok(if u == v { None } else { Some((u, v)) })
+    reducer.reduce(one, workspace)?;
+    reducer.reduce(other, workspace)?;
+    if *one == *other {
+        return Ok(None);
+    }
+    let u = replace(one, Word::new(alloc));
+    let v = replace(other, Word::new(alloc));
+    Ok(Some((u, v)))
 }

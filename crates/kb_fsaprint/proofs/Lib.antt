@@ -1,3 +1,2 @@
-pub mod SpelledValues
 pub mod Writings
 pub mod WrittenTrees

@@ -5,10 +5,11 @@ use Rattle.std.specs.List.{list_all}
 use Rattle.std.proofs.lemmas.Bool.{and_from, le-leb}
 use Rattle.std.proofs.lemmas.List.{drop_more}
 use Rattle.kb_record.specs.Tree.{Value, range_value, string_value, record_value, list_value, Fields, no_fields, field}
-use Rattle.kb_record.specs.Layout.{indent, line_of, line_of_more_places, are_lists, lines_of_places, text_of_value, text_of_fields, end_of_field, printed}
+use Rattle.kb_record.specs.Layout.{indent, line_of, line_of_more_places, are_lists, lines_of_places, text_of_value, printed}
 use Rattle.kb_record.specs.Printing.{pieces, IsPrintedUpTo}
 use Rattle.kb_record.proofs.PrintedPieces.{pieces_go, pieces_end}
 use Rattle.kb_fields.specs.Fields.{bare_name, list_of_names}
+use Rattle.kb_fields.proofs.WrittenTexts.{joined, record_lines}
 use Rattle.kb_fsa.specs.Table.{Moves, IsRow, IsSplit, target}
 use Rattle.kb_fsa.proofs.RowSplits.{rest_of_split}
 use Rattle.kb_fsaprint.specs.Values.{count_value, list_of_numbers, entry_value}
@@ -26,33 +27,10 @@ pub number_pieces : (numbers : List ℕ) → codes "[" ++ (pieces number_text []
 number_pieces [] = refl
 number_pieces (n ∷ numbers) = ap (λ t. codes "[" ++ ((number_text n ++ t) ++ codes "]")) (sym (more_number_pieces numbers))
 
--- a name as it stands in a text
-abbrev pub own_text : List ℕ → List ℕ
-own_text name = name
-
-name_line : (name : List ℕ) → line_of (bare_name name) ≡ name
-name_line name = append-nil (name ++ []) ∙ append-nil name
-
-more_name_pieces : (names : List (List ℕ)) → line_of_more_places (list_of_names names) ≡ pieces own_text (codes ",") (codes ",") names
-more_name_pieces [] = refl
-more_name_pieces (name ∷ names) =
-    ap (λ t. codes "," ++ (t ++ line_of_more_places (list_of_names names))) (name_line name)
-    ∙ ap (λ t. codes "," ++ (name ++ t)) (more_name_pieces names)
-
-pub name_pieces : (names : List (List ℕ)) → codes "[" ++ (pieces own_text [] (codes ",") names ++ codes "]") ≡ line_of (list_value (list_of_names names))
-name_pieces [] = refl
-name_pieces (name ∷ names) =
-    ap (λ t. codes "[" ++ ((name ++ t) ++ codes "]")) (sym (more_name_pieces names))
-    ∙ ap (λ t. codes "[" ++ ((t ++ line_of_more_places (list_of_names names)) ++ codes "]")) (sym (name_line name))
-
--- lists of numbers and of names are no tables
+-- a list of numbers is no table
 pub numbers_text : (level : ℕ) (numbers : List ℕ) → text_of_value level (numbers_value numbers) ≡ line_of (numbers_value numbers)
 numbers_text level [] = refl
 numbers_text level (n ∷ numbers) = refl
-
-pub names_text : (level : ℕ) (names : List (List ℕ)) → text_of_value level (list_value (list_of_names names)) ≡ line_of (list_value (list_of_names names))
-names_text level [] = refl
-names_text level (name ∷ names) = refl
 
 -- the next piece, where the rest of the pieces is known
 pub pieces_next : {A : Type 0} {text : A → List ℕ} {between ending : List ℕ} {x : A} {xs : List A} {whole old before now : List ℕ} (mid next : List ℕ)
@@ -175,49 +153,7 @@ pub pieces_done : {A : Type 0} {text : A → List ℕ} {between ending : List �
 pieces_done {text} {between} {ending} {xs} {whole} {old} {before} {now} mid printed none e =
     pieces_end text between ending xs whole old before now 0 mid printed (let empty = ap length none in omega arith) e
 
--- ---- texts one behind another
-
-abbrev pub joined : List (List ℕ) → List ℕ
-joined [] = []
-joined (text ∷ texts) = text ++ joined texts
-
--- these texts are still to come behind what stands there
-pub record AreToCome (texts : List (List ℕ)) (whole now : List ℕ) : Type 0 where
-  pub is : whole ≡ now ++ joined texts
-
-pub to_come : (old : List ℕ) (texts : List (List ℕ)) → AreToCome texts (old ++ joined texts) old
-to_come old texts = record { is = refl }
-
-pub text_more : {text : List ℕ} {texts : List (List ℕ)} {whole now : List ℕ} {next : List ℕ} → AreToCome (text ∷ texts) whole now → next ≡ now ++ text
-    → AreToCome texts whole next
-text_more {text} {texts} {whole} {now} {next} before e = record {
-  is = before.is ∙ sym (append_assoc now text (joined texts)) ∙ ap (λ t. t ++ joined texts) (sym e);
-}
-
-pub all_texts : {whole now : List ℕ} → AreToCome [] whole now → now ≡ whole
-all_texts {whole} {now} before = sym (before.is ∙ append-nil now)
-
 -- ---- records
-
--- the lines of fields with what follows them
-abbrev field_lines : ℕ → Fields → List ℕ → List ℕ
-field_lines level no_fields after_it = after_it
-field_lines level (field name value others) after_it =
-    indent level ++ (name ++ (codes " := " ++ (text_of_value level value ++ (end_of_field others ++ field_lines level others after_it))))
-
-fields_behind : (level : ℕ) (fields : Fields) (after_it : List ℕ) → text_of_fields level fields ++ after_it ≡ field_lines level fields after_it
-fields_behind level no_fields after_it = refl
-fields_behind level (field name value others) after_it =
-    simp append_assoc (ap (λ t. indent level ++ (name ++ (codes " := " ++ (text_of_value level value ++ (end_of_field others ++ t)))))
-    (fields_behind level others after_it))
-
-record_lines : (level : ℕ) (fields : Fields) (after_it : List ℕ)
-    → text_of_value level (record_value fields) ++ after_it ≡ codes "rec(\n" ++ field_lines (suc level) fields (indent level ++ (codes ")" ++ after_it))
-record_lines level fields after_it =
-    ap (λ t. codes "rec(\n" ++ t)
-    (append_assoc (text_of_fields (suc level) fields ++ indent level) (codes ")") after_it
-    ∙ append_assoc (text_of_fields (suc level) fields) (indent level) (codes ")" ++ after_it)
-    ∙ fields_behind (suc level) fields (indent level ++ (codes ")" ++ after_it)))
 
 -- the record of the names, whose fields stand at the level inside
 abbrev pub names_texts : ℕ → ℕ → List (List ℕ) → List (List ℕ)

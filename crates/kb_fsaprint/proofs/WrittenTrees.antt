@@ -1,5 +1,5 @@
 -- The tree of a canonical automaton can be spelled, is shallow, and has no field twice.
-use Rattle.std.proofs.Common.{◌≡◌, ℕ, zero, suc, ◌+◌, ◌*◌, ◌<◌, ◌≤◌, ◌⊎◌, inl, inr, Bool, true, false, ◌&&◌, if◌then◌else◌, nat_le, ℤ, pos, List, [], ◌∷◌, map, length, refl, ap, arith}
+use Rattle.std.proofs.Common.{◌≡◌, ℕ, zero, suc, ◌+◌, ◌*◌, ◌<◌, ◌≤◌, Bool, true, false, ◌&&◌, if◌then◌else◌, nat_le, ℤ, pos, List, [], ◌∷◌, map, length, refl, ap, arith}
 use Rattle.std.specs.Prelude.{codes}
 use Rattle.std.specs.List.{All, AllByRecursion, list_all}
 use Rattle.std.proofs.Math.Nat.{max-le}
@@ -8,9 +8,9 @@ use Rattle.std.proofs.lemmas.List.Elements.{All-head, All-tail}
 use Rattle.kb_record.specs.Tree.{Value, range_value, list_value, record_value}
 use Rattle.kb_record.specs.Spelling.{IsName, IsStringByte}
 use Rattle.kb_record.specs.Grammar.{IsValue, AreFields, IsPlaceList, ArePlaces}
-use Rattle.kb_record.specs.Layout.{IsShortNumber, IsSpelledValue, AreSpelledFields, AreSpelledPlaces}
+use Rattle.kb_record.specs.Layout.{IsSpelledValue, AreSpelledFields, AreSpelledPlaces}
 use Rattle.kb_record.specs.Nesting.{value_nesting, fields_nesting, places_nesting, text_nesting, deepest}
-use Rattle.kb_fields.specs.Fields.{list_of_names, field_names, HasFieldTwice, SomePlaceHasTwice}
+use Rattle.kb_fields.specs.Fields.{field_names, HasFieldTwice, SomePlaceHasTwice}
 use Rattle.kb_fields.specs.Generators.{most_generators}
 use Rattle.kb_fsa.specs.declared.alphabet.Alphabet.{Alphabet}
 use Rattle.kb_fsa.specs.declared.alphabet.Alphabet.TheVariants.{Plain, Pair}
@@ -22,7 +22,8 @@ use Rattle.kb_fsaprint.specs.Values.{list_of_numbers}
 use Rattle.kb_fsaprint.specs.Printed.{numbers_value, targets_from, list_of_moves, row_places, rows_places, format_of, format_name, move_count, accepting_from, accepting_value, names_fields, alphabet_fields, states_fields, flags_value, table_fields, tree_of}
 use Rattle.kb_fsaprint.specs.declared.format.RowFormat.{RowFormat}
 use Rattle.kb_fsaprint.specs.declared.format.RowFormat.TheVariants.{Dense, Sparse}
-use Rattle.kb_fsaprint.proofs.SpelledValues.{word_is_name, string_bytes, none_stands_twice}
+use Rattle.kb_fields.proofs.WrittenLists.{names_formed, numbers_formed, names_shallow, numbers_shallow, none_of, nothing, names_once, numbers_once, short, names_spelled}
+use Rattle.kb_fields.proofs.SpelledValues.{word_is_name, string_bytes, none_stands_twice}
 
 -- what holds of a range and of a list holds of the accepting states
 either : (P : Value → Type 0) (b : Bool) (x y : Value) → P x → P y → P (if b then x else y)
@@ -34,14 +35,6 @@ accepting_by P marks range list =
     either P (list_all (λ (accepts : Bool). accepts) marks && nat_le 2 (length marks)) (range_value (pos 1) (pos (length marks))) (numbers_value (accepting_from 1 marks)) range list
 
 -- ---- trees that can be written
-
-names_formed : (names : List (List ℕ)) → IsPlaceList (list_of_names names) × ArePlaces (list_of_names names)
-names_formed [] = (tt, tt)
-names_formed (name ∷ names) = (tt, ((tt, tt), (names_formed names).1))
-
-numbers_formed : (numbers : List ℤ) → IsPlaceList (list_of_numbers numbers) × ArePlaces (list_of_numbers numbers)
-numbers_formed [] = (tt, tt)
-numbers_formed (z ∷ numbers) = (tt, (tt, (numbers_formed numbers).1))
 
 moves_formed : (row : Moves) → IsPlaceList (list_of_moves row) × ArePlaces (list_of_moves row)
 moves_formed [] = (tt, tt)
@@ -85,14 +78,6 @@ tree_formed names automaton = (
 
 -- ---- how deep they nest
 
-names_shallow : (names : List (List ℕ)) → places_nesting (list_of_names names) ≤ 0
-names_shallow [] = omega arith
-names_shallow (name ∷ names) = max-le (omega arith) (names_shallow names)
-
-numbers_shallow : (numbers : List ℤ) → places_nesting (list_of_numbers numbers) ≤ 0
-numbers_shallow [] = omega arith
-numbers_shallow (z ∷ numbers) = max-le (omega arith) (numbers_shallow numbers)
-
 list_shallow : (numbers : List ℤ) → value_nesting (list_value (list_of_numbers numbers)) ≤ 1
 list_shallow numbers = omega (arith, numbers_shallow numbers)
 
@@ -132,21 +117,6 @@ pub tree_shallow : (names : List (List ℕ)) (automaton : Automaton) → text_ne
 tree_shallow names automaton = omega (arith, fields_shallow names automaton)
 
 -- ---- no field stands twice
-
-none_of : {A B : Type 0} → (A → ⊥) → (B → ⊥) → A ⊎ B → ⊥
-none_of one other (inl a) = one a
-none_of one other (inr b) = other b
-
-nothing : ⊥ → ⊥
-nothing f = f
-
-names_once : (names : List (List ℕ)) (name : List ℕ) → SomePlaceHasTwice (list_of_names names) name → ⊥
-names_once [] name f = f
-names_once (n ∷ names) name f = none_of nothing (names_once names name) f
-
-numbers_once : (numbers : List ℤ) (name : List ℕ) → SomePlaceHasTwice (list_of_numbers numbers) name → ⊥
-numbers_once [] name f = f
-numbers_once (z ∷ numbers) name f = none_of nothing (numbers_once numbers name) f
 
 moves_once : (row : Moves) (name : List ℕ) → SomePlaceHasTwice (list_of_moves row) name → ⊥
 moves_once [] name f = f
@@ -191,13 +161,6 @@ tree_once names automaton name f =
     (none_of (table_once (format_of automaton.alphabet) automaton.table.rows name) nothing))))))) f
 
 -- ---- names, strings and numbers are spelled
-
-short : (n : ℕ) → n < 1000000000000000000 → IsShortNumber (pos n)
-short n small = small
-
-names_spelled : (names : List (List ℕ)) → All IsName names → AreSpelledPlaces (list_of_names names)
-names_spelled [] each = tt
-names_spelled (name ∷ names) each = (((All-head IsName name names each, tt), tt), names_spelled names (All-tail IsName name names each))
 
 targets_spelled : (row : Moves) (count symbol columns : ℕ) → count < 1000000000000000000 → All (λ (move : ℕ × ℕ). move.1 ≤ count) row
     → AreSpelledPlaces (list_of_numbers (map pos (targets_from row symbol columns)))

@@ -3,7 +3,6 @@
 ghost use Rattle.std.specs.Prelude.{◌≡◌, ◌≢◌, ◌≤◌, ◌<◌, ◌^◌, ◌-◌, ◌++◌, [], IfOk, OnOk, length, pos};
 ghost use Rattle.kb_record.specs.Tree.{record_value, list_value};
 ghost use Rattle.kb_record.specs.Layout.{indent, line_of, text_of_value};
-ghost use Rattle.kb_fields.specs.Fields.{list_of_names};
 ghost use Rattle.kb_fsa.specs.Language.{generators};
 ghost use Rattle.kb_fsa.specs.Canonical.{IsCanonical};
 ghost use Rattle.kb_fsa.specs.declared.alphabet.Alphabet.TheVariants.{Pair};
@@ -12,6 +11,7 @@ ghost use Rattle.kb_fsaprint.specs.Printed.{text_of_automaton, alphabet_fields, 
 ghost use Rattle.kb_fsaprint.specs.Writing.{number_text, move_text};
 
 use crate::format::RowFormat;
+use kb_fields::print_names;
 use kb_fsa::{Alphabet, Fsa, Row, Table, split_at_symbol};
 use kb_record::{print_indent, print_number};
 use kb_word::{Memory, Names};
@@ -88,7 +88,7 @@ fn write_names(level: usize, names: &Names, out: &mut Vec<u8>) -> Result<(), Mem
     out.extend_from_slice(b",\n")?;
     write_line(level + 1, b"format := \"dense\",\n", out)?;
     write_line(level + 1, b"names := ", out)?;
-    write_name_list(names, out)?;
+    print_names(names, out)?;
     out.extend_from_slice(b"\n")?;
     write_line(level, b")", out)
 }
@@ -107,21 +107,6 @@ fn write_number(number: u32, out: &mut Vec<u8>) -> Result<(), Memory>
     ensures { OnOk result (out.new.items ≡ out.old.items ++ number_text number) }
 {
     print_number(i64::from(number), out)
-}
-
-/// Appends the list of the names.
-fn write_name_list(names: &Names, out: &mut Vec<u8>) -> Result<(), Memory>
-    ensures { OnOk result (out.new.items ≡ out.old.items ++ line_of (list_value (list_of_names names.now))) }
-{
-    out.push(b'[')?;
-    let mut before: &[u8] = b"";
-    for place in 0..names.len() {
-        out.extend_from_slice(before)?;
-        out.extend_from_slice(names.get(place).unwrap_or("").as_bytes())?;
-        before = b",";
-    }
-    out.push(b']')?;
-    Ok(())
 }
 
 /// Appends the range of all states, where there are at least two and each accepts, and else the list of those that do.

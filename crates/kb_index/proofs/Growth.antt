@@ -1,8 +1,8 @@
 -- A level of the trie: what holds when some of those that waited have gone on.
-use Rattle.std.proofs.Common.{◌≡◌, ℕ, ◌+◌, ◌<◌, ◌≤◌, Bool, true, false, cond, nat_lt, List, [], ◌∷◌, ◌++◌, All, length, get_or, take, refl, sym, ap, ◌∙◌, subst, inl, inr, arith}
+use Rattle.std.proofs.Common.{◌≡◌, ℕ, ◌+◌, ◌<◌, ◌≤◌, Bool, true, false, cond, nat_lt, List, [], ◌∷◌, ◌++◌, All, length, get_or, take, drop, refl, sym, ap, ◌∙◌, subst, inl, inr, arith}
 use Rattle.std.specs.List.{Contains}
 use Rattle.std.specs.List.Sorted.{IsNonDecreasingBy, IsPermutation}
-use Rattle.std.proofs.lemmas.List.{take_more, take_all, nil_from_length, get_or_read}
+use Rattle.std.proofs.lemmas.List.{take_more, take_all, take-append-drop, nil_from_length, get_or_read}
 use Rattle.std.proofs.lemmas.List.Elements.{All-append, All-cons, All-nil, All-weaker, Contains-append_left, Contains-append_right}
 use Rattle.std.proofs.lemmas.List.Sorted.{All-permutation, Contains-permutation}
 use Rattle.std.proofs.lemmas.Bool.{cases_lt, ltb-true, lt-ltb}
@@ -10,7 +10,7 @@ use Rattle.kb_word.specs.Words.{Pair}
 use Rattle.kb_index.specs.declared.edge.Edge.{Edge}
 use Rattle.kb_index.specs.declared.trie.Waiting.{Waiting}
 use Rattle.kb_index.specs.Edges.{AreEdges, edge_at, rank, word}
-use Rattle.kb_index.specs.Tries.{HasState, left_at}
+use Rattle.kb_index.specs.Tries.{AreBeginnings, BeginsLeft, HasState, left_at}
 use Rattle.kb_index.specs.Growing.{AreWaiting, Follows, IsGrown, IsWaiting, rank_of, waits}
 use Rattle.kb_index.proofs.Words.{word_root}
 
@@ -20,6 +20,7 @@ WaitsOf waiting place = (one : Waiting) × Contains waiting one × (one.rule ≡
 
 pub record Growing (rules : List Pair) (before : List Edge) (depth : ℕ) (waiting : List Waiting) (done : ℕ) (edges : List Edge) (next : List Waiting) : Type 0 where
   pub rise : AreEdges edges
+  pub beginnings : AreBeginnings rules edges
   pub longer : length before ≤ length edges
   pub keeps : (state : ℕ) → state ≤ length before → word edges state ≡ word before state
   pub bare : (i k : ℕ) (d : Waiting) → i < length before → k < length waiting
@@ -63,6 +64,26 @@ follower_spells rules before edges after depth start one is keeps follows =
     ∙ ap (λ (w : List ℕ). w ++ one.edge.letter ∷ []) (keeps one.edge.parent is.state ∙ is.spells)
     ∙ ap (λ (x : ℕ). take depth left ++ x ∷ []) is.letter
     ∙ sym (take_more left depth 0 is.longer)
+
+-- the state of a follower stands for a word with which its rule's left side begins, and other states stay
+beginnings_more : (rules : List Pair) (edges after : List Edge) (edge : Edge) (rule count : ℕ) → AreBeginnings rules edges → rule < length rules
+    → Follows edges edge after → word after (length after) ≡ take count (left_at rules rule) → AreBeginnings rules after
+beginnings_more rules edges after edge rule count are within follows spells state some upto =
+    elim (cases_lt (length edges) state) [
+      | inl last ↦
+          let same : length after ≡ state = omega (arith, follows.one_longer) in
+          let left : List ℕ = left_at rules rule in
+          record {
+            place = rule;
+            within = within;
+            rest = drop count left;
+            whole = sym (take-append-drop count left)
+                ∙ ap (λ (w : List ℕ). w ++ drop count left) (sym spells ∙ ap (word after) same);
+          }
+      | inr earlier ↦
+          let P : List ℕ → Type 0 = λ w. BeginsLeft rules w in
+          subst P (sym (follows.keeps state earlier)) (are state some earlier)
+    ]
 
 -- what waits of the rule at the state, if its left side is longer
 abbrev pub one_waits : List Pair → ℕ → ℕ → ℕ → Waiting
@@ -130,6 +151,7 @@ growing_more rules before depth start waiting done edges next growing within sor
     let N : List Waiting → Type 0 = λ ws. All (IsWaiting rules after (depth + 1) (length before + 1)) ws in
     record {
       rise = follows.edges_rise;
+      beginnings = beginnings_more rules edges after one.edge one.rule (depth + 1) growing.beginnings is.rule follows spells;
       longer = omega (arith, growing.longer, follows.longer);
       keeps = λ s in_before. follows.keeps s (omega (arith, growing.longer)) ∙ growing.keeps s in_before;
       bare = λ i k d in_before in_waiting.
@@ -195,6 +217,7 @@ pub growing_grown : (rules : List Pair) (before : List Edge) (depth : ℕ) (wait
 growing_grown rules before depth waiting done edges next finished grown are growing =
     record {
       edges_rise = growing.rise;
+      beginnings = growing.beginnings;
       complete = λ place within fits.
           elim (cases_lt depth (length (left_at rules place))) [
             | inl longer ↦
@@ -251,6 +274,7 @@ grown_none rules =
         rising = λ i j order within. absurd (omega arith);
         spelled = λ i within. absurd (omega arith);
       };
+      beginnings = λ state some within. absurd (omega arith);
       complete = λ place within short.
           record {
             state = 0;

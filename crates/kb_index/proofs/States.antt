@@ -126,6 +126,7 @@ followed_new edges edge rise parent letter below =
     record {
       edges_rise = rise_push edges edge rise parent letter below;
       longer = omega (arith, length_push edges edge);
+      one_longer = omega (arith, length_push edges edge);
       same = edge_old edges edge;
       keeps = word_old edges edge;
       last = record { place = length edges; count = length_push edges edge; is = get_or_push edges edge no_edge (length edges) refl };

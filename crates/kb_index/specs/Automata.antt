@@ -1,5 +1,5 @@
 -- The automaton of a list of rules, and the states after the letters of a word.
-use Rattle.std.specs.Prelude.{◌≡◌, ◌≢◌, ℕ, ◌+◌, ◌<◌, ◌≤◌, List, [], length, get_or, take}
+use Rattle.std.specs.Prelude.{◌≡◌, ◌≢◌, ℕ, ◌+◌, ◌<◌, ◌^◌, ◌≤◌, List, [], length, get_or, take}
 use Rattle.kb_word.specs.Words.{Pair}
 use Rattle.kb_index.specs.declared.edge.Edge.{Edge}
 use Rattle.kb_index.specs.declared.automaton.Automaton.{Automaton}
@@ -17,6 +17,7 @@ HaveLefts rules = (place : ℕ) → place < length rules → left_at rules place
 pub record IsAutomaton (rules : List Pair) (automaton : Automaton) : Type 0 where
   pub lefts : HaveLefts rules
   pub trie : IsTrie rules automaton.edges.items
+  pub few : length automaton.edges.items < 2 ^ 32
   pub firsts : AreFirsts automaton.edges.items automaton.firsts.items
   pub roots : AreRootChildren automaton.edges.items automaton.roots.items
   pub link_count : length automaton.links.items ≡ length automaton.edges.items + 1

@@ -1,15 +1,16 @@
 -- A trie that is made level by level.
-use Rattle.std.specs.Prelude.{◌≡◌, ℕ, ◌<◌, ◌≤◌, List, [], ◌∷◌, ◌++◌, All, length, get_or, take, cond, nat_lt}
+use Rattle.std.specs.Prelude.{◌≡◌, ℕ, ◌+◌, ◌<◌, ◌≤◌, List, [], ◌∷◌, ◌++◌, All, length, get_or, take, cond, nat_lt}
 use Rattle.std.specs.List.{Contains}
 use Rattle.kb_word.specs.Words.{Pair}
 use Rattle.kb_index.specs.declared.edge.Edge.{Edge}
 use Rattle.kb_index.specs.declared.trie.Waiting.{Waiting}
 use Rattle.kb_index.specs.Edges.{AreEdges, IsLast, edge_at, rank, word}
-use Rattle.kb_index.specs.Tries.{HasState, left_at}
+use Rattle.kb_index.specs.Tries.{AreBeginnings, HasState, left_at}
 
 -- each left side that isn't longer than the depth is a state's word
 pub record IsGrown (rules : List Pair) (edges : List Edge) (depth : ℕ) : Type 0 where
   pub edges_rise : AreEdges edges
+  pub beginnings : AreBeginnings rules edges
   pub complete : (place : ℕ) → place < length rules → length (left_at rules place) ≤ depth
       → HasState edges (left_at rules place)
 
@@ -44,6 +45,7 @@ waits rules depth state rule =
 pub record Follows (before : List Edge) (edge : Edge) (after : List Edge) : Type 0 where
   pub edges_rise : AreEdges after
   pub longer : length before ≤ length after
+  pub one_longer : length after ≤ length before + 1
   pub same : (i : ℕ) → i < length before → edge_at after i ≡ edge_at before i
   pub keeps : (state : ℕ) → state ≤ length before → word after state ≡ word before state
   pub last : IsLast after edge

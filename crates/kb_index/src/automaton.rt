@@ -33,12 +33,15 @@ pub struct Automaton {
 }
 
 impl Automaton {
-    /// The automaton of these rules.
+    /// The automaton of these rules. It has fewer than 2^32 edges: where more are wanted, memory is.
     pub fn of(alloc: Global, rules: &[Rule]) -> Result<Automaton, Memory>
         requires { HaveLefts rules.now }
         ensures { IfOk result (IsAutomaton rules.now) }
     {
         let edges = trie_of(alloc, rules)?;
+        if edges.len() > u32::MAX as usize {
+            return Err(Memory);
+        }
         let firsts = firsts_of(alloc, &edges)?;
         let roots = root_children_of(alloc, &edges, &firsts)?;
         let links = links_of(alloc, &edges, &firsts, &roots)?;

@@ -14,7 +14,7 @@ pub fn firsts_of(alloc: Global, edges: &[Edge]) -> Result<Vec<usize>, Memory>
     requires { AreEdges edges.now }
     ensures { IfOk result (λ firsts. AreFirsts edges.now firsts.items) }
 {
-    let mut firsts = Vec::new(alloc);
+    let mut firsts = Vec::with_capacity(alloc, edges.len() + 2)?;
     let mut first = 0;
     for state in 0..edges.len() + 2 {
         while first < edges.len() && edges[first].parent < state {
@@ -35,8 +35,9 @@ pub fn root_children_of(
     requires firsts { AreFirsts edges.now firsts.now }
     ensures { IfOk result (λ row. AreRootChildren edges.now row.items) }
 {
-    let mut row = Vec::new(alloc);
-    for letter in 0..root_letters(edges, firsts) {
+    let letters = root_letters(edges, firsts);
+    let mut row = Vec::with_capacity(alloc, letters as usize)?;
+    for letter in 0..letters {
         row.push(child(edges, firsts, 0, letter as u16).unwrap_or(0))?;
     }
     Ok(row)

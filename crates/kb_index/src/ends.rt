@@ -23,7 +23,8 @@ pub fn ends_of(
     ensures count { IfOk result (λ ends. length ends.items ≡ length edges.now + 1) }
     ensures ends { IfOk result (λ ends. AreEnds edges.now heads.now ends.items) }
 {
-    let mut ends = vec![in alloc; 0]?;
+    let mut ends = Vec::with_capacity(alloc, heads.len())?;
+    ends.push(0)?;
     for state in 1..heads.len() {
         let end = if heads[state] > 0 {
             state

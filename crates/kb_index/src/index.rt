@@ -3,8 +3,8 @@
 ghost use Rattle.std.specs.Prelude.{◌≡◌};
 
 use crate::lookup::Lookup;
-use crate::reading::{normal_form, trace};
-use kb_rules::{Reducer, Rule, Rules, Trace};
+use crate::reading::{reduce, trace};
+use kb_rules::{Reducer, Rule, Rules, Trace, Workspace};
 use kb_word::{Memory, Word};
 use std::alloc::Global;
 use std::marker::Model;
@@ -38,8 +38,8 @@ impl Reducer for Index {
         Ok(Index { rules, lookup })
     }
 
-    fn nf(&self, alloc: Global, w: &Word) -> Result<Word, Memory> {
-        normal_form(alloc, &self.rules, &self.lookup, w)
+    fn reduce(&self, w: &mut Word, workspace: &mut Workspace) -> Result<(), Memory> {
+        reduce(&self.rules, &self.lookup, w, workspace)
     }
 
     fn trace(&self, alloc: Global, w: &Word) -> Result<Trace, Memory> {

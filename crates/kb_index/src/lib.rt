@@ -23,7 +23,7 @@
 //!   end.
 //! - `chains`: the rules of each state, those whose left side is its word: the last of them, and for each rule the
 //!   one before it. `ends`: for each state the one of the longest suffix of its word that has rules. `automaton` puts
-//!   all these together; it never changes.
+//!   all these together; it never changes. `stepping` has its calls for the crates above, state by state.
 //! - `recent`: the rules that came after the automaton was made: a trie of the left sides read from their ends, which
 //!   takes a further rule letter by letter. What is read is looked up in it from its last letter on. Where no rule
 //!   came, it costs nothing.
@@ -32,8 +32,9 @@
 //!   loses its number: chains are followed past rules that have none. When as many rules came as the automaton has,
 //!   or as many went as are left, all is made anew at the next change.
 //! - `reading`: a word is read letter by letter. A stack keeps the state after each letter of what is read, so that
-//!   after a replacement reading goes on from the state before it; the right side is put back to be read
-//!   (`unread`). Reading goes from one replacement to the next; each is a step of the trace.
+//!   after a replacement reading goes on from the state before it; the right side is put back to be read. All this
+//!   stands in the caller's workspace (`kb_rules::Workspace`). Reading goes from one replacement to the next; each is a
+//!   step of the trace.
 //!
 //! The invariant that carries the proof of reading is `IsLongestSuffix` of specs/Links.antt: the state's word is the
 //! longest suffix of what is read that is a state's word. Each left side is a state's word (`IsTrie`), so a left side
@@ -49,7 +50,8 @@
 //! end, are lemmas of `kb_rules`.
 //!
 //! Below are `kb_word`, with words and the definitions of rewriting, and `kb_rules`, with rules and the contract of
-//! reducers; above are the commands that reduce words.
+//! reducers; above are the commands that reduce words, and the word acceptor of rules, which is made from the states of
+//! the [`Automaton`].
 #![tactic(auto)]
 
 mod automaton;
@@ -62,7 +64,8 @@ mod links;
 mod lookup;
 mod reading;
 mod recent;
+mod stepping;
 mod trie;
-mod unread;
 
+pub use automaton::Automaton;
 pub use index::Index;

@@ -23,7 +23,8 @@ pub fn links_of(
     ensures count { IfOk result (λ links. length links.items ≡ length edges.now + 1) }
     ensures links { IfOk result (λ links. AreLinks edges.now links.items) }
 {
-    let mut links = vec![in alloc; 0]?;
+    let mut links = Vec::with_capacity(alloc, edges.len() + 1)?;
+    links.push(0)?;
     for edge in edges {
         let link = if edge.parent == 0 {
             0

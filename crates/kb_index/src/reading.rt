@@ -1,6 +1,6 @@
 //! Reading a word from left to right by the automaton.
 
-ghost use Rattle.std.specs.Prelude.{◌≡◌, List, ◌+◌, ◌-◌, ◌<◌, ◌^◌, [], ◌∷◌, ◌++◌, IfOk, OnOk, IfSome, IfNone, All, length, take};
+ghost use Rattle.std.specs.Prelude.{◌≡◌, List, ◌+◌, ◌-◌, ◌<◌, ◌^◌, [], ◌∷◌, ◌++◌, IfOk, OnOk, OnErr, IfSome, IfNone, All, length, take};
 ghost use Rattle.kb_word.specs.Words.{Pair, OneOf, EndsWith};
 ghost use Rattle.kb_word.specs.Rewriting.{IsIrreducible, NormalForm};
 ghost use Rattle.kb_rules.specs.Steps.{IsFirstStep, Leads};
@@ -10,29 +10,28 @@ ghost use Rattle.kb_index.specs.Lookups.{IsLookup};
 use crate::automaton::Automaton;
 use crate::links::step;
 use crate::lookup::Lookup;
-use crate::unread::Unread;
-use kb_rules::{Rule, Rules, Step, Trace};
+use kb_rules::{Rule, Rules, Step, Trace, Workspace};
 use kb_word::{Letter, Memory, Word};
 use std::alloc::Global;
+use std::mem::swap;
 
-/// What is read, and the states after none of its letters, after the first, and so on.
-#[derive(Debug, Drop)]
-struct Front {
-    word: Word,
-    states: Vec<usize>,
-}
-
-/// The normal form.
-pub fn normal_form(alloc: Global, list: &Rules, lookup: &Lookup, w: &Word) -> Result<Word, Memory>
+/// Replaces the word by its normal form.
+pub fn reduce(
+    list: &Rules,
+    lookup: &Lookup,
+    w: &mut Word,
+    workspace: &mut Workspace,
+) -> Result<(), Memory>
     requires { IsLookup list.now.rules lookup.now }
-    ensures { IfOk result (λ m. NormalForm list.now.rules w.now m) }
+    ensures ok { OnOk result (NormalForm list.now.rules w.old w.new) }
+    ensures err { OnErr result (w.new ≡ w.old) }
 {
     // A use of the list brings its invariant, that the rules decrease.
     let _rules = list.as_slice();
-    let mut front = nothing_read(alloc)?;
-    let mut unread = Unread::of(alloc, w)?;
-    while let Some(_) = next_step(list, lookup, &mut front, &mut unread)? {}
-    Ok(front.word)
+    start(workspace, w)?;
+    while let Some(_) = next_step(list, lookup, workspace)? {}
+    swap(w, &mut workspace.front);
+    Ok(())
 }
 
 /// The normal form, with the steps that lead to it.
@@ -44,27 +43,28 @@ pub fn trace(alloc: Global, list: &Rules, lookup: &Lookup, w: &Word) -> Result<T
 {
     // A use of the list brings its invariant, that the rules decrease.
     let _rules = list.as_slice();
-    let mut front = nothing_read(alloc)?;
-    let mut unread = Unread::of(alloc, w)?;
+    let mut workspace = Workspace::new(alloc);
+    start(&mut workspace, w)?;
     let mut steps = Vec::new(alloc);
-    while let Some(step) = next_step(list, lookup, &mut front, &mut unread)? {
+    while let Some(step) = next_step(list, lookup, &mut workspace)? {
         steps.push(step)?;
     }
     Ok(Trace {
-        word: front.word,
+        word: workspace.front,
         steps,
     })
 }
 
-/// The front before any letter is read.
-fn nothing_read(alloc: Global) -> Result<Front, Memory>
-    ensures word { IfOk result (λ front. front.word ≡ []) }
-    ensures states { IfOk result (λ front. front.states.items ≡ 0 ∷ []) }
+/// Has a word to read, from state 0 on.
+fn start(workspace: &mut Workspace, word: &Word) -> Result<(), Memory>
+    ensures front { OnOk result (workspace.new.front ≡ []) }
+    ensures states { OnOk result (workspace.new.states.items ≡ 0 ∷ []) }
+    ensures unread { OnOk result (workspace.new.unread ≡ word.now) }
+    ensures range { All (λ x. x < 2 ^ 16) word.now }
 {
-    Ok(Front {
-        word: Word::new(alloc),
-        states: vec![in alloc; 0]?,
-    })
+    workspace.start(word)?;
+    workspace.states.push(0)?;
+    Ok(())
 }
 
 /// Reads on to the first left side, and replaces it: the right side is put back, to be read. None says that
@@ -72,25 +72,24 @@ fn nothing_read(alloc: Global) -> Result<Front, Memory>
 fn next_step(
     list: &Rules,
     lookup: &Lookup,
-    front: &mut Front,
-    unread: &mut Unread,
+    workspace: &mut Workspace,
 ) -> Result<Option<Step>, Memory>
     requires lookup { IsLookup list.now.rules lookup.now }
-    requires states { AreStates lookup.now.settled.edges.items front.old.word front.old.states.items }
-    requires irreducible { IsIrreducible (OneOf list.now.rules) front.old.word }
-    requires range { All (λ x. x < 2 ^ 16) (front.old.word ++ unread.old) }
+    requires states { AreStates lookup.now.settled.edges.items workspace.old.front workspace.old.states.items }
+    requires irreducible { IsIrreducible (OneOf list.now.rules) workspace.old.front }
+    requires range { All (λ x. x < 2 ^ 16) (workspace.old.front ++ workspace.old.unread) }
     ensures states { OnOk result
-        (AreStates lookup.now.settled.edges.items front.new.word front.new.states.items) }
-    ensures irreducible { OnOk result (IsIrreducible (OneOf list.now.rules) front.new.word) }
+        (AreStates lookup.now.settled.edges.items workspace.new.front workspace.new.states.items) }
+    ensures irreducible { OnOk result (IsIrreducible (OneOf list.now.rules) workspace.new.front) }
     ensures range { IfOk result (λ found.
-        IfSome found (λ _. All (λ x. x < 2 ^ 16) (front.new.word ++ unread.new))) }
+        IfSome found (λ _. All (λ x. x < 2 ^ 16) (workspace.new.front ++ workspace.new.unread))) }
     ensures some { IfOk result (λ found. IfSome found (λ step. IsFirstStep list.now.rules
-        (front.old.word ++ unread.old) step (front.new.word ++ unread.new))) }
+        (workspace.old.front ++ workspace.old.unread) step (workspace.new.front ++ workspace.new.unread))) }
     ensures none { IfOk result (λ found.
-        IfNone found (front.new.word ≡ front.old.word ++ unread.old)) }
+        IfNone found (workspace.new.front ≡ workspace.old.front ++ workspace.old.unread)) }
 {
-    while let Some(letter) = unread.next() {
-        if let Some(step) = read_letter(list, lookup, front, letter, unread)? {
+    while let Some(letter) = workspace.unread.next() {
+        if let Some(step) = read_letter(list, lookup, workspace, letter)? {
             return Ok(Some(step));
         }
     }
@@ -101,48 +100,56 @@ fn next_step(
 fn read_letter(
     list: &Rules,
     lookup: &Lookup,
-    front: &mut Front,
+    workspace: &mut Workspace,
     letter: Letter,
-    unread: &mut Unread,
 ) -> Result<Option<Step>, Memory>
     requires lookup { IsLookup list.now.rules lookup.now }
-    requires states { AreStates lookup.now.settled.edges.items front.old.word front.old.states.items }
-    requires irreducible { IsIrreducible (OneOf list.now.rules) front.old.word }
-    requires range { All (λ x. x < 2 ^ 16) (front.old.word ++ letter ∷ unread.old) }
+    requires states { AreStates lookup.now.settled.edges.items workspace.old.front workspace.old.states.items }
+    requires irreducible { IsIrreducible (OneOf list.now.rules) workspace.old.front }
+    requires range { All (λ x. x < 2 ^ 16) (workspace.old.front ++ letter ∷ workspace.old.unread) }
     ensures states { OnOk result
-        (AreStates lookup.now.settled.edges.items front.new.word front.new.states.items) }
-    ensures irreducible { OnOk result (IsIrreducible (OneOf list.now.rules) front.new.word) }
-    ensures range { OnOk result (All (λ x. x < 2 ^ 16) (front.new.word ++ unread.new)) }
+        (AreStates lookup.now.settled.edges.items workspace.new.front workspace.new.states.items) }
+    ensures irreducible { OnOk result (IsIrreducible (OneOf list.now.rules) workspace.new.front) }
+    ensures range { OnOk result (All (λ x. x < 2 ^ 16) (workspace.new.front ++ workspace.new.unread)) }
     ensures some { IfOk result (λ found. IfSome found (λ step. IsFirstStep list.now.rules
-        (front.old.word ++ letter ∷ unread.old) step (front.new.word ++ unread.new))) }
+        (workspace.old.front ++ letter ∷ workspace.old.unread) step (workspace.new.front ++ workspace.new.unread))) }
     ensures read { IfOk result (λ found.
-        IfNone found (front.new.word ≡ front.old.word ++ letter ∷ [])) }
-    ensures unread { IfOk result (λ found. IfNone found (unread.new ≡ unread.old)) }
+        IfNone found (workspace.new.front ≡ workspace.old.front ++ letter ∷ [])) }
+    ensures unread { IfOk result (λ found. IfNone found (workspace.new.unread ≡ workspace.old.unread)) }
 {
-    let state = advance(&lookup.settled, front, letter)?;
-    let place = lookup.first_ending(state, &front.word);
+    let state = advance(
+        &lookup.settled,
+        &mut workspace.front,
+        &mut workspace.states,
+        letter,
+    )?;
+    let place = lookup.first_ending(state, &workspace.front);
     let Some(rule) = list.get(place) else {
         return Ok(None);
     };
-    let kept = cut(front, rule);
-    unread.put_back(rule.right())?;
+    let kept = cut(&mut workspace.front, &mut workspace.states, rule);
+    workspace.unread.put_back(rule.right())?;
     Ok(Some(Step {
         place: kept,
         rule: place,
     }))
 }
 
-/// The letter joins the front. The state after it is returned.
-fn advance(automaton: &Automaton, front: &mut Front, letter: Letter) -> Result<usize, Memory>
+/// The letter joins what is read, and the state after it joins the states. That state is returned.
+fn advance(
+    automaton: &Automaton,
+    front: &mut Word,
+    states: &mut Vec<u32>,
+    letter: Letter,
+) -> Result<usize, Memory>
     requires automaton { (rules : List Pair) × IsAutomaton rules automaton.now }
-    requires states { AreStates automaton.now.edges.items front.old.word front.old.states.items }
-    ensures word { OnOk result (front.new.word ≡ front.old.word ++ letter ∷ []) }
-    ensures states { OnOk result
-        (AreStates automaton.now.edges.items front.new.word front.new.states.items) }
+    requires states { AreStates automaton.now.edges.items front.old states.old.items }
+    ensures word { OnOk result (front.new ≡ front.old ++ letter ∷ []) }
+    ensures states { OnOk result (AreStates automaton.now.edges.items front.new states.new.items) }
     ensures state { IfOk result
-        (λ state. StandsFor automaton.now.edges.items (front.old.word ++ letter ∷ []) state) }
+        (λ state. StandsFor automaton.now.edges.items (front.old ++ letter ∷ []) state) }
 {
-    let last = front.states[front.states.len() - 1];
+    let last = states[states.len() - 1] as usize;
     let state = step(
         &automaton.edges,
         &automaton.firsts,
@@ -151,21 +158,22 @@ fn advance(automaton: &Automaton, front: &mut Front, letter: Letter) -> Result<u
         last,
         letter.number(),
     );
-    front.word.push(letter)?;
-    front.states.push(state)?;
+    front.push(letter)?;
+    states.push(state as u32)?;
     Ok(state)
 }
 
-/// Cuts the left side off the front that it ends. How many letters are left is returned.
-fn cut(front: &mut Front, rule: &Rule) -> usize
-    requires ends { EndsWith front.old.word rule.now.0 }
-    requires count { length front.old.states.items ≡ length front.old.word + 1 }
-    ensures kept { result ≡ length front.old.word - length rule.now.0 }
-    ensures word { front.new.word ≡ take result front.old.word }
-    ensures states { front.new.states.items ≡ take (result + 1) front.old.states.items }
+/// Cuts the left side off what is read, which it ends, and its states off the states. How many letters are left is
+/// returned.
+fn cut(front: &mut Word, states: &mut Vec<u32>, rule: &Rule) -> usize
+    requires ends { EndsWith front.old rule.now.0 }
+    requires count { length states.old.items ≡ length front.old + 1 }
+    ensures kept { result ≡ length front.old - length rule.now.0 }
+    ensures word { front.new ≡ take result front.old }
+    ensures states { states.new.items ≡ take (result + 1) states.old.items }
 {
-    let kept = front.word.len() - rule.left().len();
-    front.word.truncate(kept);
-    front.states.truncate(kept + 1);
+    let kept = front.len() - rule.left().len();
+    front.truncate(kept);
+    states.truncate(kept + 1);
     kept
 }

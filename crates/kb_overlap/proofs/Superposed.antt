@@ -1,15 +1,12 @@
 -- What a critical pair is, by equations of lists.
-use Rattle.std.proofs.Common.{◌≡◌, ℕ, zero, suc, ◌+◌, ◌-◌, List, [], ◌∷◌, ◌++◌, length, take, drop, Some, refl, sym, ◌∙◌, arith, All, append_assoc, length-drop, suc-le-suc, zero-le, zero-add}
+use Rattle.std.proofs.Common.{◌≡◌, ℕ, zero, suc, ◌+◌, ◌-◌, List, [], ◌∷◌, ◌++◌, length, take, drop, Some, refl, sym, ◌∙◌, arith, append_assoc, length-drop, suc-le-suc, zero-le, zero-add}
 use Rattle.std.specs.Prelude.{slice_get}
-use Rattle.std.proofs.lemmas.List.{take-append-drop, append-nil, drop-drop, get_or-drop}
+use Rattle.std.proofs.lemmas.List.{take-append-drop, append-nil, drop-drop}
 use Rattle.std.proofs.Math.Nat.{suc-add}
 use Rattle.kb_word.specs.Words.{Pair}
 use Rattle.kb_word.specs.Overlap.{Overlaps, superposition, critical_pair}
 use Rattle.kb_word.specs.Congruence.{Replaces}
 use Rattle.kb_overlap.specs.Agreement.{AgreeAsFar}
-
-pub All-drop : (P : ℕ → Type 0) (n : ℕ) (xs : List ℕ) → All P xs → All P (drop n xs)
-All-drop P n xs all k d within = rw get_or-drop (all (n + k) d (omega (arith, length-drop n xs)))
 
 some-injective : {x y : ℕ} → Some x ≡ Some y → x ≡ y
 some-injective e = cc

@@ -48,13 +48,6 @@ impl<'r> LeftSides<'r> {
         Ok(LeftSides { rules, sides })
     }
 
-    /// The rules whose left sides these are.
-    pub fn rules(&self) -> &'r [Rule]
-        ensures { result.now ≡ self.now }
-    {
-        self.rules
-    }
-
     /// Finds all overlaps of a word with the left sides. What the list held is gone; where memory runs out it
     /// holds anything.
     pub fn overlaps(&self, l: &Word, found: &mut Vec<Overlap>) -> Result<(), Memory>

@@ -11,8 +11,8 @@
 //!   that they are exactly the overlaps, strictly ascending by the rule's index and then by the place. A caller
 //!   leaves out a rule with itself at place 0.
 //! - `meets` tells whether two words overlap at a place.
-//! - `pair_at` builds the critical pair of two rules at a place, and `overlaps_are_superpositions` says what that
-//!   pair is: the superposition with one left side replaced.
+//! - `pair_at` builds the critical pair of two rules at a place, and `pair_into` puts it into words that a caller keeps
+//!   for many pairs. `overlaps_are_superpositions` says what that pair is: the superposition with one left side replaced.
 //!
 //! # How all overlaps are found
 //!
@@ -39,4 +39,4 @@ mod walk;
 
 pub use left_sides::{LeftSides, Overlap};
 pub use meeting::meets;
-pub use pair::{overlaps_are_superpositions, pair_at};
+pub use pair::{overlaps_are_superpositions, pair_at, pair_into};

@@ -1,6 +1,6 @@
 //! Critical pairs.
 
-ghost use Rattle.std.specs.Prelude.{◌≡◌, ◌<◌, ◌^◌, ◌++◌, ℕ, All, IfOk, drop};
+ghost use Rattle.std.specs.Prelude.{◌≡◌, ◌++◌, ℕ, IfOk, OnOk, drop};
 ghost use Rattle.kb_word.specs.Words.{Pair};
 ghost use Rattle.kb_word.specs.Overlap.{Overlaps, critical_pair, superposition};
 ghost use Rattle.kb_word.specs.Congruence.{Replaces};
@@ -22,11 +22,36 @@ pub fn pair_at(
     requires { Overlaps l.now m.now p }
     ensures { IfOk result (λ pair. pair ≡ critical_pair (l.now, r.now) (m.now, s.now) p) }
 {
+    let mut first = Word::new(alloc);
+    let mut second = Word::new(alloc);
+    pair_into(l, r, m, s, p, &mut first, &mut second)?;
+    Ok((first, second))
+}
+
+/// Puts the words of that critical pair in place of two words. It takes no memory where these have room enough; after
+/// want of memory they hold anything.
+pub fn pair_into(
+    l: &Word,
+    r: &Word,
+    m: &Word,
+    s: &Word,
+    p: u64,
+    first: &mut Word,
+    second: &mut Word,
+) -> Result<(), Memory>
+    requires { Overlaps l.now m.now p }
+    ensures first { OnOk result (first.new ≡ (critical_pair (l.now, r.now) (m.now, s.now) p).0) }
+    ensures second { OnOk result (second.new ≡ (critical_pair (l.now, r.now) (m.now, s.now) p).1) }
+{
     let place = p as usize;
     let (before, overlap) = l.letters().split_at(place);
-    let first = joined(alloc, &[], r.letters(), rest(m.letters(), overlap.len()))?;
-    let second = joined(alloc, before, s.letters(), rest(overlap, m.len()))?;
-    Ok((first, second))
+    first.truncate(0);
+    first.append(r)?;
+    add(first, rest(m.letters(), overlap.len()))?;
+    second.truncate(0);
+    add(second, before)?;
+    second.append(s)?;
+    add(second, rest(overlap, m.len()))
 }
 
 /// The letters from this place on, which may be past the end.
@@ -36,23 +61,14 @@ fn rest(letters: &[Letter], place: usize) -> &[Letter]
     letters.get(place..).unwrap_or(&[])
 }
 
-/// The word of these letters, one part after the other.
-fn joined(
-    alloc: Global,
-    before: &[Letter],
-    middle: &[Letter],
-    after: &[Letter],
-) -> Result<Word, Memory>
-    requires before { All (λ letter. letter < 2 ^ 16) before.now }
-    requires middle { All (λ letter. letter < 2 ^ 16) middle.now }
-    requires after { All (λ letter. letter < 2 ^ 16) after.now }
-    ensures { IfOk result (λ word. word ≡ before.now ++ middle.now ++ after.now) }
+/// Adds the letters at the end of the word.
+fn add(word: &mut Word, letters: &[Letter]) -> Result<(), Memory>
+    ensures { OnOk result (word.new ≡ word.old ++ letters.now) }
 {
-    let mut letters = Vec::new(alloc);
-    letters.extend_from_slice(before)?;
-    letters.extend_from_slice(middle)?;
-    letters.extend_from_slice(after)?;
-    Ok(Word::from_vec(letters))
+    for letter in letters {
+        word.push(*letter)?;
+    }
+    Ok(())
 }
 
 /// Where two left sides overlap, both words of the critical pair come from the superposition, which has

@@ -7,3 +7,6 @@ pub mod PlaceLemmas
 pub mod UniqueParts
 pub mod RefusalLemmas
 pub mod WeightLemmas
+pub mod WrittenWords
+pub mod WrittenPresentations
+pub mod ReadPresentations

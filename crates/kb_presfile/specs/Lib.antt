@@ -2,3 +2,4 @@ pub mod Kinds
 pub mod Holds
 pub mod Faults
 pub mod Refusals
+pub mod Written

@@ -26,20 +26,20 @@ first_step_is_step {rules = rules} f =
     }
 
 -- steps that are allowed lead the same way where more is allowed
-pub leads_implied : {allowed other : List ℕ → Step → List ℕ → Type 0}
-    → ((u : List ℕ) (step : Step) (v : List ℕ) → allowed u step v → other u step v)
-    → (u : List ℕ) (steps : List Step) (v : List ℕ) → Leads allowed u steps v → Leads other u steps v
-leads_implied implied u [] v leads = leads
-leads_implied implied u (step ∷ rest) v leads =
-    (leads.0, implied u step leads.0 leads.1, leads_implied implied leads.0 rest v leads.2)
+pub leads_implied : {X S : Type 0} {allowed other : X → S → X → Type 0}
+    → ((x : X) (step : S) (y : X) → allowed x step y → other x step y)
+    → (x : X) (steps : List S) (y : X) → Leads allowed x steps y → Leads other x steps y
+leads_implied implied x [] y leads = leads
+leads_implied implied x (step ∷ rest) y leads =
+    (leads.0, implied x step leads.0 leads.1, leads_implied implied leads.0 rest y leads.2)
 
 -- a step more at the end
-pub leads_push : (allowed : List ℕ → Step → List ℕ → Type 0) (u : List ℕ) (steps : List Step) (v : List ℕ) (step : Step) (w : List ℕ)
-    → Leads allowed u steps v → allowed v step w → Leads allowed u (steps ++ step ∷ []) w
-leads_push allowed u [] v step w same last =
-    let P : List ℕ → Type 0 = λ x. allowed x step w in (w, subst P (sym same) last, refl)
-leads_push allowed u (first ∷ rest) v step w leads last =
-    (leads.0, leads.1, leads_push allowed leads.0 rest v step w leads.2 last)
+pub leads_push : {X S : Type 0} (allowed : X → S → X → Type 0) (x : X) (steps : List S) (y : X) (step : S) (z : X)
+    → Leads allowed x steps y → allowed y step z → Leads allowed x (steps ++ step ∷ []) z
+leads_push {X = X} allowed x [] y step z same last =
+    let P : X → Type 0 = λ from. allowed from step z in (z, subst P (sym same) last, refl)
+leads_push allowed x (first ∷ rest) y step z leads last =
+    (leads.0, leads.1, leads_push allowed leads.0 rest y step z leads.2 last)
 
 -- the irreducible word to which first rewrites lead is the normal form
 pub leads_normal : {rules : List Pair} (u : List ℕ) (steps : List Step) (v : List ℕ)

@@ -20,7 +20,7 @@ pub record IsFirstStep (rules : List Pair) (u : List ℕ) (step : Step) (v : Lis
   pub by : rewrite.index ≡ step.rule
   pub at : length rewrite.before ≡ step.place
 
--- the steps, one after another, lead from u to v, each being one of those that are allowed
-abbrev pub Leads : (List ℕ → Step → List ℕ → Type 0) → List ℕ → List Step → List ℕ → Type 0
-Leads allowed u [] v = u ≡ v
-Leads allowed u (step ∷ rest) v = (next : List ℕ) × allowed u step next × Leads allowed next rest v
+-- the steps, one after another, lead from x to y, each being one of those that are allowed
+abbrev pub Leads : {X Step : Type 0} → (X → Step → X → Type 0) → X → List Step → X → Type 0
+Leads allowed x [] y = x ≡ y
+Leads {X = X} allowed x (step ∷ rest) y = (next : X) × allowed x step next × Leads allowed next rest y

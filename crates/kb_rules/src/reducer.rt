@@ -14,6 +14,7 @@ ghost use Rattle.kb_rules.specs.Steps.{IsFirstStep, Leads};
 use crate::rule::Rule;
 use crate::rules::Rules;
 use crate::trace::Trace;
+use crate::workspace::Workspace;
 use kb_word::{Memory, Word};
 use std::alloc::Global;
 
@@ -30,9 +31,21 @@ pub trait Reducer: Sized + Drop {
         ensures rules { IfOk result (λ reducer. rules reducer ≡ list.now.rules) }
         ensures order { IfOk result (λ reducer. order reducer ≡ list.now.order) };
 
+    /// Replaces a word by its normal form. After want of memory the word is as it was. The word and the workspace may
+    /// exchange their memory: where one workspace serves for many words, and one word is filled anew for each of them,
+    /// no memory is taken any more once both have grown to the longest word.
+    fn reduce(&self, w: &mut Word, workspace: &mut Workspace) -> Result<(), Memory>
+        ensures ok { OnOk result (NormalForm (rules self.now) w.old w.new) }
+        ensures err { OnErr result (w.new ≡ w.old) };
+
     /// The normal form of w.
     fn nf(&self, alloc: Global, w: &Word) -> Result<Word, Memory>
-        ensures { IfOk result (λ m. NormalForm (rules self.now) w.now m) };
+        ensures { IfOk result (λ m. NormalForm (rules self.now) w.now m) }
+    {
+        let mut m = w.copy(alloc)?;
+        self.reduce(&mut m, &mut Workspace::new(alloc))?;
+        Ok(m)
+    }
 
     /// The normal form of w, with the steps that lead to it.
     fn trace(&self, alloc: Global, w: &Word) -> Result<Trace, Memory>

@@ -1,6 +1,6 @@
 //! The reducer that tries the rules one after another.
 
-ghost use Rattle.std.specs.Prelude.{◌≡◌, ◌<◌, ◌^◌, [], ◌∷◌, ◌++◌, IfOk, OnOk, IfSome, IfNone, All};
+ghost use Rattle.std.specs.Prelude.{◌≡◌, ◌<◌, ◌^◌, [], ◌∷◌, ◌++◌, IfOk, OnOk, OnErr, IfSome, IfNone, All};
 ghost use Rattle.kb_word.specs.Words.{OneOf};
 ghost use Rattle.kb_word.specs.Rewriting.{IsIrreducible, NormalForm};
 ghost use Rattle.kb_rules.specs.Ending.{IsFirstEnding, NoneEnds};
@@ -11,9 +11,11 @@ use crate::rule::Rule;
 use crate::rules::Rules;
 use crate::trace::{Step, Trace};
 use crate::unread::Unread;
+use crate::workspace::Workspace;
 use kb_word::{Letter, Memory, Word};
 use std::alloc::Global;
 use std::marker::Model;
+use std::mem::swap;
 
 /// A reducer that reads the word from left to right and, after each letter, tries the rules in list order.
 #[derive(Debug, Drop)]
@@ -39,8 +41,8 @@ impl Reducer for Scan {
         Ok(Scan { rules })
     }
 
-    fn nf(&self, alloc: Global, w: &Word) -> Result<Word, Memory> {
-        normal_form(alloc, &self.rules, w)
+    fn reduce(&self, w: &mut Word, workspace: &mut Workspace) -> Result<(), Memory> {
+        reduce(&self.rules, w, workspace)
     }
 
     fn trace(&self, alloc: Global, w: &Word) -> Result<Trace, Memory> {
@@ -63,16 +65,17 @@ impl Reducer for Scan {
     }
 }
 
-/// The normal form.
-fn normal_form(alloc: Global, list: &Rules, w: &Word) -> Result<Word, Memory>
-    ensures { IfOk result (λ m. NormalForm list.now.rules w.now m) }
+/// Replaces the word by its normal form.
+fn reduce(list: &Rules, w: &mut Word, workspace: &mut Workspace) -> Result<(), Memory>
+    ensures ok { OnOk result (NormalForm list.now.rules w.old w.new) }
+    ensures err { OnErr result (w.new ≡ w.old) }
 {
     // A use of the list brings its invariant, that the rules decrease.
     let _rules = list.as_slice();
-    let mut front = Word::new(alloc);
-    let mut unread = Unread::of(alloc, w)?;
-    while next_step(list, &mut front, &mut unread)?.is_some() {}
-    Ok(front)
+    workspace.start(w)?;
+    while next_step(list, &mut workspace.front, &mut workspace.unread)?.is_some() {}
+    swap(w, &mut workspace.front);
+    Ok(())
 }
 
 /// The normal form, with the steps that lead to it.
@@ -84,7 +87,8 @@ fn trace(alloc: Global, list: &Rules, w: &Word) -> Result<Trace, Memory>
     // A use of the list brings its invariant, that the rules decrease.
     let _rules = list.as_slice();
     let mut front = Word::new(alloc);
-    let mut unread = Unread::of(alloc, w)?;
+    let mut unread = Unread::new(alloc);
+    unread.start(w)?;
     let mut steps = Vec::new(alloc);
     while let Some(step) = next_step(list, &mut front, &mut unread)? {
         steps.push(step)?;

@@ -1,6 +1,6 @@
 //! The part of a word that is still to be read.
 
-ghost use Rattle.std.specs.Prelude.{◌≡◌, ◌<◌, ◌^◌, [], ◌∷◌, ◌++◌, IfOk, OnOk, IfSome, IfNone, ◌≤◌, All, length, take, drop, reverse};
+ghost use Rattle.std.specs.Prelude.{◌≡◌, ◌<◌, ◌^◌, [], ◌∷◌, ◌++◌, OnOk, IfSome, IfNone, ◌≤◌, All, length, take, drop, reverse};
 
 use kb_word::{Letter, Memory, Word};
 use std::alloc::Global;
@@ -23,16 +23,22 @@ impl Model for Unread {
 }
 
 impl Unread {
-    /// All letters of a word.
-    pub fn of(alloc: Global, word: &Word) -> Result<Unread, Memory>
-        ensures ok { IfOk result (λ unread. unread ≡ word.now) }
+    /// No letters. It takes no memory.
+    pub fn new(alloc: Global) -> Unread
+        ensures { result ≡ [] }
+    {
+        Unread {
+            stack: Vec::new(alloc),
+        }
+    }
+
+    /// Has all letters of a word to read, and those alone.
+    pub fn start(&mut self, word: &Word) -> Result<(), Memory>
+        ensures ok { OnOk result (self.new ≡ word.now) }
         ensures range { All (λ letter. letter < 2 ^ 16) word.now }
     {
-        let mut unread = Unread {
-            stack: Vec::new(alloc),
-        };
-        unread.put_back(word)?;
-        Ok(unread)
+        self.stack.clear();
+        self.put_back(word)
     }
 
     /// Reads the next letter.

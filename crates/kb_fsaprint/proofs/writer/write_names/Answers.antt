@@ -1,7 +1,8 @@
 use Rattle.std.proofs.Common.{◌≡◌, ◌++◌, ◌+◌, ◌∙◌, suc, ap, arith}
 use Rattle.kb_record.proofs.PrintedPieces.{ok_then}
 use Rattle.kb_fsaprint.specs.Writing.{number_text}
-use Rattle.kb_fsaprint.proofs.Writings.{to_come, text_more, all_texts, names_texts, names_record}
+use Rattle.kb_fields.proofs.WrittenTexts.{to_come, text_more, all_texts}
+use Rattle.kb_fsaprint.proofs.Writings.{names_texts, names_record}
 use Rattle.kb_fsaprint.proofs.writer.write_names.Goals as goal
 
 pub returns : goal.returns
@@ -14,7 +15,7 @@ returns c =
     text_more (text_more (text_more (text_more (text_more (text_more (text_more (text_more (text_more
     (to_come c.args.out.now.items (names_texts level (level + 1) names))
     c.in_ok-extend_from_slice.ensures.items) c.in_ok-write_line.ensures) c.in_ok-write_line-2.ensures) count)
-    c.in_ok-extend_from_slice-2.ensures.items) c.in_ok-write_line-3.ensures) c.in_ok-write_line-4.ensures) c.in_ok-write_name_list.ensures)
+    c.in_ok-extend_from_slice-2.ensures.items) c.in_ok-write_line-3.ensures) c.in_ok-write_line-4.ensures) c.in_ok-print_names.ensures)
     c.in_ok-extend_from_slice-3.ensures.items in
     ok_then c.write_line-5.result c.write_line-5.ensures (λ e.
     all_texts (text_more so_far e) ∙ ap (λ t. c.args.out.now.items ++ t) (names_record level (level + 1) names next))

@@ -26,5 +26,5 @@ returns c =
     let first : ℕ = get_or c.args.firsts.now 1 0 in
     row_whole c.args.edges.now c.loop-letter.row.items first c.requires.edges
     (c.requires.firsts.each 1 (omega (arith, c.requires.firsts.count)))
-    (λ i less. omega (arith, c.root_letters-letter-end.ensures.above i less, c.loop-letter.invariant.count))
+    (λ i less. omega (arith, c.root_letters-letters.ensures.above i less, c.loop-letter.invariant.count))
     c.loop-letter.invariant.each

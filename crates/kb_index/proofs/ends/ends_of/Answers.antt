@@ -1,4 +1,4 @@
-use Rattle.std.proofs.Common.{◌≡◌, ℕ, ◌+◌, ◌<◌, ◌≤◌, List, [], length, get_or, arith, ap, sym, ◌∙◌, subst}
+use Rattle.std.proofs.Common.{◌≡◌, ℕ, ◌+◌, ◌<◌, ◌≤◌, List, [], ◌∷◌, ◌++◌, length, get_or, arith, ap, sym, ◌∙◌, subst}
 use Rattle.std.proofs.lemmas.List.{get_or_read, length_push}
 use Rattle.kb_index.specs.declared.edge.Edge.{Edge}
 use Rattle.kb_index.specs.Ends.{AreEnds, IsEnd}
@@ -11,10 +11,12 @@ loop-state-init c =
     let edges : List Edge = c.args.edges.now in
     let heads : List ℕ = c.args.heads.now in
     let E : List ℕ → Type 0 = λ es. AreEnds edges heads es in
-    let first : E [] = record { each = λ state less. absurd (omega arith) } in
+    let none : E [] = record { each = λ state less. absurd (omega arith) } in
+    let first : c.push.new.self.items ≡ 0 ∷ [] =
+    c.in_ok-push.ensures.items ∙ ap (λ (ends : List ℕ). ends ++ 0 ∷ []) c.in_ok-ends.ensures.items in
     record {
-      count = ap length c.in_ok-ends.ensures.items;
-      ends = subst E (sym c.in_ok-ends.ensures.items) (ends_push edges heads [] 0 first (end_root edges heads));
+      count = ap length first;
+      ends = subst E (sym first) (ends_push edges heads [] 0 none (end_root edges heads));
     }
 
 pub loop-state-preserved : goal.loop-state-preserved
@@ -40,8 +42,8 @@ loop-state-preserved c =
     ] in
     let N : ℕ → Type 0 = λ n. IsEnd edges heads n end in
     record {
-      count = ap length c.in_ok-push.ensures.items ∙ length_push ends end ∙ ap (λ (n : ℕ). n + 1) count;
+      count = ap length c.in_ok-push-2.ensures.items ∙ length_push ends end ∙ ap (λ (n : ℕ). n + 1) count;
       ends =
-          subst (AreEnds edges heads) (sym c.in_ok-push.ensures.items)
+          subst (AreEnds edges heads) (sym c.in_ok-push-2.ensures.items)
           (ends_push edges heads ends end c.loop-state.invariant.ends (subst N (sym count) is));
     }

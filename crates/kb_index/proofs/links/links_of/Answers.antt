@@ -9,9 +9,11 @@ use Rattle.kb_index.proofs.links.links_of.Goals.{then-edge-eq0, else-edge-eq0}
 
 pub loop-edge-init : goal.loop-edge-init
 loop-edge-init c =
+    let first : c.push.new.self.items ≡ 0 ∷ [] =
+    c.in_ok-push.ensures.items ∙ ap (λ (links : List ℕ). links ++ 0 ∷ []) c.in_ok-links.ensures.items in
     record {
-      count = omega (arith, ap length c.in_ok-links.ensures.items);
-      links = subst (AreLinks c.args.edges.now) (sym c.in_ok-links.ensures.items) (links_first c.args.edges.now);
+      count = omega (arith, ap length first);
+      links = subst (AreLinks c.args.edges.now) (sym first) (links_first c.args.edges.now);
     }
 
 pub loop-edge-preserved : goal.loop-edge-preserved
@@ -47,6 +49,6 @@ loop-edge-preserved c =
     let pushed : AreLinks edges (links ++ link ∷ []) =
     links_push edges links link c.loop-edge.invariant.links (λ some. omega arith) (subst S (sym count) longest) in
     record {
-      count = ap length c.in_ok-push.ensures.items ∙ length_push links link ∙ ap (λ (k : ℕ). k + 1) count;
-      links = subst (AreLinks edges) (sym c.in_ok-push.ensures.items) pushed;
+      count = ap length c.in_ok-push-2.ensures.items ∙ length_push links link ∙ ap (λ (k : ℕ). k + 1) count;
+      links = subst (AreLinks edges) (sym c.in_ok-push-2.ensures.items) pushed;
     }

@@ -10,26 +10,24 @@ use Rattle.kb_index.proofs.reading.advance.Goals as goal
 pub returns-clause-state : goal.returns-clause-state
 returns-clause-state c =
     let edges : List Edge = c.args.automaton.now.edges.items in
-    let front = c.args.front.now in
-    let states : List ℕ = front.states.items in
+    let states : List ℕ = c.args.states.now.items in
     let x : ℕ = c.args.letter in
-    let at : c.len.result - 1 ≡ length states - 1 = omega (arith, c.len.ensures, front.states.ok) in
-    let last : c.index-last.result.now ≡ get_or states (c.len.result - 1) 0 =
-    get_or_read states (c.len.result - 1) c.index-last.result.now (omega (arith, c.requires.states.count, at)) c.index-last.ensures 0 in
+    let at : c.len.result - 1 ≡ length states - 1 = omega (arith, c.len.ensures, c.args.states.now.ok) in
+    let last : c.index.result.now ≡ get_or states (c.len.result - 1) 0 =
+    get_or_read states (c.len.result - 1) c.index.result.now (omega (arith, c.requires.states.count, at)) c.index.ensures 0 in
     let P : ℕ → Type 0 = λ s. IsLongestSuffix edges (word edges s ++ c.number.result ∷ []) (word edges c.step-state.result) in
     let Q : ℕ → Type 0 = λ i. IsLongestSuffix edges (word edges (get_or states i 0) ++ c.number.result ∷ []) (word edges c.step-state.result) in
     let R : ℕ → Type 0 = λ y. IsLongestSuffix edges (word edges (get_or states (length states - 1) 0) ++ y ∷ []) (word edges c.step-state.result) in
     let E : List Edge → Type 0 = λ es. c.step-state.result ≤ length es in
     let L : List Edge → Type 0 =
-    λ es. IsLongestSuffix es (word es c.index-last.result.now ++ c.number.result ∷ []) (word es c.step-state.result) in
-    let longest : P c.index-last.result.now = subst L c.deref.ensures.value c.step-state.ensures.longest in
-    states_next edges c.requires.automaton.1.trie.edges_rise front.word states x c.step-state.result c.requires.states
+    λ es. IsLongestSuffix es (word es c.index.result.now ++ c.number.result ∷ []) (word es c.step-state.result) in
+    let longest : P c.index.result.now = subst L c.deref.ensures.value c.step-state.ensures.longest in
+    states_next edges c.requires.automaton.1.trie.edges_rise c.args.front.now states x c.step-state.result c.requires.states
     (subst E c.deref.ensures.value c.step-state.ensures.state) (subst R c.number.ensures (subst Q at (subst P last longest)))
 
 pub returns-clause-states : goal.returns-clause-states
 returns-clause-states c =
     let edges : List Edge = c.args.automaton.now.edges.items in
-    let front = c.args.front.now in
-    let stands : StandsFor edges (front.word ++ c.args.letter ∷ []) c.step-state.result = returns-clause-state c in
-    front_pushed edges front.word c.push.new.self front.states.items c.push-2.new.self.items c.args.letter c.step-state.result
+    let stands : StandsFor edges (c.args.front.now ++ c.args.letter ∷ []) c.step-state.result = returns-clause-state c in
+    front_pushed edges c.args.front.now c.push.new.self c.args.states.now.items c.push-2.new.self.items c.args.letter c.step-state.result
     c.requires.states stands c.in_ok-push.ensures.ok c.in_ok-push-2.ensures.items

@@ -14,64 +14,64 @@ returns-in_default-clause-irreducible c =
     let place : ℕ = c.first_ending-place.result in
     let P : List ℕ → Type 0 = λ w. IsIrreducible (OneOf rules) w in
     let Q : List ℕ → Type 0 = λ w. IsOwner rules w place in
-    let owner : Q (c.args.front.now.word ++ c.args.letter ∷ []) =
+    let owner : Q (c.args.workspace.now.front ++ c.args.letter ∷ []) =
     subst Q c.in_ok-state.ensures.word (c.first_ending-place.ensures rules c.requires.lookup) in
     subst P (sym c.in_ok-state.ensures.word)
-    (irreducible_more rules c.args.front.now.word c.args.letter c.requires.irreducible
-    (owner_none rules (c.args.front.now.word ++ c.args.letter ∷ []) place owner (none_past rules place c.in_default.ensures.rule)))
+    (irreducible_more rules c.args.workspace.now.front c.args.letter c.requires.irreducible
+    (owner_none rules (c.args.workspace.now.front ++ c.args.letter ∷ []) place owner (none_past rules place c.in_default.ensures.rule)))
 
 pub cut-kept-requires-clause-ends : goal.cut-kept-requires-clause-ends
 cut-kept-requires-clause-ends c =
     let rules : List Pair = c.args.list.now.rules in
-    let first : IsFirstEnding rules c.advance.new.front.word c.first_ending-place.result c.in-Some.rule.now =
-    owner_ending rules c.advance.new.front.word c.first_ending-place.result c.in-Some.rule.now
+    let first : IsFirstEnding rules c.advance.new.front c.first_ending-place.result c.in-Some.rule.now =
+    owner_ending rules c.advance.new.front c.first_ending-place.result c.in-Some.rule.now
     (c.first_ending-place.ensures rules c.requires.lookup) (sym c.in-Some.ensures.rule) in
     first.ends
 
 pub returns-clause-states : goal.returns-clause-states
 returns-clause-states c =
-    front_cut c.args.lookup.now.settled.edges.items c.advance.new.front.word c.cut-kept.new.front.word c.advance.new.front.states.items
-    c.cut-kept.new.front.states.items c.cut-kept.result (omega (arith, c.cut-kept.ensures.kept)) c.in_ok-state.ensures.states
+    front_cut c.args.lookup.now.settled.edges.items c.advance.new.front c.cut-kept.new.front c.advance.new.states.items
+    c.cut-kept.new.states.items c.cut-kept.result (omega (arith, c.cut-kept.ensures.kept)) c.in_ok-state.ensures.states
     c.cut-kept.ensures.word c.cut-kept.ensures.states
 
 pub returns-clause-irreducible : goal.returns-clause-irreducible
 returns-clause-irreducible c =
     let rules : List Pair = c.args.list.now.rules in
-    let front : List ℕ = c.args.front.now.word in
+    let front : List ℕ = c.args.workspace.now.front in
     let F : List ℕ → Type 0 = λ w. IsFirstEnding rules w c.first_ending-place.result c.in-Some.rule.now in
-    let C : List ℕ → Type 0 = λ w. IsCut w c.in-Some.rule.now.0 c.cut-kept.result c.cut-kept.new.front.word in
-    let first : F c.advance.new.front.word =
-    owner_ending rules c.advance.new.front.word c.first_ending-place.result c.in-Some.rule.now
+    let C : List ℕ → Type 0 = λ w. IsCut w c.in-Some.rule.now.0 c.cut-kept.result c.cut-kept.new.front in
+    let first : F c.advance.new.front =
+    owner_ending rules c.advance.new.front c.first_ending-place.result c.in-Some.rule.now
     (c.first_ending-place.ensures rules c.requires.lookup) (sym c.in-Some.ensures.rule) in
-    let cut : C c.advance.new.front.word = record { at = c.cut-kept.ensures.kept; is = c.cut-kept.ensures.word } in
+    let cut : C c.advance.new.front = record { at = c.cut-kept.ensures.kept; is = c.cut-kept.ensures.word } in
     cut_irreducible front c.args.letter c.requires.irreducible (subst F c.in_ok-state.ensures.word first) (subst C c.in_ok-state.ensures.word cut)
 
 pub returns-clause-some : goal.returns-clause-some
 returns-clause-some c =
     let rules : List Pair = c.args.list.now.rules in
-    let front : List ℕ = c.args.front.now.word in
+    let front : List ℕ = c.args.workspace.now.front in
     let F : List ℕ → Type 0 = λ w. IsFirstEnding rules w c.first_ending-place.result c.in-Some.rule.now in
-    let C : List ℕ → Type 0 = λ w. IsCut w c.in-Some.rule.now.0 c.cut-kept.result c.cut-kept.new.front.word in
-    let first : F c.advance.new.front.word =
-    owner_ending rules c.advance.new.front.word c.first_ending-place.result c.in-Some.rule.now
+    let C : List ℕ → Type 0 = λ w. IsCut w c.in-Some.rule.now.0 c.cut-kept.result c.cut-kept.new.front in
+    let first : F c.advance.new.front =
+    owner_ending rules c.advance.new.front c.first_ending-place.result c.in-Some.rule.now
     (c.first_ending-place.ensures rules c.requires.lookup) (sym c.in-Some.ensures.rule) in
-    let cut : C c.advance.new.front.word = record { at = c.cut-kept.ensures.kept; is = c.cut-kept.ensures.word } in
-    let back = c.in_ok-put_back.ensures.ok ∙ ap (λ (r : List ℕ). r ++ c.args.unread.now) c.right.ensures in
-    cut_step front c.args.letter c.args.unread.now c.put_back.new.self c.requires.irreducible
+    let cut : C c.advance.new.front = record { at = c.cut-kept.ensures.kept; is = c.cut-kept.ensures.word } in
+    let back = c.in_ok-put_back.ensures.ok ∙ ap (λ (r : List ℕ). r ++ c.args.workspace.now.unread) c.right.ensures in
+    cut_step front c.args.letter c.args.workspace.now.unread c.put_back.new.self c.requires.irreducible
     (subst F c.in_ok-state.ensures.word first) (subst C c.in_ok-state.ensures.word cut) back
 
 pub returns-clause-range : goal.returns-clause-range
 returns-clause-range c =
     let rules : List Pair = c.args.list.now.rules in
-    let front : List ℕ = c.args.front.now.word in
+    let front : List ℕ = c.args.workspace.now.front in
     let F : List ℕ → Type 0 = λ w. IsFirstEnding rules w c.first_ending-place.result c.in-Some.rule.now in
-    let C : List ℕ → Type 0 = λ w. IsCut w c.in-Some.rule.now.0 c.cut-kept.result c.cut-kept.new.front.word in
+    let C : List ℕ → Type 0 = λ w. IsCut w c.in-Some.rule.now.0 c.cut-kept.result c.cut-kept.new.front in
     let R : List ℕ → Type 0 = λ w. All (λ x. x < 2 ^ 16) w in
-    let first : F c.advance.new.front.word =
-    owner_ending rules c.advance.new.front.word c.first_ending-place.result c.in-Some.rule.now
+    let first : F c.advance.new.front =
+    owner_ending rules c.advance.new.front c.first_ending-place.result c.in-Some.rule.now
     (c.first_ending-place.ensures rules c.requires.lookup) (sym c.in-Some.ensures.rule) in
-    let cut : C c.advance.new.front.word = record { at = c.cut-kept.ensures.kept; is = c.cut-kept.ensures.word } in
-    let back = c.in_ok-put_back.ensures.ok ∙ ap (λ (r : List ℕ). r ++ c.args.unread.now) c.right.ensures in
+    let cut : C c.advance.new.front = record { at = c.cut-kept.ensures.kept; is = c.cut-kept.ensures.word } in
+    let back = c.in_ok-put_back.ensures.ok ∙ ap (λ (r : List ℕ). r ++ c.args.workspace.now.unread) c.right.ensures in
     let right = subst R c.right.ensures c.put_back.ensures.range in
-    cut_range (λ x. x < 2 ^ 16) front c.args.letter c.args.unread.now c.put_back.new.self
+    cut_range (λ x. x < 2 ^ 16) front c.args.letter c.args.workspace.now.unread c.put_back.new.self
     (subst F c.in_ok-state.ensures.word first) (subst C c.in_ok-state.ensures.word cut) back c.requires.range right

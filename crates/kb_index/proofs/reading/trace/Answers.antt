@@ -14,18 +14,18 @@ pub loop-steps-init : goal.loop-steps-init
 loop-steps-init c =
     let rules = c.args.list.now.rules in
     let edges = c.args.lookup.now.settled.edges.items in
-    let front = c.in_ok-front.front in
-    let whole : front.word ++ c.in_ok-unread.unread ≡ c.args.w.now =
-    ap (λ w. w ++ c.in_ok-unread.unread) c.in_ok-front.ensures.word ∙ c.in_ok-unread.ensures.ok in
-    let L : List Step → Type 0 = λ steps. Leads (IsFirstStep rules) c.args.w.now steps (front.word ++ c.in_ok-unread.unread) in
+    let workspace = c.start.new.workspace in
+    let whole : workspace.front ++ workspace.unread ≡ c.args.w.now =
+    ap (λ w. w ++ workspace.unread) c.in_ok-start.ensures.front ∙ c.in_ok-start.ensures.unread in
+    let L : List Step → Type 0 = λ steps. Leads (IsFirstStep rules) c.args.w.now steps (workspace.front ++ workspace.unread) in
     let S : List ℕ → Type 0 = λ ss. AreStates edges [] ss in
-    let T : List ℕ → Type 0 = λ w. AreStates edges w front.states.items in
+    let T : List ℕ → Type 0 = λ w. AreStates edges w workspace.states.items in
     record {
-      states = subst T (sym c.in_ok-front.ensures.word) (subst S (sym c.in_ok-front.ensures.states) (states_first edges));
+      states = subst T (sym c.in_ok-start.ensures.front) (subst S (sym c.in_ok-start.ensures.states) (states_first edges));
       irreducible =
-          subst (IsIrreducible (OneOf rules)) (sym c.in_ok-front.ensures.word)
+          subst (IsIrreducible (OneOf rules)) (sym c.in_ok-start.ensures.front)
           (empty_irreducible (word_orders c.args.list.now.order) rules c.as_slice-rules.ensures.decreasing);
-      range = subst (λ (v : List ℕ). All (λ x. x < 2 ^ 16) v) (sym whole) c.of.ensures.range;
+      range = subst (λ (v : List ℕ). All (λ x. x < 2 ^ 16) v) (sym whole) c.start.ensures.range;
       leads = subst L (sym c.new-steps.ensures.items) (sym whole);
     }
 
@@ -38,8 +38,8 @@ loop-steps-smaller c =
 pub loop-steps-preserved : goal.loop-steps-preserved
 loop-steps-preserved c =
     let allowed = IsFirstStep c.args.list.now.rules in
-    let before = c.loop-steps.front.word ++ c.loop-steps.unread in
-    let after = c.next_step.new.front.word ++ c.next_step.new.unread in
+    let before = c.loop-steps.workspace.front ++ c.loop-steps.workspace.unread in
+    let after = c.next_step.new.workspace.front ++ c.next_step.new.workspace.unread in
     let step : allowed before c.in-Some.step after = rw c.in-Some.is at c.in_ok-step.ensures.some in
     let range = rw c.in-Some.is at c.in_ok-step.ensures.range in
     let L : List Step → Type 0 = λ steps. Leads allowed c.args.w.now steps after in
@@ -62,5 +62,5 @@ pub returns-clause-normal : goal.returns-clause-normal
 returns-clause-normal c =
     let read = rw c.in_default.is at c.in_ok-step.ensures.none in
     let L : List ℕ → Type 0 = λ v. Leads (IsFirstStep c.args.list.now.rules) c.args.w.now c.loop-steps.steps.items v in
-    leads_normal c.args.w.now c.loop-steps.steps.items c.next_step.new.front.word (subst L (sym read) c.loop-steps.invariant.leads)
+    leads_normal c.args.w.now c.loop-steps.steps.items c.next_step.new.workspace.front (subst L (sym read) c.loop-steps.invariant.leads)
     c.in_ok-step.ensures.irreducible

@@ -8,11 +8,11 @@ use Rattle.kb_index.proofs.reading.trace.Given as goal
 
 abbrev pub invariant-loop-steps : goal.invariant-loop-steps
 invariant-loop-steps l = record {
-  states : AreStates l.lookup.settled.edges.items l.front.word l.front.states.items;
-  irreducible : IsIrreducible (OneOf l.list.rules) l.front.word;
-  range : All (λ x. x < 2 ^ 16) (l.front.word ++ l.unread);
-  leads : Leads (IsFirstStep l.list.rules) l.w l.steps.items (l.front.word ++ l.unread);
+  states : AreStates l.lookup.settled.edges.items l.workspace.front l.workspace.states.items;
+  irreducible : IsIrreducible (OneOf l.list.rules) l.workspace.front;
+  range : All (λ x. x < 2 ^ 16) (l.workspace.front ++ l.workspace.unread);
+  leads : Leads (IsFirstStep l.list.rules) l.w l.steps.items (l.workspace.front ++ l.workspace.unread);
 }
 
 abbrev pub decreases-loop-steps : goal.decreases-loop-steps
-decreases-loop-steps l = order_rank l.list.order (l.front.word ++ l.unread)
+decreases-loop-steps l = order_rank l.list.order (l.workspace.front ++ l.workspace.unread)

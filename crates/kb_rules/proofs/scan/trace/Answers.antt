@@ -11,14 +11,14 @@ use Rattle.kb_rules.proofs.scan.trace.Goals as goal
 pub loop-steps-init : goal.loop-steps-init
 loop-steps-init c =
     let rules = c.args.list.now.rules in
-    let whole : c.new-front.result ++ c.in_ok-unread.unread ≡ c.args.w.now =
-    ap (λ front. front ++ c.in_ok-unread.unread) c.new-front.ensures ∙ c.in_ok-unread.ensures.ok in
-    let L : List Step → Type 0 = λ steps. Leads (IsFirstStep rules) c.args.w.now steps (c.new-front.result ++ c.in_ok-unread.unread) in
+    let whole : c.new-front.result ++ c.start.new.self ≡ c.args.w.now =
+    ap (λ front. front ++ c.start.new.self) c.new-front.ensures ∙ c.in_ok-start.ensures.ok in
+    let L : List Step → Type 0 = λ steps. Leads (IsFirstStep rules) c.args.w.now steps (c.new-front.result ++ c.start.new.self) in
     record {
       irreducible = subst (IsIrreducible (OneOf rules)) (sym c.new-front.ensures)
           (empty_irreducible (word_orders c.args.list.now.order) rules c.as_slice-rules.ensures.decreasing);
       leads = subst L (sym c.new-steps.ensures.items) (sym whole);
-      range = subst (λ (v : List ℕ). All (λ x. x < 2 ^ 16) v) (sym whole) c.of.ensures.range;
+      range = subst (λ (v : List ℕ). All (λ x. x < 2 ^ 16) v) (sym whole) c.start.ensures.range;
     }
 
 pub loop-steps-smaller : goal.loop-steps-smaller

@@ -1,0 +1,4 @@
+pub mod Numbers
+pub mod Consequences
+pub mod Logs
+pub mod Appending

@@ -1,0 +1,14 @@
+pub mod Lists
+pub mod Words
+pub mod Invariant
+pub mod Sound
+pub mod Starting
+pub mod Origins
+pub mod Pending
+pub mod NewLines
+pub mod Making
+pub mod Halting
+pub mod Taking
+pub mod Killing
+pub mod Shortening
+pub mod Courses

@@ -1,0 +1,28 @@
+//! The events of a completion.
+
+/// What happened to a book: an entry of its journal. Lines are named by their numbers, from 1 on.
+#[derive(Clone, Copy, Debug, PartialEq, Eq)]
+pub enum Event {
+    /// A worker entered the overlap of two lines at a place of the first one's left side.
+    Entered {
+        worker: u32,
+        first: u32,
+        second: u32,
+        place: u64,
+    },
+    /// The first pending pair joined, and went.
+    Dropped,
+    /// A line with this number was made of the first pending pair.
+    Made(u32),
+    /// The completion halted.
+    Halted,
+    /// The line with this number was taken away, and its pair became pending.
+    Killed(u32),
+    /// A line was replaced by a new one with a lesser right side.
+    Shortened {
+        line: u32,
+        new: u32,
+    },
+    /// The numbers of the live lines were published as a version.
+    Published,
+}

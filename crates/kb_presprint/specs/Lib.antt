@@ -1,0 +1,4 @@
+pub mod Values
+pub mod Printed
+pub mod Writing
+pub mod Printable

@@ -1,0 +1,5 @@
+pub mod Printed
+pub mod Printable
+pub mod Faults
+pub mod Reading
+pub mod Same

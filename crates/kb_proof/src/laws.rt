@@ -1,0 +1,26 @@
+//! What printing and reading have to do with each other.
+
+ghost use Rattle.std.specs.Prelude.{◌≡◌, ℕ, List};
+ghost use Rattle.kb_word.specs.Names.{AreApart};
+ghost use Rattle.kb_proof.specs.Faults.{HasLogFault};
+ghost use Rattle.kb_proof.specs.Printable.{AreReadableNames, IsPrintable};
+ghost use Rattle.kb_proof.specs.Printed.{text_of_log};
+ghost use Rattle.kb_proof.specs.Same.{AreSameLogs};
+ghost use Rattle.kb_proof.specs.declared.error.LogError.{LogError as SomeError};
+ghost use Rattle.kb_proof.specs.declared.error.LogError.TheVariants as errors;
+ghost use Rattle.kb_proof.specs.declared.log.Log.{Log as SomeLog};
+
+/// Over names that differ two logs with one text are the same, if they can be read again. So what
+/// [`read_log`](crate::read_log) returns of a printed log is that log.
+pub fn a_text_is_of_one_log()
+    ensures { (names : List (List ℕ)) (one other : SomeLog) → AreReadableNames names → AreApart names
+        → IsPrintable names one → IsPrintable names other
+        → text_of_log names one ≡ text_of_log names other → AreSameLogs one other }
+{}
+
+/// A printed log that can be read again has no fault. So [`read_log`](crate::read_log) refuses it for want of memory
+/// only, and refuses bytes exactly where they have a fault.
+pub fn a_printed_log_has_no_fault()
+    ensures { (names : List (List ℕ)) (log : SomeLog) (error : SomeError) → AreReadableNames names
+        → IsPrintable names log → HasLogFault names (text_of_log names log) error → error ≡ errors.Memory }
+{}

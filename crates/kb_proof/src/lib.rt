@@ -1,0 +1,72 @@
+//! Logs as text: printing and reading them.
+//!
+//! # The text
+//!
+//! The first line is `kblog 1` or `kblog 2`. Then comes a line for each line of the log, numbered from 1, and last, if
+//! a pair waits, a line that begins with `open`. Each ends with a newline. Version 1 leaves the derivations out.
+//!
+//! ```text
+//! kblog 2
+//! 1 R1 b*a*b -> a*b*a : - : -
+//! 2 M1,1,2 b*a*a*b*a -> a*b*a*a*b : - : -
+//! open M1,2,2 a*b*a*a*a*b*a <> a*a*b*a*a*b*b : - : 0/2,1/2
+//! ```
+//!
+//! A line's origin is `RI` for relation I, `MI,J,P` for the overlap of lines I and J at place P, `KI` for line I
+//! killed, and `SI` for line I shortened. Words are printed as everywhere. A derivation is `-`, or its steps joined by
+//! commas, each a place and a line's number.
+//!
+//! # The public contract
+//!
+//! [`print_log`] returns the text of a log (`text_of_log` of `specs/Printed.antt`). [`read_log`] is exact: it returns a
+//! log where the bytes are the text of a log that can be read again (`IsPrintable` of `specs/Printable.antt`), and
+//! refuses them else, with the first line that is not as it would be printed, or with the version that there isn't
+//! (`specs/Faults.antt`). Whether lines and relations that a log names are there is not asked here.
+//!
+//! The laws complete that: by [`a_printed_log_has_no_fault`] no bytes are both read and refused, and by
+//! [`a_text_is_of_one_log`] what is read of a printed log is that log. Both ask, as [`read_log`] does, that the names
+//! are Names and none is `IdWord` (`AreReadableNames`), as the names of presentation files are.
+//!
+//! # How it is made
+//!
+//! Bytes are cut at newlines, a line at blanks, and its parts at `*`, `,` and `/`. No part has a blank or a newline in
+//! it. So each reader takes a slice that must be the whole text of its value, and says so exactly: the value,
+//! or that there is none (`Reads` of `specs/Reading.antt`).
+//!
+//! - `cut` cuts bytes at a separator.
+//! - `numbers`, `words`, `origin` and `steps` read and `printing` prints the parts.
+//! - `fields` cuts a line into its parts, and `line` reads them.
+//! - `header` reads the first line, and `reader` the whole.
+//! - `laws` says what printing and reading have to do with each other.
+//!
+//! # Where the proofs are
+//!
+//! - `proofs/Bytes.antt`, `proofs/PartLemmas.antt`: bytes cut into parts, and parts joined again.
+//! - `proofs/TextLemmas.antt`: which bytes the texts of numbers, names, words, steps and origins have.
+//! - `proofs/LineLemmas.antt`, `proofs/LogLemmas.antt`: lines and their fields, and the lines of a log.
+//! - `proofs/HeaderLemmas.antt`: the first line. `proofs/PrintLemmas.antt`: what is printed piece by piece.
+//! - `proofs/SameLemmas.antt`, `proofs/FaultLemmas.antt`: the laws.
+//!
+//! Below stand `kb_log`, which has lines, `kb_word`, whose presentations name letters, and `kb_lexing`, whose
+//! numbers versions are.
+#![tactic(auto)]
+
+mod cut;
+mod error;
+mod fields;
+mod header;
+mod laws;
+mod line;
+mod log;
+mod numbers;
+mod origin;
+mod printing;
+mod reader;
+mod steps;
+mod words;
+
+pub use error::LogError;
+pub use laws::{a_printed_log_has_no_fault, a_text_is_of_one_log};
+pub use log::{Log, Version};
+pub use printing::print_log;
+pub use reader::read_log;

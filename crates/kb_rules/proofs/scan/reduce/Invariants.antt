@@ -1,0 +1,15 @@
+use Rattle.std.proofs.Common.{ℕ, List, ◌<◌, ◌^◌, ◌++◌, All}
+use Rattle.kb_word.specs.Words.{OneOf}
+use Rattle.kb_word.specs.WordOrderLaws.{order_rank}
+use Rattle.kb_word.specs.Rewriting.{IsIrreducible, NormalForm}
+use Rattle.kb_rules.proofs.scan.reduce.Given as goal
+
+abbrev pub invariant-loop : goal.invariant-loop
+invariant-loop l = record {
+  irreducible : IsIrreducible (OneOf l.list.rules) l.workspace.front;
+  leads : (m : List ℕ) → NormalForm l.list.rules (l.workspace.front ++ l.workspace.unread) m → NormalForm l.list.rules l.w m;
+  range : All (λ x. x < 2 ^ 16) (l.workspace.front ++ l.workspace.unread);
+}
+
+abbrev pub decreases-loop : goal.decreases-loop
+decreases-loop l = order_rank l.list.order (l.workspace.front ++ l.workspace.unread)

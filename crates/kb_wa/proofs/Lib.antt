@@ -1,0 +1,5 @@
+pub mod States
+pub mod Reading
+pub mod Counting
+pub mod Moves
+pub mod Accepting
