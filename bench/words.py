@@ -16,7 +16,8 @@ def measure_words(program, room, examples):
         give(lines, content)
         measure(what, [program, "wordreduce", file], given=lines, **how)
 
-    for example in sorted(it for it in os.listdir(examples) if "." not in it):
+    completed = {os.path.splitext(it)[0] for it in os.listdir(f"{examples}/../completed")}
+    for example in sorted(it for it in os.listdir(examples) if "." not in it and it not in completed):
         file = f"{examples}/{example}"
         with open(file, encoding="ascii") as it:
             names = data.generators(it.read())

@@ -25,6 +25,10 @@ begins_with_f names.Minimise = refl
 begins_with_f names.Compare = refl
 begins_with_f names.Enumerate = refl
 
+pub names_begin_with_f : (task : AutomataTask) → slice_index (name_text (name_of_task task)) 0 ≡ 102
+unfolding first_byte
+names_begin_with_f task = begins_with_f (name_of_task task)
+
 begins_with_w : first_byte (codes "wordreduce") ≡ 119
 unfolding first_byte
 begins_with_w = refl

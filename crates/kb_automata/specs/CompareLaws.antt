@@ -80,7 +80,7 @@ compare_complete = λ task before after status means unrefused faultless.
     (λ names one two prints. comparison_answers names one two task.max_states before.output.written after.output.written status faultless prints.so)
     unrefused means
 
-pub compare_settled : IsSettledByFiles CompareMeans compare_reads
+pub compare_settled : IsSettledByFiles CompareMeans compare_reads (λ task. IsConclusive)
 compare_settled = λ task before after other_before other_after status other means others alike conclusive also.
     over_two before after other_before other_after status other conclusive also (status ≡ other) WordsOrPairs task.one task.two _ _
     (λ names one two prints print.

@@ -125,7 +125,7 @@ enumerate_complete = λ task before after status means unrefused faultless.
     (λ names automaton prints. words_answer names automaton task.min task.max before.output.written after.output.written status faultless prints.so)
     unrefused means
 
-pub enumerate_settled : IsSettledByFiles EnumerateMeans enumerate_reads
+pub enumerate_settled : IsSettledByFiles EnumerateMeans enumerate_reads (λ task. IsConclusive)
 enumerate_settled = λ task before after other_before other_after status other means others alike conclusive also.
     over_one before after other_before other_after status other conclusive also (status ≡ other) Words task.file _ _
     (λ names automaton prints print.

@@ -92,8 +92,8 @@ module _ (IsMade : Automaton → Type 0) (out : List ℕ) (names : List (List �
         bytes = [];
         written = one.stores.unwritten ∙ sym (append-nil before.output.written);
         other_written = other.stores.unwritten ∙ sym (append-nil other_before.output.written);
-        stored = λ name is. ap after.shelf.holds is ∙ one.stores.stored ∙ ap (λ made. Some (text_of_automaton names made)) made
-            ∙ sym other.stores.stored ∙ sym (ap other_after.shelf.holds is);
+        stored = λ name is. inl (ap after.shelf.holds is ∙ one.stores.stored ∙ ap (λ made. Some (text_of_automaton names made)) made
+            ∙ sym other.stores.stored ∙ sym (ap other_after.shelf.holds is));
       }
 
   -- two runs that answered yes stored the same
@@ -115,7 +115,7 @@ combine_complete = λ task before after status means unrefused faultless.
     before after status faultless made)
     unrefused means
 
-pub combine_settled : IsSettledByFiles CombineMeans combine_reads
+pub combine_settled : IsSettledByFiles CombineMeans combine_reads (λ task. IsConclusive)
 combine_settled = λ task before after other_before other_after status other means others same conclusive also.
     over_two before after other_before other_after status other conclusive also (status ≡ other) (combined_kind task.operation) task.one task.two _ _
     (λ names one two made mades. make_settled (IsMadeOfTwo task.operation one two) task.out names
@@ -142,7 +142,7 @@ transform_complete = λ task before after status means unrefused faultless.
     before after status faultless made)
     unrefused means
 
-pub transform_settled : IsSettledByFiles TransformMeans transform_reads
+pub transform_settled : IsSettledByFiles TransformMeans transform_reads (λ task. IsConclusive)
 transform_settled = λ task before after other_before other_after status other means others same conclusive also.
     over_one before after other_before other_after status other conclusive also (status ≡ other) (transformed_kind task.operation) task.file _ _
     (λ names one made mades. make_settled (IsTransformed task.operation one) task.out names
@@ -177,7 +177,7 @@ minimise_complete = λ task before after status means unrefused faultless.
     (λ names one made. within_answers (IsMinimised one) task.out names before after status faultless made)
     unrefused means
 
-pub minimise_settled : IsSettledByFiles MinimiseMeans minimise_reads
+pub minimise_settled : IsSettledByFiles MinimiseMeans minimise_reads (λ task. IsConclusive)
 minimise_settled = λ task before after other_before other_after status other means others same conclusive also.
     over_one before after other_before other_after status other conclusive also (status ≡ other) WordsOrPairs task.file _ _
     (λ names one made mades. make_settled (IsMinimised one) task.out names (λ limit. ⊥) (λ limit found a b. absurd a)

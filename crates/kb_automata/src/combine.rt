@@ -44,7 +44,7 @@ pub struct Combine {
 }
 
 impl Task for Combine {
-    ghost use Rattle.kb_task.specs.Statuses.{AnswersYesOrLimit};
+    ghost use Rattle.kb_task.specs.Statuses.{AnswersYesOrLimit, IsConclusive};
     ghost use Rattle.kb_automata.specs.Make.{CombineMeans, combine_may_store, combine_reads, combine_is_unrefused, CombinesDifferInOptions};
     ghost use Rattle.kb_automata.specs.MakeLaws.{combine_complete, combine_settled, combine_one_function};
 
@@ -58,14 +58,17 @@ impl Task for Combine {
 
     ghost answers = { λ task. AnswersYesOrLimit };
 
+    ghost settles = { λ task. IsConclusive };
+
     ghost differs_in_options = { CombinesDifferInOptions };
 
-    fn run<F: Shelf, I: Source, O: Sink>(
+    fn run<F: Shelf, I: Source, O: Sink, E: Sink>(
         self,
         alloc: Global,
         shelf: &mut F,
         _input: &mut I,
         out: &mut O,
+        _err: &mut E,
     ) -> Status {
         let kind = self.operation.kind();
         let first = match load_automaton(alloc, kind, self.one, shelf) {

@@ -29,7 +29,7 @@ pub struct Compare {
 }
 
 impl Task for Compare {
-    ghost use Rattle.kb_task.specs.Statuses.{IsAnswer};
+    ghost use Rattle.kb_task.specs.Statuses.{IsAnswer, IsConclusive};
     ghost use Rattle.kb_automata.specs.Compare.{CompareMeans, compare_may_store, compare_reads, compare_is_unrefused, ComparesDifferInOptions};
     ghost use Rattle.kb_automata.specs.CompareLaws.{compare_complete, compare_settled, compare_one_function};
 
@@ -43,14 +43,17 @@ impl Task for Compare {
 
     ghost answers = { λ task. IsAnswer };
 
+    ghost settles = { λ task. IsConclusive };
+
     ghost differs_in_options = { ComparesDifferInOptions };
 
-    fn run<F: Shelf, I: Source, O: Sink>(
+    fn run<F: Shelf, I: Source, O: Sink, E: Sink>(
         self,
         alloc: Global,
         shelf: &mut F,
         _input: &mut I,
         out: &mut O,
+        _err: &mut E,
     ) -> Status {
         let first = match load_automaton(alloc, Kind::WordsOrPairs, self.one, shelf) {
             Ok(first) => first,

@@ -18,7 +18,7 @@ pub struct Enumerate {
 }
 
 impl Task for Enumerate {
-    ghost use Rattle.kb_task.specs.Statuses.{AnswersYes};
+    ghost use Rattle.kb_task.specs.Statuses.{AnswersYes, IsConclusive};
     ghost use Rattle.kb_automata.specs.Enumerate.{EnumerateMeans, enumerate_may_store, enumerate_reads, enumerate_is_unrefused, EnumeratesDifferInOptions};
     ghost use Rattle.kb_automata.specs.EnumerateLaws.{enumerate_complete, enumerate_settled, enumerate_one_function};
 
@@ -32,14 +32,17 @@ impl Task for Enumerate {
 
     ghost answers = { λ task. AnswersYes };
 
+    ghost settles = { λ task. IsConclusive };
+
     ghost differs_in_options = { EnumeratesDifferInOptions };
 
-    fn run<F: Shelf, I: Source, O: Sink>(
+    fn run<F: Shelf, I: Source, O: Sink, E: Sink>(
         self,
         alloc: Global,
         shelf: &mut F,
         _input: &mut I,
         out: &mut O,
+        _err: &mut E,
     ) -> Status {
         match load_automaton(alloc, Kind::Words, self.file, shelf) {
             Ok(given) => list_words(alloc, &given, self.min, self.max, out),

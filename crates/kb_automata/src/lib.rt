@@ -1,14 +1,15 @@
-//! The ten commands on automata: `fsaand`, `fsaor`, `fsanot`, `fsamin`, `fsalequal`, `fsaexists`, `fsaconcat`, `fsastar`,
-//! `fsareverse` and `fsaenumerate`.
+//! The ten commands on automata: `fsaand`, `fsaor`, `fsanot`, `fsamin`, `fsalequal`, `fsaexists`, `fsaconcat`,
+//! `fsastar`, `fsareverse` and `fsaenumerate`.
 //!
 //! The public contract is that of `kb_task::Task`, with what each command's statuses mean in `specs/`: a command that
 //! makes an automaton stores the text of the canonical automaton of exactly the stated language (`Make`), `fsalequal`
 //! compares two languages and shows the least difference (`Compare`), and `fsaenumerate` prints the accepted words of
-//! the lengths that are asked for, each once, in the shortlex order (`Enumerate`). By the laws of `Task` the files settle
-//! which of these a run answers, and what status 0 writes and stores is one function of the command and its files.
+//! the lengths that are asked for, each once, in the shortlex order (`Enumerate`). By the laws of `Task` the files
+//! settle which of these a run answers, and what status 0 writes and stores is one function of the command and its
+//! files.
 //!
-//! Each kind of command is a struct in a file of its own; `task` has the enum of all five kinds, and `line` is what the
-//! command line says of them. Below are the operations on automata, their files and their canonical form, and
+//! Each kind of command is a struct in a file of its own; `task` has the enum of all five kinds, and `line` is what
+//! the command line says of them. Below are the operations on automata, their files and their canonical form, and
 //! `kb_task`; above is `kb_cli`.
 #![tactic(auto)]
 

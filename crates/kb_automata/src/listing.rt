@@ -68,7 +68,8 @@ fn list_next<O: Sink>(
     ensures stops { (before : List ℕ) → IsTrue (O.state out.old).told
         → Listed names.now words.old before (O.state out.old).written pending.old.items
         → IfErr result (EnumerationIsPrinted names.now words.old before (O.state out.new).written) }
-    ensures fault { IfErr result (λ status. (shelf : ShelfState) (input : SourceState) → FaultIsCounted
+    ensures fault { IfErr result (λ status. (shelf : ShelfState) (input : SourceState)
+        → FaultIsCounted
         (outside shelf input (O.state out.old)) (outside shelf input (O.state out.new)) status) }
     ensures goes_on { SinkGoesOn (O.state out.old) (O.state out.new) }
 {

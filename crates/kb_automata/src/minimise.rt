@@ -15,7 +15,7 @@ pub struct Minimise {
 }
 
 impl Task for Minimise {
-    ghost use Rattle.kb_task.specs.Statuses.{AnswersYes};
+    ghost use Rattle.kb_task.specs.Statuses.{AnswersYes, IsConclusive};
     ghost use Rattle.kb_automata.specs.Make.{MinimiseMeans, minimise_may_store, minimise_reads, minimise_is_unrefused, MinimisesDifferInOptions};
     ghost use Rattle.kb_automata.specs.MakeLaws.{minimise_complete, minimise_settled, minimise_one_function};
 
@@ -29,14 +29,17 @@ impl Task for Minimise {
 
     ghost answers = { λ task. AnswersYes };
 
+    ghost settles = { λ task. IsConclusive };
+
     ghost differs_in_options = { MinimisesDifferInOptions };
 
-    fn run<F: Shelf, I: Source, O: Sink>(
+    fn run<F: Shelf, I: Source, O: Sink, E: Sink>(
         self,
         alloc: Global,
         shelf: &mut F,
         _input: &mut I,
         _out: &mut O,
+        _err: &mut E,
     ) -> Status {
         match load_automaton(alloc, Kind::WordsOrPairs, self.file, shelf) {
             Ok(given) => store_canonical(alloc, &given.names, &given.fsa, self.out, shelf),

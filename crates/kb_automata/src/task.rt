@@ -25,6 +25,7 @@ pub enum AutomataTask {
 }
 
 impl Task for AutomataTask {
+    ghost use Rattle.kb_task.specs.Statuses.{IsConclusive};
     ghost use Rattle.kb_automata.specs.Tasks.{AutomataMeans, automata_may_store, automata_reads, automata_is_unrefused, automata_answers, AutomataDifferInOptions};
     ghost use Rattle.kb_automata.specs.TaskLaws.{automata_complete, automata_settled, automata_one_function};
 
@@ -38,21 +39,24 @@ impl Task for AutomataTask {
 
     ghost answers = { automata_answers };
 
+    ghost settles = { λ task. IsConclusive };
+
     ghost differs_in_options = { AutomataDifferInOptions };
 
-    fn run<F: Shelf, I: Source, O: Sink>(
+    fn run<F: Shelf, I: Source, O: Sink, E: Sink>(
         self,
         alloc: Global,
         shelf: &mut F,
         input: &mut I,
         out: &mut O,
+        err: &mut E,
     ) -> Status {
         match self {
-            AutomataTask::Combine(task) => task.run(alloc, shelf, input, out),
-            AutomataTask::Transform(task) => task.run(alloc, shelf, input, out),
-            AutomataTask::Minimise(task) => task.run(alloc, shelf, input, out),
-            AutomataTask::Compare(task) => task.run(alloc, shelf, input, out),
-            AutomataTask::Enumerate(task) => task.run(alloc, shelf, input, out),
+            AutomataTask::Combine(task) => task.run(alloc, shelf, input, out, err),
+            AutomataTask::Transform(task) => task.run(alloc, shelf, input, out, err),
+            AutomataTask::Minimise(task) => task.run(alloc, shelf, input, out, err),
+            AutomataTask::Compare(task) => task.run(alloc, shelf, input, out, err),
+            AutomataTask::Enumerate(task) => task.run(alloc, shelf, input, out, err),
         }
     }
 

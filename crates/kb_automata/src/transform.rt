@@ -46,7 +46,7 @@ pub struct Transform {
 }
 
 impl Task for Transform {
-    ghost use Rattle.kb_task.specs.Statuses.{AnswersYesOrLimit};
+    ghost use Rattle.kb_task.specs.Statuses.{AnswersYesOrLimit, IsConclusive};
     ghost use Rattle.kb_automata.specs.Make.{TransformMeans, transform_may_store, transform_reads, transform_is_unrefused, TransformsDifferInOptions};
     ghost use Rattle.kb_automata.specs.MakeLaws.{transform_complete, transform_settled, transform_one_function};
 
@@ -60,14 +60,17 @@ impl Task for Transform {
 
     ghost answers = { λ task. AnswersYesOrLimit };
 
+    ghost settles = { λ task. IsConclusive };
+
     ghost differs_in_options = { TransformsDifferInOptions };
 
-    fn run<F: Shelf, I: Source, O: Sink>(
+    fn run<F: Shelf, I: Source, O: Sink, E: Sink>(
         self,
         alloc: Global,
         shelf: &mut F,
         _input: &mut I,
         out: &mut O,
+        _err: &mut E,
     ) -> Status {
         let given = match load_automaton(alloc, self.operation.kind(), self.file, shelf) {
             Ok(given) => given,

@@ -1,7 +1,9 @@
 -- The commands of the families are apart, and what is read of what was entered.
 use Rattle.std.proofs.Common.{◌≡◌, ap, codes}
-use Rattle.kb_task.specs.Arguments.{Entered, IsEntered}
-use Rattle.kb_task.specs.declared.status.Status.TheVariants.{Memory}
+use Rattle.kb_task.specs.Arguments.{Entered}
+use Rattle.kb_task.specs.Statuses.{IsConclusive, IsYes}
+use Rattle.kb_task.specs.declared.status.Status.{Status}
+use Rattle.kb_task.specs.declared.status.Status.TheVariants.{Yes, Memory}
 use Rattle.kb_task.proofs.ArgumentLemmas.{own_name}
 use Rattle.kb_wordreduce.specs.Given.{Given}
 use Rattle.kb_wordreduce.specs.Line.{IsWordReduce}
@@ -11,15 +13,28 @@ use Rattle.kb_automata.specs.declared.task.AutomataTask.{AutomataTask}
 use Rattle.kb_automata.specs.declared.task.AutomataTask.TheVariants as tasks
 use Rattle.kb_automata.proofs.LineLemmas.{one_automata_task}
 use Rattle.kb_automata.proofs.NameLemmas.{begins_otherwise}
+use Rattle.kb_completion.specs.Line.{IsCompletionTask, GivesTask as GivesCompletion, name_text as completion_text, name_of_task as completion_name}
+use Rattle.kb_completion.specs.declared.task.CompletionTask.{CompletionTask}
+use Rattle.kb_completion.specs.declared.task.CompletionTask.TheVariants as completions
+use Rattle.kb_completion.proofs.LineLemmas.{one_completion_task}
+use Rattle.kb_cli.proofs.NameLemmas.{not_wordreduce, not_automata}
 use Rattle.kb_cli.specs.CommandLine.{IsCommand}
-use Rattle.kb_cli.specs.Commands.{command_answers}
+use Rattle.kb_cli.specs.Commands.{command_answers, command_settles}
 use Rattle.kb_cli.specs.declared.command.Command.{Command}
-use Rattle.kb_cli.specs.declared.command.Command.TheVariants.{WordReduce, Automata}
+use Rattle.kb_cli.specs.declared.command.Command.TheVariants.{WordReduce, Automata, Completion}
 
--- no subcommand is a command of both families
+-- no subcommand is a command of two families
 apart : (entered : Entered) (given : Given) (task : AutomataTask) → IsWordReduce entered given → ¬ IsAutomataTask entered task
 apart entered given task one other =
     begins_otherwise task (own_name entered (codes "wordreduce") (name_text (name_of_task task)) one.rows (GivesTask task) one.is other)
+
+apart_from_wordreduce : (entered : Entered) (given : Given) (task : CompletionTask) → IsWordReduce entered given → ¬ IsCompletionTask entered task
+apart_from_wordreduce entered given task one other =
+    not_wordreduce task (own_name entered (codes "wordreduce") (completion_text (completion_name task)) one.rows (GivesCompletion task) one.is other)
+
+apart_from_automata : (entered : Entered) (given : AutomataTask) (task : CompletionTask) → IsAutomataTask entered given → ¬ IsCompletionTask entered task
+apart_from_automata entered given task one other =
+    not_automata given task (own_name entered (name_text (name_of_task given)) (completion_text (completion_name task)) one.rows (GivesCompletion task) one.is other)
 
 -- one entered subcommand is one command at most
 pub one_command : (entered : Entered) (one other : Command) → IsCommand entered one → IsCommand entered other → one ≡ other
@@ -27,12 +42,28 @@ one_command entered (WordReduce task) (WordReduce other) a b = ap WordReduce (on
 one_command entered (Automata task) (Automata other) a b = ap Automata (one_automata_task entered task other a b)
 one_command entered (WordReduce task) (Automata other) a b = absurd (apart entered task other a b)
 one_command entered (Automata task) (WordReduce other) a b = absurd (apart entered other task b a)
+one_command entered (Completion task) (Completion other) a b = ap Completion (one_completion_task entered task other a b)
+one_command entered (WordReduce task) (Completion other) a b = absurd (apart_from_wordreduce entered task other a b)
+one_command entered (Completion task) (WordReduce other) a b = absurd (apart_from_wordreduce entered other task b a)
+one_command entered (Automata task) (Completion other) a b = absurd (apart_from_automata entered task other a b)
+one_command entered (Completion task) (Automata other) a b = absurd (apart_from_automata entered other task b a)
 
 -- where no family's command was entered there is none
 pub no_command : (entered : Entered) → ((given : Given) → ¬ IsWordReduce entered given) → ((task : AutomataTask) → ¬ IsAutomataTask entered task)
-    → (command : Command) → ¬ IsCommand entered command
-no_command entered no_wordreduce no_task (WordReduce task) = no_wordreduce task
-no_command entered no_wordreduce no_task (Automata task) = no_task task
+    → ((task : CompletionTask) → ¬ IsCompletionTask entered task) → (command : Command) → ¬ IsCommand entered command
+no_command entered no_wordreduce no_task no_completion (WordReduce task) = no_wordreduce task
+no_command entered no_wordreduce no_task no_completion (Automata task) = no_task task
+no_command entered no_wordreduce no_task no_completion (Completion task) = no_completion task
+
+yes-conclusive : (status : Status) → IsYes status → IsConclusive status
+yes-conclusive Yes is_yes = tt
+yes-conclusive _ is_yes = absurd is_yes
+
+-- a status that the files settle is yes, no or a limit
+pub settled-conclusive : (command : Command) (status : Status) → command_settles command status → IsConclusive status
+settled-conclusive (WordReduce task) status settled = settled
+settled-conclusive (Automata task) status settled = settled
+settled-conclusive (Completion task) status settled = yes-conclusive status settled
 
 -- want of memory is an answer of every command
 pub memory_answers : (command : Command) → command_answers command Memory
@@ -42,3 +73,6 @@ memory_answers (Automata (tasks.Transform task)) = tt
 memory_answers (Automata (tasks.Minimise task)) = tt
 memory_answers (Automata (tasks.Compare task)) = tt
 memory_answers (Automata (tasks.Enumerate task)) = tt
+memory_answers (Completion (completions.Kbprog task)) = tt
+memory_answers (Completion (completions.Logread task)) = tt
+memory_answers (Completion (completions.SelfTest task)) = tt

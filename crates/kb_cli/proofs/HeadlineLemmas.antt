@@ -1,17 +1,16 @@
 -- The laws over all commands, from those of the commands.
-use Rattle.std.proofs.Common.{◌≡◌, ℕ, List, sym, subst}
-use Rattle.clap.specs.declared.error.kind.ErrorKind.{ErrorKind}
+use Rattle.std.proofs.Common.{◌≡◌, ℕ, List, subst}
 use Rattle.kb_io.specs.Outside.{Outside}
 use Rattle.kb_task.specs.Runs.{IsRun, ReadsSame, HasSameEffect}
 use Rattle.kb_task.specs.Statuses.{IsYes, IsConclusive, IsFaultless}
 use Rattle.kb_task.specs.declared.status.Status.{Status}
-use Rattle.kb_task.specs.declared.status.Status.TheVariants.{Yes, Refused, Undecided, No, Memory, Fault, Usage}
+use Rattle.kb_task.specs.declared.status.Status.TheVariants.{Yes, Memory, Usage}
 use Rattle.kb_cli.specs.CommandLaws.{commands_complete, commands_settled, commands_one_function}
-use Rattle.kb_cli.specs.CommandLine.{IsLine, IsNoLine}
-use Rattle.kb_cli.specs.Commands.{CommandMeans, command_may_store, command_reads, command_is_unrefused, command_answers, CommandsDifferInOptions}
+use Rattle.kb_cli.specs.CommandLine.{IsLine}
+use Rattle.kb_cli.specs.Commands.{CommandMeans, command_may_store, command_reads, command_is_unrefused, command_answers, command_settles, CommandsDifferInOptions}
 use Rattle.kb_cli.specs.Headline.{Headline, ArgumentsStop, MayStore, no_command, a_command}
 use Rattle.kb_cli.specs.declared.command.Command.{Command}
-use Rattle.kb_cli.proofs.CommandLemmas.{memory_answers, one_command}
+use Rattle.kb_cli.proofs.CommandLemmas.{memory_answers, settled-conclusive, one_command}
 use Rattle.kb_cli.proofs.LineLemmas.{line_or_not}
 
 -- arguments are the line of one command
@@ -50,11 +49,11 @@ headline_answers arguments command before after status line (a_command found is 
 
 pub headline_settled : (arguments : List (List ℕ)) (command : Command) (before after other_before other_after : Outside) (status other : Status)
     → IsLine arguments command → Headline arguments before after status → Headline arguments other_before other_after other
-    → ReadsSame (command_reads command) before other_before → IsConclusive status → IsConclusive other → status ≡ other
-headline_settled arguments command before after other_before other_after status other line one another same conclusive also =
+    → ReadsSame (command_reads command) before other_before → command_settles command status → command_settles command other → status ≡ other
+headline_settled arguments command before after other_before other_after status other line one another same settled also =
     commands_settled command before after other_before other_after status other
-    (meant arguments command before after status line conclusive one)
-    (meant arguments command other_before other_after other line also another) same conclusive also
+    (meant arguments command before after status line (settled-conclusive command status settled) one)
+    (meant arguments command other_before other_after other line (settled-conclusive command other also) another) same settled also
 
 pub headline_one_function : (arguments other_arguments : List (List ℕ)) (command other_command : Command)
     (before after other_before other_after : Outside) (status other : Status)

@@ -6,10 +6,11 @@ use Rattle.clap.specs.declared.error.kind.ErrorKind.TheVariants.{ValueValidation
 use Rattle.kb_task.specs.Arguments.{Entered}
 use Rattle.kb_wordreduce.specs.Line.{with_wordreduce, IsWordReduce}
 use Rattle.kb_automata.specs.Line.{with_automata, IsAutomataTask}
+use Rattle.kb_completion.specs.Line.{with_completions, IsCompletionTask}
 use Rattle.kb_cli.specs.declared.arguments.UsageError.{UsageError}
 use Rattle.kb_cli.specs.declared.arguments.UsageError.TheVariants.{Usage, Memory}
 use Rattle.kb_cli.specs.declared.command.Command.{Command}
-use Rattle.kb_cli.specs.declared.command.Command.TheVariants.{WordReduce, Automata}
+use Rattle.kb_cli.specs.declared.command.Command.TheVariants.{WordReduce, Automata, Completion}
 
 -- the program without commands; the arguments begin after the program's name
 abbrev pub bare_app : App
@@ -23,12 +24,13 @@ bare_app = record (new_app (codes "kb")) {
 
 -- the program with its commands
 abbrev pub line_app : App
-line_app = with_automata (with_wordreduce bare_app)
+line_app = with_completions (with_automata (with_wordreduce bare_app))
 
 -- the subcommand that was entered is the command
 abbrev pub IsCommand : Entered → Command → Type 0
 IsCommand entered (WordReduce task) = IsWordReduce entered task
 IsCommand entered (Automata task) = IsAutomataTask entered task
+IsCommand entered (Completion task) = IsCompletionTask entered task
 
 -- the arguments are the line of the command: clap finds no fault in them, and what they enter is the command
 pub record IsLine (arguments : List Text) (command : Command) : Type 0 where
@@ -39,7 +41,8 @@ pub record IsLine (arguments : List Text) (command : Command) : Type 0 where
 -- a sign or a zero before another digit.
 pub data IsNoLine (arguments : List Text) (kind : ErrorKind) : Type 0 where
   faulty : IsAmong kind (fault_of line_app arguments) → IsNoLine arguments kind
-  no_number : fault_of line_app arguments ≡ [] → ((command : Command) → ¬ IsCommand (subcommand_of line_app arguments) command)
+  no_number : fault_of line_app arguments ≡ []
+      → ((command : Command) → ¬ IsCommand (subcommand_of line_app arguments) command)
       → kind ≡ ValueValidation → IsNoLine arguments kind
 
 -- why the arguments are no command

@@ -1,10 +1,12 @@
 -- What a run means by its status: the program's one promise.
 --
--- Status 0 means that each line written is the least word, by the file's order (shortlex or by weight), that is equal in the
--- presented monoid or group to the line read, and that the oriented relations are that presentation's own and
--- confluent; that each automaton stored is the canonical one of the stated language; and that the words listed are the
--- accepted ones. Status 3 shows why the relations are not confluent, or the languages not the same. Status 2 comes
--- exactly where a construction counts more states than the limit.
+-- Status 0 means, by the command, that each line written is the least word, by the file's order (shortlex or by weight),
+-- that is equal in the presented monoid or group to the line read, and that the oriented relations are that
+-- presentation's own and confluent; that each automaton stored is the canonical one of the stated language; that the
+-- words listed are the accepted ones; or that the rules stored are the reduced complete rewriting system of the
+-- presentation, and that the automaton beside them accepts its least words. Status 3 shows why the relations are not
+-- confluent, or the languages not the same. Status 2 comes exactly where a construction counts more states than the
+-- limit; or a completion reached a limit, and then its log is stored, whose lines are justified one by one.
 use Rattle.std.specs.Prelude.{ℕ, List}
 use Rattle.kb_io.specs.Outside.{Outside, IsUnchanged}
 use Rattle.kb_task.specs.declared.status.Status.{Status}

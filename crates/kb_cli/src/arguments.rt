@@ -76,12 +76,16 @@ fn entered_command(alloc: Global, matches: &ArgMatches<'_>) -> Result<Option<Com
     if let Some(task) = kb_automata::entered_command(alloc, matches)? {
         return Ok(Some(Command::Automata(task)));
     }
+    if let Some(task) = kb_completion::entered_command(alloc, matches)? {
+        return Ok(Some(Command::Completion(task)));
+    }
     Ok(None)
 }
 
 /// What `clap` answers in place of matches.
 fn usage_error(alloc: Global, error: &clap::Error) -> Result<UsageError, Memory>
-    ensures kind { IfOk result (λ answer. IsUsageOf (kind_of error.now) answer × (kind_of error.now ≢ ErrorKind.OutOfMemory)) }
+    ensures kind { IfOk result (λ answer. IsUsageOf (kind_of error.now) answer
+        × (kind_of error.now ≢ ErrorKind.OutOfMemory)) }
 {
     match error.kind() {
         ErrorKind::OutOfMemory => Err(Memory),

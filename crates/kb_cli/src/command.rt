@@ -1,6 +1,7 @@
 //! The commands of the program, a variant for each family.
 
 use kb_automata::AutomataTask;
+use kb_completion::CompletionTask;
 use kb_io::{Shelf, Sink, Source};
 use kb_task::{Status, Task};
 use kb_wordreduce::WordReduce;
@@ -13,10 +14,12 @@ pub enum Command {
     WordReduce(WordReduce),
     /// Compute with automata in files.
     Automata(AutomataTask),
+    /// Complete presentations.
+    Completion(CompletionTask),
 }
 
 impl Task for Command {
-    ghost use Rattle.kb_cli.specs.Commands.{CommandMeans, command_may_store, command_reads, command_is_unrefused, command_answers, CommandsDifferInOptions};
+    ghost use Rattle.kb_cli.specs.Commands.{CommandMeans, command_may_store, command_reads, command_is_unrefused, command_answers, command_settles, CommandsDifferInOptions};
     ghost use Rattle.kb_cli.specs.CommandLaws.{commands_complete, commands_settled, commands_one_function};
 
     ghost means = { CommandMeans };
@@ -29,18 +32,22 @@ impl Task for Command {
 
     ghost answers = { command_answers };
 
+    ghost settles = { command_settles };
+
     ghost differs_in_options = { CommandsDifferInOptions };
 
-    fn run<F: Shelf, I: Source, O: Sink>(
+    fn run<F: Shelf, I: Source, O: Sink, E: Sink>(
         self,
         alloc: Global,
         shelf: &mut F,
         input: &mut I,
         out: &mut O,
+        err: &mut E,
     ) -> Status {
         match self {
-            Command::WordReduce(task) => task.run(alloc, shelf, input, out),
-            Command::Automata(task) => task.run(alloc, shelf, input, out),
+            Command::WordReduce(task) => task.run(alloc, shelf, input, out, err),
+            Command::Automata(task) => task.run(alloc, shelf, input, out, err),
+            Command::Completion(task) => task.run(alloc, shelf, input, out, err),
         }
     }
 

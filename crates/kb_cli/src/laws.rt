@@ -4,10 +4,10 @@ ghost use Rattle.std.specs.Prelude.{◌≡◌, ℕ, List};
 ghost use Rattle.clap.specs.declared.error.kind.ErrorKind.{ErrorKind};
 ghost use Rattle.kb_io.specs.Outside.{Outside};
 ghost use Rattle.kb_task.specs.Runs.{ReadsSame, HasSameEffect};
-ghost use Rattle.kb_task.specs.Statuses.{IsYes, IsConclusive, IsFaultless};
+ghost use Rattle.kb_task.specs.Statuses.{IsYes, IsFaultless};
 ghost use Rattle.kb_task.specs.declared.status.Status.{Status};
 ghost use Rattle.kb_cli.specs.CommandLine.{IsLine, IsNoLine};
-ghost use Rattle.kb_cli.specs.Commands.{command_may_store, command_reads, command_is_unrefused, command_answers, CommandsDifferInOptions};
+ghost use Rattle.kb_cli.specs.Commands.{command_may_store, command_reads, command_is_unrefused, command_answers, command_settles, CommandsDifferInOptions};
 ghost use Rattle.kb_cli.specs.Headline.{Headline};
 ghost use Rattle.kb_cli.specs.declared.command.Command.{Command};
 
@@ -23,10 +23,11 @@ pub fn arguments_are_one_command()
         → IsLine arguments one → IsLine arguments other → one ≡ other }
 {}
 
-/// Where the arguments are the line of a command, nothing that it reads is refused and no device failed, the run has one
-/// of the command's answers: yes, for some no or a limit too, or want of memory.
+/// Where the arguments are the line of a command, nothing that it reads is refused and no device failed, the run has
+/// one of the command's answers: yes, for some no or a limit too, or want of memory.
 pub fn where_nothing_is_refused_there_is_an_answer()
-    ensures { (arguments : List (List ℕ)) (command : Command) (before after : Outside) (status : Status)
+    ensures { (arguments : List (List ℕ)) (command : Command) (before after : Outside)
+        (status : Status)
         → IsLine arguments command
         → Headline arguments before after status
         → command_is_unrefused command before
@@ -34,17 +35,17 @@ pub fn where_nothing_is_refused_there_is_an_answer()
         → command_answers command status }
 {}
 
-/// The answer depends only on the arguments and on the files that the command reads: two runs that end with yes, no or a
-/// limit have one status.
+/// The answer depends only on the arguments and on the files that the command reads: two runs that end with statuses
+/// which those files settle have one status.
 pub fn one_answer_by_the_files()
-    ensures { (arguments : List (List ℕ)) (command : Command) (before after other_before other_after : Outside)
-        (status other : Status)
+    ensures { (arguments : List (List ℕ)) (command : Command)
+        (before after other_before other_after : Outside) (status other : Status)
         → IsLine arguments command
         → Headline arguments before after status
         → Headline arguments other_before other_after other
         → ReadsSame (command_reads command) before other_before
-        → IsConclusive status
-        → IsConclusive other
+        → command_settles command status
+        → command_settles command other
         → status ≡ other }
 {}
 

@@ -5,8 +5,9 @@
 //! of a command, what that command's status means by its own crate; else why they are none. With every status a fault
 //! is a failure that was counted, counts never fall, and no file changes but those that the command may store.
 //!
-//! The laws over all commands are public too: where nothing is refused there is an answer, the files settle it, and what
-//! status 0 writes and stores is one function of the command without its options, of the files and of the input.
+//! The laws over all commands are public too: where nothing is refused there is an answer, the files settle which of
+//! the statuses that they settle it is, and what status 0 writes and stores is one function of the command without its
+//! options, of the files and of the input.
 //!
 //! - `command` is the list of the families of commands, each of which is a crate; `program_line` is the program's
 //!   command line, made of the families' parts, and `arguments` reads it.

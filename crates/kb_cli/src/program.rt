@@ -14,9 +14,9 @@ use std::alloc::Global;
 /// Runs the program on the arguments after its name.
 ///
 /// The clause is the program's promise: what `Headline` states of the arguments, of the outside before and after,
-/// and of the status, where the shelf and the streams tell their bytes; and with every status, told or not, that a fault
-/// is a failure that was counted, that counts never fall, and that only files change that the command may store. Real
-/// files and streams don't tell their bytes, but there nobody else writes them. The gate is for tests of workers;
+/// and of the status, where the shelf and the streams tell their bytes; and with every status, told or not, that a
+/// fault is a failure that was counted, that counts never fall, and that only files change that the command may store.
+/// Real files and streams don't tell their bytes, but there nobody else writes them. The gate is for tests of workers;
 /// today one thread does all the work.
 pub fn run<F: Shelf, I: Source, O: Sink, E: Sink, G: Gate>(
     alloc: Global,
@@ -27,14 +27,15 @@ pub fn run<F: Shelf, I: Source, O: Sink, E: Sink, G: Gate>(
     err: &mut E,
     gate: &G,
 ) -> Status
-    ensures { IsRun (Headline (map string_bytes arguments.now)) (MayStore (map string_bytes arguments.now))
+    ensures { IsRun (Headline (map string_bytes arguments.now))
+        (MayStore (map string_bytes arguments.now))
         (outside (F.state shelf.old) (I.state input.old) (O.state out.old))
         (outside (F.state shelf.new) (I.state input.new) (O.state out.new)) result }
 {
     let _ = gate;
     match read_arguments(alloc, arguments) {
         Ok(command) => {
-            let status = command.run(alloc, shelf, input, out);
+            let status = command.run(alloc, shelf, input, out, err);
             report(alloc, &status, err);
             status
         }

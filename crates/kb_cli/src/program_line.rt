@@ -20,7 +20,8 @@ pub(crate) fn program_line<'a>(alloc: Global) -> Result<clap::Command<'a>, Alloc
         .subcommand_required(true)
         .arg_required_else_help(true);
     let program = kb_wordreduce::add_commands(alloc, program)?;
-    kb_automata::add_commands(alloc, program)
+    let program = kb_automata::add_commands(alloc, program)?;
+    kb_completion::add_commands(alloc, program)
 }
 
 /// The command of this name, as its usage calls it; the program where there is none.
@@ -33,6 +34,9 @@ pub(crate) fn command_line_of<'a>(
         return command.bin_name(called.as_str());
     }
     if let Some(command) = kb_automata::command_named(alloc, name)? {
+        return command.bin_name(called.as_str());
+    }
+    if let Some(command) = kb_completion::command_named(alloc, name)? {
         return command.bin_name(called.as_str());
     }
     program_line(alloc)

@@ -68,5 +68,5 @@ mod words;
 pub use error::LogError;
 pub use laws::{a_printed_log_has_no_fault, a_text_is_of_one_log};
 pub use log::{Log, Version};
-pub use printing::print_log;
+pub use printing::{print_log, print_origin};
 pub use reader::read_log;

@@ -123,7 +123,7 @@ fn print_derivations(line: &Line, out: &mut Vec<u8>) -> Result<(), Memory>
 }
 
 /// Appends where a line comes from.
-fn print_origin(origin: Origin, out: &mut Vec<u8>) -> Result<(), Memory>
+pub fn print_origin(origin: Origin, out: &mut Vec<u8>) -> Result<(), Memory>
     ensures { OnOk result (out.new.items ≡ out.old.items ++ text_of_origin origin) }
 {
     match origin {

@@ -6,3 +6,4 @@ mod Complete
 mod Covering
 mod Found
 mod SortedOnce
+mod ForeignLetters

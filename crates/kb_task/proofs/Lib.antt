@@ -4,3 +4,4 @@ pub mod EquationLemmas
 pub mod LoadEnds
 pub mod LoadLemmas
 pub mod RunLemmas
+mod StoreLemmas

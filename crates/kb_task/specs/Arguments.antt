@@ -29,6 +29,26 @@ states_rule = record (new_rule (codes "max-states")) {
   parser = Some (Signed (pos 1) (pos 4000000));
 }
 
+-- the option `--max-rules N`, from 1 to 1,000,000, and 32,767 where it isn't given
+abbrev pub lines_rule : Rule
+lines_rule = record (new_rule (codes "max-rules")) {
+  long = Some (codes "max-rules");
+  value_names = 1;
+  defaults = codes "32767" ∷ [];
+  action = Some Set;
+  parser = Some (Signed (pos 1) (pos 1000000));
+}
+
+-- the option `--max-len N`, from 1 to 65,535, and 1,024 where it isn't given
+abbrev pub letters_rule : Rule
+letters_rule = record (new_rule (codes "max-len")) {
+  long = Some (codes "max-len");
+  value_names = 1;
+  defaults = codes "1024" ∷ [];
+  action = Some Set;
+  parser = Some (Signed (pos 1) (pos 65535));
+}
+
 -- an argument that is a length of words, from 0 to 65,535
 abbrev pub length_rule : Text → Rule
 length_rule name = record (needed_rule name) { parser = Some (Signed (pos 0) (pos 65535)) }

@@ -3,8 +3,10 @@ pub mod Runs
 pub mod Effects
 pub mod Loads
 pub mod Presentations
+pub mod Logs
 pub mod Automata
 pub mod Stored
+pub mod Stores
 pub mod Limits
 pub mod Lines
 pub mod Arguments

@@ -1,10 +1,10 @@
 -- What is true of a run of any command, and the laws of what a command's statuses mean.
-use Rattle.std.specs.Prelude.{◌≡◌, ℕ, ◌<◌, List, ◌++◌, IfSome}
+use Rattle.std.specs.Prelude.{◌≡◌, ℕ, ◌<◌, ◌⊎◌, List, ◌++◌, IfSome}
 use Rattle.kb_io.specs.Outside.{Outside, IsTold, GoesOn}
 use Rattle.kb_task.specs.declared.status.Status.{Status}
 use Rattle.kb_task.specs.declared.status.Which.{Which}
 use Rattle.kb_task.specs.declared.status.Which.TheVariants.{Load, Store, Input, Output}
-use Rattle.kb_task.specs.Statuses.{fault_of, IsYes, IsConclusive, IsFaultless}
+use Rattle.kb_task.specs.Statuses.{fault_of, IsYes, IsFaultless}
 
 -- the count of the device's failures rose
 abbrev pub HasFailed : Outside → Outside → Which → Type 0
@@ -34,12 +34,18 @@ pub record IsRun (Means : Outside → Outside → Status → Type 0) (MayStore :
 abbrev pub ReadsSame : (List ℕ → Type 0) → Outside → Outside → Type 0
 ReadsSame IsRead one other = (name : List ℕ) → IsRead name → one.shelf.holds name ≡ other.shelf.holds name
 
+-- under the name both runs left the same, or neither changed what was there
+abbrev pub LeavesSame : Outside → Outside → Outside → Outside → List ℕ → Type 0
+LeavesSame before after other_before other_after name =
+    (after.shelf.holds name ≡ other_after.shelf.holds name)
+    ⊎ ((after.shelf.holds name ≡ before.shelf.holds name) × (other_after.shelf.holds name ≡ other_before.shelf.holds name))
+
 -- two runs wrote the same bytes, and stored the same
 pub record HasSameEffect (MayStore : List ℕ → Type 0) (before after other_before other_after : Outside) : Type 0 where
   pub bytes : List ℕ
   pub written : after.output.written ≡ before.output.written ++ bytes
   pub other_written : other_after.output.written ≡ other_before.output.written ++ bytes
-  pub stored : (name : List ℕ) → MayStore name → after.shelf.holds name ≡ other_after.shelf.holds name
+  pub stored : (name : List ℕ) → MayStore name → LeavesSame before after other_before other_after name
 
 -- Where nothing that the command reads is refused and no device failed, it has one of its answers.
 abbrev pub IsComplete : {Task : Type 0} → (Task → Outside → Outside → Status → Type 0) → (Task → Outside → Type 0)
@@ -47,11 +53,12 @@ abbrev pub IsComplete : {Task : Type 0} → (Task → Outside → Outside → St
 IsComplete {Task} Means IsUnrefused Answers = (task : Task) (before after : Outside) (status : Status)
     → Means task before after status → IsUnrefused task before → IsFaultless status → Answers task status
 
--- The files that are read settle the answer: two runs of one command that end with yes, no or a limit have one status.
-abbrev pub IsSettledByFiles : {Task : Type 0} → (Task → Outside → Outside → Status → Type 0) → (Task → List ℕ → Type 0) → Type 0
-IsSettledByFiles {Task} Means IsRead = (task : Task) (before after other_before other_after : Outside) (status other : Status)
+-- The files that are read settle the answer: two runs of one command with statuses that the files settle have one status.
+abbrev pub IsSettledByFiles : {Task : Type 0} → (Task → Outside → Outside → Status → Type 0) → (Task → List ℕ → Type 0)
+    → (Task → Status → Type 0) → Type 0
+IsSettledByFiles {Task} Means IsRead Settles = (task : Task) (before after other_before other_after : Outside) (status other : Status)
     → Means task before after status → Means task other_before other_after other → ReadsSame (IsRead task) before other_before
-    → IsConclusive status → IsConclusive other → status ≡ other
+    → Settles task status → Settles task other → status ≡ other
 
 -- What status 0 writes and stores is one function of the command without its options, of the files that are read and
 -- of the input.

@@ -2,7 +2,7 @@
 
 ghost use Rattle.std.specs.Prelude.{◌≡◌, ◌<◌, ◌^◌, ℕ, IfSome, None, option_map, false};
 ghost use Rattle.clap.specs.Words.{first_of, found_of, rows_of, rule_of};
-ghost use Rattle.kb_task.specs.Arguments.{GivesNumber, GivesStates, IsNumber, IsNumberWithin, needed_rule, length_rule, states_rule, workers_rule};
+ghost use Rattle.kb_task.specs.Arguments.{GivesNumber, GivesStates, IsNumber, IsNumberWithin, needed_rule, length_rule, letters_rule, lines_rule, states_rule, workers_rule};
 
 use clap::{Arg, ArgAction, ArgMatches, value_parser};
 use std::alloc::Global;
@@ -51,6 +51,34 @@ pub fn states_option<'a>(alloc: Global) -> Arg<'a>
         .help("The most states that the construction may have, 1 to 4000000")
 }
 
+/// The option `--max-rules N`.
+pub fn lines_option<'a>(alloc: Global) -> Arg<'a>
+    ensures rule { rule_of result ≡ lines_rule }
+    ensures local { result.global ≡ false }
+{
+    Arg::new(alloc, "max-rules")
+        .long("max-rules")
+        .value_name("N")
+        .default_value("32767")
+        .action(ArgAction::Set)
+        .value_parser(value_parser!(u32).range(1..=1_000_000))
+        .help("The most lines that the log may have, 1 to 1000000")
+}
+
+/// The option `--max-len N`.
+pub fn letters_option<'a>(alloc: Global) -> Arg<'a>
+    ensures rule { rule_of result ≡ letters_rule }
+    ensures local { result.global ≡ false }
+{
+    Arg::new(alloc, "max-len")
+        .long("max-len")
+        .value_name("N")
+        .default_value("1024")
+        .action(ArgAction::Set)
+        .value_parser(value_parser!(u32).range(1..=65_535))
+        .help("The most letters that a left side may have, 1 to 65535")
+}
+
 /// The option `--workers N`.
 pub fn workers_option<'a>(alloc: Global) -> Arg<'a>
     ensures rule { rule_of result ≡ workers_rule }
@@ -67,7 +95,8 @@ pub fn workers_option<'a>(alloc: Global) -> Arg<'a>
 
 /// The text that is given under the name.
 pub fn text_given<'a>(matches: &ArgMatches<'a>, name: &str) -> Option<&'a str>
-    ensures { option_map (λ text. text.now) result ≡ first_of name.now (rows_of (found_of matches.now)) }
+    ensures { option_map (λ text. text.now) result
+        ≡ first_of name.now (rows_of (found_of matches.now)) }
 {
     matches.get_str(name)
 }
@@ -82,16 +111,20 @@ pub fn states_given(matches: &ArgMatches<'_>) -> Option<u32>
 
 /// The number from `least` to `most` that is given under the name.
 pub fn number_given(matches: &ArgMatches<'_>, name: &str, least: u32, most: u32) -> Option<u32>
-    ensures some { IfSome result (λ number. GivesNumber (rows_of (found_of matches.now)) name.now least most number) }
-    ensures none { result ≡ None → (n : ℕ) → ¬ GivesNumber (rows_of (found_of matches.now)) name.now least most n }
+    ensures some { IfSome result
+        (λ number. GivesNumber (rows_of (found_of matches.now)) name.now least most number) }
+    ensures none { result ≡ None → (n : ℕ)
+        → ¬ GivesNumber (rows_of (found_of matches.now)) name.now least most n }
 {
     number_within(text_given(matches, name)?, least, most)
 }
 
 /// The length of words that is given under the name.
 pub fn length_given(matches: &ArgMatches<'_>, name: &str) -> Option<u16>
-    ensures some { IfSome result (λ length. GivesNumber (rows_of (found_of matches.now)) name.now 0 65535 length) }
-    ensures none { result ≡ None → (n : ℕ) → ¬ GivesNumber (rows_of (found_of matches.now)) name.now 0 65535 n }
+    ensures some { IfSome result
+        (λ length. GivesNumber (rows_of (found_of matches.now)) name.now 0 65535 length) }
+    ensures none { result ≡ None → (n : ℕ)
+        → ¬ GivesNumber (rows_of (found_of matches.now)) name.now 0 65535 n }
 {
     let length = number_given(matches, name, 0, 65_535)?;
     u16::try_from(length).ok()

@@ -2,17 +2,18 @@
 //! print and take from the command line.
 //!
 //! The public contract is that of [`Task`]. A command is a value that runs over the outside once. Its relation
-//! `means` is what each status of a run means; `may_store`, `reads`, `is_unrefused`, `answers` and
+//! `means` is what each status of a run means; `may_store`, `reads`, `is_unrefused`, `answers`, `settles` and
 //! `differs_in_options` are what it may store, the files that it reads, when nothing of what it reads is refused,
-//! with which statuses it then ends, and which commands are the same but for options that change no answer. Its
-//! laws are over these: where nothing is refused there is an answer (`complete`), the files settle it
-//! (`settled`), and what status 0 writes and stores is one function of command, files and input
-//! (`one_function`). Every run also keeps what `IsRun` of `specs/Runs.antt` states once for all commands: the
-//! cause of a fault, that counts never fall, and that other files stay.
+//! with which statuses it then ends, which statuses the files settle, and which commands are the same but for
+//! options that change no answer. Its laws are over these: where nothing is refused there is an answer
+//! (`complete`), the files settle which of the statuses that they settle there is (`settled`), and what status 0
+//! writes and stores is one function of command, files and input (`one_function`). Every run also keeps what
+//! `IsRun` of `specs/Runs.antt` states once for all commands: the cause of a fault, that counts never fall, and
+//! that other files stay.
 //!
 //! - `status` is how a run ends, with its exit status and its messages.
-//! - `loading` loads files, and the presentations and automata that they hold; `storing` stores an automaton in its
-//!   canonical form; `lines` prints the line of an answer.
+//! - `loading` loads files, and the presentations, automata and logs that they hold; `storing` stores files, and an
+//!   automaton in its canonical form; `lines` prints the line of an answer.
 //! - `arguments` is what commands take of the command line in the same way.
 //!
 //! Below are the readers of files and the canonical form of automata; above are the families of commands, and
@@ -27,13 +28,14 @@ mod storing;
 mod task;
 
 pub use arguments::{
-    length_argument, length_given, needed_argument, number_given, states_given, states_option,
-    text_given, workers_option,
+    length_argument, length_given, letters_option, lines_option, needed_argument, number_given,
+    states_given, states_option, text_given, workers_option,
 };
-pub use lines::{print_limit, print_line};
+pub use lines::{print_limit, print_limit_words, print_line, undecided_line, undecided_words_line};
 pub use loading::automata::{Kind, Loaded, load_automaton, load_second};
+pub use loading::logs::load_log;
 pub use loading::presentations::load_presentation;
 pub use loading::{LoadStop, load_text};
 pub use status::{Cert, Construction, FileFault, Limit, Refusal, Status, Which};
-pub use storing::store_canonical;
+pub use storing::{TextFile, canonical_text, store_canonical, store_texts};
 pub use task::Task;

@@ -9,6 +9,7 @@ use kb_word::OwnedText;
 use std::alloc::Global;
 
 pub(crate) mod automata;
+pub(crate) mod logs;
 pub(crate) mod presentations;
 
 /// A file has at most so many bytes.

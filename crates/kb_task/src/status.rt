@@ -4,6 +4,7 @@ use clap::error::ErrorKind;
 use kb_fsa::Symbols;
 use kb_fsafile::FsaError;
 use kb_presfile::PresError;
+use kb_proof::LogError;
 use kb_record::WordError;
 use kb_word::{OwnedText, Word};
 use std::fmt;
@@ -49,6 +50,8 @@ pub enum FileFault {
     Presentation(PresError),
     /// It holds no automaton.
     Automaton(FsaError),
+    /// It holds no log.
+    Log(LogError),
     /// It holds an automaton of pairs, where a plain one is needed.
     NotPlain,
     /// It holds a plain automaton, where one of pairs is needed.
@@ -60,6 +63,10 @@ pub enum FileFault {
 /// A limit that was reached.
 #[derive(Clone, Copy, Debug, PartialEq, Eq)]
 pub enum Limit {
+    /// The log of a completion has as many lines as it may have.
+    Rules,
+    /// The left side of a line would have more letters than it may have.
+    Length,
     /// The construction has more states than may be.
     States(Construction),
 }
@@ -75,6 +82,7 @@ pub enum Construction {
     Star,
     Reverse,
     Equal,
+    Acceptor,
 }
 
 /// What shows that the answer is no.
@@ -116,6 +124,7 @@ impl Construction {
             Construction::Star => "star",
             Construction::Reverse => "reverse",
             Construction::Equal => "equal",
+            Construction::Acceptor => "acceptor",
         }
     }
 }
@@ -157,6 +166,7 @@ impl fmt::Display for FileFault {
             FileFault::TooLong => write!(f, "E15 TooLong"),
             FileFault::Presentation(fault) => write!(f, "{fault}"),
             FileFault::Automaton(fault) => write!(f, "{fault}"),
+            FileFault::Log(fault) => write!(f, "{fault}"),
             FileFault::NotPlain => write!(f, "E18 AlphabetOther"),
             FileFault::NotPairs => write!(f, "E20 NotPairs"),
             FileFault::AlphabetsDiffer => write!(f, "E22 AlphabetsDiffer"),

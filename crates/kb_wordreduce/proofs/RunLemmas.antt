@@ -25,8 +25,10 @@ use Rattle.kb_task.specs.declared.status.Status.TheVariants.{Yes, Refused, No, M
 use Rattle.kb_task.specs.declared.status.Which.TheVariants.{Input, Output}
 use Rattle.kb_task.proofs.EffectLemmas.{unchanged-later, writes-later, front-later, writes-printed, front-printed, unchanged-printed}
 use Rattle.kb_task.proofs.RunLemmas.{run-prints}
+use Rattle.kb_normalforms.specs.Stops.{stop_status}
+use Rattle.kb_normalforms.proofs.StopLemmas.{stop-counted}
 use Rattle.kb_wordreduce.specs.Confluence.{relations, IsLeastIn, OrientedAreConfluent, OrientedAreNotConfluent, no_line}
-use Rattle.kb_wordreduce.specs.WordReduce.{streams_of, AnswersMean, StoresNothing, stop_status}
+use Rattle.kb_wordreduce.specs.WordReduce.{streams_of, AnswersMean, StoresNothing}
 use Rattle.kb_wordreduce.proofs.OrientLemmas.{rules_covered}
 
 -- ---- how many rules there may be
@@ -154,14 +156,6 @@ stop-means parts before after stops.TooLong confluent how = (confluent, how)
 stop-means parts before after stops.Input confluent how = (confluent, how)
 stop-means parts before after stops.Output confluent how = inr (confluent, how)
 stop-means parts before after stops.Memory confluent how = inr (confluent, how)
-
-stop-counted : (before after : Outside) (stop : Stop) → StopIsCounted (streams_of before) (streams_of after) stop
-    → FaultIsCounted before after (stop_status stop)
-stop-counted before after (stops.Refused number fault) counted = tt
-stop-counted before after stops.TooLong counted = tt
-stop-counted before after stops.Input counted = counted
-stop-counted before after stops.Output counted = counted
-stop-counted before after stops.Memory counted = tt
 
 pub stop-run : (parts : PresentationParts) (shelf : ShelfState) (before after : Streams) (stop : Stop) (status : Status)
     → status ≡ stop_status stop → OrientedAreConfluent parts → StreamsGoOn before after → StopIsCounted before after stop

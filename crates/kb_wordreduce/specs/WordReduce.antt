@@ -29,14 +29,6 @@ abbrev pub LinesStop : PresentationParts → Outside → Outside → Stop → Ty
 LinesStop parts before after stop =
     OrientedAreConfluent parts × Stops parts (IsLeastIn parts) (streams_of before) (streams_of after) stop
 
--- the status of a run that a stop ends
-abbrev pub stop_status : Stop → Status
-stop_status (stops.Refused number fault) = Refused (Line number fault)
-stop_status stops.TooLong = Refused InputTooLong
-stop_status stops.Input = Fault Input
-stop_status stops.Output = Fault Output
-stop_status stops.Memory = Memory
-
 -- a front of the line that a no writes was written
 pub record FrontOfNo (parts : PresentationParts) (before after : Outside) : Type 0 where
   pub u : List ℕ

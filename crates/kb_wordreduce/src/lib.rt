@@ -8,15 +8,14 @@
 //! two words that show why the rules aren't confluent.
 //!
 //! - `word_reduce` is the command, `run` a run of it, and `line` the command on the command line.
-//! - `orienting` orients the relations, and `normal_forms` answers words by rules.
+//! - `orienting` orients the relations.
 //! - By the law of `laws` no presentation's oriented relations are confluent and not.
 //!
-//! Below are kb_task, kb_lines and kb_confluence; above is kb_cli.
+//! Below are kb_task, kb_lines, kb_normalforms and kb_confluence; above is kb_cli.
 #![tactic(auto)]
 
 mod laws;
 mod line;
-mod normal_forms;
 mod orienting;
 mod run;
 mod word_reduce;

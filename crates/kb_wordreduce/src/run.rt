@@ -10,9 +10,8 @@ ghost use Rattle.kb_word.specs.Relations.{AreOriented};
 ghost use Rattle.kb_presfile.specs.Holds.{most_equations};
 ghost use Rattle.kb_task.specs.Runs.{IsRun};
 ghost use Rattle.kb_wordreduce.specs.Confluence.{relations, OrientedAreNotConfluent, no_line};
-ghost use Rattle.kb_wordreduce.specs.WordReduce.{AnswersMean, StoresNothing, stop_status};
+ghost use Rattle.kb_wordreduce.specs.WordReduce.{AnswersMean, StoresNothing};
 
-use crate::normal_forms::NormalForms;
 use crate::orienting::{oriented, oriented_relations_keep_the_congruence, oriented_rules_decrease};
 use crate::word_reduce::WordReduce;
 use kb_confluence::{
@@ -20,15 +19,16 @@ use kb_confluence::{
 };
 use kb_index::Index;
 use kb_io::{Shelf, Sink, Source};
-use kb_lines::{Stop, answer_lines};
+use kb_lines::answer_lines;
+use kb_normalforms::{NormalForms, status_of};
 use kb_rules::{Reducer, Rules};
-use kb_task::{Cert, Refusal, Status, Task, Which, load_presentation, print_line};
+use kb_task::{Cert, Status, Task, load_presentation, print_line};
 use kb_word::{Memory, Names, Presentation, Word, print_word};
 use kb_wordreader::WordReader;
 use std::alloc::Global;
 
 impl Task for WordReduce {
-    ghost use Rattle.kb_task.specs.Statuses.{AnswersYesOrNo};
+    ghost use Rattle.kb_task.specs.Statuses.{AnswersYesOrNo, IsConclusive};
     ghost use Rattle.kb_wordreduce.specs.WordReduce.{WordReduceMeans, wordreduce_may_store, wordreduce_reads, wordreduce_is_unrefused, WordReducesDifferInOptions};
     ghost use Rattle.kb_wordreduce.specs.WordReduceLaws.{wordreduce_complete, wordreduce_settled, wordreduce_one_function};
 
@@ -42,14 +42,17 @@ impl Task for WordReduce {
 
     ghost answers = { λ task. AnswersYesOrNo };
 
+    ghost settles = { λ task. IsConclusive };
+
     ghost differs_in_options = { WordReducesDifferInOptions };
 
-    fn run<F: Shelf, I: Source, O: Sink>(
+    fn run<F: Shelf, I: Source, O: Sink, E: Sink>(
         self,
         alloc: Global,
         shelf: &mut F,
         input: &mut I,
         out: &mut O,
+        _err: &mut E,
     ) -> Status {
         let workers = self.workers;
         match load_presentation(alloc, self.file, shelf) {
@@ -124,19 +127,6 @@ fn answer_all<I: Source, O: Sink>(
     match answer_lines(alloc, &normal_forms, input, out) {
         Ok(()) => Status::Yes,
         Err(stop) => status_of(stop),
-    }
-}
-
-/// The status of a run that a stop ends.
-fn status_of(stop: Stop) -> Status
-    ensures { result ≡ stop_status stop }
-{
-    match stop {
-        Stop::Refused { number, fault } => Status::Refused(Refusal::Line { number, fault }),
-        Stop::TooLong => Status::Refused(Refusal::InputTooLong),
-        Stop::Input => Status::Fault(Which::Input),
-        Stop::Output => Status::Fault(Which::Output),
-        Stop::Memory => Status::Memory,
     }
 }
 

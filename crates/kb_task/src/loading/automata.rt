@@ -44,13 +44,15 @@ pub fn load_automaton<F: Shelf>(
     shelf: &mut F,
 ) -> Result<Loaded, Status>
     ensures holds { IsTrue (F.state shelf.old).told
-        → IfOk result (λ loaded. HoldsAutomaton (F.state shelf.old).holds file loaded.names loaded.fsa) }
+        → IfOk result (λ loaded.
+        HoldsAutomaton (F.state shelf.old).holds file loaded.names loaded.fsa) }
     ensures kind { IfOk result (λ loaded. HasKind kind loaded.fsa.alphabet) }
     ensures letters { IfOk result (λ loaded. length loaded.names ≡ generators loaded.fsa.alphabet) }
     ensures ends { IsTrue (F.state shelf.old).told
         → IfErr result (EndsAtLoad (IsAutomatonFault kind (F.state shelf.old).holds file) file) }
     ensures fault { IfErr result (λ status. (input : SourceState) (output : SinkState)
-        → FaultIsCounted (outside (F.state shelf.old) input output) (outside (F.state shelf.new) input output) status) }
+        → FaultIsCounted (outside (F.state shelf.old) input output)
+        (outside (F.state shelf.new) input output) status) }
     ensures only_loads { OnlyLoads (F.state shelf.old) (F.state shelf.new) }
 {
     match automaton_in(alloc, kind, file.as_str(), shelf) {
@@ -71,9 +73,11 @@ pub fn load_second<F: Shelf>(
         → IfOk result (λ fsa. HoldsAutomaton (F.state shelf.old).holds file first.now.names fsa) }
     ensures alphabet { IfOk result (λ fsa. fsa.alphabet ≡ first.now.fsa.alphabet) }
     ensures ends { IsTrue (F.state shelf.old).told → IfErr result (EndsAtLoad
-        (IsSecondFault kind first.now.names first.now.fsa.alphabet (F.state shelf.old).holds file) file) }
+        (IsSecondFault kind first.now.names first.now.fsa.alphabet
+        (F.state shelf.old).holds file) file) }
     ensures fault { IfErr result (λ status. (input : SourceState) (output : SinkState)
-        → FaultIsCounted (outside (F.state shelf.old) input output) (outside (F.state shelf.new) input output) status) }
+        → FaultIsCounted (outside (F.state shelf.old) input output)
+        (outside (F.state shelf.new) input output) status) }
     ensures only_loads { OnlyLoads (F.state shelf.old) (F.state shelf.new) }
 {
     match second_in(alloc, kind, first, file.as_str(), shelf) {
@@ -90,7 +94,8 @@ fn automaton_in<F: Shelf>(
     shelf: &mut F,
 ) -> Result<Loaded, LoadStop>
     ensures holds { IsTrue (F.state shelf.old).told
-        → IfOk result (λ loaded. HoldsAutomaton (F.state shelf.old).holds name.now loaded.names loaded.fsa) }
+        → IfOk result (λ loaded.
+        HoldsAutomaton (F.state shelf.old).holds name.now loaded.names loaded.fsa) }
     ensures kind { IfOk result (λ loaded. HasKind kind loaded.fsa.alphabet) }
     ensures letters { IfOk result (λ loaded. length loaded.names ≡ generators loaded.fsa.alphabet) }
     ensures stops { IsTrue (F.state shelf.old).told
@@ -135,10 +140,12 @@ fn second_in<F: Shelf>(
     shelf: &mut F,
 ) -> Result<Fsa, LoadStop>
     ensures holds { IsTrue (F.state shelf.old).told
-        → IfOk result (λ fsa. HoldsAutomaton (F.state shelf.old).holds name.now first.now.names fsa) }
+        → IfOk result (λ fsa.
+        HoldsAutomaton (F.state shelf.old).holds name.now first.now.names fsa) }
     ensures alphabet { IfOk result (λ fsa. fsa.alphabet ≡ first.now.fsa.alphabet) }
     ensures stops { IsTrue (F.state shelf.old).told → IfErr result (IsCause
-        (IsSecondFault kind first.now.names first.now.fsa.alphabet (F.state shelf.old).holds name.now)) }
+        (IsSecondFault kind first.now.names first.now.fsa.alphabet
+        (F.state shelf.old).holds name.now)) }
     ensures counted { IfErr result (LoadIsCounted (F.state shelf.old) (F.state shelf.new)) }
     ensures only_loads { OnlyLoads (F.state shelf.old) (F.state shelf.new) }
 {
@@ -151,7 +158,8 @@ fn second_in<F: Shelf>(
 
 /// Whether both read the same letters, by the same names in the same order.
 fn has_same_alphabet(first: &Loaded, second: &Loaded) -> bool
-    ensures { IsTrue result ↔ ((second.now.names ≡ first.now.names) × (second.now.fsa.alphabet ≡ first.now.fsa.alphabet)) }
+    ensures { IsTrue result ↔ ((second.now.names ≡ first.now.names)
+        × (second.now.fsa.alphabet ≡ first.now.fsa.alphabet)) }
 {
     have_same_names(&second.names, &first.names) && second.fsa.alphabet() == first.fsa.alphabet()
 }

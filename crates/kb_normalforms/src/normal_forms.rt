@@ -9,9 +9,11 @@ use std::alloc::Global;
 
 /// Answers a word of a presentation with its normal form by rules.
 #[derive(Drop)]
-pub(crate) struct NormalForms {
-    pub(crate) reader: WordReader,
-    pub(crate) index: Index,
+pub struct NormalForms {
+    /// The reader of words by the presentation.
+    pub reader: WordReader,
+    /// The rules.
+    pub index: Index,
 }
 
 impl Answerer for NormalForms {

@@ -1,0 +1,12 @@
+pub mod Lists
+pub mod Searching
+pub mod Origins
+pub mod Courses
+pub mod Removal
+pub mod Derived
+pub mod Apart
+pub mod Events
+pub mod Limit
+pub mod Shorter
+pub mod Replaced
+pub mod Reduced

@@ -1,0 +1,20 @@
+use Rattle.std.proofs.Common.{◌≡◌, ℕ, List, [], ◌∷◌, ◌++◌, refl, ap, ◌∙◌, true, rules}
+use Rattle.kb_word.specs.Words.{Pair}
+use Rattle.kb_log.specs.Lines.{rules_of, OverlapOfNumbers}
+use Rattle.kb_machine.specs.declared.event.Event.{Event}
+use Rattle.kb_machine.specs.declared.event.Event.TheVariants.{Entered}
+use Rattle.kb_log.specs.declared.origin.Origin.{Origin}
+use Rattle.kb_log.specs.declared.origin.Origin.TheVariants.{Overlap}
+use Rattle.kb_book.proofs.Courses.{book_after}
+use Rattle.kb_book.proofs.book.Book.enter.Goals as goal
+
+pub invariant_of-self-2 : goal.invariant_of-self-2
+invariant_of-self-2 g c =
+    let event : Event = Entered c.args.worker c.args.i c.args.j c.args.place in
+    let origin : Origin = Overlap c.args.i c.args.j c.args.place in
+    let found : (first second : Pair) × OverlapOfNumbers (rules_of c.self.inside.lines.items) c.args.i c.args.j c.args.place first second = search rules in
+    let events = c.add.ensures.items ∙ ap (λ (l : List Event). l ++ event ∷ []) c.make_room.ensures.events in
+    let origins = c.append.ensures.items ∙ ap (λ (l : List Origin). l ++ origin ∷ []) c.make_room.ensures.origins in
+    book_after {event = event} c.self.invariant
+    (record { problem = refl; journal = events; step = record { first = found.0; second = found.1; overlap = found.2; is = cc origins } })
+    c.self.invariant.reduces refl

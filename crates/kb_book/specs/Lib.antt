@@ -1,0 +1,6 @@
+pub mod Limited
+pub mod Books
+pub mod Answers
+pub mod Factors
+pub mod Normal
+pub mod Shorter

@@ -1,0 +1,162 @@
+//! Books.
+
+ghost use Rattle.std.specs.Prelude.{◌≡◌, ◌≢◌, ◌+◌, ◌≤◌, ◌<◌, [], Err, IfOk, OnOk};
+ghost use Rattle.std.specs.Option.{option_copied};
+ghost use Rattle.kb_word.specs.Presentations.{parts_of};
+ghost use Rattle.kb_book.specs.Answers.{ShortenSays};
+ghost use Rattle.kb_machine.specs.Course.{IsCourse};
+ghost use Rattle.kb_machine.specs.States.{start, live_rules};
+
+use crate::answers::Shorten;
+use crate::limits::Limits;
+use kb_log::{Line, Origin};
+use kb_machine::{Event, Halt};
+use kb_ragged::Ragged;
+use kb_rules::{Reducer, Workspace};
+use kb_word::{Memory, Presentation, Word};
+use std::alloc::Global;
+use std::collections::VecDeque;
+use std::marker::Model;
+
+/// A completion of a presentation within limits, with the events that led to its state.
+#[derive(Drop)]
+pub struct Book<R: Reducer> {
+    pub(crate) presentation: Presentation,
+    pub(crate) relations: Vec<(Word, Word)>,
+    pub(crate) most_lines: u32,
+    pub(crate) most_letters: u32,
+    pub(crate) lines: Vec<Line>,
+    pub(crate) live: Vec<u32>,
+    pub(crate) pending: VecDeque<Origin>,
+    pub(crate) versions: Ragged<u32>,
+    pub(crate) halt: Option<Halt>,
+    pub(crate) journal: Vec<Event>,
+    /// By the live rules, in line order.
+    pub(crate) reducer: R,
+    /// Two words and a workspace, kept to save memory; what they hold counts for nothing.
+    pub(crate) first: Word,
+    pub(crate) second: Word,
+    pub(crate) workspace: Workspace,
+}
+
+impl<R: Reducer> Model for Book<R> {
+    ghost use Rattle.std.specs.Prelude.{◌≡◌, ◌≤◌, ◌-◌, vec_len, vec_capacity, min};
+    ghost use Rattle.std.specs.VecDeque.{deque_len, deque_capacity};
+    ghost use Rattle.kb_word.specs.Presentations.{parts_of};
+    ghost use Rattle.kb_book.specs.Books.{BookParts, IsBook};
+
+    ghost Value = { BookParts };
+
+    ghost view = { λ book. record {
+      course = record {
+        problem = record {
+          presentation = parts_of book.presentation;
+          most_lines = book.most_lines;
+          most_letters = book.most_letters;
+        };
+        state = record {
+          lines = book.lines.items;
+          live = book.live.items;
+          pending = book.pending.items;
+          versions = book.versions;
+          halt = book.halt;
+        };
+        journal = book.journal.items;
+      };
+      spare = min (vec_capacity book.journal - vec_len book.journal)
+          (deque_capacity book.pending - deque_len book.pending);
+    } };
+
+    ghost invariant = { λ book. IsBook
+        (record {
+          problem = record {
+            presentation = parts_of book.presentation;
+            most_lines = book.most_lines;
+            most_letters = book.most_letters;
+          };
+          state = record {
+            lines = book.lines.items;
+            live = book.live.items;
+            pending = book.pending.items;
+            versions = book.versions;
+            halt = book.halt;
+          };
+          journal = book.journal.items;
+        })
+        book.relations.items (R.rules book.reducer) (R.order book.reducer) };
+}
+
+impl<R: Reducer> Book<R> {
+    /// All lines that were made; line k stands at place k - 1.
+    pub fn lines(&self) -> &[Line]
+        ensures { result.now ≡ self.now.course.state.lines }
+    {
+        &self.lines
+    }
+
+    /// The numbers of the live lines, ascending.
+    pub fn live(&self) -> &[u32]
+        ensures { result.now ≡ self.now.course.state.live }
+    {
+        &self.live
+    }
+
+    /// The origins of the pairs that are still to be looked at, the next one first.
+    pub fn pending(&self) -> &VecDeque<Origin>
+        ensures { result.now.items ≡ self.now.course.state.pending }
+    {
+        &self.pending
+    }
+
+    /// The numbers of the live lines of each version that was published.
+    pub fn versions(&self) -> &Ragged<u32>
+        ensures { result.now ≡ self.now.course.state.versions }
+    {
+        &self.versions
+    }
+
+    /// Why the completion halted, if it did.
+    pub fn halt(&self) -> Option<&Halt>
+        ensures { option_copied result ≡ self.now.course.state.halt }
+    {
+        self.halt.as_ref()
+    }
+
+    /// All events, the first one first.
+    pub fn journal(&self) -> &[Event]
+        ensures events { result.now ≡ self.now.course.journal }
+        ensures course { IsCourse self.now.course }
+    {
+        &self.journal
+    }
+
+    /// What is completed.
+    pub fn presentation(&self) -> &Presentation
+        ensures { parts_of result.now ≡ self.now.course.problem.presentation }
+    {
+        &self.presentation
+    }
+
+    /// How many lines there may be, and how many letters a left side may have.
+    pub fn limits(&self) -> (u32, u32)
+        ensures { result ≡ (self.now.course.problem.most_lines, self.now.course.problem.most_letters) }
+    {
+        (self.most_lines, self.most_letters)
+    }
+
+    /// The reducer by the live rules, in line order.
+    pub fn reducer(&self) -> &R
+        ensures rules { R.rules result.now ≡ live_rules self.now.course.state }
+        ensures order { R.order result.now ≡ self.now.course.problem.presentation.order }
+    {
+        &self.reducer
+    }
+
+    /// The lines, and why the completion halted, if it did; given back without taking memory.
+    pub fn into_log(self) -> (Vec<Line>, Option<Halt>)
+        ensures lines { result.0.items ≡ self.course.state.lines }
+        ensures halt { result.1 ≡ self.course.state.halt }
+    {
+        (self.lines, self.halt)
+    }
+}

@@ -1,0 +1,65 @@
+//! Overlaps that workers find become pending.
+
+ghost use Rattle.std.specs.Prelude.{◌≡◌, ◌≢◌, ◌↔◌, ◌+◌, ◌≤◌, ◌<◌, Err, IsTrue, OnOk};
+ghost use Rattle.kb_word.specs.Words.{Pair};
+ghost use Rattle.kb_log.specs.Lines.{rules_of, OverlapOfNumbers};
+ghost use Rattle.kb_book.specs.Answers.{EnterSays};
+
+use crate::answers::EnterFault;
+use crate::book::Book;
+use crate::numbers::line_at;
+use crate::room::{add, append, make_room};
+use kb_log::{Line, Origin};
+use kb_machine::Event;
+use kb_overlap::meets;
+use kb_rules::Reducer;
+use kb_word::Memory;
+
+impl<R: Reducer> Book<R> {
+    /// Makes the overlap of two lines pending, which a worker found at a place of the first one's left side. It takes
+    /// no memory where the book has room to spare.
+    pub fn enter(&mut self, worker: u32, i: u32, j: u32, place: u64) -> Result<(), EnterFault>
+        ensures says { EnterSays worker i j place self.old.course self.new.course result }
+        ensures room { 0 < self.old.spare → result ≢ Err EnterFault.Memory }
+        ensures spare { self.old.spare ≤ self.new.spare + 1 }
+    {
+        if !overlap(&self.lines, i, j, place) {
+            return Err(EnterFault::NotOverlap);
+        }
+        make_room(&mut self.journal, &mut self.pending, 1)?;
+        let origin = Origin::Overlap {
+            first: i,
+            second: j,
+            place,
+        };
+        let event = Event::Entered {
+            worker,
+            first: i,
+            second: j,
+            place,
+        };
+        append(&mut self.pending, origin);
+        add(&mut self.journal, event);
+        Ok(())
+    }
+
+    /// Makes room for at least n overlaps to be entered without taking memory.
+    pub fn reserve(&mut self, n: u32) -> Result<(), Memory>
+        ensures ok { OnOk result (n ≤ self.new.spare) }
+        ensures same { self.new.course ≡ self.old.course }
+    {
+        make_room(&mut self.journal, &mut self.pending, n as usize)
+    }
+}
+
+/// Whether the lines with these numbers overlap at the place.
+fn overlap(lines: &[Line], i: u32, j: u32, place: u64) -> bool
+    ensures { IsTrue result ↔ ((first second : Pair) × OverlapOfNumbers (rules_of lines.now) i j place first second) }
+{
+    match (line_at(lines, i), line_at(lines, j)) {
+        (Some(first), Some(second)) => {
+            (i != j || 0 < place) && meets(&first.left, &second.left, place)
+        }
+        _ => false,
+    }
+}

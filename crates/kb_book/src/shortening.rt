@@ -1,0 +1,87 @@
+//! Lines whose right side the other live rules reduce are replaced.
+
+ghost use Rattle.std.specs.Prelude.{◌≡◌, ◌<◌, [], IfOk, All, length, map};
+ghost use Rattle.kb_log.specs.declared.origin.Origin.TheVariants as origins;
+ghost use Rattle.kb_book.specs.Answers.{ShortenSays};
+ghost use Rattle.kb_book.specs.Normal.{log_step};
+ghost use Rattle.kb_book.specs.Shorter.{IsShorter};
+
+use crate::answers::Shorten;
+use crate::book::Book;
+use crate::numbers::{line_of, place_of};
+use crate::room::add;
+use crate::steps::log_steps;
+use kb_log::{Line, Origin};
+use kb_machine::Event;
+use kb_rules::{Reducer, Rule, Trace};
+use kb_word::Memory;
+use std::alloc::Global;
+
+impl<R: Reducer> Book<R> {
+    /// Replaces a line whose right side the other live rules reduce: the new line has its normal form there.
+    pub fn shorten(&mut self, alloc: Global, k: u32) -> Result<Shorten, Memory>
+        ensures { ShortenSays k self.old.course self.new.course result }
+    {
+        let Some(place) = place_of(&self.live, k) else {
+            return Ok(Shorten::Least);
+        };
+        // The line's own rule is never used: a word that has its left side as a factor isn't below that.
+        let own = line_of(&self.lines, k);
+        let trace = self.reducer.trace(alloc, &own.right)?;
+        if trace.steps.is_empty() {
+            return Ok(Shorten::Least);
+        }
+        if self.lines.len() >= self.most_lines as usize || self.halt.is_some() {
+            return Ok(Shorten::NoRoom);
+        }
+        let line = shorter(alloc, own, k, &self.live, trace)?;
+        self.replace(alloc, place, k, line)
+    }
+
+    /// Replaces the live line at a place by another with a lesser right side.
+    fn replace(
+        &mut self,
+        alloc: Global,
+        place: usize,
+        k: u32,
+        line: Line,
+    ) -> Result<Shorten, Memory>
+        requires { IsShorter self.old.course k place line }
+        ensures { ShortenSays k self.old.course self.new.course result }
+    {
+        let left = line.left.copy(alloc)?;
+        let right = line.right.copy(alloc)?;
+        let new = self.lines.len() as u32 + 1;
+        self.journal.reserve(1)?;
+        self.lines.reserve(1)?;
+        let mut reducer = self.reducer.copy(alloc)?;
+        reducer.remove(alloc, place)?;
+        reducer.push(alloc, &Rule::new(left, right))?;
+        self.reducer = reducer;
+        let _ = self.live.remove(place);
+        add(&mut self.live, new);
+        add(&mut self.lines, line);
+        add(&mut self.journal, Event::Shortened { line: k, new });
+        Ok(Shorten::Shortened(new))
+    }
+}
+
+/// The line that replaces line k, whose right side was reduced.
+fn shorter(alloc: Global, own: &Line, k: u32, live: &[u32], trace: Trace) -> Result<Line, Memory>
+    requires { All (λ step. step.rule < length live.now) trace.steps.items }
+    ensures origin { IfOk result (λ line. line.origin ≡ origins.Shortened k) }
+    ensures left { IfOk result (λ line. line.left ≡ own.now.left) }
+    ensures right { IfOk result (λ line. line.right ≡ trace.word) }
+    ensures first_steps { IfOk result (λ line. line.first_steps.items ≡ map (log_step live.now) trace.steps.items) }
+    ensures second_steps { IfOk result (λ line. line.second_steps.items ≡ []) }
+{
+    let left = own.left.copy(alloc)?;
+    let first_steps = log_steps(alloc, live, &trace.steps)?;
+    Ok(Line {
+        origin: Origin::Shortened(k),
+        left,
+        right: trace.word,
+        first_steps,
+        second_steps: Vec::new(alloc),
+    })
+}

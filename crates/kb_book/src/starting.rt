@@ -1,0 +1,74 @@
+//! Books at the start.
+
+ghost use Rattle.std.specs.Prelude.{◌≡◌, ◌+◌, [], IfOk, IfSome};
+ghost use Rattle.kb_word.specs.Presentations.{parts_of};
+ghost use Rattle.kb_machine.specs.States.{relation_origins, start};
+
+use crate::book::Book;
+use crate::limits::Limits;
+use kb_log::Origin;
+use kb_ragged::Ragged;
+use kb_rules::{Reducer, Rules, Workspace};
+use kb_word::{Memory, Presentation, Word};
+use std::alloc::Global;
+use std::collections::VecDeque;
+
+impl<R: Reducer> Book<R> {
+    /// The book at the start: all relations are pending.
+    pub fn new(
+        alloc: Global,
+        presentation: &Presentation,
+        limits: &Limits,
+    ) -> Result<Book<R>, Memory>
+        ensures problem { IfOk result (λ book. book.course.problem ≡
+            record {
+              presentation = parts_of presentation.now;
+              most_lines = limits.now.rules;
+              most_letters = limits.now.len;
+            }) }
+        ensures state { IfOk result (λ book. book.course.state ≡ start book.course.problem) }
+        ensures journal { IfOk result (λ book. book.course.journal ≡ []) }
+    {
+        let presentation = presentation.copy(alloc)?;
+        let relations = presentation.relations(alloc)?;
+        let pending = origins_of(alloc, &relations)?;
+        let rules = Rules::new(alloc, presentation.order.copy(alloc)?);
+        let reducer = R::of(alloc, &rules)?;
+        let versions = Ragged::new(alloc)?;
+        Ok(Book {
+            presentation,
+            relations,
+            most_lines: limits.rules,
+            most_letters: limits.len,
+            lines: Vec::new(alloc),
+            live: Vec::new(alloc),
+            pending,
+            versions,
+            halt: None,
+            journal: Vec::new(alloc),
+            reducer,
+            first: Word::new(alloc),
+            second: Word::new(alloc),
+            workspace: Workspace::new(alloc),
+        })
+    }
+}
+
+/// The origins of the relations, in order. More relations than a `u32` can number take more memory than there is.
+fn origins_of(alloc: Global, relations: &[(Word, Word)]) -> Result<VecDeque<Origin>, Memory>
+    ensures { IfOk result (λ origins. origins.items ≡ relation_origins 1 relations.now) }
+{
+    let mut origins = VecDeque::new(alloc);
+    for (place, _) in relations.iter().enumerate() {
+        let number = number_at(place).ok_or(Memory)?;
+        origins.push_back(Origin::Relation(number))?;
+    }
+    Ok(origins)
+}
+
+/// The number of what stands at a place.
+fn number_at(place: usize) -> Option<u32>
+    ensures { IfSome result (λ number. number ≡ 1 + place) }
+{
+    u32::try_from(place.checked_add(1)?).ok()
+}

@@ -1,0 +1,52 @@
+-- The names of the commands of completion are apart from those of other families.
+use Rattle.std.proofs.Common.{◌≡◌, ◌≢◌, ◌∙◌, ℕ, sym, ap, arith, slice_index, refl, codes}
+use Rattle.clap.specs.Words.{Text}
+use Rattle.kb_automata.specs.Line.{name_text as automata_text, name_of_task as automata_name}
+use Rattle.kb_automata.specs.declared.task.AutomataTask.{AutomataTask}
+use Rattle.kb_automata.proofs.NameLemmas.{names_begin_with_f}
+use Rattle.kb_completion.specs.Line.{name_text, name_of_task}
+use Rattle.kb_completion.specs.declared.task.CompletionTask.{CompletionTask}
+use Rattle.kb_completion.specs.declared.task.CompletionTask.TheVariants.{Kbprog, Logread, SelfTest}
+
+first_byte : Text → ℕ
+first_byte text = slice_index text 0
+
+begins_with_f : (task : AutomataTask) → first_byte (automata_text (automata_name task)) ≡ 102
+unfolding first_byte
+begins_with_f task = names_begin_with_f task
+
+begins_with_w : first_byte (codes "wordreduce") ≡ 119
+unfolding first_byte
+begins_with_w = refl
+
+-- the first bytes are those of k, l and s
+abbrev begin : CompletionTask → ℕ
+begin (Kbprog task) = 107
+begin (Logread task) = 108
+begin (SelfTest task) = 115
+
+begins : (task : CompletionTask) → first_byte (name_text (name_of_task task)) ≡ begin task
+unfolding first_byte
+begins (Kbprog task) = refl
+begins (Logread task) = refl
+begins (SelfTest task) = refl
+
+begin_other : (task : CompletionTask) → (begin task ≢ 102) × (begin task ≢ 119)
+begin_other (Kbprog task) = (λ same. omega (arith, same), λ same. omega (arith, same))
+begin_other (Logread task) = (λ same. omega (arith, same), λ same. omega (arith, same))
+begin_other (SelfTest task) = (λ same. omega (arith, same), λ same. omega (arith, same))
+
+pub not_wordreduce : (task : CompletionTask) → codes "wordreduce" ≢ name_text (name_of_task task)
+not_wordreduce task same =
+    let bytes = ap first_byte same in
+    let w = begins_with_w in
+    let own = begins task in
+    (begin_other task).1 (sym own ∙ (sym bytes ∙ w))
+
+pub not_automata : (task : AutomataTask) (other : CompletionTask)
+    → automata_text (automata_name task) ≢ name_text (name_of_task other)
+not_automata task other same =
+    let bytes = ap first_byte same in
+    let f = begins_with_f task in
+    let own = begins other in
+    (begin_other other).0 (sym own ∙ (sym bytes ∙ f))

@@ -1,0 +1,4 @@
+mod Stages
+mod Halting
+mod LastLines
+mod Rounds

@@ -1,0 +1,121 @@
+-- Rounds: settling, publishing, passes.
+use Rattle.std.proofs.Common.{◌≡◌, ℕ, ◌-◌, ◌<◌, ◌≤◌, List, [], ◌∷◌, ◌++◌, length, None, sym, ◌∙◌, ap, subst, arith, length-append}
+use Rattle.std.proofs.lemmas.List.{append-nil}
+use Rattle.kb_machine.specs.States.{Problem, State}
+use Rattle.kb_machine.specs.Course.{Course, Takes, IsSound}
+use Rattle.kb_machine.specs.declared.event.Event.TheVariants.{Published, Entered}
+use Rattle.kb_machine.specs.declared.halt.Halt.{Halt}
+use Rattle.kb_rules.specs.OrderedRules.{OrderedRules}
+use Rattle.kb_share.specs.Passes.{IsLater}
+use Rattle.kb_complete.specs.Completing.{GivesHalt, Grows, GrowSays, IsCompleted}
+use Rattle.kb_complete.specs.Working.{IsSettled, AdvanceSays}
+use Rattle.kb_book.specs.Books.{BookParts}
+use Rattle.kb_complete.specs.declared.growing.Round.{Round}
+use Rattle.kb_complete.specs.declared.growing.Round.TheVariants as rounds
+use Rattle.kb_complete.specs.declared.answers.Grown.{Grown}
+use Rattle.kb_complete.specs.declared.answers.Grown.TheVariants as grown
+use Rattle.kb_complete.proofs.Stages.{later_then}
+
+-- later by an event that makes no line
+pub later_same : (before after : Course) → after.problem ≡ before.problem → after.state.lines ≡ before.state.lines → IsLater before after
+later_same before after problem lines = record { problem = problem; made = []; lines = lines ∙ sym (append-nil before.state.lines) }
+
+-- publishing
+pub published_later : (before after : Course) → Takes Published before after → IsLater before after
+published_later before after takes = later_same before after takes.problem (ap (λ (t : State). t.lines) takes.step)
+
+pub published_settled : (before after : Course) → Takes Published before after → before.state.pending ≡ [] → before.state.halt ≡ None
+    → IsSettled after
+published_settled before after takes none running = record {
+  settled = ap (λ (t : State). t.pending) takes.step ∙ none;
+  running = ap (λ (t : State). t.halt) takes.step ∙ running;
+  published = record {
+    earlier = before.state.versions;
+    is = ap (λ (t : State). t.versions) takes.step
+        ∙ ap (λ (k : List ℕ). before.state.versions ++ k ∷ []) (sym (ap (λ (t : State). t.live) takes.step));
+  };
+}
+
+-- entering
+pub entered_later : (worker i j place : ℕ) (before after : Course) → Takes (Entered worker i j place) before after → IsLater before after
+entered_later worker i j place before after takes =
+    later_same before after takes.problem (ap (λ (t : State). t.lines) takes.step.is)
+
+-- later there are no fewer lines
+pub later_lines : (before after : Course) → IsLater before after → length before.state.lines ≤ length after.state.lines
+later_lines before after later =
+    let count = ap length later.lines in
+    let total = length-append before.state.lines later.made in
+    omega (arith, count, total)
+
+-- a settled book with more lines
+pub grows : (start after : Course) → IsLater start after → IsSettled after → length start.state.lines < length after.state.lines → Grows start after
+grows start after later settled more =
+    record { later = later; more = more; settled = settled.settled; running = settled.running; published = settled.published }
+
+-- what is said of a later stage is said of an earlier one
+pub grow_later : {R : Type 0} (start before : Course) (answer : Grown R) → IsLater start before → GrowSays before answer → GrowSays start answer
+grow_later start before (grown.More after) later says =
+    let few = later_lines start before later in
+    let more = says.more in
+    record {
+      later = later_then start before after.course later says.later;
+      more = omega (arith, few, more);
+      settled = says.settled;
+      running = says.running;
+      published = says.published;
+    }
+grow_later start before (grown.Confluent rules after) later says = (later_then start before after.course later says.0, says.1)
+grow_later start before (grown.Halted after halt) later says = (later_then start before after.course later says.0, says.1)
+
+-- what is said of an answer, by the answer that it is
+pub grown_said : {R : Type 0} (before : Course) (given answer : Grown R) → given ≡ answer → GrowSays before given
+    → GrowSays before answer
+grown_said {R = R} before given answer same says = subst (λ (a : Grown R). GrowSays before a) same says
+
+-- after a line is made and the book is settled, it has grown
+pub grows_by_line : (start made after : Course) → IsLater start made → length start.state.lines < length made.state.lines
+    → IsLater made after → IsSettled after → Grows start after
+grows_by_line start made after makes more settles settled =
+    let many = later_lines made after settles in
+    grows start after (later_then start made after makes settles) settled (omega (arith, more, many))
+
+-- a book that has grown has room for fewer lines
+pub fewer_left : (before after : Course) → Grows before after → IsSound after.problem after.state
+    → after.problem.most_lines - length after.state.lines < before.problem.most_lines - length before.state.lines
+fewer_left before after grown sound =
+    let most = ap (λ (p : Problem). p.most_lines) grown.later.problem in
+    let more = grown.more in
+    let few = sound.few in
+    omega (arith, most, more, few)
+
+-- a round is over, at a book with more lines than it began with, or at a halt
+pub over_says : {R : Type 0} (start before : Course) (given : ℕ) (answer : Grown R) → IsLater start before
+    → length start.state.lines ≡ given → AdvanceSays given before (rounds.Over answer) → GrowSays start answer
+over_says start before given (grown.More after) later count says =
+    let more = says.2 in
+    grows start after.course (later_then start before after.course later says.0) says.1 (omega (arith, count, more))
+over_says start before given (grown.Confluent rules after) later count says = absurd says
+over_says start before given (grown.Halted after halt) later count says = (later_then start before after.course later says.0, says.1)
+
+-- and so by the round that it is
+pub round_over : {R : Type 0} (start before : Course) (given : ℕ) (round : Round R) (answer : Grown R) → IsLater start before
+    → length start.state.lines ≡ given → round ≡ rounds.Over answer → AdvanceSays given before round → GrowSays start answer
+round_over {R = R} start before given round answer later count same says =
+    over_says start before given answer later count (subst (λ (r : Round R). AdvanceSays given before r) same says)
+
+-- a round that is still open
+pub round_open : {R : Type 0} (start before : Course) (given : ℕ) (round : Round R) (after : BookParts) → IsLater start before
+    → round ≡ rounds.Open after → AdvanceSays given before round → IsLater start after.course × IsSettled after.course
+round_open {R = R} start before given round after later same says =
+    let own : IsLater before after.course × IsSettled after.course = subst (λ (r : Round R). AdvanceSays given before r) same says in
+    (later_then start before after.course later own.0, own.1)
+
+-- the end of a completion that began with this problem
+pub end_is_completed : (problem : Problem) (before after : Course) (rules : OrderedRules) → before.problem ≡ problem → IsLater before after
+    → IsCompleted after rules → (after.problem ≡ problem) × IsCompleted after rules
+end_is_completed problem before after rules same later completed = (later.problem ∙ same, completed)
+
+pub end_is_halt : (problem : Problem) (before after : Course) (halt : Halt) → before.problem ≡ problem → IsLater before after
+    → GivesHalt after halt → (after.problem ≡ problem) × GivesHalt after halt
+end_is_halt problem before after halt same later given = (later.problem ∙ same, given)

@@ -1,0 +1,12 @@
+use Rattle.kb_complete.proofs.Stages.{later_itself}
+use Rattle.kb_complete.proofs.LastLines.{is_completed}
+use Rattle.kb_complete.proofs.ending.completed.Goals as goal
+
+pub returns : goal.returns
+returns g c =
+    let course = c.args.book.course in (
+      later_itself course,
+      is_completed c.reduced_by_the_same_congruence.ensures c.rules_that_cover_are_confluent.ensures.confluent
+          c.rules_that_cover_are_confluent.ensures.same course c.args.rules.now c.in_ok-reduced.reduced c.book_is_sound.ensures c.requires.settled c.requires.rules
+          c.requires.order c.requires.confluent c.in_ok-reduced.ensures.order c.in_ok-reduced.ensures.reduced,
+    )

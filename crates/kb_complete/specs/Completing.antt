@@ -1,0 +1,67 @@
+-- What completion answers.
+use Rattle.std.specs.Prelude.{◌≡◌, ◌≢◌, ◌<◌, [], length, Some, None}
+use Rattle.kb_word.specs.Congruence.{SameCongruence}
+use Rattle.kb_word.specs.Overlap.{IsConfluent}
+use Rattle.kb_rules.specs.OrderedRules.{OrderedRules}
+use Rattle.kb_log.specs.Lines.{rules_of}
+use Rattle.kb_machine.specs.States.{Problem, relations, below}
+use Rattle.kb_machine.specs.Course.{Course}
+use Rattle.kb_machine.specs.declared.halt.Halt.{Halt}
+use Rattle.kb_book.specs.Answers.{IsCopyOf}
+use Rattle.kb_share.specs.Versions.{IsPublished}
+use Rattle.kb_share.specs.Passes.{IsLater}
+use Rattle.kb_reduced.specs.Reduced.{IsReducedComplete}
+use Rattle.kb_complete.specs.declared.answers.Settled.{Settled}
+use Rattle.kb_complete.specs.declared.answers.Settled.TheVariants as settled
+use Rattle.kb_complete.specs.declared.answers.Grown.{Grown}
+use Rattle.kb_complete.specs.declared.answers.Grown.TheVariants as grown
+use Rattle.kb_complete.specs.declared.answers.Outcome.{Outcome}
+use Rattle.kb_complete.specs.declared.answers.Outcome.TheVariants as outcomes
+
+-- a later stage at which no further version is published
+pub record Settles (before after : Course) : Type 0 where
+  pub later : IsLater before after
+  pub versions : after.state.versions ≡ before.state.versions
+
+-- the course is halted, and this is a copy of its halt
+pub record GivesHalt (course : Course) (halt : Halt) : Type 0 where
+  pub own : Halt
+  pub is : course.state.halt ≡ Some own
+  pub copied : IsCopyOf own halt
+
+-- what `settle` answers
+abbrev pub SettleSays : Course → Course → Settled → Type 0
+SettleSays before after settled.Nothing = (before.state.pending ≡ []) × (after ≡ before) × (after.state.halt ≡ None)
+SettleSays before after settled.Done =
+    (before.state.pending ≢ []) × (after.state.pending ≡ []) × (after.state.halt ≡ None)
+SettleSays before after (settled.Halted halt) = (before.state.pending ≢ []) × GivesHalt after halt
+
+-- a later stage with a line more, at which nothing is pending and the live lines are published
+pub record Grows (before after : Course) : Type 0 where
+  pub later : IsLater before after
+  pub more : length before.state.lines < length after.state.lines
+  pub settled : after.state.pending ≡ []
+  pub running : after.state.halt ≡ None
+  pub published : IsPublished after.state
+
+-- The completion is at its end: these rules are the reduced complete system of its problem, and the rules of all its
+-- lines are confluent and generate the congruence of the relations.
+pub record IsCompleted (course : Course) (list : OrderedRules) : Type 0 where
+  pub order : list.order ≡ course.problem.presentation.order
+  pub reduced : IsReducedComplete (below course.problem) (relations course.problem) list.rules
+  pub settled : course.state.pending ≡ []
+  pub running : course.state.halt ≡ None
+  pub confluent : IsConfluent (rules_of course.state.lines)
+  pub same : SameCongruence (relations course.problem) (rules_of course.state.lines)
+
+-- what `grow` answers
+abbrev pub GrowSays : {R : Type 0} → Course → Grown R → Type 0
+GrowSays before (grown.More after) = Grows before after.course
+GrowSays before (grown.Confluent rules after) = IsLater before after.course × IsCompleted after.course rules
+GrowSays before (grown.Halted after halt) = IsLater before after.course × GivesHalt after.course halt
+
+-- what `complete` answers
+abbrev pub CompleteSays : {R : Type 0} → Problem → Outcome R → Type 0
+CompleteSays problem (outcomes.Confluent rules after) =
+    (after.course.problem ≡ problem) × IsCompleted after.course rules
+CompleteSays problem (outcomes.Halted after halt) = (after.course.problem ≡ problem) × GivesHalt after.course halt

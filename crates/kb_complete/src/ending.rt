@@ -1,0 +1,137 @@
+//! The end of a completion: the live rules are confluent, or an overlap shows that they aren't.
+
+ghost use Rattle.std.specs.Prelude.{◌≡◌, ◌≤◌, ◌<◌, IfOk, IfNone, IfSome, OnOk, Some, length};
+ghost use Rattle.kb_word.specs.Overlap.{IsConfluent};
+ghost use Rattle.kb_machine.specs.States.{live_rules as rules_that_live};
+ghost use Rattle.kb_machine.specs.Course.{Takes};
+ghost use Rattle.kb_machine.specs.declared.event.Event.TheVariants.{Entered};
+ghost use Rattle.kb_share.specs.Passes.{IsLater};
+ghost use Rattle.kb_complete.specs.Completing.{GivesHalt, GrowSays};
+ghost use Rattle.kb_complete.specs.Working.{FirstIsApart, IsSettled, IsUnjoined};
+
+use crate::answers::Grown;
+use crate::finding::Finder;
+use crate::publishing::settle_and_publish;
+use crate::settling::line_made;
+use crate::watch::Watch;
+use kb_book::{Book, Make};
+use kb_confluence::{Verdict, check};
+use kb_machine::Halt;
+use kb_reduced::{
+    reduced_by_the_same_congruence, reduced_complete, rules_that_cover_are_confluent,
+};
+use kb_rules::{Reducer, Rules};
+use kb_share::{book_is_sound, live_rules};
+use kb_word::Memory;
+use std::alloc::Global;
+
+/// More rules than a check can number. A book has far fewer lines.
+const TOO_MANY_RULES: usize = 1 << 31;
+
+/// Checks a settled book for confluence. What isn't joined leads to a line more, or to a halt.
+pub(crate) fn end<R: Reducer, W: Watch>(
+    alloc: Global,
+    book: Book<R>,
+    workers: u32,
+    watch: &mut W,
+) -> Result<Grown<R>, Memory>
+    requires settled { IsSettled book.course }
+    requires workers { (1 ≤ workers) × (workers ≤ 64) }
+    ensures { IfOk result (GrowSays book.course) }
+{
+    let rules = live_rules(alloc, &book)?;
+    if rules.len() >= TOO_MANY_RULES {
+        return Err(Memory);
+    }
+    match check(alloc, &rules, book.reducer(), workers)? {
+        Verdict::Yes => Ok(completed(alloc, book, &rules)?),
+        Verdict::No { i, j, place, .. } => Ok(add_unjoined(alloc, book, i, j, place, watch)?),
+    }
+}
+
+/// The end, where the live rules are confluent.
+fn completed<R: Reducer>(alloc: Global, book: Book<R>, rules: &Rules) -> Result<Grown<R>, Memory>
+    requires settled { IsSettled book.course }
+    requires rules { rules.now.rules ≡ rules_that_live book.course.state }
+    requires order { rules.now.order ≡ book.course.problem.presentation.order }
+    requires confluent { IsConfluent rules.now.rules }
+    ensures { IfOk result (GrowSays book.course) }
+{
+    book_is_sound(&book);
+    let reduced = reduced_complete(alloc, rules, book.reducer())?;
+    reduced_by_the_same_congruence();
+    rules_that_cover_are_confluent();
+    Ok(Grown::Confluent(reduced, book))
+}
+
+/// Enters the overlap that isn't joined, of the live lines at these indices from 1 on, and makes a line of it, or halts.
+fn add_unjoined<R: Reducer, W: Watch>(
+    alloc: Global,
+    mut book: Book<R>,
+    i: u32,
+    j: u32,
+    place: u64,
+    watch: &mut W,
+) -> Result<Grown<R>, Memory>
+    requires settled { IsSettled book.course }
+    requires unjoined { IsUnjoined (rules_that_live book.course.state) i j place }
+    ensures { IfOk result (GrowSays book.course) }
+{
+    book_is_sound(&book);
+    let first = book.live()[i as usize - 1];
+    let second = book.live()[j as usize - 1];
+    enter(&mut book, first, second, place)?;
+    Ok(grow_by_first(alloc, book, watch)?)
+}
+
+/// Makes a line of the first pending pair, whose words have different normal forms, and settles the book, or halts.
+fn grow_by_first<R: Reducer, W: Watch>(
+    alloc: Global,
+    mut book: Book<R>,
+    watch: &mut W,
+) -> Result<Grown<R>, Memory>
+    requires { FirstIsApart book.course }
+    ensures { IfOk result (GrowSays book.course) }
+{
+    if let Some(halt) = make_line(alloc, &mut book, watch)? {
+        return Ok(Grown::Halted(book, halt));
+    }
+    if let Some(halt) = settle_and_publish(alloc, &mut book, watch)? {
+        return Ok(Grown::Halted(book, halt));
+    }
+    Ok(Grown::More(book))
+}
+
+/// Enters an overlap that was found by no worker. It is one of two lines, so that nothing but memory can be wanting.
+fn enter<R: Reducer>(book: &mut Book<R>, first: u32, second: u32, place: u64) -> Result<(), Memory>
+    ensures { OnOk result (Takes (Entered 0 first second place) book.old.course book.new.course) }
+{
+    match book.enter(0, first, second, place) {
+        Ok(()) => Ok(()),
+        Err(_) => Err(Memory),
+    }
+}
+
+/// Makes a line of the first pending pair, whose words have different normal forms, or answers the halt.
+fn make_line<R: Reducer, W: Watch>(
+    alloc: Global,
+    book: &mut Book<R>,
+    watch: &mut W,
+) -> Result<Option<Halt>, Memory>
+    requires { FirstIsApart book.old.course }
+    ensures later { OnOk result (IsLater book.old.course book.new.course) }
+    ensures more { IfOk result (λ halt. IfNone halt
+        (length book.old.course.state.lines < length book.new.course.state.lines)) }
+    ensures halted { IfOk result (λ halt. IfSome halt (GivesHalt book.new.course)) }
+{
+    let mut finder = Finder::new(alloc);
+    match book.make(alloc)? {
+        Make::Made(k) => {
+            line_made(alloc, book, k, &mut finder, watch)?;
+            Ok(None)
+        }
+        Make::Halted(halt) => Ok(Some(halt)),
+        Make::Dropped => unreachable!(),
+        Make::Idle => unreachable!(),
+    }
+}

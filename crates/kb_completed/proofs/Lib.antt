@@ -1,0 +1,3 @@
+mod Relations
+mod Acceptors
+mod Halts

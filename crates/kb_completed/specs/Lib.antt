@@ -1,0 +1,4 @@
+pub mod Completed
+pub mod Evidence
+pub mod Problems
+pub mod Ended

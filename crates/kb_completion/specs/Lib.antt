@@ -1,0 +1,16 @@
+pub mod Given
+pub mod Files
+pub mod FileLaws
+pub mod SortedLaws
+pub mod CompletionLaws
+pub mod Kbprog
+pub mod KbprogLaws
+pub mod Logread
+pub mod LogLaws
+pub mod LogreadLaws
+pub mod FreeAbelian
+pub mod SelfTest
+pub mod SelfTestLaws
+pub mod Tasks
+pub mod TaskLaws
+pub mod Line

@@ -1,0 +1,7 @@
+pub mod LiveRules
+mod LinesOfVersions
+mod Sifted
+mod Picking
+mod RowByRow
+mod Entries
+mod Progress

@@ -1,0 +1,36 @@
+use Rattle.std.proofs.Common.{◌≡◌, ◌<◌, ◌∙◌, arith}
+use Rattle.kb_word.specs.Overlap.{critical_pair}
+use Rattle.kb_share.proofs.Sifted.{joined_not_apart, is_apart_at, second_read, said_joined, said_apart, found_read}
+use Rattle.kb_share.proofs.row.sift_at.Goals as goal
+use Rattle.kb_share.proofs.row.sift_at.Goals.{else-overlap-index-via-then-overlap-index+else-overlap-eq0, else-overlap-index-via-else-overlap-index}
+
+pub returns-in-Joined : goal.returns-in-Joined
+returns-in-Joined g c =
+    let version = c.args.version.now in
+    let one = c.args.overlap.now in
+    let first = c.args.first.now in
+    let second = c.index-as_slice-overlap.result in
+    let is_second = second_read version.rules c.as_slice.result.now first.0 one second c.requires.overlap
+    (c.as_slice.ensures.rules ∙ c.rules.ensures) c.index-as_slice-overlap.is in
+    joined_not_apart version.rules c.args.index one first second c.requires.first is_second
+    (said_joined _ version.rules (critical_pair first second one.place) c.in_ok-sift.field-0 c.reducer.ensures c.in-Joined.is c.in_ok-sift.ensures)
+
+pub returns-in-Apart : goal.returns-in-Apart
+returns-in-Apart g c =
+    let version = c.args.version.now in
+    let index = c.args.index in
+    let one = c.args.overlap.now in
+    let first = c.args.first.now in
+    let second = c.index-as_slice-overlap.result in
+    let is_second = second_read version.rules c.as_slice.result.now first.0 one second c.requires.overlap
+    (c.as_slice.ensures.rules ∙ c.rules.ensures) c.index-as_slice-overlap.is in
+    let proper : index ≡ one.rule → 0 < one.place = λ same. elim c.else-overlap-index.branch [
+      | else-overlap-index-via-then-overlap-index+else-overlap-eq0 w ↦ omega arith
+      | else-overlap-index-via-else-overlap-index w ↦ omega arith
+    ] in
+    let apart = said_apart _ version.rules (critical_pair first second one.place) c.in_ok-sift.field-0 c.reducer.ensures c.in-Apart.is
+    c.in_ok-sift.ensures in (
+      is_apart_at version.rules index one first second apart.0 apart.1 c.requires.first is_second c.requires.overlap proper apart.2,
+      found_read version.numbers c.numbers.result.now c.numbers-in-Apart.result.now index one c.numbers.ensures.numbers
+          c.numbers-in-Apart.ensures.numbers,
+    )

@@ -1,0 +1,55 @@
+-- Versions of a book, and what sifting by one of them answers.
+use Rattle.std.specs.Prelude.{◌≡◌, ℕ, ◌<◌, List, [], ◌∷◌, ◌++◌, length, Some, slice_get}
+use Rattle.std.specs.List.{AllPairs}
+use Rattle.kb_word.specs.Words.{Pair}
+use Rattle.kb_word.specs.Overlap.{Overlaps, IsResolved, IsUnresolved}
+use Rattle.kb_machine.specs.States.{State, live_rules}
+use Rattle.kb_share.specs.declared.answer.Sift.{Sift}
+use Rattle.kb_share.specs.declared.answer.Sift.TheVariants.{Joined, Apart}
+
+-- a version: its number, the numbers of its lines, and their rules
+pub record VersionParts : Type 0 where
+  pub number : ℕ
+  pub numbers : List ℕ
+  pub rules : List Pair
+
+-- the version that has the live lines of a state
+abbrev pub version_of : State → VersionParts
+version_of state = record { number = length state.versions; numbers = state.live; rules = live_rules state }
+
+-- the version that was published last has the live lines
+pub record IsPublished (state : State) : Type 0 where
+  pub earlier : List (List ℕ)
+  pub is : state.versions ≡ earlier ++ state.live ∷ []
+
+-- what a version keeps: a number for each rule, ascending, and a reducer by its rules
+pub record IsVersion (numbers : List ℕ) (rules reducing : List Pair) : Type 0 where
+  pub one_each : length numbers ≡ length rules
+  pub ascending : AllPairs (λ one other. one < other) numbers
+  pub reduces : reducing ≡ rules
+
+-- the rule of the version's line with this number
+pub record IsRuleOfLine (version : VersionParts) (k : ℕ) (rule : Pair) : Type 0 where
+  pub index : ℕ
+  pub at : slice_get version.numbers index ≡ Some k
+  pub is_rule : slice_get version.rules index ≡ Some rule
+
+-- the version has a line with this number
+abbrev pub HasLine : VersionParts → ℕ → Type 0
+HasLine version k = (rule : Pair) × IsRuleOfLine version k rule
+
+-- an overlap of two of the version's lines; a line with itself at place 0 is none
+pub record OverlapOfLines (version : VersionParts) (i j place : ℕ) (first second : Pair) : Type 0 where
+  pub is_first : IsRuleOfLine version i first
+  pub is_second : IsRuleOfLine version j second
+  pub overlaps : Overlaps first.0 second.0 place
+  pub proper : i ≡ j → 0 < place
+
+-- two of the version's lines overlap at the place
+abbrev pub HasOverlap : VersionParts → ℕ → ℕ → ℕ → Type 0
+HasOverlap version i j place = (first second : Pair) × OverlapOfLines version i j place first second
+
+-- what sifting a critical pair answers: whether its words have one normal form by the rules
+abbrev pub SiftSays : List Pair → Pair → Sift → Type 0
+SiftSays rules pair Joined = IsResolved rules pair
+SiftSays rules pair Apart = (u v : List ℕ) × IsUnresolved rules pair u v

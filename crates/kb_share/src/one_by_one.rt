@@ -1,0 +1,60 @@
+//! The pool of one worker.
+
+ghost use Rattle.std.specs.Prelude.{◌≡◌, ◌≤◌, IfOk, OnOk};
+ghost use Rattle.kb_share.specs.Versions.{IsPublished, version_of};
+ghost use Rattle.kb_share.specs.Passes.{Passes, EntersAllApart};
+
+use crate::entering::enter_all;
+use crate::pool::Pool;
+use crate::row::apart_in_row;
+use crate::sifting::Sifter;
+use crate::version::Version;
+use kb_book::Book;
+use kb_overlap::LeftSides;
+use kb_rules::Reducer;
+use kb_word::Memory;
+use std::alloc::Global;
+
+/// One worker, who sifts all overlaps of live lines in their order.
+#[derive(Clone, Copy, Debug, PartialEq, Eq)]
+pub struct OneByOne;
+
+impl Pool for OneByOne {
+    fn workers(&self) -> u32 {
+        1
+    }
+
+    fn pass<R: Reducer>(&self, alloc: Global, mut book: Book<R>) -> Result<Book<R>, Memory>
+        requires { IsPublished book.course.state }
+        ensures passes { IfOk result (λ after. Passes book.course after.course) }
+        ensures entered { IfOk result (λ after. EntersAllApart book.course after.course) }
+    {
+        let version = Version::of(alloc, &book)?;
+        pass_over(alloc, &version, &mut book)?;
+        Ok(book)
+    }
+}
+
+/// Enters each overlap of the version's lines that is apart.
+fn pass_over<R: Reducer>(
+    alloc: Global,
+    version: &Version<R>,
+    book: &mut Book<R>,
+) -> Result<(), Memory>
+    requires { version.now ≡ version_of book.old.course.state }
+    ensures { OnOk result (EntersAllApart book.old.course book.new.course) }
+{
+    // A use of the numbers brings that they ascend.
+    let _numbers = version.numbers();
+    let rules = version.rules().as_slice();
+    let left_sides = LeftSides::of(alloc, rules)?;
+    let mut sifter = Sifter::new(alloc);
+    let mut overlaps = Vec::new(alloc);
+    let mut found = Vec::new(alloc);
+    for (index, first) in rules.iter().enumerate() {
+        left_sides.overlaps(first.left(), &mut overlaps)?;
+        apart_in_row(version, index, first, &overlaps, &mut sifter, &mut found)?;
+        enter_all(book, 1, &found)?;
+    }
+    Ok(())
+}
