@@ -50,7 +50,7 @@ impl Name {
             Name::Kbprog => Label {
                 text: "kbprog",
                 about: "Stores the complete rules and the word acceptor of FILE, and prints the least word for each word line",
-                example: "Example: echo 'b*a' | kb kbprog examples/free-abelian-2.pres",
+                example: "Example: echo 'B*a*b' | kb kbprog examples/free-abelian-2",
             },
             Name::Logread => Label {
                 text: "logread",
