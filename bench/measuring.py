@@ -37,7 +37,7 @@ def run_once(words, given):
     """One run of the command line, with a file as standard input; None where it is given up."""
     with open(given, "rb") as lines, tempfile.TemporaryFile() as out:
         begun = time.perf_counter()
-        child = subprocess.Popen(words, stdin=lines, stdout=out)
+        child = subprocess.Popen(words, stdin=lines, stdout=out, stderr=subprocess.DEVNULL)
         end = threading.Timer(GIVEN_UP, child.kill)
         end.start()
         _, status, used = os.wait4(child.pid, 0)
