@@ -1,0 +1,4 @@
+pub mod Sums
+pub mod Counting
+pub mod Steps
+pub mod Seats
