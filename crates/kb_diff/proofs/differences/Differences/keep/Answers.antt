@@ -1,0 +1,45 @@
+use Rattle.std.proofs.Common.{◌≡◌, ◌∷◌, ◌++◌, [], ℕ, List, false, nat_eq, length, sym, refl, ap, ◌∙◌, subst, arith}
+use Rattle.std.specs.List.{Contains, list_any}
+use Rattle.std.specs.Cmp.Lexicographic.{pointwise}
+use Rattle.kb_diff.specs.declared.grow.Grow.TheVariants.{Grew, Same, Full}
+use Rattle.kb_diff.specs.Kept.{KeptDifferences}
+use Rattle.kb_diff.specs.Keeping.{KeepsOne, one_known, one_added, one_too_many}
+use Rattle.kb_diff.proofs.Inserting.{has_word, lacks_word, word_added, kept_more}
+use Rattle.kb_diff.proofs.differences.Differences.keep.Goals as goal
+
+pub returns-then-contains-clause-ok : goal.returns-then-contains-clause-ok
+returns-then-contains-clause-ok g c =
+    let keys = c.self.inside.words.keys in
+    let P : KeptDifferences → Type 0 = λ kept. KeepsOne kept.most c.args.word c.args.place kept.words kept.words Same in
+    let W : List ℕ → Type 0 = λ w. Contains keys w in
+    let has = has_word keys c.new-difference.result (sym c.contains.ensures ∙ c.if-contains.true) in
+    subst P c.self.view_is (one_known (subst W c.new-difference.ensures has) refl)
+
+pub returns-then-len-self-clause-ok : goal.returns-then-len-self-clause-ok
+returns-then-len-self-clause-ok g c =
+    let keys = c.self.inside.words.keys in
+    let W : List ℕ → Type 0 = λ w. ¬ Contains keys w in
+    let fresh = subst W c.new-difference.ensures (lacks_word keys c.new-difference.result (sym c.contains.ensures ∙ c.if-contains.false)) in
+    let count : length keys ≡ c.self.inside.most = omega (arith, c.self.invariant.within, c.if-len-self.true, c.len.ensures.len) in
+    let word : c.into_word-word.result ≡ c.args.word = c.into_word-word.ensures ∙ c.new-difference.ensures in
+    let P : KeptDifferences → Type 0 = λ kept. KeepsOne kept.most c.args.word c.args.place kept.words kept.words (Full c.args.word c.args.place) in
+    let Q : List ℕ → Type 0 = λ w. KeepsOne c.args.self.now.most c.args.word c.args.place c.args.self.now.words c.args.self.now.words (Full w c.args.place) in
+    subst Q (sym word) (subst P c.self.view_is (one_too_many fresh count refl))
+
+pub invariant_of-self-2 : goal.invariant_of-self-2
+invariant_of-self-2 g c =
+    let keys = c.self.inside.words.keys in
+    let missed : list_any (pointwise nat_eq c.new-difference.result) keys ≡ false = sym c.contains.ensures ∙ c.if-contains.false in
+    kept_more _ c.self.inside.most keys c.insert.new.self.keys c.new-difference.result c.self.invariant (lacks_word keys c.new-difference.result missed)
+    (omega (arith, c.if-len-self.false, c.len.ensures.len)) (word_added keys c.insert.new.self.keys c.new-difference.result missed c.in_ok-insert.ensures.keys)
+
+pub returns-clause-ok : goal.returns-clause-ok
+returns-clause-ok g c =
+    let keys = c.self.inside.words.keys in
+    let missed : list_any (pointwise nat_eq c.new-difference.result) keys ≡ false = sym c.contains.ensures ∙ c.if-contains.false in
+    let W : List ℕ → Type 0 = λ w. ¬ Contains keys w in
+    let fresh = subst W c.new-difference.ensures (lacks_word keys c.new-difference.result missed) in
+    let longer = word_added keys c.insert.new.self.keys c.new-difference.result missed c.in_ok-insert.ensures.keys in
+    let longer' : c.insert.new.self.keys ≡ keys ++ c.args.word ∷ [] = longer ∙ ap (λ (w : List ℕ). keys ++ w ∷ []) c.new-difference.ensures in
+    let P : KeptDifferences → Type 0 = λ kept. KeepsOne kept.most c.args.word c.args.place kept.words c.insert.new.self.keys Grew in
+    subst P c.self.view_is (one_added fresh (omega (arith, c.if-len-self.false, c.len.ensures.len)) longer')

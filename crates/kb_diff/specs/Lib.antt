@@ -1,0 +1,6 @@
+pub mod Groups
+pub mod Differences
+pub mod Keeping
+pub mod Kept
+pub mod Steps
+pub mod Languages
