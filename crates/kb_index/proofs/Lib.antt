@@ -3,11 +3,13 @@ pub mod Words
 pub mod States
 pub mod Runs
 pub mod Steps
+pub mod Rows
 pub mod Growth
 pub mod Linking
 pub mod Chaining
 pub mod Ending
 pub mod Walking
+pub mod ChildRows
 pub mod Recents
 pub mod Numbering
 pub mod Fronts

@@ -179,7 +179,7 @@ numbered_removed rules all numbers gone fits are =
 
 -- The lookup after a rule came to the recent ones, which isn't in the list yet.
 pub lookup_kept : (rules rules' : List Pair) (rule : Pair) (lookup lookup' : Lookup) (is : IsLookup rules lookup) → rules' ≡ rules
-    → lookup'.settled ≡ lookup.settled → lookup'.numbers.items ≡ lookup.numbers.items → IsRecent (is.later ++ rule ∷ []) lookup'.recent
+    → lookup'.settled.value ≡ lookup.settled.value → lookup'.numbers.items ≡ lookup.numbers.items → IsRecent (is.later ++ rule ∷ []) lookup'.recent
     → IsLookup rules' lookup'
 lookup_kept rules rules' rule lookup lookup' is same settled numbers recent =
     let R : List Pair → Type 0 = λ rs. AreNumbered rs (is.base ++ (is.later ++ rule ∷ [])) lookup'.numbers.items in
@@ -198,8 +198,8 @@ lookup_kept rules rules' rule lookup lookup' is same settled numbers recent =
 
 -- and when it has joined the list
 pub lookup_joined : (rules rules' : List Pair) (rule : Pair) (number : ℕ) (lookup lookup' : Lookup) (is : IsLookup rules lookup)
-    → rules' ≡ rules ++ rule ∷ [] → number ≡ length lookup.settled.chains.before.items + length lookup.recent.chains.before.items
-    → lookup'.settled ≡ lookup.settled → lookup'.numbers.items ≡ lookup.numbers.items ++ number ∷ []
+    → rules' ≡ rules ++ rule ∷ [] → number ≡ length lookup.settled.value.chains.before.items + length lookup.recent.chains.before.items
+    → lookup'.settled.value ≡ lookup.settled.value → lookup'.numbers.items ≡ lookup.numbers.items ++ number ∷ []
     → IsRecent (is.later ++ rule ∷ []) lookup'.recent → IsLookup rules' lookup'
 lookup_joined rules rules' rule number lookup lookup' is longer next settled numbers recent =
     let all : List Pair = is.base ++ is.later in
@@ -221,7 +221,7 @@ lookup_joined rules rules' rule number lookup lookup' is longer next settled num
 
 -- the lookup after a rule left the list
 pub lookup_removed : (rules rules' : List Pair) (gone : ℕ) (lookup lookup' : Lookup) (is : IsLookup rules lookup) → gone < length rules
-    → rules' ≡ remove rules gone → lookup'.settled ≡ lookup.settled → lookup'.recent ≡ lookup.recent
+    → rules' ≡ remove rules gone → lookup'.settled.value ≡ lookup.settled.value → lookup'.recent ≡ lookup.recent
     → lookup'.numbers.items ≡ remove lookup.numbers.items gone → IsLookup rules' lookup'
 lookup_removed rules rules' gone lookup lookup' is fits shorter settled recent numbers =
     let R : List Pair → Type 0 = λ rs. AreNumbered rs (is.base ++ is.later) lookup'.numbers.items in
@@ -234,6 +234,19 @@ lookup_removed rules rules' gone lookup lookup' is fits shorter settled recent n
       numbered =
           subst R (sym shorter)
           (subst N (sym numbers) (numbered_removed rules (is.base ++ is.later) lookup.numbers.items gone fits is.numbered));
+    }
+
+-- the lookup copied
+pub lookup_copied : (rules : List Pair) (lookup lookup' : Lookup) (is : IsLookup rules lookup)
+    → lookup'.settled.value ≡ lookup.settled.value → lookup'.numbers.items ≡ lookup.numbers.items → IsRecent is.later lookup'.recent
+    → IsLookup rules lookup'
+lookup_copied rules lookup lookup' is settled numbers recent =
+    record {
+      base = is.base;
+      later = is.later;
+      settled = subst (IsAutomaton is.base) (sym settled) is.settled;
+      recent = recent;
+      numbered = subst (AreNumbered rules (is.base ++ is.later)) (sym numbers) is.numbered;
     }
 
 -- the left sides of rules that decrease are not empty

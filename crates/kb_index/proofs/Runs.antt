@@ -5,7 +5,7 @@ use Rattle.std.specs.Option.{unwrap_or}
 use Rattle.std.proofs.lemmas.Bool.{cases_lt}
 use Rattle.kb_index.specs.declared.edge.Edge.{Edge}
 use Rattle.kb_index.specs.Edges.{AreEdges, edge_at}
-use Rattle.kb_index.specs.Children.{AreRootChildren, IsRootChild, IsFirst, IsChild, IsNoChild}
+use Rattle.kb_index.specs.Children.{AreRootChildren, IsChildOrNone, IsFirst, IsChild, IsNoChild}
 
 -- states rise along the edges
 pub parents_rise : (edges : List Edge) → AreEdges edges → (i j : ℕ) → i ≤ j → j < length edges
@@ -73,7 +73,7 @@ numbers_push P xs x each last i within =
 
 -- a child of state 0, where one is found
 pub root_child : (edges : List Edge) (letter : ℕ) (found : Option ℕ) → IfSome found (IsChild edges 0 letter)
-    → IfNone found (IsNoChild edges 0 letter) → IsRootChild edges letter (unwrap_or found 0)
+    → IfNone found (IsNoChild edges 0 letter) → IsChildOrNone edges 0 letter (unwrap_or found 0)
 root_child edges letter None some none = record { none = λ is. none; some = λ is. absurd (omega arith) }
 root_child edges letter (Some child) some none =
     record { none = λ is. absurd (omega (arith, some.is)); some = λ is. some }
@@ -81,12 +81,12 @@ root_child edges letter (Some child) some none =
 -- the row is whole when it ends with the last letter of a child
 pub row_whole : (edges : List Edge) (row : List ℕ) (first : ℕ) → AreEdges edges → IsFirst edges 1 first
     → ((i : ℕ) → i < first → (edge_at edges i).letter < length row)
-    → ((letter : ℕ) → letter < length row → IsRootChild edges letter (get_or row letter 0)) → AreRootChildren edges row
+    → ((letter : ℕ) → letter < length row → IsChildOrNone edges 0 letter (get_or row letter 0)) → AreRootChildren edges row
 row_whole edges row first rise next short each letter =
     elim (cases_lt letter (length row)) [
       | inl within ↦ each letter within
       | inr past ↦
-          let Q : ℕ → Type 0 = λ c. IsRootChild edges letter c in
+          let Q : ℕ → Type 0 = λ c. IsChildOrNone edges 0 letter c in
           subst Q (sym (get_or_past row letter 0 past))
           (record {
             none = λ same child is.

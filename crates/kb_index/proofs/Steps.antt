@@ -3,7 +3,7 @@ use Rattle.std.proofs.Common.{◌≡◌, ℕ, ◌+◌, ◌-◌, ◌<◌, ◌≤�
 use Rattle.kb_word.specs.Words.{EndsWith}
 use Rattle.kb_index.specs.declared.edge.Edge.{Edge}
 use Rattle.kb_index.specs.Edges.{AreEdges, edge_at, word}
-use Rattle.kb_index.specs.Children.{IsChild, IsNoChild, IsRootChild}
+use Rattle.kb_index.specs.Children.{IsChild, IsNoChild, IsChildOrNone}
 use Rattle.kb_index.specs.Links.{AreLinks, IsLongestSuffix, LeadsFrom}
 use Rattle.kb_index.proofs.Words.{word_root}
 use Rattle.kb_index.proofs.States.{FromEdge, from_edge, edges_tree, same_state}
@@ -154,7 +154,7 @@ child_from edges state letter at child lower is some =
 
 -- state 0 is reached, whose child by the letter is known
 pub step_root : (edges : List Edge) → AreEdges edges → (state letter child : ℕ) → Falling edges state letter 0
-    → IsRootChild edges letter child → FromEdge child → IsLongestSuffix edges (word edges state ++ letter ∷ []) (word edges child)
+    → IsChildOrNone edges 0 letter child → FromEdge child → IsLongestSuffix edges (word edges state ++ letter ∷ []) (word edges child)
 step_root edges rise state letter child falling is root = step_none edges rise state letter falling (is.none refl)
 step_root edges rise state letter child falling is (edge_to place) =
     step_found edges rise state letter 0 (place + 1) falling (is.some (omega arith))

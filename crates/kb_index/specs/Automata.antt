@@ -7,6 +7,7 @@ use Rattle.kb_index.specs.Edges.{word}
 use Rattle.kb_index.specs.Tries.{IsTrie, left_at}
 use Rattle.kb_index.specs.Children.{AreFirsts, AreRootChildren}
 use Rattle.kb_index.specs.Links.{AreLinks, IsLongestSuffix}
+use Rattle.kb_index.specs.Rows.{AreRows}
 use Rattle.kb_index.specs.Chains.{AreBefore, AreHeads}
 use Rattle.kb_index.specs.Ends.{AreEnds}
 
@@ -22,6 +23,7 @@ pub record IsAutomaton (rules : List Pair) (automaton : Automaton) : Type 0 wher
   pub roots : AreRootChildren automaton.edges.items automaton.roots.items
   pub link_count : length automaton.links.items ≡ length automaton.edges.items + 1
   pub links : AreLinks automaton.edges.items automaton.links.items
+  pub rows : AreRows automaton.edges.items (length automaton.edges.items + 1) automaton.table.width automaton.table.rows.items
   pub head_count : length automaton.chains.heads.items ≡ length automaton.edges.items + 1
   pub rule_count : length automaton.chains.before.items ≡ length rules
   pub heads : AreHeads rules (word automaton.edges.items) (length rules) automaton.chains.heads.items

@@ -1,5 +1,5 @@
 -- The children of a state, as a run of edges.
-use Rattle.std.specs.Prelude.{◌≡◌, ℕ, ◌+◌, ◌<◌, ◌≤◌, List, length, get_or}
+use Rattle.std.specs.Prelude.{◌≡◌, ℕ, ◌+◌, ◌*◌, ◌<◌, ◌≤◌, List, length, get_or}
 use Rattle.kb_index.specs.declared.edge.Edge.{Edge}
 use Rattle.kb_index.specs.Edges.{edge_at}
 
@@ -26,11 +26,16 @@ pub record IsChild (edges : List Edge) (state letter child : ℕ) : Type 0 where
 abbrev pub IsNoChild : List Edge → ℕ → ℕ → Type 0
 IsNoChild edges state letter = (child : ℕ) → ¬ IsChild edges state letter child
 
--- the child of state 0 by the letter, or 0 where there is none
-pub record IsRootChild (edges : List Edge) (letter child : ℕ) : Type 0 where
-  pub none : child ≡ 0 → IsNoChild edges 0 letter
-  pub some : 0 < child → IsChild edges 0 letter child
+-- the child of the state by the letter, or 0 where there is none
+pub record IsChildOrNone (edges : List Edge) (state letter child : ℕ) : Type 0 where
+  pub none : child ≡ 0 → IsNoChild edges state letter
+  pub some : 0 < child → IsChild edges state letter child
 
 -- the children of state 0 by their letters; a later letter has none
 abbrev pub AreRootChildren : List Edge → List ℕ → Type 0
-AreRootChildren edges row = (letter : ℕ) → IsRootChild edges letter (get_or row letter 0)
+AreRootChildren edges row = (letter : ℕ) → IsChildOrNone edges 0 letter (get_or row letter 0)
+
+-- the children of all states by the letters below 64, in rows of 64
+pub record AreShortChildren (edges : List Edge) (rows : List ℕ) : Type 0 where
+  pub count : (length edges + 1) * 64 ≤ length rows
+  pub each : (state letter : ℕ) → letter < 64 → IsChildOrNone edges state letter (get_or rows (state * 64 + letter) 0)

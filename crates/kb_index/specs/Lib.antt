@@ -3,6 +3,7 @@ pub mod Tries
 pub mod Growing
 pub mod Children
 pub mod Links
+pub mod Rows
 pub mod Chains
 pub mod Ends
 pub mod Live

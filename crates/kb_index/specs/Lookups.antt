@@ -10,6 +10,6 @@ use Rattle.kb_index.specs.Recents.{IsRecent}
 pub record IsLookup (rules : List Pair) (lookup : Lookup) : Type 0 where
   pub base : List Pair
   pub later : List Pair
-  pub settled : IsAutomaton base lookup.settled
+  pub settled : IsAutomaton base lookup.settled.value
   pub recent : IsRecent later lookup.recent
   pub numbered : AreNumbered rules (base ++ later) lookup.numbers.items

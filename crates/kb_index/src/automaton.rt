@@ -15,19 +15,21 @@ use crate::children::{firsts_of, root_children_of};
 use crate::edge::Edge;
 use crate::ends::ends_of;
 use crate::links::{links_of, state_after};
+use crate::table::Table;
 use crate::trie::trie_of;
 use kb_rules::Rule;
 use kb_word::Memory;
 use std::alloc::Global;
 
-/// The automaton: the trie of the left sides, and for each of its states the failure link, the rules with the
-/// state's word, and the state of the longest suffix that has rules.
+/// The automaton: the trie of the left sides, and for each of its states the failure link, the steps by the letters
+/// of a short alphabet, the rules with the state's word, and the state of the longest suffix that has rules.
 #[derive(Debug, Drop)]
 pub struct Automaton {
     pub edges: Vec<Edge>,
     pub firsts: Vec<usize>,
     pub roots: Vec<usize>,
     pub links: Vec<usize>,
+    pub table: Table,
     pub chains: Chains,
     pub ends: Vec<usize>,
 }
@@ -45,6 +47,7 @@ impl Automaton {
         let firsts = firsts_of(alloc, &edges)?;
         let roots = root_children_of(alloc, &edges, &firsts)?;
         let links = links_of(alloc, &edges, &firsts, &roots)?;
+        let table = Table::of(alloc, &edges, &firsts, &links)?;
         let chains = chains_of(alloc, rules, &edges, &firsts, &roots, &links)?;
         let ends = ends_of(alloc, &edges, &links, &chains.heads)?;
         Ok(Automaton {
@@ -52,6 +55,7 @@ impl Automaton {
             firsts,
             roots,
             links,
+            table,
             chains,
             ends,
         })

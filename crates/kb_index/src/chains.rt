@@ -31,6 +31,16 @@ impl Chains {
         })
     }
 
+    /// The same chains.
+    pub fn copy(&self, alloc: Global) -> Result<Chains, Memory>
+        ensures heads { IfOk result (λ chains. chains.heads.items ≡ self.now.heads.items) }
+        ensures before { IfOk result (λ chains. chains.before.items ≡ self.now.before.items) }
+    {
+        let heads = Vec::from_slice(alloc, &self.heads)?;
+        let before = Vec::from_slice(alloc, &self.before)?;
+        Ok(Chains { heads, before })
+    }
+
     /// A rule more, for the state.
     pub fn add(&mut self, state: usize) -> Result<(), Memory>
         requires { state < length self.old.heads.items }

@@ -65,7 +65,9 @@ impl Reducer for Index {
     }
 
     fn copy(&self, alloc: Global) -> Result<Index, Memory> {
-        Index::of(alloc, &self.rules)
+        let rules = self.rules.copy(alloc)?;
+        let lookup = self.lookup.copy(alloc)?;
+        Ok(Index { rules, lookup })
     }
 }
 

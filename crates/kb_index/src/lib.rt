@@ -3,11 +3,12 @@
 //! [`Index`] meets the clauses of `kb_rules::Reducer`, word for word those that the plain scan meets, so it gives
 //! the same normal forms by the same steps: of the left sides that end at the letter read last, the first in list
 //! order is replaced. Where the scan tries each rule at each letter, the index goes from state to state, however many
-//! rules there are: while no rule applies and none has come since the index was made, n letters take at most 2 n
-//! moves along edges and links. Making the index takes time that grows with the number of letters of all left sides,
-//! times the logarithm of the number of rules, since each level is sorted. A rule that comes or goes takes, over a
-//! long run, about as much for its own left side, and a rule that goes also moves the later ones one place down. Want
-//! of memory is the one free answer, and leaves the list of rules as it was.
+//! rules there are: while no rule applies and none has come since the index was made, n letters take n looks into a
+//! table, or where the alphabet is too large for one, at most 2 n moves along edges and links. Making the index takes
+//! time that grows with the number of letters of all left sides, times the logarithm of the number of rules, since each
+//! level is sorted, and with the entries of the table. A rule that comes takes, over a long run, about five times as
+//! much for its own left side, one that goes about as much, and a rule that goes also moves the later ones one place
+//! down. Want of memory is the one free answer, and leaves the list of rules as it was.
 //!
 //! How it is made (Aho and Corasick, 1975; Sims, Computation with Finitely Presented Groups, 3.5):
 //!
@@ -21,16 +22,22 @@
 //! - `links`: each state's failure link, to the state of the longest proper suffix of its word, and the step by a
 //!   letter, which follows the links to a state with a child by the letter. Links lead to earlier states, so steps
 //!   end.
+//! - `table`: the states after each state by each letter of a short alphabet, row by row, so that a step is one look. A
+//!   row is made from that of the link, which is earlier, and the state's own children. The table has a row for each
+//!   state, with four bytes for each number up to the greatest letter, and 16 MiB at most: where it would take more, it
+//!   is empty, and steps go by children and links.
 //! - `chains`: the rules of each state, those whose left side is its word: the last of them, and for each rule the
 //!   one before it. `ends`: for each state the one of the longest suffix of its word that has rules. `automaton` puts
 //!   all these together; it never changes. `stepping` has its calls for the crates above, state by state.
 //! - `recent`: the rules that came after the automaton was made: a trie of the left sides read from their ends, which
 //!   takes a further rule letter by letter. What is read is looked up in it from its last letter on. Where no rule
-//!   came, it costs nothing.
+//!   came, it costs nothing. `short_children` has the children of its states by the letters below 64, in a row of 256
+//!   bytes for each state, so that a child is one look; those by other letters are found by their hashes.
 //! - `lookup`: the automaton and the recent rules, and the numbers of the list's rules. A rule has a number of its
 //!   own, which stays the same while others come and go, and the numbers rise along the list. A rule that goes only
-//!   loses its number: chains are followed past rules that have none. When as many rules came as the automaton has,
-//!   or as many went as are left, all is made anew at the next change.
+//!   loses its number: chains are followed past rules that have none. When more than a quarter as many rules came as
+//!   the automaton has, or as many went as are left, all is made anew at the next change. A copy shares the automaton,
+//!   and has its own list and its own rules that came.
 //! - `reading`: a word is read letter by letter. A stack keeps the state after each letter of what is read, so that
 //!   after a replacement reading goes on from the state before it; the right side is put back to be read. All this
 //!   stands in the caller's workspace (`kb_rules::Workspace`). Reading goes from one replacement to the next; each is a
@@ -44,10 +51,10 @@
 //! of either kind ends what is read (`IsFirstSuch` of specs/Live.antt) gives the rule of the first rewrite (`IsOwner`).
 //!
 //! The definitions are in specs/, and the lemmas in proofs/: `Words` and `States` on the states and their words,
-//! `Growth` on a level of the trie, `Runs` on children, `Steps` and `Linking` on links, `Chaining` on chains, `Ending`
-//! on the rules of the automaton that end what is read, `Recents` and `Walking` on those that came later, `Numbering`
-//! on the numbers of the list's rules, and `Fronts` on reading. What a step does to a word, and that steps come to an
-//! end, are lemmas of `kb_rules`.
+//! `Growth` on a level of the trie, `Runs` on children, `Steps` and `Linking` on links, `Rows` on the table, `Chaining`
+//! on chains, `Ending` on the rules of the automaton that end what is read, `Recents`, `ChildRows` and `Walking` on
+//! those that came later, `Numbering` on the numbers of the list's rules, and `Fronts` on reading. What a step does to
+//! a word, and that steps come to an end, are lemmas of `kb_rules`.
 //!
 //! Below are `kb_word`, with words and the definitions of rewriting, and `kb_rules`, with rules and the contract of
 //! reducers; above are the commands that reduce words, and the word acceptor of rules, which is made from the states of
@@ -64,7 +71,9 @@ mod links;
 mod lookup;
 mod reading;
 mod recent;
+mod short_children;
 mod stepping;
+mod table;
 mod trie;
 
 pub use automaton::Automaton;

@@ -11,8 +11,9 @@ use crate::recent::Recent;
 use kb_rules::Rule;
 use kb_word::{Memory, Word};
 use std::alloc::Global;
+use std::sync::Arc;
 
-/// How many rules may come, or go, before all is made anew, beyond as many as there are.
+/// How many rules may come, or go, before all is made anew, beyond the share of those that are there.
 const SPARE: usize = 16;
 
 /// The rules of a list by their left sides. Each rule has a number, which it keeps while others come and go:
@@ -22,8 +23,8 @@ const SPARE: usize = 16;
 pub struct Lookup {
     /// The numbers of the list's rules.
     pub numbers: Vec<usize>,
-    /// The rules with the first numbers.
-    pub settled: Automaton,
+    /// The rules with the first numbers. Copies share their automaton, which never changes.
+    pub settled: Arc<Automaton>,
     /// The rules with the numbers after them.
     pub recent: Recent,
 }
@@ -38,8 +39,22 @@ impl Lookup {
         for number in 0..rules.len() {
             numbers.push(number)?;
         }
-        let settled = Automaton::of(alloc, rules)?;
+        let settled = Arc::new(alloc, Automaton::of(alloc, rules)?)?;
         let recent = Recent::none(alloc)?;
+        Ok(Lookup {
+            numbers,
+            settled,
+            recent,
+        })
+    }
+
+    /// The lookup of the same rules, with the same automaton.
+    pub fn copy(&self, alloc: Global) -> Result<Lookup, Memory>
+        ensures { (rules : List Pair) → IsLookup rules self.now → IfOk result (IsLookup rules) }
+    {
+        let numbers = Vec::from_slice(alloc, &self.numbers)?;
+        let settled = Arc::try_clone(&self.settled)?;
+        let recent = self.recent.copy(alloc)?;
         Ok(Lookup {
             numbers,
             settled,
@@ -51,28 +66,30 @@ impl Lookup {
     /// of rules.
     pub fn first_ending(&self, state: usize, read: &Word) -> usize
         requires lookup { (rules : List Pair) × IsLookup rules self.now }
-        requires state { StandsFor self.now.settled.edges.items read.now state }
+        requires state { StandsFor self.now.settled.value.edges.items read.now state }
         ensures { (rules : List Pair) → IsLookup rules self.now → IsOwner rules read.now result }
     {
-        let first = self.settled.chains.before.len();
-        let settled = self.settled.first_ending(&self.numbers, state);
+        let automaton: &Automaton = &self.settled;
+        let first = automaton.chains.before.len();
+        let settled = automaton.first_ending(&self.numbers, state);
         settled.min(self.recent.first_ending(&self.numbers, first, read))
     }
 
     /// The number of the rule that comes next.
     pub fn next_number(&self) -> usize
-        ensures { result ≡ length self.now.settled.chains.before.items
+        ensures { result ≡ length self.now.settled.value.chains.before.items
             + length self.now.recent.chains.before.items }
     {
         self.settled.chains.before.len() + self.recent.chains.before.len()
     }
 
-    /// Whether to make all anew: when as many rules came as were settled, or as many went as are left.
+    /// Whether to make all anew: when a quarter as many rules came as were settled, or as many went as are left.
+    /// Rules that came are looked up letter by letter, at each letter read, and those that went cost little.
     pub fn is_due(&self) -> bool {
         let settled = self.settled.chains.before.len();
         let recent = self.recent.chains.before.len();
         let left = self.numbers.len();
         let gone = (settled + recent).saturating_sub(left);
-        recent > settled + SPARE || gone > left + SPARE
+        recent > settled / 4 + SPARE || gone > left + SPARE
     }
 }

@@ -8,7 +8,6 @@ ghost use Rattle.kb_index.specs.Automata.{IsAutomaton, AreStates, StandsFor};
 ghost use Rattle.kb_index.specs.Lookups.{IsLookup};
 
 use crate::automaton::Automaton;
-use crate::links::step;
 use crate::lookup::Lookup;
 use kb_rules::{Rule, Rules, Step, Trace, Workspace};
 use kb_word::{Letter, Memory, Word};
@@ -75,11 +74,11 @@ fn next_step(
     workspace: &mut Workspace,
 ) -> Result<Option<Step>, Memory>
     requires lookup { IsLookup list.now.rules lookup.now }
-    requires states { AreStates lookup.now.settled.edges.items workspace.old.front workspace.old.states.items }
+    requires states { AreStates lookup.now.settled.value.edges.items workspace.old.front workspace.old.states.items }
     requires irreducible { IsIrreducible (OneOf list.now.rules) workspace.old.front }
     requires range { All (λ x. x < 2 ^ 16) (workspace.old.front ++ workspace.old.unread) }
     ensures states { OnOk result
-        (AreStates lookup.now.settled.edges.items workspace.new.front workspace.new.states.items) }
+        (AreStates lookup.now.settled.value.edges.items workspace.new.front workspace.new.states.items) }
     ensures irreducible { OnOk result (IsIrreducible (OneOf list.now.rules) workspace.new.front) }
     ensures range { IfOk result (λ found.
         IfSome found (λ _. All (λ x. x < 2 ^ 16) (workspace.new.front ++ workspace.new.unread))) }
@@ -104,11 +103,11 @@ fn read_letter(
     letter: Letter,
 ) -> Result<Option<Step>, Memory>
     requires lookup { IsLookup list.now.rules lookup.now }
-    requires states { AreStates lookup.now.settled.edges.items workspace.old.front workspace.old.states.items }
+    requires states { AreStates lookup.now.settled.value.edges.items workspace.old.front workspace.old.states.items }
     requires irreducible { IsIrreducible (OneOf list.now.rules) workspace.old.front }
     requires range { All (λ x. x < 2 ^ 16) (workspace.old.front ++ letter ∷ workspace.old.unread) }
     ensures states { OnOk result
-        (AreStates lookup.now.settled.edges.items workspace.new.front workspace.new.states.items) }
+        (AreStates lookup.now.settled.value.edges.items workspace.new.front workspace.new.states.items) }
     ensures irreducible { OnOk result (IsIrreducible (OneOf list.now.rules) workspace.new.front) }
     ensures range { OnOk result (All (λ x. x < 2 ^ 16) (workspace.new.front ++ workspace.new.unread)) }
     ensures some { IfOk result (λ found. IfSome found (λ step. IsFirstStep list.now.rules
@@ -150,14 +149,7 @@ fn advance(
         (λ state. StandsFor automaton.now.edges.items (front.old ++ letter ∷ []) state) }
 {
     let last = states[states.len() - 1] as usize;
-    let state = step(
-        &automaton.edges,
-        &automaton.firsts,
-        &automaton.roots,
-        &automaton.links,
-        last,
-        letter.number(),
-    );
+    let state = automaton.step(last, letter.number());
     front.push(letter)?;
     states.push(state as u32)?;
     Ok(state)

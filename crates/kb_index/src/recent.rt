@@ -10,6 +10,7 @@ ghost use Rattle.kb_index.specs.Recents.{IsRecent};
 
 use crate::chains::{Chains, first_live};
 use crate::edge::Edge;
+use crate::short_children::{SHORT, ShortChildren};
 use indexmap::IndexSet;
 use kb_word::{Memory, Word};
 use std::alloc::Global;
@@ -19,6 +20,7 @@ use std::alloc::Global;
 #[derive(Drop)]
 pub struct Recent {
     pub edges: IndexSet<Edge>,
+    pub children: ShortChildren,
     pub chains: Chains,
 }
 
@@ -28,8 +30,25 @@ impl Recent {
         ensures { IfOk result (IsRecent []) }
     {
         let chains = Chains::none(alloc, 1)?;
+        let children = ShortChildren::none(alloc)?;
         Ok(Recent {
             edges: IndexSet::new(alloc),
+            children,
+            chains,
+        })
+    }
+
+    /// The same rules.
+    pub fn copy(&self, alloc: Global) -> Result<Recent, Memory>
+        ensures { (rules : List Pair) → IsRecent rules self.now → IfOk result (IsRecent rules) }
+    {
+        // The set is cloned by its own allocator, and there is only this one.
+        let edges = self.edges.clone()?;
+        let children = self.children.copy(alloc)?;
+        let chains = self.chains.copy(alloc)?;
+        Ok(Recent {
+            edges,
+            children,
             chains,
         })
     }
@@ -64,17 +83,34 @@ impl Recent {
         if let Some(child) = self.child(state, letter) {
             return Ok(child);
         }
+        let next = self.edges.len() + 1;
+        self.children.make_room(next)?;
         self.chains.heads.reserve(1)?;
         self.edges.insert(Edge {
             parent: state,
             letter,
         })?;
         self.chains.heads.push(0)?;
-        Ok(self.edges.len())
+        self.children.note(state, letter, next);
+        Ok(next)
     }
 
     /// The state to which the letter leads from a state.
     fn child(&self, state: usize, letter: u16) -> Option<usize>
+        requires recent { (rules : List Pair) × IsRecent rules self.now }
+        requires state { state ≤ length self.now.edges.keys }
+        ensures some { IfSome result (IsChild self.now.edges.keys state letter) }
+        ensures none { IfNone result (IsNoChild self.now.edges.keys state letter) }
+    {
+        if (letter as usize) < SHORT {
+            self.children.get(state, letter)
+        } else {
+            self.listed_child(state, letter)
+        }
+    }
+
+    /// The state to which the letter leads from a state, by the list of all edges.
+    fn listed_child(&self, state: usize, letter: u16) -> Option<usize>
         requires { (rules : List Pair) × IsRecent rules self.now }
         ensures some { IfSome result (IsChild self.now.edges.keys state letter) }
         ensures none { IfNone result (IsNoChild self.now.edges.keys state letter) }

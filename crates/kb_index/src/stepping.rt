@@ -25,14 +25,17 @@ impl Automaton {
         ensures longest { IsLongestSuffix self.now.edges.items
             (word self.now.edges.items state ++ letter ∷ []) (word self.now.edges.items result) }
     {
-        step(
-            &self.edges,
-            &self.firsts,
-            &self.roots,
-            &self.links,
-            state,
-            letter,
-        )
+        match self.table.after(state, letter) {
+            Some(after) => after,
+            None => step(
+                &self.edges,
+                &self.firsts,
+                &self.roots,
+                &self.links,
+                state,
+                letter,
+            ),
+        }
     }
 
     /// Whether the state's word is a left side.

@@ -1,6 +1,6 @@
 use Rattle.std.proofs.Common.{◌≡◌, ℕ, ◌<◌, get_or, Option, arith, ap, ◌∙◌, subst, sym}
 use Rattle.std.specs.Option.{unwrap_or}
-use Rattle.kb_index.specs.Children.{IsRootChild}
+use Rattle.kb_index.specs.Children.{IsChildOrNone}
 use Rattle.kb_index.proofs.States.{from_edge}
 use Rattle.kb_index.proofs.Steps.{Falling, step_found, step_root, step_falls}
 use Rattle.kb_index.proofs.links.step.Goals as goal
@@ -27,7 +27,7 @@ returns-clause-longest c =
     let letter : ℕ = c.args.letter in
     let value : c.unwrap_or.result ≡ get_or c.args.roots.now letter 0 =
     c.unwrap_or.ensures ∙ ap (λ (o : Option ℕ). unwrap_or o 0) c.copied.ensures ∙ c.get.ensures.lookup.4 (omega arith) 0 in
-    let R : ℕ → Type 0 = λ child. IsRootChild c.args.edges.now letter child in
+    let R : ℕ → Type 0 = λ child. IsChildOrNone c.args.edges.now 0 letter child in
     let F : ℕ → Type 0 = λ at. Falling c.args.edges.now c.args.state letter at in
     let at_root : c.loop-at.at ≡ 0 = omega arith in
     step_root c.args.edges.now c.requires.edges c.args.state letter c.unwrap_or.result (subst F at_root c.loop-at.invariant.falling)

@@ -1,4 +1,4 @@
-use Rattle.std.proofs.Common.{◌≡◌, ℕ, ◌≤◌, ◌-◌, ◌∷◌, [], ◌++◌, List, length, get_or, arith, subst}
+use Rattle.std.proofs.Common.{◌≡◌, ℕ, ◌-◌, ◌∷◌, [], ◌++◌, List, length, get_or, arith, subst}
 use Rattle.std.proofs.lemmas.List.{get_or_read}
 use Rattle.kb_index.specs.declared.edge.Edge.{Edge}
 use Rattle.kb_index.specs.Edges.{word}
@@ -18,12 +18,9 @@ returns-clause-state c =
     let P : ℕ → Type 0 = λ s. IsLongestSuffix edges (word edges s ++ c.number.result ∷ []) (word edges c.step-state.result) in
     let Q : ℕ → Type 0 = λ i. IsLongestSuffix edges (word edges (get_or states i 0) ++ c.number.result ∷ []) (word edges c.step-state.result) in
     let R : ℕ → Type 0 = λ y. IsLongestSuffix edges (word edges (get_or states (length states - 1) 0) ++ y ∷ []) (word edges c.step-state.result) in
-    let E : List Edge → Type 0 = λ es. c.step-state.result ≤ length es in
-    let L : List Edge → Type 0 =
-    λ es. IsLongestSuffix es (word es c.index.result.now ++ c.number.result ∷ []) (word es c.step-state.result) in
-    let longest : P c.index.result.now = subst L c.deref.ensures.value c.step-state.ensures.longest in
+    let longest : P c.index.result.now = c.step-state.ensures.longest in
     states_next edges c.requires.automaton.1.trie.edges_rise c.args.front.now states x c.step-state.result c.requires.states
-    (subst E c.deref.ensures.value c.step-state.ensures.state) (subst R c.number.ensures (subst Q at (subst P last longest)))
+    c.step-state.ensures.state (subst R c.number.ensures (subst Q at (subst P last longest)))
 
 pub returns-clause-states : goal.returns-clause-states
 returns-clause-states c =

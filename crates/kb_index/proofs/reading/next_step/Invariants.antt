@@ -6,7 +6,7 @@ use Rattle.kb_index.proofs.reading.next_step.Given as goal
 
 abbrev pub invariant-loop-letter : goal.invariant-loop-letter
 invariant-loop-letter l = record {
-  states : AreStates l.lookup.settled.edges.items l.workspace.front l.workspace.states.items;
+  states : AreStates l.lookup.settled.value.edges.items l.workspace.front l.workspace.states.items;
   irreducible : IsIrreducible (OneOf l.list.rules) l.workspace.front;
   range : All (λ x. x < 2 ^ 16) (l.workspace.front ++ l.workspace.unread);
   same : l.workspace.front ++ l.workspace.unread ≡ l.fn.workspace.front ++ l.fn.workspace.unread;

@@ -4,6 +4,8 @@ use Rattle.kb_word.specs.Rewriting.{IsIrreducible}
 use Rattle.kb_rules.specs.Ending.{IsFirstEnding}
 use Rattle.kb_rules.proofs.Endings.{irreducible_more}
 use Rattle.kb_rules.proofs.Scanning.{IsCut, cut_irreducible, cut_step, cut_range}
+use Rattle.kb_index.specs.declared.automaton.Automaton.{Automaton}
+use Rattle.kb_index.specs.Automata.{AreStates}
 use Rattle.kb_index.specs.Owners.{IsOwner}
 use Rattle.kb_index.proofs.Fronts.{front_cut, none_past, owner_ending, owner_none}
 use Rattle.kb_index.proofs.reading.read_letter.Goals as goal
@@ -30,9 +32,10 @@ cut-kept-requires-clause-ends c =
 
 pub returns-clause-states : goal.returns-clause-states
 returns-clause-states c =
-    front_cut c.args.lookup.now.settled.edges.items c.advance.new.front c.cut-kept.new.front c.advance.new.states.items
-    c.cut-kept.new.states.items c.cut-kept.result (omega (arith, c.cut-kept.ensures.kept)) c.in_ok-state.ensures.states
-    c.cut-kept.ensures.word c.cut-kept.ensures.states
+    let P : Automaton → Type 0 = λ a. AreStates a.edges.items c.advance.new.front c.advance.new.states.items in
+    front_cut c.args.lookup.now.settled.value.edges.items c.advance.new.front c.cut-kept.new.front c.advance.new.states.items
+    c.cut-kept.new.states.items c.cut-kept.result (omega (arith, c.cut-kept.ensures.kept))
+    (subst P c.deref.ensures c.in_ok-state.ensures.states) c.cut-kept.ensures.word c.cut-kept.ensures.states
 
 pub returns-clause-irreducible : goal.returns-clause-irreducible
 returns-clause-irreducible c =

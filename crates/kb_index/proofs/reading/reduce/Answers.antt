@@ -12,7 +12,7 @@ use Rattle.kb_index.proofs.reading.reduce.Goals as goal
 pub loop-init : goal.loop-init
 loop-init c =
     let rules = c.args.list.now.rules in
-    let edges = c.args.lookup.now.settled.edges.items in
+    let edges = c.args.lookup.now.settled.value.edges.items in
     let workspace = c.start.new.workspace in
     let whole : workspace.front ++ workspace.unread ≡ c.args.w.now =
     ap (λ w. w ++ workspace.unread) c.in_ok-start.ensures.front ∙ c.in_ok-start.ensures.unread in

@@ -7,7 +7,7 @@ use Rattle.kb_index.proofs.reading.reduce.Given as goal
 
 abbrev pub invariant-loop : goal.invariant-loop
 invariant-loop l = record {
-  states : AreStates l.lookup.settled.edges.items l.workspace.front l.workspace.states.items;
+  states : AreStates l.lookup.settled.value.edges.items l.workspace.front l.workspace.states.items;
   irreducible : IsIrreducible (OneOf l.list.rules) l.workspace.front;
   range : All (λ x. x < 2 ^ 16) (l.workspace.front ++ l.workspace.unread);
   leads : (m : List ℕ) → NormalForm l.list.rules (l.workspace.front ++ l.workspace.unread) m → NormalForm l.list.rules l.w m;

@@ -1,8 +1,10 @@
-use Rattle.std.proofs.Common.{◌≡◌, ℕ, ◌+◌, List, ◌∷◌, [], ◌++◌, Bool, length, if◌then◌else◌, ap, ◌∙◌, refl}
+use Rattle.std.proofs.Common.{◌≡◌, ℕ, ◌+◌, ◌*◌, ◌<◌, ◌≤◌, List, ◌∷◌, [], ◌++◌, Bool, length, set, if◌then◌else◌, ap, ◌∙◌, refl, subst, arith}
 use Rattle.std.proofs.lemmas.List.{length_push}
 use Rattle.kb_index.specs.declared.edge.Edge.{Edge}
 use Rattle.kb_index.specs.Edges.{word}
+use Rattle.kb_index.specs.Children.{AreShortChildren}
 use Rattle.kb_index.proofs.Words.{word_new}
+use Rattle.kb_index.proofs.ChildRows.{children_same, children_push}
 use Rattle.kb_index.proofs.Recents.{no_edge_is, recent_grown}
 use Rattle.kb_index.proofs.recent.Recent.grow.Goals as goal
 
@@ -12,7 +14,15 @@ returns-clause-keeps c rules is =
     let edge : Edge = record { parent = c.args.state; letter = c.args.letter } in
     let keys : c.insert.new.self.keys ≡ old ++ edge ∷ [] =
     c.in_ok-insert.ensures.keys ∙ ap (λ (b : Bool). if b then old else old ++ edge ∷ []) (no_edge_is old edge c.in_default.ensures.none) in
+    let rows : List ℕ = c.make_room.new.self.rows.items in
+    let room : (length old + 2) * 64 ≤ length rows = omega (arith, c.in_ok-make_room.ensures.room, c.len-next.ensures.len) in
+    let kept : AreShortChildren old rows =
+    children_same old c.args.self.now.children.rows.items rows is.children c.make_room.ensures.same c.make_room.ensures.longer in
+    let N : ℕ → Type 0 =
+    λ n. c.args.letter < 64 → c.note.new.self.rows.items ≡ set rows (c.args.state * 64 + c.args.letter) (n + 1) in
     recent_grown rules c.args.self.now _ edge is c.requires.state c.in_default.ensures.none keys
+    (children_push old edge rows c.note.new.self.rows.items kept c.requires.state room (subst N c.len-next.ensures.len c.note.ensures.short)
+    c.note.ensures.long)
     (c.in_ok-push.ensures.items ∙ ap (λ (hs : List ℕ). hs ++ 0 ∷ []) c.in_ok-reserve.ensures.items) refl
 
 pub returns-clause-word : goal.returns-clause-word
@@ -21,5 +31,12 @@ returns-clause-word c =
     let edge : Edge = record { parent = c.args.state; letter = c.args.letter } in
     let keys : c.insert.new.self.keys ≡ old ++ edge ∷ [] =
     c.in_ok-insert.ensures.keys ∙ ap (λ (b : Bool). if b then old else old ++ edge ∷ []) (no_edge_is old edge c.in_default.ensures.none) in
-    let long : c.len.result ≡ length old + 1 = c.len.ensures.len ∙ ap length keys ∙ length_push old edge in
-    ap (λ (es : List Edge). word es c.len.result) keys ∙ ap (word (old ++ edge ∷ [])) long ∙ word_new old edge
+    ap (λ (es : List Edge). word es (c.len-next.result + 1)) keys ∙ ap (λ (n : ℕ). word (old ++ edge ∷ []) (n + 1)) c.len-next.ensures.len ∙ word_new old edge
+
+pub returns-clause-within : goal.returns-clause-within
+returns-clause-within c =
+    let old : List Edge = c.args.self.now.edges.keys in
+    let edge : Edge = record { parent = c.args.state; letter = c.args.letter } in
+    let keys : c.insert.new.self.keys ≡ old ++ edge ∷ [] =
+    c.in_ok-insert.ensures.keys ∙ ap (λ (b : Bool). if b then old else old ++ edge ∷ []) (no_edge_is old edge c.in_default.ensures.none) in
+    omega (arith, ap length keys, length_push old edge, c.len-next.ensures.len)
