@@ -1,5 +1,9 @@
 pub mod Growing
 pub mod Places
 pub mod GroupLemmas
+pub mod OverGenerators
 pub mod Inserting
 pub mod PathLemmas
+pub mod Reading
+pub mod Entries
+pub mod WholeTable

@@ -9,6 +9,10 @@ use Rattle.kb_word.specs.declared.presentation.Presentation.{Presentation}
 abbrev pub EachInverts : ℕ → List (Option ℕ) → Type 0
 EachInverts n inverses = (x : ℕ) → 0 < x → x ≤ n → (y : ℕ) × (inverse_letter inverses x ≡ Some y)
 
+-- no letter's inverse is another than one of the letters 1 to n
+abbrev pub InvertWithin : ℕ → List (Option ℕ) → Type 0
+InvertWithin n inverses = (x y : ℕ) → inverse_letter inverses x ≡ Some y → (0 < y) × (y ≤ n)
+
 -- both sides of each rule are words over n letters
 abbrev pub AreRulesOver : ℕ → List Pair → Type 0
 AreRulesOver n rules = (rule : Pair) → OneOf rules rule → IsOver n rule.0 × IsOver n rule.1

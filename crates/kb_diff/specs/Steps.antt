@@ -25,10 +25,20 @@ pub data DifferenceStep (group : Group) (words : List (List ℕ)) (number a b : 
   to_none : {d e : List ℕ} → HasNumber words number d → LeadsBy group d a b e → ¬ Contains words e
       → DifferenceStep group words number a b 0
 
--- a machine's step is that of the words that are kept, from each of them by each pair of letters, the padding among them
-abbrev pub AreSteps : Group → List (List ℕ) → (ℕ → ℕ → ℕ → ℕ) → Type 0
-AreSteps group words step = (number a b : ℕ) → 0 < number → number ≤ length words → 0 < a → a ≤ group.n + 1 → 0 < b → b ≤ group.n + 1
-    → DifferenceStep group words number a b (step number a b)
+-- the pair of letters is read from the number: that of a kept word, and each letter a generator or the padding
+pub record IsRead (group : Group) (words : List (List ℕ)) (number a b : ℕ) : Type 0 where
+  pub positive : 0 < number
+  pub among : number ≤ length words
+  pub first_positive : 0 < a
+  pub first : a ≤ group.n + 1
+  pub second_positive : 0 < b
+  pub second : b ≤ group.n + 1
+
+-- A machine's step is that of the words that are kept, from each of them by each pair of letters, the padding among them.
+-- From elsewhere, and by other letters, it leads to 0.
+pub record AreSteps (group : Group) (words : List (List ℕ)) (step : ℕ → ℕ → ℕ → ℕ) : Type 0 where
+  pub each : (number a b : ℕ) → IsRead group words number a b → DifferenceStep group words number a b (step number a b)
+  pub elsewhere : (number a b : ℕ) → ¬ IsRead group words number a b → step number a b ≡ 0
 
 -- The words u and v, read side by side, lead from d to f by words that are kept. The shorter one is padded at its end.
 pub data Leads (group : Group) (words : List (List ℕ)) : List ℕ → List ℕ → List ℕ → List ℕ → Type 0 where

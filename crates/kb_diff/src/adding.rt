@@ -1,7 +1,9 @@
 //! Adding the differences of two words.
 
 ghost use Rattle.std.specs.Prelude.{◌≡◌, ◌↔◌, ◌+◌, IfOk, OnOk, OnErr, length, take};
+ghost use Rattle.kb_word.specs.Words.{OneOf};
 ghost use Rattle.kb_word.specs.Relations.{IsOver};
+ghost use Rattle.kb_word.specs.Rewriting.{IsIrreducible};
 ghost use Rattle.kb_diff.specs.Differences.{IsDifference, HaveDifferences};
 ghost use Rattle.kb_diff.specs.Keeping.{Adds, IsFull, KeepsOne, NamesMissing};
 
@@ -74,8 +76,10 @@ impl<R: Reducer> Differences<R> {
         place: usize,
         workspace: &mut Workspace,
     ) -> Result<Word, Memory>
-        requires { IsOver self.now.group.n u.now }
-        ensures { IfOk result (IsDifference self.now.group u.now v.now place) }
+        requires first { IsOver self.now.group.n u.now }
+        requires second { IsOver self.now.group.n v.now }
+        ensures difference { IfOk result (IsDifference self.now.group u.now v.now place) }
+        ensures over { IfOk result (IsOver self.now.group.n) }
     {
         let prefix = prefix_of(alloc, u, place)?;
         let mut difference = inverse_in_group(alloc, &self.presentation, &prefix)?;
@@ -87,6 +91,8 @@ impl<R: Reducer> Differences<R> {
 
     /// Keeps a difference at a place, unless it is kept already or there is no more room.
     fn keep(&mut self, word: Word, place: u64) -> Result<Grow, Memory>
+        requires over { IsOver self.old.group.n word }
+        requires irreducible { IsIrreducible (OneOf self.old.group.rules) word }
         ensures ok { IfOk result
             (KeepsOne self.old.most word place self.old.words self.new.words) }
         ensures err { OnErr result (self.new.words ≡ self.old.words) }

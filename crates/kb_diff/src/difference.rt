@@ -1,13 +1,16 @@
 //! Word differences as they are looked up.
 
-ghost use Rattle.std.specs.Prelude.{◌≡◌, nat_eq};
+ghost use Rattle.std.specs.Prelude.{◌≡◌, ◌++◌, OnOk, nat_eq};
 ghost use Rattle.std.specs.Cmp.{partial_equiv_from_equiv};
 ghost use Rattle.std.specs.Cmp.Lexicographic.{pointwise, nat_list_eq_equiv};
 ghost use Rattle.std.specs.Cmp.Rules.{hashing};
 ghost use Rattle.std.specs.Hash as fed;
 ghost use Rattle.std.proofs.Common.{rules};
+ghost use Rattle.kb_word.specs.Rewriting.{NormalForm};
+ghost use Rattle.kb_diff.specs.Tables.{listed};
 
-use kb_word::Word;
+use kb_rules::{Reducer, Workspace};
+use kb_word::{Letter, Memory, Word};
 use std::hash::{Hash, Hasher};
 use std::marker::Model;
 
@@ -45,6 +48,33 @@ impl Difference {
         ensures { result ≡ self }
     {
         self.word
+    }
+
+    /// Becomes the word with the letter at its end, if there is one. It keeps its memory.
+    pub(crate) fn become_longer(
+        &mut self,
+        word: &Word,
+        letter: Option<Letter>,
+    ) -> Result<(), Memory>
+        ensures { OnOk result (self.new ≡ word.now ++ listed letter) }
+    {
+        self.word.truncate(0);
+        self.word.append(word)?;
+        if let Some(letter) = letter {
+            self.word.push(letter)?;
+        }
+        Ok(())
+    }
+
+    /// Becomes its normal form.
+    pub(crate) fn reduce_by<R: Reducer>(
+        &mut self,
+        reducer: &R,
+        workspace: &mut Workspace,
+    ) -> Result<(), Memory>
+        ensures { OnOk result (NormalForm (R.rules reducer.now) self.old self.new) }
+    {
+        reducer.reduce(&mut self.word, workspace)
     }
 }
 

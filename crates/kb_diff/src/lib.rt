@@ -13,9 +13,15 @@
 //! and the words have another difference, which it names with its first place. After want of memory what is kept is as
 //! it was; after `Full` the differences before that place are kept.
 //!
+//! [`Differences::machine`] makes the difference machine of what is kept: [`Machine::step`] leads from the number of the
+//! difference d by the letters a and b to the number of the normal form of a^-1 d b, and to 0 where that isn't kept. The
+//! padding, letter n + 1 of n, counts as nothing. All steps are computed once, in rows: a row has the normal form of a^-1 d
+//! before all letters b, which is right since first rewrites read a word from its front. So d differences over n
+//! generators take about d (n + 1)^2 short reductions, and no memory for each of them.
+//!
 //! The definitions are in `specs`: `Differences` has the difference of two words at a place, `Keeping` what is kept and
-//! answered, `Steps` the difference machine, whose states are the differences, and `Languages` the words that the
-//! acceptor and the multipliers of these differences accept.
+//! answered, `Steps` the difference machine, whose states are the differences, `Tables` the table that holds its steps,
+//! and `Languages` the words that the acceptor and the multipliers of these differences accept.
 //!
 //! Below are `kb_word`, with words and their inverses, and `kb_rules`, with the contract of all programs that reduce
 //! words: differences are the same by each of them.
@@ -26,6 +32,10 @@ mod difference;
 mod differences;
 mod grow;
 mod inverting;
+mod letters;
+mod machine;
+mod stepping;
 
 pub use differences::Differences;
 pub use grow::Grow;
+pub use machine::Machine;

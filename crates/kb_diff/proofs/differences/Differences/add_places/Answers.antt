@@ -12,6 +12,9 @@ loop-place-init g c = record {
   so_far = so_far_none c.args.self.now.group c.args.self.now.most c.args.u.now c.args.v.now c.args.self.now.words;
 }
 
+pub keep-requires-clause-irreducible : goal.keep-requires-clause-irreducible
+keep-requires-clause-irreducible g c = c.in_ok-word.ensures.difference.normal.irreducible
+
 pub returns-then-is_full-clause-ok : goal.returns-then-is_full-clause-ok
 returns-then-is_full-clause-ok g c =
     let now = c.args.self.now in
@@ -19,7 +22,7 @@ returns-then-is_full-clause-ok g c =
     let so_far = c.loop-place.invariant in
     let more = place_more now.group before.group now.most before.most c.args.u.now c.args.v.now c.loop-place.place now.words before.words c.keep.new.self.words
     c.loop-place.answer c.in_ok-one.one c.and-answer.result c.in_ok-word.word so_far.group so_far.most c.and-answer.ensures so_far.so_far
-    c.in_ok-word.ensures c.in_ok-one.ensures.ok in
+    c.in_ok-word.ensures.difference c.in_ok-one.ensures.ok in
     let within : c.loop-place.place + 1 ≤ last_place c.args.u.now c.args.v.now =
     omega (arith, c.loop-place-test.true, c.max-place-end.ensures, c.len.ensures, c.len-2.ensures) in
     adds_full now.group now.most c.args.u.now c.args.v.now (c.loop-place.place + 1) now.words c.keep.new.self.words c.and-answer.result within
@@ -37,7 +40,7 @@ loop-place-preserved g c =
     let so_far = c.loop-place.invariant in
     let more = place_more now.group before.group now.most before.most c.args.u.now c.args.v.now c.loop-place.place now.words before.words c.keep.new.self.words
     c.loop-place.answer c.in_ok-one.one c.and-answer.result c.in_ok-word.word so_far.group so_far.most c.and-answer.ensures so_far.so_far
-    c.in_ok-word.ensures c.in_ok-one.ensures.ok in record {
+    c.in_ok-word.ensures.difference c.in_ok-one.ensures.ok in record {
       group = c.keep.ensures.group ∙ so_far.group;
       most = c.keep.ensures.most ∙ so_far.most;
       front = front_more before.most c.in_ok-word.word (c.loop-place.place + 1) now.words before.words c.keep.new.self.words c.in_ok-one.one so_far.front

@@ -1,6 +1,9 @@
 use Rattle.std.proofs.Common.{◌≡◌, ◌∷◌, ◌++◌, [], ℕ, List, false, nat_eq, length, sym, refl, ap, ◌∙◌, subst, arith}
 use Rattle.std.specs.List.{Contains, list_any}
 use Rattle.std.specs.Cmp.Lexicographic.{pointwise}
+use Rattle.kb_word.specs.Words.{OneOf}
+use Rattle.kb_word.specs.Relations.{IsOver}
+use Rattle.kb_word.specs.Rewriting.{IsIrreducible}
 use Rattle.kb_diff.specs.declared.grow.Grow.TheVariants.{Grew, Same, Full}
 use Rattle.kb_diff.specs.Kept.{KeptDifferences}
 use Rattle.kb_diff.specs.Keeping.{KeepsOne, one_known, one_added, one_too_many}
@@ -30,7 +33,14 @@ pub invariant_of-self-2 : goal.invariant_of-self-2
 invariant_of-self-2 g c =
     let keys = c.self.inside.words.keys in
     let missed : list_any (pointwise nat_eq c.new-difference.result) keys ≡ false = sym c.contains.ensures ∙ c.if-contains.false in
-    kept_more _ c.self.inside.most keys c.insert.new.self.keys c.new-difference.result c.self.invariant (lacks_word keys c.new-difference.result missed)
+    let K : KeptDifferences → Type 0 = λ kept. IsOver kept.group.n c.args.word in
+    let L : KeptDifferences → Type 0 = λ kept. IsIrreducible (OneOf kept.group.rules) c.args.word in
+    let O : List ℕ → Type 0 = λ w. IsOver c.self.inside.presentation.n w in
+    let I : List ℕ → Type 0 = λ w. IsIrreducible (OneOf (g.R.Reducer.rules c.self.inside.reducer)) w in
+    let word = sym c.new-difference.ensures in
+    let over = subst O word (subst K (sym c.self.view_is) c.requires.over) in
+    let irreducible = subst I word (subst L (sym c.self.view_is) c.requires.irreducible) in
+    kept_more _ c.self.inside.most keys c.insert.new.self.keys c.new-difference.result c.self.invariant over irreducible (lacks_word keys c.new-difference.result missed)
     (omega (arith, c.if-len-self.false, c.len.ensures.len)) (word_added keys c.insert.new.self.keys c.new-difference.result missed c.in_ok-insert.ensures.keys)
 
 pub returns-clause-ok : goal.returns-clause-ok
