@@ -32,6 +32,7 @@ fn main(rt: HostRuntime) -> ExitCode {
     let mut input = StdIn::new(&rt);
     let mut out = StdOut::new(&rt);
     let status = run(
+        &rt,
         alloc,
         arguments.as_slice(),
         &mut shelf,

@@ -62,14 +62,33 @@ impl Task for Combine {
 
     ghost differs_in_options = { CombinesDifferInOptions };
 
-    fn run<F: Shelf, I: Source, O: Sink, E: Sink>(
+    ghost complete = { combine_complete };
+
+    ghost settled = { combine_settled };
+
+    ghost one_function = { combine_one_function };
+}
+
+impl Combine {
+    ghost use Rattle.kb_io.specs.Outside.{outside};
+    ghost use Rattle.kb_task.specs.Runs.{IsRun};
+    ghost use Rattle.kb_automata.specs.Make.{CombineMeans, combine_may_store};
+
+    /// Runs the command. What it writes to `err` only shows that it lives.
+    pub fn run<F: Shelf, I: Source, O: Sink, E: Sink>(
         self,
         alloc: Global,
         shelf: &mut F,
-        _input: &mut I,
+        input: &mut I,
         out: &mut O,
-        _err: &mut E,
-    ) -> Status {
+        err: &mut E,
+    ) -> Status
+        ensures { IsRun (CombineMeans self) (combine_may_store self)
+            (outside (F.state shelf.old) (I.state input.old) (O.state out.old))
+            (outside (F.state shelf.new) (I.state input.new) (O.state out.new)) result }
+    {
+        let _ = input;
+        let _ = err;
         let kind = self.operation.kind();
         let first = match load_automaton(alloc, kind, self.one, shelf) {
             Ok(first) => first,
@@ -87,12 +106,6 @@ impl Task for Combine {
             Err(Det::Memory) => Status::Memory,
         }
     }
-
-    ghost complete = { combine_complete };
-
-    ghost settled = { combine_settled };
-
-    ghost one_function = { combine_one_function };
 }
 
 impl Combination {

@@ -47,14 +47,32 @@ impl Task for Compare {
 
     ghost differs_in_options = { ComparesDifferInOptions };
 
-    fn run<F: Shelf, I: Source, O: Sink, E: Sink>(
+    ghost complete = { compare_complete };
+
+    ghost settled = { compare_settled };
+
+    ghost one_function = { compare_one_function };
+}
+
+impl Compare {
+    ghost use Rattle.kb_task.specs.Runs.{IsRun};
+    ghost use Rattle.kb_automata.specs.Compare.{CompareMeans, compare_may_store};
+
+    /// Runs the command. What it writes to `err` only shows that it lives.
+    pub fn run<F: Shelf, I: Source, O: Sink, E: Sink>(
         self,
         alloc: Global,
         shelf: &mut F,
-        _input: &mut I,
+        input: &mut I,
         out: &mut O,
-        _err: &mut E,
-    ) -> Status {
+        err: &mut E,
+    ) -> Status
+        ensures { IsRun (CompareMeans self) (compare_may_store self)
+            (outside (F.state shelf.old) (I.state input.old) (O.state out.old))
+            (outside (F.state shelf.new) (I.state input.new) (O.state out.new)) result }
+    {
+        let _ = input;
+        let _ = err;
         let first = match load_automaton(alloc, Kind::WordsOrPairs, self.one, shelf) {
             Ok(first) => first,
             Err(status) => return status,
@@ -64,12 +82,6 @@ impl Task for Compare {
             Err(status) => status,
         }
     }
-
-    ghost complete = { compare_complete };
-
-    ghost settled = { compare_settled };
-
-    ghost one_function = { compare_one_function };
 }
 
 /// Prints the line of the comparison.

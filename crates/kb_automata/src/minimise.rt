@@ -33,23 +33,37 @@ impl Task for Minimise {
 
     ghost differs_in_options = { MinimisesDifferInOptions };
 
-    fn run<F: Shelf, I: Source, O: Sink, E: Sink>(
-        self,
-        alloc: Global,
-        shelf: &mut F,
-        _input: &mut I,
-        _out: &mut O,
-        _err: &mut E,
-    ) -> Status {
-        match load_automaton(alloc, Kind::WordsOrPairs, self.file, shelf) {
-            Ok(given) => store_canonical(alloc, &given.names, &given.fsa, self.out, shelf),
-            Err(status) => status,
-        }
-    }
-
     ghost complete = { minimise_complete };
 
     ghost settled = { minimise_settled };
 
     ghost one_function = { minimise_one_function };
+}
+
+impl Minimise {
+    ghost use Rattle.kb_io.specs.Outside.{outside};
+    ghost use Rattle.kb_task.specs.Runs.{IsRun};
+    ghost use Rattle.kb_automata.specs.Make.{MinimiseMeans, minimise_may_store};
+
+    /// Runs the command. What it writes to `err` only shows that it lives.
+    pub fn run<F: Shelf, I: Source, O: Sink, E: Sink>(
+        self,
+        alloc: Global,
+        shelf: &mut F,
+        input: &mut I,
+        out: &mut O,
+        err: &mut E,
+    ) -> Status
+        ensures { IsRun (MinimiseMeans self) (minimise_may_store self)
+            (outside (F.state shelf.old) (I.state input.old) (O.state out.old))
+            (outside (F.state shelf.new) (I.state input.new) (O.state out.new)) result }
+    {
+        let _ = input;
+        let _ = out;
+        let _ = err;
+        match load_automaton(alloc, Kind::WordsOrPairs, self.file, shelf) {
+            Ok(given) => store_canonical(alloc, &given.names, &given.fsa, self.out, shelf),
+            Err(status) => status,
+        }
+    }
 }

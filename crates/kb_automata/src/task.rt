@@ -43,14 +43,31 @@ impl Task for AutomataTask {
 
     ghost differs_in_options = { AutomataDifferInOptions };
 
-    fn run<F: Shelf, I: Source, O: Sink, E: Sink>(
+    ghost complete = { automata_complete };
+
+    ghost settled = { automata_settled };
+
+    ghost one_function = { automata_one_function };
+}
+
+impl AutomataTask {
+    ghost use Rattle.kb_io.specs.Outside.{outside};
+    ghost use Rattle.kb_task.specs.Runs.{IsRun};
+    ghost use Rattle.kb_automata.specs.Tasks.{AutomataMeans, automata_may_store};
+
+    /// Runs the command. What it writes to `err` only shows that it lives.
+    pub fn run<F: Shelf, I: Source, O: Sink, E: Sink>(
         self,
         alloc: Global,
         shelf: &mut F,
         input: &mut I,
         out: &mut O,
         err: &mut E,
-    ) -> Status {
+    ) -> Status
+        ensures { IsRun (AutomataMeans self) (automata_may_store self)
+            (outside (F.state shelf.old) (I.state input.old) (O.state out.old))
+            (outside (F.state shelf.new) (I.state input.new) (O.state out.new)) result }
+    {
         match self {
             AutomataTask::Combine(task) => task.run(alloc, shelf, input, out, err),
             AutomataTask::Transform(task) => task.run(alloc, shelf, input, out, err),
@@ -59,10 +76,4 @@ impl Task for AutomataTask {
             AutomataTask::Enumerate(task) => task.run(alloc, shelf, input, out, err),
         }
     }
-
-    ghost complete = { automata_complete };
-
-    ghost settled = { automata_settled };
-
-    ghost one_function = { automata_one_function };
 }

@@ -64,14 +64,33 @@ impl Task for Transform {
 
     ghost differs_in_options = { TransformsDifferInOptions };
 
-    fn run<F: Shelf, I: Source, O: Sink, E: Sink>(
+    ghost complete = { transform_complete };
+
+    ghost settled = { transform_settled };
+
+    ghost one_function = { transform_one_function };
+}
+
+impl Transform {
+    ghost use Rattle.kb_io.specs.Outside.{outside};
+    ghost use Rattle.kb_task.specs.Runs.{IsRun};
+    ghost use Rattle.kb_automata.specs.Make.{TransformMeans, transform_may_store};
+
+    /// Runs the command. What it writes to `err` only shows that it lives.
+    pub fn run<F: Shelf, I: Source, O: Sink, E: Sink>(
         self,
         alloc: Global,
         shelf: &mut F,
-        _input: &mut I,
+        input: &mut I,
         out: &mut O,
-        _err: &mut E,
-    ) -> Status {
+        err: &mut E,
+    ) -> Status
+        ensures { IsRun (TransformMeans self) (transform_may_store self)
+            (outside (F.state shelf.old) (I.state input.old) (O.state out.old))
+            (outside (F.state shelf.new) (I.state input.new) (O.state out.new)) result }
+    {
+        let _ = input;
+        let _ = err;
         let given = match load_automaton(alloc, self.operation.kind(), self.file, shelf) {
             Ok(given) => given,
             Err(status) => return status,
@@ -84,12 +103,6 @@ impl Task for Transform {
             Err(Det::Memory) => Status::Memory,
         }
     }
-
-    ghost complete = { transform_complete };
-
-    ghost settled = { transform_settled };
-
-    ghost one_function = { transform_one_function };
 }
 
 impl Transformation {

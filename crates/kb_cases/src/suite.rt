@@ -7,6 +7,7 @@ use std::alloc::Global;
 use std::fs;
 use std::rt::Files;
 use std::sync::Wait;
+use std::thread::Threads;
 
 /// How many cases were run, and how many of them came otherwise than wanted.
 #[derive(Clone, Copy)]
@@ -23,7 +24,7 @@ struct Suite {
 }
 
 /// Runs the cases of the file of this name, and prints what differs.
-pub(crate) fn try_file<R: Files + AllocGlobal + Print + Wait>(
+pub(crate) fn try_file<R: Files + AllocGlobal + Print + Threads + Wait + Sync>(
     alloc: Global,
     rt: &R,
     name: &str,
@@ -72,7 +73,7 @@ impl Suite {
     }
 
     /// Runs the cases of a draft, where there is one.
-    fn end<R: Files + AllocGlobal + Print + Wait>(
+    fn end<R: Files + AllocGlobal + Print + Threads + Wait + Sync>(
         &mut self,
         rt: &R,
         draft: Option<Draft>,
@@ -92,7 +93,7 @@ impl Suite {
     }
 
     /// Runs the case that a draft is by the texts so far.
-    fn try_case<R: Files + AllocGlobal + Print + Wait>(
+    fn try_case<R: Files + AllocGlobal + Print + Threads + Wait + Sync>(
         &mut self,
         rt: &R,
         draft: &Draft,

@@ -5,6 +5,7 @@ use kb_cli::{Status, run};
 use kb_io::{MemShelf, MemSink, MemSource, OpenGate, Shelf, Sink, Source};
 use std::alloc::{AllocError, Global};
 use std::sync::Wait;
+use std::thread::Threads;
 
 /// Something that came of a run otherwise than wanted.
 #[derive(Drop)]
@@ -133,7 +134,8 @@ fn shelf_of(alloc: Global, case: &Case) -> Result<MemShelf, AllocError> {
 
 /// Runs the program. Nothing is stated of what it does, so that what is proved here needn't take the program's contract
 /// at the forms over memory, which takes minutes.
-fn status_of_run<F: Shelf, I: Source, O: Sink, E: Sink>(
+fn status_of_run<T: Threads + Wait + Sync, F: Shelf, I: Source, O: Sink, E: Sink>(
+    rt: &T,
     alloc: Global,
     words: &[String],
     shelf: &mut F,
@@ -141,11 +143,11 @@ fn status_of_run<F: Shelf, I: Source, O: Sink, E: Sink>(
     out: &mut O,
     err: &mut E,
 ) -> Status {
-    run(alloc, words, shelf, input, out, err, &OpenGate)
+    run(rt, alloc, words, shelf, input, out, err, &OpenGate)
 }
 
 /// Runs the case. What comes of it otherwise than wanted is the result.
-pub(crate) fn differences<R: Wait>(
+pub(crate) fn differences<R: Threads + Wait + Sync>(
     alloc: Global,
     rt: &R,
     case: &Case,
@@ -157,7 +159,7 @@ pub(crate) fn differences<R: Wait>(
     let mut out = MemSink::new(alloc, rt, piece, case.devices.writes.clone()?);
     let mut err = MemSink::new(alloc, rt, piece, case.devices.messages.clone()?);
     let words = case.words.as_slice();
-    let status = status_of_run(alloc, words, &mut shelf, &mut input, &mut out, &mut err);
+    let status = status_of_run(rt, alloc, words, &mut shelf, &mut input, &mut out, &mut err);
     compared(alloc, case, &status, &shelf, out.written(), err.written())
 }
 

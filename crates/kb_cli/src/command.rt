@@ -2,10 +2,12 @@
 
 use kb_automata::AutomataTask;
 use kb_completion::CompletionTask;
-use kb_io::{Shelf, Sink, Source};
+use kb_io::{Gate, Shelf, Sink, Source};
 use kb_task::{Status, Task};
 use kb_wordreduce::WordReduce;
 use std::alloc::Global;
+use std::sync::Wait;
+use std::thread::Threads;
 
 /// A command with its arguments.
 #[derive(Drop)]
@@ -36,24 +38,38 @@ impl Task for Command {
 
     ghost differs_in_options = { CommandsDifferInOptions };
 
-    fn run<F: Shelf, I: Source, O: Sink, E: Sink>(
-        self,
-        alloc: Global,
-        shelf: &mut F,
-        input: &mut I,
-        out: &mut O,
-        err: &mut E,
-    ) -> Status {
-        match self {
-            Command::WordReduce(task) => task.run(alloc, shelf, input, out, err),
-            Command::Automata(task) => task.run(alloc, shelf, input, out, err),
-            Command::Completion(task) => task.run(alloc, shelf, input, out, err),
-        }
-    }
-
     ghost complete = { commands_complete };
 
     ghost settled = { commands_settled };
 
     ghost one_function = { commands_one_function };
+}
+
+impl Command {
+    ghost use Rattle.kb_io.specs.Outside.{outside};
+    ghost use Rattle.kb_task.specs.Runs.{IsRun};
+    ghost use Rattle.kb_cli.specs.Commands.{CommandMeans, command_may_store};
+
+    /// Runs the command. What it writes to `err` only shows that it lives. Workers are threads of `rt`, and
+    /// pass the gate.
+    pub fn run<T: Threads + Wait + Sync, G: Gate, F: Shelf, I: Source, O: Sink, E: Sink>(
+        self,
+        rt: &T,
+        alloc: Global,
+        gate: &G,
+        shelf: &mut F,
+        input: &mut I,
+        out: &mut O,
+        err: &mut E,
+    ) -> Status
+        ensures { IsRun (CommandMeans self) (command_may_store self)
+            (outside (F.state shelf.old) (I.state input.old) (O.state out.old))
+            (outside (F.state shelf.new) (I.state input.new) (O.state out.new)) result }
+    {
+        match self {
+            Command::WordReduce(task) => task.run(rt, alloc, shelf, input, out, err),
+            Command::Automata(task) => task.run(alloc, shelf, input, out, err),
+            Command::Completion(task) => task.run(rt, alloc, gate, shelf, input, out, err),
+        }
+    }
 }

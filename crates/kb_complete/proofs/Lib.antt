@@ -1,4 +1,2 @@
-mod Stages
-mod Halting
 mod LastLines
 mod Rounds

@@ -6,15 +6,16 @@ use Rattle.kb_machine.specs.Course.{Course, Takes, IsSound}
 use Rattle.kb_machine.specs.declared.event.Event.TheVariants.{Published, Entered}
 use Rattle.kb_machine.specs.declared.halt.Halt.{Halt}
 use Rattle.kb_rules.specs.OrderedRules.{OrderedRules}
-use Rattle.kb_share.specs.Passes.{IsLater}
-use Rattle.kb_complete.specs.Completing.{GivesHalt, Grows, GrowSays, IsCompleted}
+use Rattle.kb_complete.specs.Completing.{Grows, GrowSays, IsCompleted}
 use Rattle.kb_complete.specs.Working.{IsSettled, AdvanceSays}
 use Rattle.kb_book.specs.Books.{BookParts}
 use Rattle.kb_complete.specs.declared.growing.Round.{Round}
 use Rattle.kb_complete.specs.declared.growing.Round.TheVariants as rounds
 use Rattle.kb_complete.specs.declared.answers.Grown.{Grown}
 use Rattle.kb_complete.specs.declared.answers.Grown.TheVariants as grown
-use Rattle.kb_complete.proofs.Stages.{later_then}
+use Rattle.kb_settle.proofs.Stages.{later_then}
+use Rattle.kb_settle.specs.Later.{IsLater}
+use Rattle.kb_settle.specs.Settling.{GivesHalt}
 
 -- later by an event that makes no line
 pub later_same : (before after : Course) → after.problem ≡ before.problem → after.state.lines ≡ before.state.lines → IsLater before after

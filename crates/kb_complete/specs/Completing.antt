@@ -1,40 +1,19 @@
 -- What completion answers.
-use Rattle.std.specs.Prelude.{◌≡◌, ◌≢◌, ◌<◌, [], length, Some, None}
+use Rattle.std.specs.Prelude.{◌≡◌, ◌<◌, [], length, None}
 use Rattle.kb_word.specs.Congruence.{SameCongruence}
 use Rattle.kb_word.specs.Overlap.{IsConfluent}
 use Rattle.kb_rules.specs.OrderedRules.{OrderedRules}
 use Rattle.kb_log.specs.Lines.{rules_of}
 use Rattle.kb_machine.specs.States.{Problem, relations, below}
 use Rattle.kb_machine.specs.Course.{Course}
-use Rattle.kb_machine.specs.declared.halt.Halt.{Halt}
-use Rattle.kb_book.specs.Answers.{IsCopyOf}
 use Rattle.kb_share.specs.Versions.{IsPublished}
-use Rattle.kb_share.specs.Passes.{IsLater}
 use Rattle.kb_reduced.specs.Reduced.{IsReducedComplete}
-use Rattle.kb_complete.specs.declared.answers.Settled.{Settled}
-use Rattle.kb_complete.specs.declared.answers.Settled.TheVariants as settled
 use Rattle.kb_complete.specs.declared.answers.Grown.{Grown}
 use Rattle.kb_complete.specs.declared.answers.Grown.TheVariants as grown
 use Rattle.kb_complete.specs.declared.answers.Outcome.{Outcome}
 use Rattle.kb_complete.specs.declared.answers.Outcome.TheVariants as outcomes
-
--- a later stage at which no further version is published
-pub record Settles (before after : Course) : Type 0 where
-  pub later : IsLater before after
-  pub versions : after.state.versions ≡ before.state.versions
-
--- the course is halted, and this is a copy of its halt
-pub record GivesHalt (course : Course) (halt : Halt) : Type 0 where
-  pub own : Halt
-  pub is : course.state.halt ≡ Some own
-  pub copied : IsCopyOf own halt
-
--- what `settle` answers
-abbrev pub SettleSays : Course → Course → Settled → Type 0
-SettleSays before after settled.Nothing = (before.state.pending ≡ []) × (after ≡ before) × (after.state.halt ≡ None)
-SettleSays before after settled.Done =
-    (before.state.pending ≢ []) × (after.state.pending ≡ []) × (after.state.halt ≡ None)
-SettleSays before after (settled.Halted halt) = (before.state.pending ≢ []) × GivesHalt after halt
+use Rattle.kb_settle.specs.Later.{IsLater}
+use Rattle.kb_settle.specs.Settling.{GivesHalt}
 
 -- a later stage with a line more, at which nothing is pending and the live lines are published
 pub record Grows (before after : Course) : Type 0 where

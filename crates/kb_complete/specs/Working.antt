@@ -1,5 +1,5 @@
--- The work that is left while a book is settled.
-use Rattle.std.specs.Prelude.{◌≡◌, ℕ, ◌+◌, ◌-◌, ◌*◌, ◌<◌, ◌≤◌, List, [], ◌∷◌, length, Option, Some, None}
+-- Rounds of completion.
+use Rattle.std.specs.Prelude.{◌≡◌, ℕ, ◌<◌, List, [], ◌∷◌, length, Some, None}
 use Rattle.kb_word.specs.Words.{Pair}
 use Rattle.kb_word.specs.Overlap.{IsUnresolved, critical_pair}
 use Rattle.kb_log.specs.Lines.{numbered, rules_of}
@@ -7,38 +7,12 @@ use Rattle.kb_log.specs.declared.origin.Origin.{Origin}
 use Rattle.kb_log.specs.declared.origin.Origin.TheVariants as origins
 use Rattle.kb_machine.specs.States.{live_rules}
 use Rattle.kb_machine.specs.Course.{Course}
-use Rattle.kb_machine.specs.declared.halt.Halt.{Halt}
 use Rattle.kb_share.specs.Versions.{IsPublished}
-use Rattle.kb_share.specs.Passes.{IsLater}
-use Rattle.kb_complete.specs.Completing.{Settles, GivesHalt}
-use Rattle.kb_complete.specs.declared.answers.Settled.{Settled}
-use Rattle.kb_complete.specs.declared.answers.Settled.TheVariants as settled
 use Rattle.kb_complete.specs.declared.answers.Grown.TheVariants as grown
 use Rattle.kb_complete.specs.declared.growing.Round.{Round}
 use Rattle.kb_complete.specs.declared.growing.Round.TheVariants as rounds
-
--- A number that falls with each pair that is looked at, and rises by nothing that comes of it: a line that is made takes
--- two from the first part, and a line that is taken away moves from the live ones to the pending pairs.
-abbrev pub work : Course → ℕ
-work course = 2 * (course.problem.most_lines - length course.state.lines) + length course.state.live
-    + length course.state.pending
-
--- a later stage with no more work left
-pub record GoesOn (before after : Course) : Type 0 where
-  pub settles : Settles before after
-  pub less : work after ≤ work before
-
--- how the book is settled
-abbrev pub EndsAt : Course → Settled → Type 0
-EndsAt after settled.Nothing = ⊥
-EndsAt after settled.Done = (after.state.pending ≡ []) × (after.state.halt ≡ None)
-EndsAt after (settled.Halted halt) = GivesHalt after halt
-
--- the halt that is answered
-abbrev pub halt_in : Settled → Option Halt
-halt_in (settled.Halted halt) = Some halt
-halt_in settled.Done = None
-halt_in settled.Nothing = None
+use Rattle.kb_settle.specs.Later.{IsLater}
+use Rattle.kb_settle.specs.Settling.{GivesHalt}
 
 -- nothing is pending, and the live lines are published
 pub record IsSettled (course : Course) : Type 0 where

@@ -7,19 +7,23 @@ ghost use Rattle.kb_complete.specs.Completing.{CompleteSays};
 
 use crate::answers::{Grown, Outcome};
 use crate::growing::grow;
-use crate::watch::{Silent, Watch};
 use kb_book::{Book, Limits};
+use kb_io::Gate;
 use kb_rules::Reducer;
-use kb_share::{Pool, book_is_sound};
+use kb_settle::{Silent, Watch, book_is_sound};
+use kb_threads::Workers;
 use kb_word::{Memory, Presentation};
 use std::alloc::Global;
+use std::sync::Wait;
+use std::thread::Threads;
 
 /// Completes a presentation within limits.
-pub fn complete<R: Reducer, P: Pool>(
+pub fn complete<R: Reducer + Send + Sync, G: Gate, T: Threads + Wait + Sync>(
+    rt: &T,
     alloc: Global,
     presentation: &Presentation,
     limits: &Limits,
-    pool: &P,
+    workers: &Workers<'_, G>,
 ) -> Result<Outcome<R>, Memory>
     ensures { IfOk result (CompleteSays
         (record {
@@ -28,15 +32,16 @@ pub fn complete<R: Reducer, P: Pool>(
           most_letters = limits.now.len;
         })) }
 {
-    complete_watched(alloc, presentation, limits, pool, &mut Silent)
+    complete_watched(rt, alloc, presentation, limits, workers, &mut Silent)
 }
 
 /// Completes a presentation within limits, and lets somebody watch.
-pub fn complete_watched<R: Reducer, P: Pool, W: Watch>(
+pub fn complete_watched<R: Reducer + Send + Sync, G: Gate, W: Watch, T: Threads + Wait + Sync>(
+    rt: &T,
     alloc: Global,
     presentation: &Presentation,
     limits: &Limits,
-    pool: &P,
+    workers: &Workers<'_, G>,
     watch: &mut W,
 ) -> Result<Outcome<R>, Memory>
     ensures { IfOk result (CompleteSays
@@ -47,20 +52,21 @@ pub fn complete_watched<R: Reducer, P: Pool, W: Watch>(
         })) }
 {
     let book = Book::new(alloc, presentation, limits)?;
-    grow_all(alloc, book, pool, watch)
+    grow_all(rt, alloc, book, workers, watch)
 }
 
 /// Grows the book until the completion is at its end.
-fn grow_all<R: Reducer, P: Pool, W: Watch>(
+fn grow_all<R: Reducer + Send + Sync, G: Gate, W: Watch, T: Threads + Wait + Sync>(
+    rt: &T,
     alloc: Global,
     mut book: Book<R>,
-    pool: &P,
+    workers: &Workers<'_, G>,
     watch: &mut W,
 ) -> Result<Outcome<R>, Memory>
     ensures { IfOk result (CompleteSays book.course.problem) }
 {
     'growing: loop {
-        match grow(alloc, book, pool, watch)? {
+        match grow(rt, alloc, book, workers, watch)? {
             Grown::More(next) => book = next,
             Grown::Confluent(rules, book) => return Ok(Outcome::Confluent(rules, book)),
             Grown::Halted(book, halt) => return Ok(Outcome::Halted(book, halt)),

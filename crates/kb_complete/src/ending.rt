@@ -5,15 +5,13 @@ ghost use Rattle.kb_word.specs.Overlap.{IsConfluent};
 ghost use Rattle.kb_machine.specs.States.{live_rules as rules_that_live};
 ghost use Rattle.kb_machine.specs.Course.{Takes};
 ghost use Rattle.kb_machine.specs.declared.event.Event.TheVariants.{Entered};
-ghost use Rattle.kb_share.specs.Passes.{IsLater};
-ghost use Rattle.kb_complete.specs.Completing.{GivesHalt, GrowSays};
+ghost use Rattle.kb_complete.specs.Completing.{GrowSays};
 ghost use Rattle.kb_complete.specs.Working.{FirstIsApart, IsSettled, IsUnjoined};
+ghost use Rattle.kb_settle.specs.Later.{IsLater};
+ghost use Rattle.kb_settle.specs.Settling.{GivesHalt};
 
 use crate::answers::Grown;
-use crate::finding::Finder;
 use crate::publishing::settle_and_publish;
-use crate::settling::line_made;
-use crate::watch::Watch;
 use kb_book::{Book, Make};
 use kb_confluence::{Verdict, check};
 use kb_machine::Halt;
@@ -21,15 +19,19 @@ use kb_reduced::{
     reduced_by_the_same_congruence, reduced_complete, rules_that_cover_are_confluent,
 };
 use kb_rules::{Reducer, Rules};
-use kb_share::{book_is_sound, live_rules};
+use kb_settle::{Finder, Watch, book_is_sound, line_made};
+use kb_share::live_rules;
 use kb_word::Memory;
 use std::alloc::Global;
+use std::sync::Wait;
+use std::thread::Threads;
 
 /// More rules than a check can number. A book has far fewer lines.
 const TOO_MANY_RULES: usize = 1 << 31;
 
 /// Checks a settled book for confluence. What isn't joined leads to a line more, or to a halt.
-pub(crate) fn end<R: Reducer, W: Watch>(
+pub(crate) fn end<R: Reducer + Sync, W: Watch, T: Threads + Wait + Sync>(
+    rt: &T,
     alloc: Global,
     book: Book<R>,
     workers: u32,
@@ -43,7 +45,7 @@ pub(crate) fn end<R: Reducer, W: Watch>(
     if rules.len() >= TOO_MANY_RULES {
         return Err(Memory);
     }
-    match check(alloc, &rules, book.reducer(), workers)? {
+    match check(rt, alloc, &rules, book.reducer(), workers)? {
         Verdict::Yes => Ok(completed(alloc, book, &rules)?),
         Verdict::No { i, j, place, .. } => Ok(add_unjoined(alloc, book, i, j, place, watch)?),
     }

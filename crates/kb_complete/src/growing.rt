@@ -7,12 +7,15 @@ ghost use Rattle.kb_complete.specs.Working.{IsSettled, AdvanceSays};
 use crate::answers::Grown;
 use crate::ending::end;
 use crate::publishing::settle_and_publish;
-use crate::watch::Watch;
 use kb_book::Book;
+use kb_io::Gate;
 use kb_rules::Reducer;
-use kb_share::Pool;
+use kb_settle::Watch;
+use kb_threads::Workers;
 use kb_word::Memory;
 use std::alloc::Global;
+use std::sync::Wait;
+use std::thread::Threads;
 
 /// Whether a round goes on.
 #[derive(Drop)]
@@ -25,10 +28,11 @@ pub(crate) enum Round<R: Reducer> {
 
 /// Goes on until there is a line more than the book given has, or the completion is at its end. After want of memory the
 /// book is gone.
-pub fn grow<R: Reducer, P: Pool, W: Watch>(
+pub fn grow<R: Reducer + Send + Sync, G: Gate, W: Watch, T: Threads + Wait + Sync>(
+    rt: &T,
     alloc: Global,
     book: Book<R>,
-    pool: &P,
+    workers: &Workers<'_, G>,
     watch: &mut W,
 ) -> Result<Grown<R>, Memory>
     ensures { IfOk result (GrowSays book.course) }
@@ -36,25 +40,26 @@ pub fn grow<R: Reducer, P: Pool, W: Watch>(
     let given = book.lines().len();
     match advance(alloc, book, given, watch)? {
         Round::Over(grown) => Ok(grown),
-        Round::Open(settled) => Ok(look_for_more(alloc, settled, pool, watch)?),
+        Round::Open(settled) => Ok(look_for_more(rt, alloc, settled, workers, watch)?),
     }
 }
 
 /// Makes a pass over a settled book. Where it leads to no line, the confluence check has the last word.
-fn look_for_more<R: Reducer, P: Pool, W: Watch>(
+fn look_for_more<R: Reducer + Send + Sync, G: Gate, W: Watch, T: Threads + Wait + Sync>(
+    rt: &T,
     alloc: Global,
     book: Book<R>,
-    pool: &P,
+    workers: &Workers<'_, G>,
     watch: &mut W,
 ) -> Result<Grown<R>, Memory>
     requires { IsSettled book.course }
     ensures { IfOk result (GrowSays book.course) }
 {
     let given = book.lines().len();
-    let passed = pool.pass(alloc, book)?;
+    let passed = workers.pass(rt, alloc, book)?;
     match advance(alloc, passed, given, watch)? {
         Round::Over(grown) => Ok(grown),
-        Round::Open(settled) => Ok(end(alloc, settled, pool.workers(), watch)?),
+        Round::Open(settled) => Ok(end(rt, alloc, settled, workers.count(), watch)?),
     }
 }
 

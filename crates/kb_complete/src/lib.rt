@@ -7,8 +7,6 @@
 //!   Either carries the book, whose lines are the log; with `Confluent` the rules of all its lines are confluent, and
 //!   generate the congruence of the relations (`IsCompleted` of `specs/Completing.antt`).
 //! - [`grow`] is one round of it: it answers `More` as soon as there is a line more, and nothing is pending.
-//! - [`settle`] makes lines until nothing is pending.
-//! - A [`Watch`] sees the book after each line that is made of a pending pair, to show progress.
 //!
 //! That `More` can't come for ever rests on the limit of lines, and says nothing of whether the presentation has a finite
 //! complete system.
@@ -16,31 +14,24 @@
 //! # How it goes
 //!
 //! Knuth, Bendix, Simple Word Problems in Universal Algebras; Holt, Eick, O'Brien, Handbook of Computational Group Theory,
-//! 12.2. After a line is made of a pending pair, each other line whose left side has the new one as a factor is taken away,
-//! and each line whose right side it reduces is replaced (`settling`). When nothing is pending, a pass of the pool's workers
-//! enters the overlaps that are apart (`kb_share`). A pass that leads to no line is followed by the confluence check of
-//! the live rules; what it finds is entered as any overlap (`growing`).
+//! 12.2. The book is settled: lines are made until nothing is pending (`kb_settle`). Then a pass of the workers
+//! enters the overlaps that are apart (`kb_share`), and may settle the book meanwhile. A pass in and after which no line is
+//! made is followed by the confluence check of the live rules; what it finds is entered as any overlap (`growing`). The
+//! check has as many workers.
 //!
 //! Why the answer is right: where nothing is pending the live rules generate the congruence of the relations, whatever
 //! events led there (`kb_machine::courses_are_sound`), and where they are confluent besides, `kb_reduced` makes the reduced
 //! complete system of them.
 //!
-//! Below are `kb_book`, `kb_share`, `kb_confluence` and `kb_reduced`; above are the commands that complete.
+//! Below are `kb_book`, `kb_settle`, `kb_share`, `kb_confluence` and `kb_reduced`; above are the commands that complete.
 #![tactic(auto)]
 
 mod answers;
 mod completing;
 mod ending;
-mod finding;
 mod growing;
 mod publishing;
-mod settling;
-mod signature;
-mod simplifying;
-mod watch;
 
-pub use answers::{Grown, Outcome, Settled};
+pub use answers::{Grown, Outcome};
 pub use completing::{complete, complete_watched};
 pub use growing::grow;
-pub use settling::settle;
-pub use watch::{Silent, Watch};

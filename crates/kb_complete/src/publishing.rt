@@ -1,15 +1,14 @@
 //! Books are settled, and their live lines published.
 
 ghost use Rattle.std.specs.Prelude.{◌≡◌, IfOk, IfNone, IfSome, OnOk, Some};
-ghost use Rattle.kb_share.specs.Passes.{IsLater};
-ghost use Rattle.kb_complete.specs.Completing.{GivesHalt};
 ghost use Rattle.kb_complete.specs.Working.{IsSettled};
+ghost use Rattle.kb_settle.specs.Later.{IsLater};
+ghost use Rattle.kb_settle.specs.Settling.{GivesHalt};
 
-use crate::settling::settle;
-use crate::watch::Watch;
 use kb_book::Book;
 use kb_machine::Halt;
 use kb_rules::Reducer;
+use kb_settle::{Watch, settle};
 use kb_word::Memory;
 use std::alloc::Global;
 

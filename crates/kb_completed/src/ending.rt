@@ -8,14 +8,18 @@ ghost use Rattle.kb_completed.specs.Ended.{EndsAs};
 use crate::accepting::completed;
 use crate::halting::halted;
 use kb_book::Limits;
-use kb_complete::{Outcome, Watch, complete_watched};
+use kb_complete::{Outcome, complete_watched};
 use kb_fsa::Fsa;
 use kb_index::Index;
+use kb_io::Gate;
 use kb_log::Line;
 use kb_rules::Rules;
-use kb_share::Pool;
+use kb_settle::Watch;
+use kb_threads::Workers;
 use kb_word::{Memory, Presentation};
 use std::alloc::Global;
+use std::sync::Wait;
+use std::thread::Threads;
 
 /// A limit of the log.
 #[derive(Clone, Copy, Debug, PartialEq, Eq)]
@@ -48,18 +52,19 @@ pub enum Ending {
     },
 }
 
-/// Completes a presentation within limits, by the workers of a pool, and makes its word acceptor.
+/// Completes a presentation within limits, by so many workers, and makes its word acceptor.
 #[tactic(auto, using(crate::proofs::Halts::ends_as))]
-pub fn complete_presentation<P: Pool, W: Watch>(
+pub fn complete_presentation<G: Gate, W: Watch, T: Threads + Wait + Sync>(
+    rt: &T,
     alloc: Global,
     presentation: &Presentation,
     limits: &Limits,
-    pool: &P,
+    workers: &Workers<'_, G>,
     watch: &mut W,
 ) -> Result<Ending, Memory>
     ensures { IfOk result (EndsAs (limits_of limits.now) (parts_of presentation.now)) }
 {
-    match complete_watched::<Index, P, W>(alloc, presentation, limits, pool, watch)? {
+    match complete_watched::<Index, G, W, T>(rt, alloc, presentation, limits, workers, watch)? {
         Outcome::Confluent(rules, book) => completed(alloc, presentation, limits, rules, book),
         Outcome::Halted(book, _) => halted(alloc, book),
     }

@@ -14,7 +14,8 @@ use kb_book::Book;
 use kb_log::{Line, Origin};
 use kb_machine::Halt;
 use kb_rules::Reducer;
-use kb_share::{book_is_sound, live_rules};
+use kb_settle::book_is_sound;
+use kb_share::live_rules;
 use kb_word::Memory;
 use std::alloc::Global;
 

@@ -24,17 +24,19 @@ use kb_book::Limits;
 use kb_completed::{Ending, complete_presentation};
 use kb_fsa::Fsa;
 use kb_index::Index;
-use kb_io::{Shelf, Sink, Source};
+use kb_io::{Gate, Shelf, Sink, Source};
 use kb_lines::answer_lines;
 use kb_normalforms::{NormalForms, status_of};
 use kb_reduced::reduced_complete_systems_are_complete;
 use kb_rules::{Reducer, Rules};
-use kb_share::OneByOne;
 use kb_task::{Status, Task, TextFile, load_presentation, print_line, store_texts};
+use kb_threads::Workers;
 use kb_word::{Memory, OwnedText, Presentation};
 use kb_wordreader::WordReader;
 use std::alloc::Global;
 use std::marker::Model;
+use std::sync::Wait;
+use std::thread::Threads;
 
 /// Completes a presentation, stores what it came to, and answers word lines.
 #[derive(Drop)]
@@ -81,23 +83,6 @@ impl Task for Kbprog {
 
     ghost differs_in_options = { KbprogsDifferInOptions };
 
-    fn run<F: Shelf, I: Source, O: Sink, E: Sink>(
-        self,
-        alloc: Global,
-        shelf: &mut F,
-        input: &mut I,
-        out: &mut O,
-        err: &mut E,
-    ) -> Status {
-        let Ok(file) = self.file.copy(alloc) else {
-            return Status::Memory;
-        };
-        match load_presentation(alloc, file, shelf) {
-            Ok(presentation) => complete(alloc, &self, presentation, shelf, input, out, err),
-            Err(status) => status,
-        }
-    }
-
     ghost complete = { kbprog_complete };
 
     ghost settled = { kbprog_settled };
@@ -105,9 +90,53 @@ impl Task for Kbprog {
     ghost one_function = { kbprog_one_function };
 }
 
+impl Kbprog {
+    ghost use Rattle.kb_completion.specs.Kbprog.{KbprogMeans};
+
+    /// Runs the command. What it writes to `err` only shows that it lives. Workers are threads of `rt`, and
+    /// pass the gate.
+    pub fn run<T: Threads + Wait + Sync, G: Gate, F: Shelf, I: Source, O: Sink, E: Sink>(
+        self,
+        rt: &T,
+        alloc: Global,
+        gate: &G,
+        shelf: &mut F,
+        input: &mut I,
+        out: &mut O,
+        err: &mut E,
+    ) -> Status
+        ensures { IsRun (KbprogMeans self) (kbprog_may_store self)
+            (outside (F.state shelf.old) (I.state input.old) (O.state out.old))
+            (outside (F.state shelf.new) (I.state input.new) (O.state out.new)) result }
+    {
+        let Ok(file) = self.file.copy(alloc) else {
+            return Status::Memory;
+        };
+        match load_presentation(alloc, file, shelf) {
+            Ok(presentation) => {
+                let workers = Workers::of(self.workers, gate);
+                complete(
+                    rt,
+                    alloc,
+                    &workers,
+                    &self,
+                    presentation,
+                    shelf,
+                    input,
+                    out,
+                    err,
+                )
+            }
+            Err(status) => status,
+        }
+    }
+}
+
 /// Completes the presentation, and answers by its rules or shows the limit.
-fn complete<F: Shelf, I: Source, O: Sink, E: Sink>(
+fn complete<T: Threads + Wait + Sync, G: Gate, F: Shelf, I: Source, O: Sink, E: Sink>(
+    rt: &T,
     alloc: Global,
+    workers: &Workers<'_, G>,
     task: &Kbprog,
     presentation: Presentation,
     shelf: &mut F,
@@ -120,7 +149,14 @@ fn complete<F: Shelf, I: Source, O: Sink, E: Sink>(
         (outside (F.state shelf.new) (I.state input.new) (O.state out.new)) result }
 {
     let mut progress = Progress::on(err);
-    match complete_presentation(alloc, &presentation, &task.limits, &OneByOne, &mut progress) {
+    match complete_presentation(
+        rt,
+        alloc,
+        &presentation,
+        &task.limits,
+        workers,
+        &mut progress,
+    ) {
         Ok(ending) => conclude(alloc, task, presentation, ending, shelf, input, out),
         Err(Memory) => Status::Memory,
     }

@@ -51,14 +51,31 @@ impl Task for Logread {
 
     ghost differs_in_options = { LogreadsDifferInOptions };
 
-    fn run<F: Shelf, I: Source, O: Sink, E: Sink>(
+    ghost complete = { logread_complete };
+
+    ghost settled = { logread_settled };
+
+    ghost one_function = { logread_one_function };
+}
+
+impl Logread {
+    ghost use Rattle.kb_completion.specs.Logread.{LogreadMeans, logread_may_store};
+
+    /// Runs the command. What it writes to `err` only shows that it lives.
+    pub fn run<F: Shelf, I: Source, O: Sink, E: Sink>(
         self,
         alloc: Global,
         shelf: &mut F,
-        _input: &mut I,
+        input: &mut I,
         out: &mut O,
-        _err: &mut E,
-    ) -> Status {
+        err: &mut E,
+    ) -> Status
+        ensures { IsRun (LogreadMeans self) (logread_may_store self)
+            (outside (F.state shelf.old) (I.state input.old) (O.state out.old))
+            (outside (F.state shelf.new) (I.state input.new) (O.state out.new)) result }
+    {
+        let _ = input;
+        let _ = err;
         let Ok(name) = log_file(alloc, &self.file) else {
             return Status::Memory;
         };
@@ -71,12 +88,6 @@ impl Task for Logread {
             Err(status) => status,
         }
     }
-
-    ghost complete = { logread_complete };
-
-    ghost settled = { logread_settled };
-
-    ghost one_function = { logread_one_function };
 }
 
 /// Prints the line about a log.

@@ -2,9 +2,9 @@
 
 use itoa::Buffer;
 use kb_book::Book;
-use kb_complete::Watch;
 use kb_io::{Failed, Sink, write_all};
 use kb_rules::Reducer;
+use kb_settle::Watch;
 
 /// The number of lines of a log at which progress is first told.
 const FIRST: usize = 1000;

@@ -11,21 +11,23 @@ use crate::evidence::limit_reached;
 use crate::free_abelian::selftest_presentation;
 use crate::printing::{append, append_number};
 use kb_book::Limits;
-use kb_complete::Silent;
 use kb_completed::{Ending, Reached, complete_presentation};
-use kb_io::{Shelf, Sink, Source};
+use kb_io::{Gate, Shelf, Sink, Source};
 use kb_log::Line;
 use kb_proof::{Log, Version, print_log};
-use kb_share::OneByOne;
+use kb_settle::Silent;
 use kb_task::{
     Construction, Limit, Status, Task, print_line, undecided_line, undecided_words_line,
 };
+use kb_threads::Workers;
 use kb_word::{Memory, Presentation};
 use std::alloc::Global;
 use std::marker::Model;
+use std::sync::Wait;
+use std::thread::Threads;
 
 /// Completes a free abelian group, and counts its rules and the states of its word acceptor. Contracts see what the command
-/// line gives it; the rank is 1 to 40.
+/// line gives it; the rank is 1 to 40, and there are 1 to 64 workers.
 #[derive(Drop)]
 pub struct SelfTest {
     /// The rank of the group.
@@ -48,7 +50,8 @@ impl Model for SelfTest {
       limits = limits_of task.limits;
     } };
 
-    ghost invariant = { λ task. (1 ≤ task.rank) × (task.rank ≤ 40) };
+    ghost invariant = { λ task. (1 ≤ task.rank) × (task.rank ≤ 40) × (1 ≤ task.workers)
+        × (task.workers ≤ 64) };
 }
 
 impl Task for SelfTest {
@@ -70,25 +73,43 @@ impl Task for SelfTest {
 
     ghost differs_in_options = { SelfTestsDifferInOptions };
 
-    fn run<F: Shelf, I: Source, O: Sink, E: Sink>(
-        self,
-        alloc: Global,
-        _shelf: &mut F,
-        _input: &mut I,
-        out: &mut O,
-        _err: &mut E,
-    ) -> Status {
-        match completion_report(alloc, self.rank, &self.limits) {
-            Ok(Report { text, status }) => print_line(&text, status, out),
-            Err(Memory) => Status::Memory,
-        }
-    }
-
     ghost complete = { selftest_complete };
 
     ghost settled = { selftest_settled };
 
     ghost one_function = { selftest_one_function };
+}
+
+impl SelfTest {
+    ghost use Rattle.kb_io.specs.Outside.{outside};
+    ghost use Rattle.kb_task.specs.Runs.{IsRun};
+    ghost use Rattle.kb_completion.specs.SelfTest.{SelfTestMeans, selftest_may_store};
+
+    /// Runs the command. What it writes to `err` only shows that it lives. Workers are threads of `rt`, and
+    /// pass the gate.
+    pub fn run<T: Threads + Wait + Sync, G: Gate, F: Shelf, I: Source, O: Sink, E: Sink>(
+        self,
+        rt: &T,
+        alloc: Global,
+        gate: &G,
+        shelf: &mut F,
+        input: &mut I,
+        out: &mut O,
+        err: &mut E,
+    ) -> Status
+        ensures { IsRun (SelfTestMeans self) (selftest_may_store self)
+            (outside (F.state shelf.old) (I.state input.old) (O.state out.old))
+            (outside (F.state shelf.new) (I.state input.new) (O.state out.new)) result }
+    {
+        let _ = shelf;
+        let _ = input;
+        let _ = err;
+        let workers = Workers::of(self.workers, gate);
+        match completion_report(rt, alloc, &workers, self.rank, &self.limits) {
+            Ok(Report { text, status }) => print_line(&text, status, out),
+            Err(Memory) => Status::Memory,
+        }
+    }
 }
 
 /// What is written about a completion, and the status that it is about.
@@ -101,13 +122,19 @@ pub(crate) struct Report {
 }
 
 /// Completes the free abelian group of a rank.
-fn completion_report(alloc: Global, rank: u16, limits: &Limits) -> Result<Report, Memory>
+fn completion_report<T: Threads + Wait + Sync, G: Gate>(
+    rt: &T,
+    alloc: Global,
+    workers: &Workers<'_, G>,
+    rank: u16,
+    limits: &Limits,
+) -> Result<Report, Memory>
     requires { (1 ≤ rank) × (rank ≤ 40) }
     ensures { (given : SelfTestGiven) → given.rank ≡ rank → given.limits ≡ limits_of limits.now
         → IfOk result (IsReport given) }
 {
     let presentation = selftest_presentation(alloc, rank)?;
-    let ending = complete_presentation(alloc, &presentation, limits, &OneByOne, &mut Silent)?;
+    let ending = complete_presentation(rt, alloc, &presentation, limits, workers, &mut Silent)?;
     report_on(alloc, rank, &presentation, ending)
 }
 

@@ -3,9 +3,11 @@
 use crate::kbprog::Kbprog;
 use crate::logread::Logread;
 use crate::selftest::SelfTest;
-use kb_io::{Shelf, Sink, Source};
+use kb_io::{Gate, Shelf, Sink, Source};
 use kb_task::{Status, Task};
 use std::alloc::Global;
+use std::sync::Wait;
+use std::thread::Threads;
 
 /// A command of completion.
 #[derive(Drop)]
@@ -36,24 +38,38 @@ impl Task for CompletionTask {
 
     ghost differs_in_options = { CompletionsDifferInOptions };
 
-    fn run<F: Shelf, I: Source, O: Sink, E: Sink>(
-        self,
-        alloc: Global,
-        shelf: &mut F,
-        input: &mut I,
-        out: &mut O,
-        err: &mut E,
-    ) -> Status {
-        match self {
-            CompletionTask::Kbprog(task) => task.run(alloc, shelf, input, out, err),
-            CompletionTask::Logread(task) => task.run(alloc, shelf, input, out, err),
-            CompletionTask::SelfTest(task) => task.run(alloc, shelf, input, out, err),
-        }
-    }
-
     ghost complete = { completion_complete };
 
     ghost settled = { completion_settled };
 
     ghost one_function = { completion_one_function };
+}
+
+impl CompletionTask {
+    ghost use Rattle.kb_io.specs.Outside.{outside};
+    ghost use Rattle.kb_task.specs.Runs.{IsRun};
+    ghost use Rattle.kb_completion.specs.Tasks.{CompletionMeans, completion_may_store};
+
+    /// Runs the command. What it writes to `err` only shows that it lives. Workers are threads of `rt`, and
+    /// pass the gate.
+    pub fn run<T: Threads + Wait + Sync, G: Gate, F: Shelf, I: Source, O: Sink, E: Sink>(
+        self,
+        rt: &T,
+        alloc: Global,
+        gate: &G,
+        shelf: &mut F,
+        input: &mut I,
+        out: &mut O,
+        err: &mut E,
+    ) -> Status
+        ensures { IsRun (CompletionMeans self) (completion_may_store self)
+            (outside (F.state shelf.old) (I.state input.old) (O.state out.old))
+            (outside (F.state shelf.new) (I.state input.new) (O.state out.new)) result }
+    {
+        match self {
+            CompletionTask::Kbprog(task) => task.run(rt, alloc, gate, shelf, input, out, err),
+            CompletionTask::Logread(task) => task.run(alloc, shelf, input, out, err),
+            CompletionTask::SelfTest(task) => task.run(rt, alloc, gate, shelf, input, out, err),
+        }
+    }
 }

@@ -1,14 +1,14 @@
--- How far the test has come: each overlap before the next one joins.
+-- How far the check of a row has come: each of its overlaps before the next one joins.
 use Rattle.std.proofs.Common.{◌≡◌, ℕ, ◌+◌, ◌<◌, ◌≤◌, List, length, get_or, Some, refl, sym, ◌∙◌, ap, subst, inl, inr, arith}
 use Rattle.std.specs.Prelude.{slice_get}
 use Rattle.std.proofs.lemmas.Bool.{cases_lt, cases_eq}
 use Rattle.std.proofs.lemmas.List.{get_or_default}
 use Rattle.std.proofs.lemmas.Option.{slice_get_read, slice_get_within}
 use Rattle.kb_word.specs.Words.{Pair}
-use Rattle.kb_word.specs.Overlap.{Overlaps, OverlapOf, IsResolved, IsUnresolved, IsConfluent, critical_pair}
+use Rattle.kb_word.specs.Overlap.{Overlaps, OverlapOf, IsResolved, IsUnresolved, critical_pair}
 use Rattle.kb_overlap.specs.Overlapping.{AreOverlaps, IsBefore, OverlapsRule}
 use Rattle.kb_overlap.specs.declared.left_sides.Overlap.{Overlap}
-use Rattle.kb_confluence.specs.Unjoined.{EarlierJoin, IsFirstUnjoined}
+use Rattle.kb_confluence.specs.Rows.{RowJoins, EarlierOfRowJoin, IsFirstOfRow}
 
 -- the overlap of the first rule, of index i, with the rule of another index, where it is one, joins
 abbrev pub JoinsAt : List Pair → ℕ → Pair → Overlap → Type 0
@@ -16,8 +16,8 @@ JoinsAt rules i first one = (second : Pair) → OverlapOf rules i one.rule one.p
     → IsResolved rules (critical_pair first second one.place)
 
 -- the overlaps of a row before the next one join
-abbrev pub RowJoins : List Pair → ℕ → Pair → List Overlap → ℕ → Type 0
-RowJoins rules i first overlaps next = (k : ℕ) (d : Overlap) → k < next → JoinsAt rules i first (get_or overlaps k d)
+abbrev pub JoinBefore : List Pair → ℕ → Pair → List Overlap → ℕ → Type 0
+JoinBefore rules i first overlaps next = (k : ℕ) (d : Overlap) → k < next → JoinsAt rules i first (get_or overlaps k d)
 
 some-injective : {x y : Pair} → Some x ≡ Some y → x ≡ y
 some-injective e = cc
@@ -55,9 +55,9 @@ overlaps_second rules l overlaps k one second row within is_one is_second =
     subst Q same found.overlaps
 
 module _ (rules : List Pair) (i : ℕ) (first : Pair) (overlaps : List Overlap) (is_first : slice_get rules i ≡ Some first)
-    (row : AreOverlaps rules first.0 overlaps) (earlier : EarlierJoin rules i 0 0) where
+    (row : AreOverlaps rules first.0 overlaps) where
   -- an overlap of the row that isn't past the next one joins
-  row_joins : (next l q : ℕ) (one other : Pair) → RowJoins rules i first overlaps next → OverlapOf rules i l q one other
+  row_joins : (next l q : ℕ) (one other : Pair) → JoinBefore rules i first overlaps next → OverlapOf rules i l q one other
       → ((k : ℕ) (d : Overlap) → next ≤ k → k < length overlaps → get_or overlaps k d ≡ record { rule = l; place = q } → ⊥)
       → IsResolved rules (critical_pair one other q)
   row_joins next l q one other joins overlap not_later =
@@ -76,12 +76,10 @@ module _ (rules : List Pair) (i : ℕ) (first : Pair) (overlaps : List Overlap) 
       ]
 
   -- all overlaps before the next one of the row join
-  pub earlier_in_row : (next : ℕ) (at : Overlap) → RowJoins rules i first overlaps next → next < length overlaps
-      → at ≡ get_or overlaps next at → EarlierJoin rules i at.rule at.place
-  earlier_in_row next at joins within is_at k l q one other (inl low) overlap = earlier k l q one other (inl low) overlap
-  earlier_in_row next at joins within is_at k l q one other (inr (same, low)) overlap =
-      let P : ℕ → Type 0 = λ n. OverlapOf rules n l q one other in
-      row_joins next l q one other joins (subst P same overlap) (λ m d from inside e.
+  pub earlier_in_row : (next : ℕ) (at : Overlap) → JoinBefore rules i first overlaps next → next < length overlaps
+      → at ≡ get_or overlaps next at → EarlierOfRowJoin rules i at.rule at.place
+  earlier_in_row next at joins within is_at l q one other low overlap =
+      row_joins next l q one other joins overlap (λ m d from inside e.
       let before : IsBefore (record { rule = l; place = q }) at = low in
       elim (cases_eq m next) [
         | inl here ↦
@@ -100,20 +98,13 @@ module _ (rules : List Pair) (i : ℕ) (first : Pair) (overlaps : List Overlap) 
             absurd (let no : ⊥ = omega (arith, before, ascends) in no)
       ])
 
-  -- past the row come the overlaps in which the next rule begins
-  pub row_all : (next : ℕ) → RowJoins rules i first overlaps next → length overlaps ≤ next → EarlierJoin rules (i + 1) 0 0
-  row_all next joins past k l q one other (inl low) overlap = elim (cases_lt k i) [
-    | inl before ↦ earlier k l q one other (inl before) overlap
-    | inr from ↦
-        let same : k ≡ i = omega arith in
-        let P : ℕ → Type 0 = λ n. OverlapOf rules n l q one other in
-        row_joins next l q one other joins (subst P same overlap) (λ m d later inside e. omega arith)
-  ]
-  row_all next joins past k l q one other (inr (same, low)) overlap = absurd (let no : ⊥ = omega (arith, low) in no)
+  -- past the last overlap the row joins
+  pub row_all : (next : ℕ) → JoinBefore rules i first overlaps next → length overlaps ≤ next → RowJoins rules i
+  row_all next joins past l q one other overlap = row_joins next l q one other joins overlap (λ m d later inside e. omega arith)
 
   -- one more overlap of the row joins
-  pub row_more : (next : ℕ) (at : Overlap) → RowJoins rules i first overlaps next → next < length overlaps
-      → at ≡ get_or overlaps next at → JoinsAt rules i first at → RowJoins rules i first overlaps (next + 1)
+  pub row_more : (next : ℕ) (at : Overlap) → JoinBefore rules i first overlaps next → next < length overlaps
+      → at ≡ get_or overlaps next at → JoinsAt rules i first at → JoinBefore rules i first overlaps (next + 1)
   row_more next at joins within is_at here k d low = elim (cases_lt k next) [
     | inl before ↦ joins k d before
     | inr from ↦
@@ -124,9 +115,9 @@ module _ (rules : List Pair) (i : ℕ) (first : Pair) (overlaps : List Overlap) 
   ]
 
   -- the next overlap of the row is the first that doesn't join
-  pub unjoined_in_row : (next : ℕ) (at : Overlap) (second : Pair) (u v : List ℕ) → RowJoins rules i first overlaps next
+  pub unjoined_in_row : (next : ℕ) (at : Overlap) (second : Pair) (u v : List ℕ) → JoinBefore rules i first overlaps next
       → next < length overlaps → at ≡ get_or overlaps next at → slice_get rules at.rule ≡ Some second → (i ≡ at.rule → 0 < at.place)
-      → IsUnresolved rules (critical_pair first second at.place) u v → IsFirstUnjoined rules i at.rule at.place u v
+      → IsUnresolved rules (critical_pair first second at.place) u v → IsFirstOfRow rules i at.rule at.place u v
   unjoined_in_row next at second u v joins within is_at is_second proper parts = record {
     first = first;
     second = second;
@@ -139,9 +130,3 @@ module _ (rules : List Pair) (i : ℕ) (first : Pair) (overlaps : List Overlap) 
     parts = parts;
     earlier = earlier_in_row next at joins within is_at;
   }
-
--- all overlaps join, where each one does in which one of the first rules, as many as there are, begins first
-pub all_join : (rules : List Pair) (count : ℕ) → length rules ≤ count → EarlierJoin rules count 0 0 → IsConfluent rules
-all_join rules count past joins i j place first second overlap =
-    let within = slice_get_within rules i first overlap.is_first in
-    joins i j place first second (inl (omega (arith, past, within))) overlap

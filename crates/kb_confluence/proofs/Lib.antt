@@ -4,3 +4,5 @@ pub mod Newman
 pub mod LeastWords
 mod Checking
 mod Verdicts
+mod RowVerdicts
+mod Drawing

@@ -11,12 +11,13 @@ use Rattle.kb_overlap.proofs.Superposed.{replaced-by-first, replaced-by-second}
 use Rattle.kb_confluence.specs.declared.confluence.Verdict.{Verdict}
 use Rattle.kb_confluence.specs.declared.confluence.Verdict.TheVariants.{Yes, No}
 use Rattle.kb_confluence.specs.Unjoined.{IsFirstUnjoined, IsCounterexample}
-use Rattle.kb_confluence.specs.Answers.{MatchVerdict, IsVerdict, GivesCounterexample, Resolves}
+use Rattle.kb_confluence.specs.Answers.{IsVerdict, GivesCounterexample, Resolves}
+use Rattle.kb_confluence.specs.Rows.{IsFirstOfRow, IsRowVerdict}
 
 -- rules are numbered one above their indices
-pub no_numbered : (yes_says : Type 0) (rules : List Pair) (i j place : ℕ) (u v : List ℕ) → IsFirstUnjoined rules i j place u v
-    → MatchVerdict yes_says rules (No (i + 1) (j + 1) place u v)
-no_numbered yes_says rules i j place u v unjoined = rw (add-one i, add-one j) unjoined
+pub no_numbered : (rules : List Pair) (i j place : ℕ) (u v : List ℕ) → IsFirstOfRow rules i j place u v
+    → IsRowVerdict rules i (No (i + 1) (j + 1) place u v)
+no_numbered rules i j place u v unjoined = rw (add-one j) (refl, unjoined)
 
 pub parts_refute : {rules : List Pair} {pair : Pair} {u v : List ℕ} → IsUnresolved rules pair u v → ¬ IsResolved rules pair
 parts_refute parts joins = parts.different (normal_form_unique parts.left joins.left ∙ normal_form_unique joins.right parts.right)

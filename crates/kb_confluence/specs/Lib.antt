@@ -1,2 +1,4 @@
 pub mod Unjoined
 pub mod Answers
+pub mod Rows
+pub mod Shares

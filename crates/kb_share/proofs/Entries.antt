@@ -5,8 +5,9 @@ use Rattle.kb_log.specs.declared.origin.Origin.{Origin}
 use Rattle.kb_machine.specs.States.{Problem, State}
 use Rattle.kb_machine.specs.Course.{Course, Takes}
 use Rattle.kb_machine.specs.declared.event.Event.{Event}
+use Rattle.kb_settle.specs.Later.{IsLater}
 use Rattle.kb_share.specs.declared.found.Found.{Found}
-use Rattle.kb_share.specs.Passes.{entered, entry_of, origin_of, EntersAllApart, Passes}
+use Rattle.kb_share.specs.Passes.{entered, entry_of, origin_of, EntersAllApart}
 
 -- a completion with these pending origins and events in place of its own
 abbrev with : Course → List Origin → List Event → Course
@@ -75,12 +76,9 @@ enters_row worker start before after found row so_far enters =
     enters ∙ ap (λ (c : Course). entered worker c row) so_far ∙ entered_twice worker start found row
 
 -- a pass that only enters overlaps keeps all else
-pub passes : (before after : Course) → EntersAllApart before after → Passes before after
-passes before after done = let e = done.enters in record {
-  later = record {
-    problem = ap (λ (c : Course). c.problem) e;
-    made = [];
-    lines = ap (λ (c : Course). c.state.lines) e ∙ sym (append-nil before.state.lines);
-  };
-  halt = ap (λ (c : Course). c.state.halt) e;
+pub enters_later : (before after : Course) → EntersAllApart before after → IsLater before after
+enters_later before after done = let e = done.enters in record {
+  problem = ap (λ (c : Course). c.problem) e;
+  made = [];
+  lines = ap (λ (c : Course). c.state.lines) e ∙ sym (append-nil before.state.lines);
 }

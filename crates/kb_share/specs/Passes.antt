@@ -1,9 +1,8 @@
--- Passes: what a pool of workers does to a book.
+-- Passes: what a worker enters into a book.
 use Rattle.std.specs.Prelude.{◌≡◌, ℕ, ◌<◌, ◌⊎◌, List, ◌++◌, map}
 use Rattle.std.specs.List.{All, AllPairs, Contains}
 use Rattle.kb_word.specs.Words.{Pair}
 use Rattle.kb_word.specs.Overlap.{IsUnresolved, critical_pair}
-use Rattle.kb_log.specs.declared.line.Line.{Line}
 use Rattle.kb_log.specs.declared.origin.Origin.{Origin}
 use Rattle.kb_log.specs.declared.origin.Origin.TheVariants as origins
 use Rattle.kb_machine.specs.Course.{Course}
@@ -11,17 +10,6 @@ use Rattle.kb_machine.specs.declared.event.Event.{Event}
 use Rattle.kb_machine.specs.declared.event.Event.TheVariants.{Entered}
 use Rattle.kb_share.specs.Versions.{VersionParts, version_of, OverlapOfLines}
 use Rattle.kb_share.specs.declared.found.Found.{Found}
-
--- the completion has the same problem, and the lines that it had before, or more
-pub record IsLater (before after : Course) : Type 0 where
-  pub problem : after.problem ≡ before.problem
-  pub made : List Line
-  pub lines : after.state.lines ≡ before.state.lines ++ made
-
--- a later stage that is halted as it was
-pub record Passes (before after : Course) : Type 0 where
-  pub later : IsLater before after
-  pub halt : after.state.halt ≡ before.state.halt
 
 -- an overlap of two of the version's lines whose critical pair has different normal forms by the version's rules
 pub record IsApart (version : VersionParts) (one : Found) : Type 0 where

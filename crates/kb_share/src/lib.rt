@@ -8,17 +8,19 @@
 //! - A [`Version`] is what a worker sifts by: the live lines of a book when they were published, and a reducer by their
 //!   rules. [`Version::of`] copies it from the book.
 //! - [`sift`] tells whether an overlap of two of the version's lines is joined or apart. [`Sifter`] does the same for one
-//!   critical pair after another, and keeps the memory that it takes.
-//! - A [`Pool`] makes passes. All that a completion may rest on is that the book keeps its problem and its lines: which
-//!   overlaps are entered, and in which order, is left open, since an overlap that was left out is found by the confluence
-//!   check in the end.
-//! - [`OneByOne`] is the pool of one worker. It enters exactly the overlaps that are apart, in the order of their lines and
+//!   critical pair after another, and keeps the memory that it takes; [`apart_in_row`] sifts all overlaps in which one line
+//!   begins first.
+//! - [`OneByOne`] makes a pass by one worker. It enters exactly the overlaps that are apart, in the order of their lines and
 //!   places (`EntersAllApart` of `specs/Passes.antt`).
 //!
-//! `specs/Versions.antt` has the versions, and `specs/Passes.antt` what passes do.
+//! All that a completion rests on is that a pass keeps the book's problem and its lines (`IsLater` of `kb_settle`). Which
+//! overlaps a pass enters, and in which order, matters for speed alone, since an overlap that was left out is found by the
+//! confluence check in the end.
 //!
-//! Below are `kb_overlap`, which finds all overlaps of a left side with others, and `kb_book`; above is `kb_complete`, which
-//! goes by passes until nothing is apart.
+//! `specs/Versions.antt` has the versions, and `specs/Passes.antt` what a worker enters.
+//!
+//! Below are `kb_overlap`, which finds all overlaps of a left side with others, `kb_book` and `kb_settle`; above are
+//! `kb_threads`, where many workers make a pass, and `kb_complete`, which goes by passes until nothing is apart.
 #![tactic(auto)]
 
 mod answer;
@@ -26,17 +28,14 @@ mod entering;
 mod found;
 mod live;
 mod one_by_one;
-mod pool;
 mod row;
 mod sifting;
-mod sound;
 mod version;
 
 pub use answer::Sift;
 pub use found::Found;
 pub use live::live_rules;
 pub use one_by_one::OneByOne;
-pub use pool::Pool;
+pub use row::apart_in_row;
 pub use sifting::{Sifter, sift};
-pub use sound::book_is_sound;
 pub use version::Version;

@@ -1,11 +1,11 @@
-//! The pool of one worker.
+//! Passes by one worker.
 
 ghost use Rattle.std.specs.Prelude.{◌≡◌, ◌≤◌, IfOk, OnOk};
+ghost use Rattle.kb_settle.specs.Later.{IsLater};
 ghost use Rattle.kb_share.specs.Versions.{IsPublished, version_of};
-ghost use Rattle.kb_share.specs.Passes.{Passes, EntersAllApart};
+ghost use Rattle.kb_share.specs.Passes.{EntersAllApart};
 
 use crate::entering::enter_all;
-use crate::pool::Pool;
 use crate::row::apart_in_row;
 use crate::sifting::Sifter;
 use crate::version::Version;
@@ -19,14 +19,11 @@ use std::alloc::Global;
 #[derive(Clone, Copy, Debug, PartialEq, Eq)]
 pub struct OneByOne;
 
-impl Pool for OneByOne {
-    fn workers(&self) -> u32 {
-        1
-    }
-
-    fn pass<R: Reducer>(&self, alloc: Global, mut book: Book<R>) -> Result<Book<R>, Memory>
+impl OneByOne {
+    /// Makes a pass over a book whose last version has its live lines.
+    pub fn pass<R: Reducer>(self, alloc: Global, mut book: Book<R>) -> Result<Book<R>, Memory>
         requires { IsPublished book.course.state }
-        ensures passes { IfOk result (λ after. Passes book.course after.course) }
+        ensures later { IfOk result (λ after. IsLater book.course after.course) }
         ensures entered { IfOk result (λ after. EntersAllApart book.course after.course) }
     {
         let version = Version::of(alloc, &book)?;

@@ -14,7 +14,7 @@ use kb_word::Memory;
 
 /// Finds those overlaps that are apart, of all overlaps of the left side of the line at this index of the version. What the
 /// list held is gone.
-pub(crate) fn apart_in_row<R: Reducer>(
+pub fn apart_in_row<R: Reducer>(
     version: &Version<R>,
     index: usize,
     first: &Rule,

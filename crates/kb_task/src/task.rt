@@ -1,14 +1,12 @@
 //! The trait of a command.
 
 ghost use Rattle.std.specs.Prelude.{ℕ, List};
-ghost use Rattle.kb_io.specs.Outside.{Outside, outside};
-ghost use Rattle.kb_task.specs.Runs.{IsRun, IsComplete, IsSettledByFiles, IsFunctionOfInputs};
+ghost use Rattle.kb_io.specs.Outside.{Outside};
+ghost use Rattle.kb_task.specs.Runs.{IsComplete, IsSettledByFiles, IsFunctionOfInputs};
 
-use crate::status::Status;
-use kb_io::{Shelf, Sink, Source};
-use std::alloc::Global;
-
-/// A command of the program with its arguments, which runs once.
+/// A command of the program with its arguments. It runs once, by a method `run` of its own, whose contract is that the run
+/// means what is stated here (`IsRun`). That method is none of the trait's, since the methods of a trait can't start
+/// threads that rest on a bound of theirs.
 pub trait Task: Drop {
     ghost use Rattle.kb_task.specs.declared.status.Status.{Status};
 
@@ -32,19 +30,6 @@ pub trait Task: Drop {
 
     /// Another command is the same but for options that change no answer.
     ghost differs_in_options: { Self → Self → Type 0 };
-
-    /// Runs the command. What it writes to `err` only shows that it lives.
-    fn run<F: Shelf, I: Source, O: Sink, E: Sink>(
-        self,
-        alloc: Global,
-        shelf: &mut F,
-        input: &mut I,
-        out: &mut O,
-        err: &mut E,
-    ) -> Status
-        ensures { IsRun (means self) (may_store self)
-            (outside (F.state shelf.old) (I.state input.old) (O.state out.old))
-            (outside (F.state shelf.new) (I.state input.new) (O.state out.new)) result };
 
     /// Where nothing is refused and no device fails there is an answer.
     ghost complete: { IsComplete means is_unrefused answers };

@@ -1,6 +1,6 @@
 //! A run of the command.
 
-ghost use Rattle.std.specs.Prelude.{◌≡◌, ◌≤◌, IfOk, length};
+ghost use Rattle.std.specs.Prelude.{◌≡◌, ◌≤◌, ◌^◌, IfOk, length};
 ghost use Rattle.kb_io.specs.Outside.{outside};
 ghost use Rattle.kb_io.specs.States.{ShelfState, SourceState};
 ghost use Rattle.kb_word.specs.WordOrders.{Below};
@@ -26,6 +26,8 @@ use kb_task::{Cert, Status, Task, load_presentation, print_line};
 use kb_word::{Memory, Names, Presentation, Word, print_word};
 use kb_wordreader::WordReader;
 use std::alloc::Global;
+use std::sync::Wait;
+use std::thread::Threads;
 
 impl Task for WordReduce {
     ghost use Rattle.kb_task.specs.Statuses.{AnswersYesOrNo, IsConclusive};
@@ -46,21 +48,6 @@ impl Task for WordReduce {
 
     ghost differs_in_options = { WordReducesDifferInOptions };
 
-    fn run<F: Shelf, I: Source, O: Sink, E: Sink>(
-        self,
-        alloc: Global,
-        shelf: &mut F,
-        input: &mut I,
-        out: &mut O,
-        _err: &mut E,
-    ) -> Status {
-        let workers = self.workers;
-        match load_presentation(alloc, self.file, shelf) {
-            Ok(presentation) => answer_by(alloc, presentation, workers, input, out),
-            Err(status) => status,
-        }
-    }
-
     ghost complete = { wordreduce_complete };
 
     ghost settled = { wordreduce_settled };
@@ -68,8 +55,35 @@ impl Task for WordReduce {
     ghost one_function = { wordreduce_one_function };
 }
 
+impl WordReduce {
+    ghost use Rattle.kb_wordreduce.specs.WordReduce.{WordReduceMeans, wordreduce_may_store};
+
+    /// Runs the command. What it writes to `err` only shows that it lives. Workers are threads of `rt`.
+    pub fn run<T: Threads + Wait + Sync, F: Shelf, I: Source, O: Sink, E: Sink>(
+        self,
+        rt: &T,
+        alloc: Global,
+        shelf: &mut F,
+        input: &mut I,
+        out: &mut O,
+        err: &mut E,
+    ) -> Status
+        ensures { IsRun (WordReduceMeans self) (wordreduce_may_store self)
+            (outside (F.state shelf.old) (I.state input.old) (O.state out.old))
+            (outside (F.state shelf.new) (I.state input.new) (O.state out.new)) result }
+    {
+        let _ = err;
+        let workers = self.workers;
+        match load_presentation(alloc, self.file, shelf) {
+            Ok(presentation) => answer_by(rt, alloc, presentation, workers, input, out),
+            Err(status) => status,
+        }
+    }
+}
+
 /// Checks the oriented relations, and answers the word lines by them.
-fn answer_by<I: Source, O: Sink>(
+fn answer_by<T: Threads + Wait + Sync, I: Source, O: Sink>(
+    rt: &T,
     alloc: Global,
     presentation: Presentation,
     workers: u32,
@@ -82,8 +96,6 @@ fn answer_by<I: Source, O: Sink>(
         (outside shelf (I.state input.old) (O.state out.old))
         (outside shelf (I.state input.new) (O.state out.new)) result }
 {
-    // The range of the number of generators bounds the number of rules.
-    let _generators = presentation.n;
     let rules = match oriented(alloc, &presentation) {
         Ok(rules) => rules,
         Err(Memory) => return Status::Memory,
@@ -92,11 +104,23 @@ fn answer_by<I: Source, O: Sink>(
         Ok(index) => index,
         Err(Memory) => return Status::Memory,
     };
-    match check(alloc, &rules, &index, workers) {
+    rules_are_few(&presentation, &rules);
+    match check(rt, alloc, &rules, &index, workers) {
         Ok(Verdict::Yes) => answer_all(alloc, presentation, &rules, index, input, out),
         Ok(Verdict::No { u, v, .. }) => print_no(alloc, &presentation, u, v, out),
         Err(Memory) => Status::Memory,
     }
+}
+
+/// The oriented relations of a file are not more than a check can number. It does nothing when it runs.
+fn rules_are_few(presentation: &Presentation, rules: &Rules)
+    requires few { length presentation.now.eqs ≤ most_equations }
+    requires oriented { AreOriented (Below presentation.now.order)
+        (relations (parts_of presentation.now)) rules.now.rules }
+    ensures { length rules.now.rules ≤ 2 ^ 31 }
+{
+    // The range of the number of generators bounds the number of rules.
+    let _generators = presentation.n;
 }
 
 /// Answers the word lines by rules that are confluent.

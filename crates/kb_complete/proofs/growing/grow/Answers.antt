@@ -1,5 +1,5 @@
 use Rattle.std.proofs.Common.{sym, ap, length}
-use Rattle.kb_complete.proofs.Stages.{later_itself}
+use Rattle.kb_settle.proofs.Stages.{later_itself}
 use Rattle.kb_complete.proofs.Rounds.{round_over, round_open, grow_later}
 use Rattle.kb_complete.proofs.growing.grow.Goals as goal
 
@@ -8,11 +8,6 @@ returns-in-Over g c =
     let course = c.args.book.course in
     round_over course course _ c.in_ok-grown.field-0 c.in-Over.grown (later_itself course) (ap length (sym c.lines-given.ensures))
     c.in-Over.is c.in_ok-grown.ensures
-
-pub look_for_more-requires : goal.look_for_more-requires
-look_for_more-requires g c =
-    let course = c.args.book.course in
-    (round_open course course _ c.in_ok-grown.field-0 c.in-Open.settled (later_itself course) c.in-Open.is c.in_ok-grown.ensures).1
 
 pub returns-in_ok-look_for_more-in-Open : goal.returns-in_ok-look_for_more-in-Open
 returns-in_ok-look_for_more-in-Open g c =

@@ -1,15 +1,7 @@
-use Rattle.std.proofs.Common.{length, ◌<◌, arith}
 use Rattle.kb_word.specs.Overlap.{IsConfluent}
-use Rattle.kb_word.specs.WordOrders.{Below}
 use Rattle.kb_word.specs.Presentations.{parts_of}
-use Rattle.kb_wordreduce.proofs.RunLemmas.{rules-few, no-refutes}
+use Rattle.kb_wordreduce.proofs.RunLemmas.{no-refutes}
 use Rattle.kb_wordreduce.proofs.run.answer_by.Goals as goal
-
-pub check-requires-clause-size : goal.check-requires-clause-size
-check-requires-clause-size g c =
-    let presentation = c.args.presentation in
-    let generators : length presentation.inv < 65536 = omega (arith, presentation.is_presentation.one_inverse_each) in
-    rules-few (Below presentation.order) presentation.inv presentation.eqs c.in-Ok.rules.rules c.in-Ok.ensures.oriented c.requires.few generators
 
 pub print_no-requires : goal.print_no-requires
 print_no-requires g c =

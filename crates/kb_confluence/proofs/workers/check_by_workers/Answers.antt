@@ -1,0 +1,35 @@
+use Rattle.std.proofs.Common.{◌<◌, length, arith}
+use Rattle.std.specs.Prelude.{IfOk}
+use Rattle.std.specs.List.{All}
+use Rattle.kb_draw.specs.Seats.{times_drawn}
+use Rattle.kb_confluence.specs.Shares.{IsShareOf, AreAllShares}
+use Rattle.kb_confluence.proofs.RowVerdicts.{verdict_on_all}
+use Rattle.kb_confluence.proofs.workers.check_by_workers.Goals as goal
+use Rattle.kb_confluence.proofs.workers.check_by_workers.Goals.{In_ok-seats}
+
+-- what the workers bring back
+all_shares : (g : _) (c : In_ok-seats g)
+    → AreAllShares c.in_ok-draw.draw c.args.rows.now.rules.now (length c.in_ok-shares.shares.items) c.in_ok-seats.seats.items c.in_ok-seats.verdict
+all_shares g c =
+    let draw = c.in_ok-draw.draw in let rules = c.args.rows.now.rules.now in
+    let len = c.in_ok-shares.ensures.len in let shares = c.in_ok-shares.shares.ok.0 in let jobs = c.in_ok-draw.seats.ok.0 in
+    let each : All (λ share. IfOk share (IsShareOf draw rules)) c.in_ok-shares.shares.items =
+    λ k d within. (c.in_ok-shares.ensures.each k d (omega (arith, within, len, shares, jobs))).1.call.met in
+    c.in_ok-seats.ensures draw rules each
+
+pub close-requires : goal.close-requires
+close-requires g c =
+    let all = all_shares g c in
+    let count = all.count in let made = c.in_ok-draw.ensures.seats.0 in let bounds = c.in_ok-draw.ensures.bounds in
+    let len = c.in_ok-shares.ensures.len in let shares = c.in_ok-shares.shares.ok.0 in let jobs = c.in_ok-draw.seats.ok.0 in
+    (omega (arith, count, made, bounds, len, shares, jobs), all.each)
+
+pub returns : goal.returns
+returns g c =
+    let all = all_shares g (goal.at.returns g c).In_ok-seats in
+    let bounds = c.in_ok-draw.ensures.bounds in
+    verdict_on_all c.args.rows.now.rules.now (λ row. 0 < times_drawn row c.in_ok-seats.seats.items) c.in_ok-seats.verdict c.args.rows.now.few
+    (λ row within.
+    let drawn = c.close.ensures.all all.dry row (omega (arith, bounds)) (omega (arith, bounds, within)) in
+    omega (arith, drawn))
+    all.verdict

@@ -1,0 +1,155 @@
+//! The check of one row: of the overlaps in which one rule begins first.
+
+ghost use Rattle.std.specs.Prelude.{◌≡◌, ◌^◌, ◌<◌, ◌≤◌, IfOk, Some, length, slice_get};
+ghost use Rattle.kb_word.specs.Overlap.{Overlaps, critical_pair};
+ghost use Rattle.kb_overlap.specs.Overlapping.{AreOverlaps};
+ghost use Rattle.kb_confluence.specs.Answers.{Resolves};
+ghost use Rattle.kb_confluence.specs.Rows.{IsRowVerdict};
+
+use crate::confluence::Verdict;
+use kb_overlap::{LeftSides, Overlap, pair_into};
+use kb_rules::{Reducer, Rule, Workspace};
+use kb_word::{Memory, Word};
+use std::alloc::Global;
+use std::mem::replace;
+
+/// The rows of a list of rules, and all that the check of a row reads. Row i has the overlaps in which rule i begins
+/// first.
+#[derive(Drop)]
+pub struct Rows<'r, R: Reducer> {
+    pub alloc: Global,
+    pub rules: &'r [Rule],
+    reducer: &'r R,
+    left_sides: LeftSides<'r>,
+    ghost reducer_of: { R.rules reducer.now ≡ rules.now },
+    ghost sides_of: { left_sides ≡ rules.now },
+    ghost few: { length rules.now ≤ 2 ^ 31 },
+}
+
+/// The memory that checks work in, kept from one row to the next. What it holds before and after counts for nothing.
+#[derive(Drop)]
+pub struct Buffers {
+    overlaps: Vec<Overlap>,
+    pair: PairBuffers,
+}
+
+/// The words of a critical pair, which become their normal forms, and the workspace for that.
+#[derive(Drop)]
+struct PairBuffers {
+    one: Word,
+    other: Word,
+    workspace: Workspace,
+}
+
+impl Buffers {
+    /// Buffers that have taken no memory yet.
+    pub fn new(alloc: Global) -> Buffers {
+        Buffers {
+            overlaps: Vec::new(alloc),
+            pair: PairBuffers {
+                one: Word::new(alloc),
+                other: Word::new(alloc),
+                workspace: Workspace::new(alloc),
+            },
+        }
+    }
+}
+
+impl<'r, R: Reducer> Rows<'r, R> {
+    /// The rows of these rules.
+    pub fn of(alloc: Global, rules: &'r [Rule], reducer: &'r R) -> Result<Rows<'r, R>, Memory>
+        requires reducer { R.rules reducer.now ≡ rules.now }
+        requires size { length rules.now ≤ 2 ^ 31 }
+        ensures { IfOk result (λ rows. rows.rules.now ≡ rules.now) }
+    {
+        let left_sides = LeftSides::of(alloc, rules)?;
+        Ok(Rows {
+            alloc,
+            rules,
+            reducer,
+            left_sides,
+        })
+    }
+
+    /// The verdict on the row of this index.
+    pub fn check(&self, i: usize, buffers: &mut Buffers) -> Result<Verdict, Memory>
+        requires { i < length self.now.rules.now }
+        ensures { IfOk result (IsRowVerdict self.now.rules.now i) }
+    {
+        let first = &self.rules[i];
+        let Buffers { overlaps, pair } = buffers;
+        self.left_sides.overlaps(first.left(), overlaps)?;
+        self.check_overlaps(i, first, overlaps, pair)
+    }
+
+    /// The verdict on the row of this index, by all overlaps of its rule's left side.
+    fn check_overlaps(
+        &self,
+        i: usize,
+        first: &Rule,
+        overlaps: &[Overlap],
+        buffers: &mut PairBuffers,
+    ) -> Result<Verdict, Memory>
+        requires first { slice_get self.now.rules.now i ≡ Some first.now }
+        requires overlaps { AreOverlaps self.now.rules.now first.now.0 overlaps.now }
+        ensures { IfOk result (IsRowVerdict self.now.rules.now i) }
+    {
+        for overlap in overlaps {
+            let (j, place) = (overlap.rule, overlap.place as u64);
+            let second = &self.rules[j];
+            // A rule with itself at place 0 is one replacement, and no overlap.
+            if i == j && place == 0 {
+                continue;
+            }
+            if let Some((u, v)) = different_normal_forms(
+                self.alloc,
+                self.reducer,
+                first,
+                second,
+                place,
+                buffers,
+            )? {
+                let (i, j) = (i as u32 + 1, j as u32 + 1);
+                return Ok(Verdict::No { i, j, place, u, v });
+            }
+        }
+        Ok(Verdict::Yes)
+    }
+}
+
+/// The normal forms of a critical pair's words, where they differ.
+fn different_normal_forms<R: Reducer>(
+    alloc: Global,
+    reducer: &R,
+    first: &Rule,
+    second: &Rule,
+    place: u64,
+    buffers: &mut PairBuffers,
+) -> Result<Option<(Word, Word)>, Memory>
+    requires { Overlaps first.now.0 second.now.0 place }
+    ensures { IfOk result
+        (Resolves (R.rules reducer.now) (critical_pair first.now second.now place)) }
+{
+    let PairBuffers {
+        one,
+        other,
+        workspace,
+    } = buffers;
+    pair_into(
+        first.left(),
+        first.right(),
+        second.left(),
+        second.right(),
+        place,
+        one,
+        other,
+    )?;
+    reducer.reduce(one, workspace)?;
+    reducer.reduce(other, workspace)?;
+    if *one == *other {
+        return Ok(None);
+    }
+    let u = replace(one, Word::new(alloc));
+    let v = replace(other, Word::new(alloc));
+    Ok(Some((u, v)))
+}

@@ -1,0 +1,28 @@
+use Rattle.kb_settle.proofs.Stages.{settles_itself, settles_then}
+use Rattle.kb_settle.proofs.Halting.{ends_settled, none_is, some_is}
+use Rattle.kb_settle.proofs.settling.make_all.Goals as goal
+use Rattle.kb_settle.specs.Work.{EndsAt}
+
+pub making-init : goal.making-init
+making-init g c = settles_itself c.args.book.now.course
+
+pub returns-in_err-end-clause-settles : goal.returns-in_err-end-clause-settles
+returns-in_err-end-clause-settles g c =
+    settles_then c.args.book.now.course c.making.book.course c.make_next.new.book.course c.making.invariant c.make_next.ensures.settles
+
+pub returns-in-Some-clause-settles : goal.returns-in-Some-clause-settles
+returns-in-Some-clause-settles g c =
+    settles_then c.args.book.now.course c.making.book.course c.make_next.new.book.course c.making.invariant c.make_next.ensures.settles
+
+pub returns-in-Some-clause-says : goal.returns-in-Some-clause-says
+returns-in-Some-clause-says g c =
+    let after = c.make_next.new.book.course in
+    ends_settled c.args.book.now.course after c.in-Some.end c.requires
+    (some_is (EndsAt after) c.in_ok-end.field-0 c.in-Some.end c.in-Some.is c.in_ok-end.ensures.ends)
+
+pub making-smaller : goal.making-smaller
+making-smaller g c = none_is c.in_ok-end.field-0 c.in_default.is c.in_ok-end.ensures.falls
+
+pub making-preserved : goal.making-preserved
+making-preserved g c =
+    settles_then c.args.book.now.course c.making.book.course c.make_next.new.book.course c.making.invariant c.make_next.ensures.settles

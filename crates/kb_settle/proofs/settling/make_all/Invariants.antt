@@ -1,0 +1,9 @@
+use Rattle.kb_settle.proofs.settling.make_all.Given as goal
+use Rattle.kb_settle.specs.Settling.{Settles}
+use Rattle.kb_settle.specs.Work.{work}
+
+abbrev pub invariant-making : goal.invariant-making
+invariant-making g l = Settles l.fn.book.course l.book.course
+
+abbrev pub decreases-making : goal.decreases-making
+decreases-making g l = work l.book.course

@@ -1,0 +1,19 @@
+use Rattle.std.proofs.Common.{◌≡◌, refl, []}
+use Rattle.kb_settle.proofs.Stages.{settles_itself}
+use Rattle.kb_settle.proofs.Halting.{idle_runs}
+use Rattle.kb_settle.proofs.settling.settle.Goals as goal
+
+pub returns-then-is_idle-clause-settles : goal.returns-then-is_idle-clause-settles
+returns-then-is_idle-clause-settles g c = settles_itself c.args.book.now.course
+
+pub returns-then-is_idle-clause-says : goal.returns-then-is_idle-clause-says
+returns-then-is_idle-clause-says g c =
+    let course = c.args.book.now.course in
+    let none : course.state.pending ≡ [] = c.is_idle.ensures.0 c.if-is_idle.true in
+    (none, refl, idle_runs course.problem course.state c.book_is_sound.ensures none)
+
+pub returns-clause-settles : goal.returns-clause-settles
+returns-clause-settles g c = c.make_all.ensures.settles
+
+pub returns-clause-says : goal.returns-clause-says
+returns-clause-says g c = c.make_all.ensures.says

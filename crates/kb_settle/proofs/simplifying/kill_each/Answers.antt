@@ -1,0 +1,10 @@
+use Rattle.kb_settle.proofs.Stages.{goes_on_itself, goes_on_then, kill_goes_on}
+use Rattle.kb_settle.proofs.simplifying.kill_each.Goals as goal
+
+pub loop-line-init : goal.loop-line-init
+loop-line-init g c = goes_on_itself c.args.book.now.course
+
+pub loop-line-preserved : goal.loop-line-preserved
+loop-line-preserved g c =
+    goes_on_then c.args.book.now.course c.loop-line.book.course c.kill.new.self.course c.loop-line.invariant
+    (kill_goes_on _ c.loop-line.book.course c.kill.new.self.course c.kill.result c.kill.ensures)

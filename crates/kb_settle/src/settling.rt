@@ -1,0 +1,94 @@
+//! Lines are made until nothing is pending.
+
+ghost use Rattle.std.specs.Prelude.{◌≡◌, ◌≢◌, ◌↔◌, ◌<◌, [], IsTrue, IfOk, IfNone, IfSome, None};
+ghost use Rattle.kb_settle.specs.Settling.{Settles, SettleSays};
+ghost use Rattle.kb_settle.specs.Work.{EndsAt, GoesOn, work};
+
+use crate::finding::Finder;
+use crate::settled::Settled;
+use crate::simplifying::simplify;
+use crate::sound::book_is_sound;
+use crate::watch::Watch;
+use kb_book::{Book, Make};
+use kb_rules::Reducer;
+use kb_word::Memory;
+use std::alloc::Global;
+
+/// Makes lines until nothing is pending or a limit is reached. After each line the other lines are taken away whose left
+/// sides have its left side as a factor, and those are replaced whose right sides it reduces. After want of memory the
+/// events that were made stand.
+pub fn settle<R: Reducer, W: Watch>(
+    alloc: Global,
+    book: &mut Book<R>,
+    watch: &mut W,
+) -> Result<Settled, Memory>
+    ensures settles { Settles book.old.course book.new.course }
+    ensures says { IfOk result (SettleSays book.old.course book.new.course) }
+{
+    book_is_sound(book);
+    if is_idle(book) {
+        return Ok(Settled::Nothing);
+    }
+    make_all(alloc, book, watch)
+}
+
+/// Whether nothing is pending.
+fn is_idle<R: Reducer>(book: &Book<R>) -> bool
+    ensures { IsTrue result ↔ (book.now.course.state.pending ≡ []) }
+{
+    book.pending().front().is_none()
+}
+
+/// Makes lines until nothing is pending or a limit is reached, where something is pending.
+fn make_all<R: Reducer, W: Watch>(
+    alloc: Global,
+    book: &mut Book<R>,
+    watch: &mut W,
+) -> Result<Settled, Memory>
+    requires { book.old.course.state.pending ≢ [] }
+    ensures settles { Settles book.old.course book.new.course }
+    ensures says { IfOk result (SettleSays book.old.course book.new.course) }
+{
+    let mut finder = Finder::new(alloc);
+    'making: loop {
+        if let Some(end) = make_next(alloc, book, &mut finder, watch)? {
+            return Ok(end);
+        }
+    }
+}
+
+/// Looks at the first pending pair, and answers how the book is settled, if it is.
+fn make_next<R: Reducer, W: Watch>(
+    alloc: Global,
+    book: &mut Book<R>,
+    finder: &mut Finder,
+    watch: &mut W,
+) -> Result<Option<Settled>, Memory>
+    ensures settles { Settles book.old.course book.new.course }
+    ensures falls { IfOk result (λ end. IfNone end (work book.new.course < work book.old.course)) }
+    ensures ends { IfOk result (λ end. IfSome end (EndsAt book.new.course)) }
+{
+    book_is_sound(book);
+    match book.make(alloc)? {
+        Make::Made(k) => Ok(line_made(alloc, book, k, finder, watch)?),
+        Make::Dropped => Ok(None),
+        Make::Idle => Ok(Some(Settled::Done)),
+        Make::Halted(halt) => Ok(Some(Settled::Halted(halt))),
+    }
+}
+
+/// Goes on after line k was made.
+pub fn line_made<R: Reducer, W: Watch>(
+    alloc: Global,
+    book: &mut Book<R>,
+    k: u32,
+    finder: &mut Finder,
+    watch: &mut W,
+) -> Result<Option<Settled>, Memory>
+    ensures goes_on { GoesOn book.old.course book.new.course }
+    ensures none { IfOk result (λ end. end ≡ None) }
+{
+    watch.line_made(book);
+    simplify(alloc, book, k, finder)?;
+    Ok(None)
+}

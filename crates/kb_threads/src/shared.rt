@@ -1,0 +1,111 @@
+//! A completion that workers share.
+
+ghost use Rattle.std.specs.Prelude.{◌≡◌, ◌+◌, ◌≤◌, ◌<◌, [], ◌∷◌, ◌++◌, length, All, IfOk, IfErr, OnOk, OnErr};
+ghost use Rattle.kb_settle.specs.Later.{IsLater, entries};
+ghost use Rattle.kb_threads.specs.Shared.{IsNoOverlap, PublishesBy, entered_by};
+ghost use Rattle.kb_threads.specs.declared.answers.ShareFault.TheVariants.{NotOverlap};
+
+use crate::advancing::Advanced;
+use crate::answers::{Advance, ShareFault};
+use crate::locked::Locked;
+use crate::pass::Pass;
+use crate::sharing::Sharing;
+use kb_book::Book;
+use kb_publish::Publisher;
+use kb_rules::Reducer;
+use kb_share::{Found, Version};
+use kb_word::Memory;
+use std::alloc::Global;
+use std::sync::ledger::{Blank, Share};
+use std::sync::{Mutex, Wait};
+
+/// A book under a lock. Whenever the lock is got, the book is a later stage of the completion that was given, and has as many
+/// entries more as the workers were told that they made.
+#[derive(Drop)]
+pub struct Shared<R: Reducer, S: Sharing> {
+    locked: Mutex<Locked<R, S>>,
+}
+
+impl<R: Reducer, S: Sharing> Shared<R, S> {
+    /// Shares a book with workers, each of which gets a pass. They are numbered from 1 on.
+    pub fn new(
+        alloc: Global,
+        book: Book<R>,
+        blank: Blank,
+        workers: u32,
+    ) -> Result<(Shared<R, S>, Vec<Pass<S>>), Memory>
+        requires name { blank.name ≡ S.name }
+        requires parts { (blank.parts ≡ S.parts) × (blank.parts ≡ workers) × (1 ≤ workers) }
+        requires given { book.course ≡ S.given }
+        ensures count { IfOk result (λ made. length made.1.items ≡ S.parts) }
+        ensures none { IfOk result (λ made. All (λ pass. pass.entered ≡ 0) made.1.items) }
+    {
+        let (entered, mut rest) = blank.open::<S>();
+        let mut passes = Vec::new(alloc);
+        for worker in 0..workers {
+            passes.push(Pass::of(worker + 1, &mut rest))?;
+        }
+        let locked = Mutex::new(Locked::new(book, entered));
+        Ok((Shared { locked }, passes))
+    }
+
+    /// Enters an overlap of two lines for a worker.
+    pub fn enter<T: Wait>(&self, rt: &T, pass: &mut Pass<S>, one: &Found) -> Result<(), ShareFault>
+        ensures worker { pass.new.worker ≡ pass.old.worker }
+        ensures ok { OnOk result (pass.new.entered ≡ pass.old.entered + 1) }
+        ensures err { OnErr result (pass.new.entered ≡ pass.old.entered) }
+        ensures no_overlap { IfErr result (λ fault. fault ≡ NotOverlap → IsNoOverlap S.given one.now) }
+    {
+        self.locked.lock(rt).enter(pass, one)
+    }
+
+    /// Settles the book, and publishes its live lines where something was pending and no limit is reached. The lock is held
+    /// while the book is settled, and free while the version is published.
+    pub fn advance<T: Wait>(
+        &self,
+        rt: &T,
+        alloc: Global,
+        publisher: &mut Publisher<Version<R>>,
+    ) -> Result<Advance, Memory>
+        ensures publishes { IfOk result (PublishesBy publisher.old publisher.new) }
+        ensures nothing { OnErr result (publisher.new ≡ publisher.old) }
+    {
+        let advanced = self.locked.lock(rt).advance(alloc)?;
+        match advanced {
+            Advanced::Settled(version) => {
+                let number = version.number();
+                publisher.publish(rt, version)?;
+                Ok(Advance::Published(number))
+            }
+            Advanced::Nothing => Ok(Advance::Nothing),
+            Advanced::Halted => Ok(Advance::Halted),
+        }
+    }
+
+    /// The book that was shared, by all its passes.
+    pub fn finish(self, passes: Vec<Pass<S>>) -> Book<R>
+        requires { (length passes.items ≡ S.parts) × (0 < S.parts) }
+        ensures later { IsLater S.given result.course }
+        ensures entries { entries result.course.journal ≡ entries S.given.journal + entered_by passes.items }
+    {
+        let mut all = gathered(passes);
+        let Shared { locked } = self;
+        locked.into_inner().into_book(&mut all)
+    }
+}
+
+/// All parts of these passes in one.
+fn gathered<S: Sharing>(mut passes: Vec<Pass<S>>) -> Share<S>
+    requires { 0 < length passes.items }
+    ensures parts { result.parts ≡ length passes.items }
+    ensures amount { result.amount ≡ entered_by passes.items }
+{
+    let Some(last) = passes.pop() else {
+        unreachable!()
+    };
+    let mut all = last.into_share();
+    while let Some(pass) = passes.pop() {
+        all.merge(pass.into_share());
+    }
+    all
+}

@@ -1,0 +1,124 @@
+//! One worker of a pass.
+
+use crate::answers::{Advance, ShareFault};
+use crate::jobs::JobSeat;
+use crate::pass::Pass;
+use crate::shared::Shared;
+use crate::sharing::Sharing;
+use crate::sieve::{Left, Sieve};
+use kb_io::{Gate, Point};
+use kb_publish::{Publisher, RuledGlass, VersionReader};
+use kb_rules::Reducer;
+use kb_share::{Found, Version};
+use kb_word::Memory;
+use std::alloc::Global;
+use std::sync::Wait;
+
+/// A worker: its seat at the jobs, its pass, and its reader of versions.
+#[derive(Drop)]
+pub(crate) struct Worker<'j, R: Reducer, S: Sharing> {
+    pub(crate) seat: JobSeat<'j>,
+    pub(crate) pass: Pass<S>,
+    pub(crate) reader: VersionReader<RuledGlass<Version<R>>>,
+}
+
+/// Does jobs until none is left, and gives the pass back.
+pub(crate) fn work<R: Reducer, S: Sharing, G: Gate, T: Wait>(
+    rt: &T,
+    alloc: Global,
+    shared: &Shared<R, S>,
+    gate: &G,
+    mut worker: Worker<'_, R, S>,
+) -> Result<Pass<S>, Memory> {
+    let mut sieve = Sieve::new(alloc);
+    for _ in rt.forever() {
+        let (left, next) = worker.do_some(rt, alloc, shared, gate, &mut sieve)?;
+        worker = next;
+        if left == Left::None {
+            break;
+        }
+    }
+    Ok(worker.pass)
+}
+
+/// Does jobs as any worker, and lets the completion advance after its own jobs. At a halt the jobs that are left are left out.
+pub(crate) fn lead<R: Reducer, S: Sharing, G: Gate, T: Wait>(
+    rt: &T,
+    alloc: Global,
+    shared: &Shared<R, S>,
+    gate: &G,
+    mut worker: Worker<'_, R, S>,
+    publisher: &mut Publisher<Version<R>>,
+) -> Result<Pass<S>, Memory> {
+    let mut sieve = Sieve::new(alloc);
+    for _ in rt.forever() {
+        let (left, next) = worker.do_some(rt, alloc, shared, gate, &mut sieve)?;
+        worker = next;
+        if left == Left::None {
+            break;
+        }
+        match shared.advance(rt, alloc, publisher)? {
+            Advance::Published(_) => worker = worker.told(publisher),
+            Advance::Nothing => {}
+            Advance::Halted => {
+                worker.seat.skip_rest(rt);
+                break;
+            }
+        }
+    }
+    Ok(worker.pass)
+}
+
+impl<'j, R: Reducer, S: Sharing> Worker<'j, R, S> {
+    /// The worker after its reader was told of all that was published.
+    fn told(self, publisher: &mut Publisher<Version<R>>) -> Worker<'j, R, S> {
+        let Worker { seat, pass, reader } = self;
+        let reader = publisher.tell(reader);
+        Worker { seat, pass, reader }
+    }
+
+    /// Does jobs by one look at the version that was published last, until one of them has something to enter. A worker that
+    /// gets no look leaves the jobs to the others.
+    fn do_some<G: Gate, T: Wait>(
+        self,
+        rt: &T,
+        alloc: Global,
+        shared: &Shared<R, S>,
+        gate: &G,
+        sieve: &mut Sieve,
+    ) -> Result<(Left, Worker<'j, R, S>), Memory> {
+        let Worker {
+            mut seat,
+            mut pass,
+            reader,
+        } = self;
+        match reader.look() {
+            Ok(look) => {
+                let sifted = sieve.sift_some(alloc, look.version(), gate, pass.worker(), &mut seat);
+                // A look ends before anything is entered, and before want of memory is told.
+                let reader = look.leave();
+                let left = sifted?;
+                enter_all(rt, shared, gate, &mut pass, sieve.found())?;
+                Ok((left, Worker { seat, pass, reader }))
+            }
+            Err(reader) => Ok((Left::None, Worker { seat, pass, reader })),
+        }
+    }
+}
+
+/// Enters overlaps, one after another. What is no overlap of the book's lines is left out, though versions have none such.
+fn enter_all<R: Reducer, S: Sharing, G: Gate, T: Wait>(
+    rt: &T,
+    shared: &Shared<R, S>,
+    gate: &G,
+    pass: &mut Pass<S>,
+    found: &[Found],
+) -> Result<(), Memory> {
+    for one in found {
+        gate.at(pass.worker(), Point::Enter);
+        if shared.enter(rt, pass, one) == Err(ShareFault::Memory) {
+            return Err(Memory);
+        }
+    }
+    Ok(())
+}

@@ -1,0 +1,68 @@
+//! As many workers as a command asks for.
+
+ghost use Rattle.std.specs.Prelude.{◌≤◌, IfOk};
+ghost use Rattle.kb_settle.specs.Later.{IsLater};
+ghost use Rattle.kb_share.specs.Versions.{IsPublished};
+
+use crate::threads::Threads;
+use kb_book::Book;
+use kb_io::Gate;
+use kb_rules::Reducer;
+use kb_share::OneByOne;
+use kb_word::Memory;
+use std::alloc::Global;
+use std::sync::Wait;
+use std::thread::Threads as Threading;
+
+/// As many live lines are worth threads. A pass over fewer takes less time than threads take to begin and to end.
+const MANY_LINES: usize = 32;
+
+/// One worker, or more that are threads.
+#[derive(Drop)]
+pub enum Workers<'g, G: Gate> {
+    /// One, in the caller's thread.
+    One(OneByOne),
+    /// Threads.
+    Many(Threads<'g, G>),
+}
+
+impl<'g, G: Gate> Workers<'g, G> {
+    /// So many workers. Threads pass this gate.
+    pub fn of(count: u32, gate: &'g G) -> Workers<'g, G>
+        requires { (1 ≤ count) × (count ≤ 64) }
+    {
+        if count == 1 {
+            Workers::One(OneByOne)
+        } else {
+            Workers::Many(Threads::new(count, gate))
+        }
+    }
+
+    /// How many workers there are.
+    pub fn count(&self) -> u32
+        ensures { (1 ≤ result) × (result ≤ 64) }
+    {
+        match self {
+            Workers::One(_) => 1,
+            Workers::Many(threads) => threads.count(),
+        }
+    }
+
+    /// Makes a pass over a book whose last version has its live lines. Lines may be made meanwhile, and the book may halt.
+    pub fn pass<R: Reducer + Send + Sync, T: Threading + Wait + Sync>(
+        &self,
+        rt: &T,
+        alloc: Global,
+        book: Book<R>,
+    ) -> Result<Book<R>, Memory>
+        requires { IsPublished book.course.state }
+        ensures { IfOk result (λ after. IsLater book.course after.course) }
+    {
+        match self {
+            Workers::Many(threads) if book.live().len() >= MANY_LINES => {
+                threads.pass(rt, alloc, book)
+            }
+            _ => OneByOne.pass(alloc, book),
+        }
+    }
+}
