@@ -1,6 +1,6 @@
 pub mod CountingLemmas
 pub mod ExplorationLemmas
-mod Lists
+pub mod Lists
 mod Continuations
 mod Inserting
 mod Leading
@@ -9,3 +9,4 @@ mod Rows
 mod Traces
 mod Starting
 mod Finishing
+mod OtherAnswers

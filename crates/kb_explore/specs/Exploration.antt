@@ -20,20 +20,24 @@ pub data IsTraced (origins : List (ℕ × ℕ)) : ℕ → List ℕ → Type 0 wh
 
 -- each state but the initial one was first seen from an earlier one
 abbrev pub AreFromEarlier : List (ℕ × ℕ) → Type 0
-AreFromEarlier origins = (state parent symbol : ℕ) → numbered origins state ≡ Some (suc parent, symbol) → suc parent < state
+AreFromEarlier origins =
+    (state parent symbol : ℕ) → numbered origins state ≡ Some (suc parent, symbol) → suc parent < state
 
 -- The table has the states that texts lead to in the machine, each once. Each is numbered by its least text, and
 -- traced back by its origin.
-pub record IsExploration {S : Type 0} (machine : Machine S) (table : Table) (states : List S) (origins : List (ℕ × ℕ)) : Type 0 where
+pub record IsExploration {S : Type 0} (machine : Machine S) (table : Table) (states : List S)
+    (origins : List (ℕ × ℕ)) : Type 0 where
   pub is_table : IsTable table
   pub one_state_each : length states ≡ length table.rows
   pub leads_there : (text : List ℕ) → numbered states (state_after table text) ≡ leads machine text
   pub accepts : (place : ℕ) (state : S) → slice_get states place ≡ Some state
       → get_or table.accepting place false ≡ machine.accepts state
-  pub distinct : (place other : ℕ) (state : S) → slice_get states place ≡ Some state → slice_get states other ≡ Some state → place ≡ other
+  pub distinct : (place other : ℕ) (state : S) → slice_get states place ≡ Some state
+      → slice_get states other ≡ Some state → place ≡ other
   pub words : List (List ℕ)
   pub one_word_each : length words ≡ length table.rows
   pub least : (state : ℕ) (word : List ℕ) → numbered words state ≡ Some word → IsLeastText table state word
   pub traced : (state : ℕ) (word : List ℕ) → numbered words state ≡ Some word → IsTraced origins state word
   pub from_earlier : AreFromEarlier origins
-  pub ascending : (p q : ℕ) (word other : List ℕ) → p < q → numbered words p ≡ Some word → numbered words q ≡ Some other → Less word other
+  pub ascending : (p q : ℕ) (word other : List ℕ) → p < q → numbered words p ≡ Some word
+      → numbered words q ≡ Some other → Less word other

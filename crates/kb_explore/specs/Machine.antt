@@ -9,6 +9,11 @@ pub record Machine (S : Type 0) : Type 0 where
   pub follow : S → ℕ → Option S
   pub accepts : S → Bool
 
+-- the machines start alike and move alike: they differ at most in which states accept
+pub record AreAlike {S : Type 0} (machine other : Machine S) : Type 0 where
+  pub start : machine.start ≡ other.start
+  pub follow : (state : S) (symbol : ℕ) → machine.follow state symbol ≡ other.follow state symbol
+
 -- to which state the text leads from what is given
 abbrev pub lead : {S : Type 0} → Machine S → Option S → List ℕ → Option S
 lead machine None text = None
@@ -33,4 +38,5 @@ pub record AreMovesOf {S : Type 0} (machine : Machine S) (k : ℕ) (state : S) (
 
 -- more than m texts lead to different states
 abbrev pub HasMoreStates : {S : Type 0} → Machine S → ℕ → Type 0
-HasMoreStates machine = MoreThan (λ text. IsSome (leads machine text)) (λ text other. leads machine text ≡ leads machine other)
+HasMoreStates machine =
+    MoreThan (λ text. IsSome (leads machine text)) (λ text other. leads machine text ≡ leads machine other)

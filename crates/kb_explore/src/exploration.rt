@@ -87,7 +87,7 @@ fn next_row<M: Machine>(
 }
 
 /// For each state whether it accepts.
-fn answers<M: Machine>(
+pub(crate) fn answers<M: Machine>(
     alloc: Global,
     machine: &M,
     states: &IndexSet<M::State>,

@@ -4,7 +4,8 @@
 //! state, and a test which states accept. The public contract is that of `explore`: its table has exactly
 //! the states that texts lead to, each once, numbered breadth first, and so in the shortlex order of the least
 //! texts that lead to them; and it answers `TooManyStates` exactly where there are more than the limit. `text_to`
-//! returns the least text that leads to a state of it.
+//! returns the least text that leads to a state of it. [`Exploration::answered_by`] gives the table of another machine
+//! that moves alike, without exploring it again.
 //!
 //! `kb_fsa` is below; the operations on automata, which are machines, are above.
 //!
@@ -16,10 +17,12 @@
 //! - `Leading` and `CountingLemmas`: texts that lead to different states, and how many states they lead to.
 //! - `Continuations`: texts with a symbol more at the end, in the shortlex order.
 //! - `Traces`: following the origins back from a state.
+//! - `OtherAnswers`: the exploration of a machine that moves alike and answers otherwise.
 //! - `ExplorationLemmas`: what an exploration tells of its machine, for the crates above.
 //! - `Lists`: lists with an item more at the end.
 #![tactic(auto)]
 
+mod answering;
 mod det;
 mod exploration;
 mod machine;
