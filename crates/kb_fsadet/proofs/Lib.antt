@@ -2,7 +2,9 @@ pub mod Sets
 pub mod Members
 pub mod Targets
 pub mod Groups
+pub mod ExactSets
 pub mod Determinised
+pub mod Avoided
 pub mod FirstWordLemmas
 pub mod Endings
 pub mod FirstWordTexts

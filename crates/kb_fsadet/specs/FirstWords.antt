@@ -51,4 +51,5 @@ first_words n table ends = record {
 pub record IsFirstWords (pairs : Automaton) (automaton : Nondeterministic) : Type 0 where
   pub alphabet : automaton.alphabet ≡ Plain (generators pairs.alphabet)
   pub among : (word : List ℕ) (state : ℕ) → LeadsSomehow automaton word state ↔ IsAfterFirst pairs word state
-  pub accepts : (state : ℕ) → IsTrue (accepts_at automaton state) ↔ EndsFrom (generators pairs.alphabet) pairs.table state
+  pub accepts : (state : ℕ) → IsTrue (accepts_at automaton state)
+      ↔ EndsFrom (generators pairs.alphabet) pairs.table state

@@ -1,4 +1,5 @@
 pub mod Nondeterministic
 pub mod SubsetConstruction
+pub mod Avoidance
 pub mod Projection
 pub mod FirstWords

@@ -13,7 +13,8 @@ pub record Nondeterministic : Type 0 where
   pub accepting : List Bool
 
 abbrev pub automaton_of : Alphabet → List ℕ → List Moves → List Bool → Nondeterministic
-automaton_of alphabet initial rows accepting = record { alphabet = alphabet; initial = initial; rows = rows; accepting = accepting }
+automaton_of alphabet initial rows accepting =
+    record { alphabet = alphabet; initial = initial; rows = rows; accepting = accepting }
 
 -- the moves of a state, by those of states 1, 2, and so on; what is no state has none
 abbrev pub moves_at : List Moves → ℕ → Moves
@@ -54,5 +55,7 @@ pub record IsNondeterministic (automaton : Nondeterministic) : Type 0 where
   pub one_answer_each : length automaton.accepting ≡ length automaton.rows
   pub size : length automaton.rows < 2 ^ 32
   pub initial : All (IsOneOf (length automaton.rows)) automaton.initial
-  pub moves : All (All (λ move. IsOneOf (symbols automaton.alphabet) move.0 × IsOneOf (length automaton.rows) move.1)) automaton.rows
+  pub moves : All
+      (All (λ move. IsOneOf (symbols automaton.alphabet) move.0 × IsOneOf (length automaton.rows) move.1))
+      automaton.rows
   pub texts : (text : List ℕ) (state : ℕ) → LeadsSomehow automaton text state → IsTextOf automaton.alphabet text

@@ -34,7 +34,8 @@ some_set (x ∷ xs) = Some (set_of (x ∷ xs))
 -- where the moves by the symbol lead
 abbrev pub targets_by : Moves → ℕ → List ℕ
 targets_by [] symbol = []
-targets_by (move ∷ moves) symbol = if nat_eq move.0 symbol then move.1 ∷ targets_by moves symbol else targets_by moves symbol
+targets_by (move ∷ moves) symbol =
+    if nat_eq move.0 symbol then move.1 ∷ targets_by moves symbol else targets_by moves symbol
 
 -- the moves of the states, one state after another
 abbrev pub moves_of_each : Nondeterministic → List ℕ → Moves
@@ -62,4 +63,5 @@ pub record AreGroupedBefore (moves rest : Moves) (groups : List (ℕ × List ℕ
   pub in_order : IsNonDecreasingBy (λ move. move.0) rest
   pub among : All (Contains moves) rest
   pub below : All (λ group. All (λ move. group.0 < move.0) rest) groups
-  pub each : (symbol : ℕ) → option_or (lookup groups symbol) (some_set (targets_by rest symbol)) ≡ some_set (targets_by moves symbol)
+  pub each : (symbol : ℕ)
+      → option_or (lookup groups symbol) (some_set (targets_by rest symbol)) ≡ some_set (targets_by moves symbol)

@@ -2,8 +2,9 @@
 //!
 //! The public contract: `determinise` returns a deterministic automaton of the same language by the subset
 //! construction, with one state for each set of states to which texts lead, and `exists` one of the words beside
-//! which an automaton of pairs accepts some word, of whatever length. Each answers `TooManyStates` exactly where
-//! there are more sets of states, to which texts lead, than the limit.
+//! which an automaton of pairs accepts some word, of whatever length. `avoiding` returns one of the texts that lead
+//! somewhere and of which no prefix is accepted. Each answers `TooManyStates` exactly where there are more sets of
+//! states, to which texts lead, than the limit; `avoiding` counts those of its own texts.
 //!
 //! The subset construction is a machine that `kb_explore` explores. A set of states is kept as the ascending list
 //! of their numbers, and its moves (transitions) are those of its states, sorted.
@@ -14,11 +15,14 @@
 //!
 //! - `Sets` and `Members`: sets of numbers as ascending lists, and what is a member.
 //! - `Targets` and `Groups`: where moves by a symbol lead, and moves in groups by symbols.
+//! - `ExactSets`: machines that go to the set of what a text has, and what is then true of their exploration.
 //! - `Determinised`: the subset construction goes to exactly the sets of states to which texts lead.
+//! - `Avoided`: without the sets that accept, to those of texts of which no prefix is accepted.
 //! - `FirstWordLemmas`, `Endings`, `FirstWordTexts`, `Projections`: the automaton of first words, and its language.
 //! - `PlainTexts`: automata over plain alphabets read words.
 #![tactic(auto)]
 
+mod avoidance;
 mod determined;
 mod first_words;
 mod nfa;
@@ -26,6 +30,7 @@ mod projection;
 mod state_set;
 mod subset;
 
+pub use avoidance::avoiding;
 pub use determined::determinise;
 pub use kb_explore::Det;
 pub use nfa::{Branches, Nfa, moves_at};
