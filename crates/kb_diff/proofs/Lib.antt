@@ -7,3 +7,4 @@ pub mod PathLemmas
 pub mod Reading
 pub mod Entries
 pub mod WholeTable
+pub mod StepRuns

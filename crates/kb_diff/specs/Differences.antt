@@ -23,4 +23,5 @@ pub record AreFirstDifferences (group : Group) (u v : List ℕ) (count : ℕ) (d
 
 -- the words have the difference of u and v at each place
 abbrev pub HaveDifferences : Group → List (List ℕ) → List ℕ → List ℕ → Type 0
-HaveDifferences group words u v = (place : ℕ) (d : List ℕ) → 0 < place → IsDifference group u v place d → Contains words d
+HaveDifferences group words u v =
+    (place : ℕ) (d : List ℕ) → 0 < place → IsDifference group u v place d → Contains words d

@@ -11,7 +11,8 @@ pub data Keeps : List (List ℕ) → List (List ℕ) → List (List ℕ) → Typ
   none_seen : {kept : List (List ℕ)} → Keeps kept [] kept
   known : {kept seen kept' : List (List ℕ)} {word : List ℕ} → Contains kept word → Keeps kept seen kept'
       → Keeps kept (word ∷ seen) kept'
-  added : {kept seen kept' : List (List ℕ)} {word : List ℕ} → ¬ Contains kept word → Keeps (kept ++ word ∷ []) seen kept'
+  added : {kept seen kept' : List (List ℕ)} {word : List ℕ} → ¬ Contains kept word
+      → Keeps (kept ++ word ∷ []) seen kept'
       → Keeps kept (word ∷ seen) kept'
 
 -- some word had no more room
@@ -48,7 +49,8 @@ pub record Adds (group : Group) (most : ℕ) (u v : List ℕ) (old new : List (L
 pub record IsFirstMissing (group : Group) (words : List (List ℕ)) (u v word : List ℕ) (place : ℕ) : Type 0 where
   pub is_difference : IsDifference group u v place word
   pub missing : ¬ Contains words word
-  pub first : (earlier : ℕ) (d : List ℕ) → 0 < earlier → earlier < place → IsDifference group u v earlier d → Contains words d
+  pub first : (earlier : ℕ) (d : List ℕ) → 0 < earlier → earlier < place → IsDifference group u v earlier d
+      → Contains words d
 
 -- `Full` names the first difference of u and v that is missing among these words
 abbrev pub NamesMissing : Group → List (List ℕ) → List ℕ → List ℕ → Grow → Type 0
@@ -68,10 +70,12 @@ pub data AddsPairs (group : Group) (most : ℕ) (pairs : List Pair) (old new : L
   each : AddsEach group most pairs old new → AddsPairs group most pairs old new Grew
   stopped : (before : List Pair) (pair : Pair) (after : List Pair) (between : List (List ℕ)) (word : List ℕ) (place : ℕ)
       → pairs ≡ before ++ pair ∷ after → AddsEach group most before old between
-      → Adds group most pair.0 pair.1 between new (Full word place) → AddsPairs group most pairs old new (Full word place)
+      → Adds group most pair.0 pair.1 between new (Full word place)
+      → AddsPairs group most pairs old new (Full word place)
 
 -- the same of one word, seen at a place
 pub data KeepsOne (most : ℕ) (word : List ℕ) (place : ℕ) (old new : List (List ℕ)) : Grow → Type 0 where
   one_known : Contains old word → new ≡ old → KeepsOne most word place old new Same
   one_added : ¬ Contains old word → length old < most → new ≡ old ++ word ∷ [] → KeepsOne most word place old new Grew
-  one_too_many : ¬ Contains old word → length old ≡ most → new ≡ old → KeepsOne most word place old new (Full word place)
+  one_too_many : ¬ Contains old word → length old ≡ most → new ≡ old
+      → KeepsOne most word place old new (Full word place)

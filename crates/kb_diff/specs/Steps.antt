@@ -45,7 +45,9 @@ pub data Leads (group : Group) (words : List (List ℕ)) : List ℕ → List ℕ
   at_end : {d : List ℕ} → Leads group words d [] [] d
   by_both : {d e f u v : List ℕ} {x y : ℕ} → LeadsBy group d x y e → Contains words e → Leads group words e u v f
       → Leads group words d (x ∷ u) (y ∷ v) f
-  by_first : {d e f u : List ℕ} {x : ℕ} → LeadsBy group d x (group.n + 1) e → Contains words e → Leads group words e u [] f
+  by_first : {d e f u : List ℕ} {x : ℕ} → LeadsBy group d x (group.n + 1) e → Contains words e
+      → Leads group words e u [] f
       → Leads group words d (x ∷ u) [] f
-  by_second : {d e f v : List ℕ} {y : ℕ} → LeadsBy group d (group.n + 1) y e → Contains words e → Leads group words e [] v f
+  by_second : {d e f v : List ℕ} {y : ℕ} → LeadsBy group d (group.n + 1) y e → Contains words e
+      → Leads group words e [] v f
       → Leads group words d [] (y ∷ v) f

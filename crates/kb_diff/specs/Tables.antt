@@ -56,7 +56,8 @@ pub record LeadsToNumber (group : Group) (words : List (List ℕ)) (d : List ℕ
   pub number : IsNumberOf words word target
 
 -- where the first letters, so many, lead from the front is added to the table
-pub record AddsTargets (group : Group) (words : List (List ℕ)) (front : List ℕ) (count : ℕ) (old new : List ℕ) : Type 0 where
+pub record AddsTargets (group : Group) (words : List (List ℕ)) (front : List ℕ) (count : ℕ)
+    (old new : List ℕ) : Type 0 where
   pub row : List ℕ
   pub longer : new ≡ old ++ row
   pub one_each : length row ≡ count
@@ -74,4 +75,5 @@ pub record AddsRows (group : Group) (words : List (List ℕ)) (d : List ℕ) (co
 pub record AreStepsOf (group : Group) (words : List (List ℕ)) (count : ℕ) (table : List ℕ) : Type 0 where
   pub one_each : length table ≡ count * ((group.n + 1) * (group.n + 1))
   pub each : (index first second : ℕ) → index < count → first < group.n + 1 → second < group.n + 1
-      → DifferenceStep group words (suc index) (suc first) (suc second) (get_or table (entry_of group.n index first second) 0)
+      → DifferenceStep group words (suc index) (suc first) (suc second)
+      (get_or table (entry_of group.n index first second) 0)

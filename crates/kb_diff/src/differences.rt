@@ -110,6 +110,17 @@ impl<R: Reducer> Differences<R> {
         self.words.len()
     }
 
+    /// How many generators the group has.
+    pub fn generators(&self) -> u16
+        ensures count { result ≡ self.now.group.n }
+        ensures most { result ≤ 65534 }
+        ensures kept { AreKept self.now }
+    {
+        // Each generator has a name, and a use of the names tells how many there may be.
+        let _names = self.presentation.names.len();
+        self.presentation.n
+    }
+
     /// Whether no word is kept. The empty word always is.
     pub fn is_empty(&self) -> bool
         ensures { IsTrue result ↔ (self.now.words ≡ []) }

@@ -1,7 +1,6 @@
 pub mod Crossing
 pub mod TrackMoves
 pub mod TrackRuns
-pub mod StepRuns
 pub mod PairRuns
 pub mod Multiplying
-pub mod OtherTargets
+pub mod AllGenerators

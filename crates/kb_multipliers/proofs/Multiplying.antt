@@ -24,7 +24,7 @@ use Rattle.kb_multipliers.specs.Tracks.{IsTrackAfter, at_state, has_ended, may_e
 use Rattle.kb_multipliers.specs.Pairs.{pairs, start_at}
 use Rattle.kb_multipliers.specs.Multipliers.{CountedPlaces, IsMultiplied, IsMultiplier, IsPlaceAfter}
 use Rattle.kb_multipliers.proofs.PairRuns.{PairRun, lead_of_run, run_of_lead}
-use Rattle.kb_multipliers.proofs.StepRuns.{StepRun, kept_of_number, leads_of_run, leads_step, one_number, one_word, run_of_leads, step_leads}
+use Rattle.kb_diff.proofs.StepRuns.{StepRun, kept_of_number, leads_of_run, leads_step, one_number, one_word, run_of_leads, step_leads}
 use Rattle.kb_multipliers.proofs.TrackRuns.{accepted, after_run, begins, run_after}
 
 -- ---- letters of pairs

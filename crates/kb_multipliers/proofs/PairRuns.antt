@@ -15,7 +15,7 @@ use Rattle.kb_explore.specs.Machine.{Machine, lead}
 use Rattle.kb_multipliers.specs.declared.place.Place.{Place}
 use Rattle.kb_multipliers.specs.Tracks.{track_moves}
 use Rattle.kb_multipliers.specs.Pairs.{both_placed, pairs}
-use Rattle.kb_multipliers.proofs.StepRuns.{StepRun, steps_both, steps_end, steps_first, steps_second}
+use Rattle.kb_diff.proofs.StepRuns.{StepRun, steps_both, steps_end, steps_first, steps_second}
 use Rattle.kb_multipliers.proofs.TrackMoves.{symbol_true}
 use Rattle.kb_multipliers.proofs.TrackRuns.{TrackRun, ended_run, padding_moved, run_both, run_end, run_longer, run_padding}
 

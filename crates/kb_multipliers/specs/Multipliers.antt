@@ -10,12 +10,12 @@ use Rattle.kb_fsa.specs.declared.alphabet.Alphabet.TheVariants.{Pair}
 use Rattle.kb_fsa.specs.Counted.{MoreSetsThan}
 use Rattle.kb_diff.specs.Groups.{Group}
 use Rattle.kb_diff.specs.Steps.{HasNumber, Leads}
-use Rattle.kb_diff.specs.Languages.{DifferenceAcceptor}
 use Rattle.kb_multipliers.specs.declared.place.Place.{Place}
 use Rattle.kb_multipliers.specs.Tracks.{IsTrackAfter}
 
 -- the acceptor accepts both words, and they lead from the empty word to the normal form of x
-pub record IsMultiplied (group : Group) (words : List (List ℕ)) (acceptor : Automaton) (x : ℕ) (u v : List ℕ) : Type 0 where
+pub record IsMultiplied (group : Group) (words : List (List ℕ)) (acceptor : Automaton) (x : ℕ)
+    (u v : List ℕ) : Type 0 where
   pub first : Accepts acceptor u
   pub second : Accepts acceptor v
   pub end : List ℕ
@@ -29,17 +29,16 @@ IsMultiplier group words acceptor x multiplier = (u v : List ℕ) → IsOver gro
     → AcceptsPair multiplier u v ↔ IsMultiplied group words acceptor x u v
 
 -- the automata are the multipliers of the generators 1, 2, .., so many
-pub record AreMultipliers (group : Group) (words : List (List ℕ)) (acceptor : Automaton) (count : ℕ) (multipliers : List Automaton) : Type 0 where
+pub record AreMultipliers (group : Group) (words : List (List ℕ)) (acceptor : Automaton) (count : ℕ)
+    (multipliers : List Automaton) : Type 0 where
   pub one_each : length multipliers ≡ count
   pub alphabets : All (λ fsa. fsa.alphabet ≡ Pair group.n) multipliers
-  pub languages : (index : ℕ) (fsa : Automaton) → slice_get multipliers index ≡ Some fsa → IsMultiplier group words acceptor (suc index) fsa
-
--- the acceptor is that of the differences: it accepts the words that no kept differences show to be greater than others
-abbrev pub IsDifferenceAcceptor : Group → List (List ℕ) → Automaton → Type 0
-IsDifferenceAcceptor group words acceptor = (w : List ℕ) → Accepts acceptor w ↔ DifferenceAcceptor group words w
+  pub languages : (index : ℕ) (fsa : Automaton) → slice_get multipliers index ≡ Some fsa
+      → IsMultiplier group words acceptor (suc index) fsa
 
 -- the text is that of a pair of words, to which the place is led: both tracks and the number of their difference
-pub record IsPlaceAfter (group : Group) (words : List (List ℕ)) (table : Table) (text : List ℕ) (place : Place) : Type 0 where
+pub record IsPlaceAfter (group : Group) (words : List (List ℕ)) (table : Table) (text : List ℕ)
+    (place : Place) : Type 0 where
   pub first : List ℕ
   pub second : List ℕ
   pub is_text : IsTextOfPair group.n text first second

@@ -42,7 +42,8 @@ pairs table n step target = record {
 -- where two letters lead, each beside where it leads its track: nowhere by two paddings, or where no difference is kept
 abbrev pub entered : (ℕ → ℕ → ℕ → ℕ) → ℕ → ℕ → ℕ × ℕ → ℕ × ℕ → Option Place
 entered step n difference first second =
-    if nat_eq first.0 (n + 1) && nat_eq second.0 (n + 1) then None else placed first.1 second.1 (step difference first.0 second.0)
+    if nat_eq first.0 (n + 1) && nat_eq second.0 (n + 1) then None else placed first.1 second.1
+    (step difference first.0 second.0)
 
 -- the move by two letters
 abbrev pub move_by : (ℕ → ℕ → ℕ → ℕ) → ℕ → ℕ → ℕ × ℕ → ℕ × ℕ → Option (ℕ × Place)
@@ -51,4 +52,5 @@ move_by step n difference first second =
 
 -- the moves by each first letter with each second one
 abbrev pub crossed : (ℕ → ℕ → ℕ → ℕ) → ℕ → ℕ → Moves → Moves → List (ℕ × Place)
-crossed step n difference firsts seconds = flat_map (λ first. filter_map (move_by step n difference first) seconds) firsts
+crossed step n difference firsts seconds =
+    flat_map (λ first. filter_map (move_by step n difference first) seconds) firsts

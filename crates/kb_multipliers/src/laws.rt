@@ -3,8 +3,8 @@
 ghost use Rattle.std.specs.Prelude.{◌↔◌, ℕ, List};
 ghost use Rattle.kb_fsa.specs.Language.{Automaton};
 ghost use Rattle.kb_diff.specs.Groups.{Group};
-ghost use Rattle.kb_diff.specs.Languages.{DifferenceMultiplier};
-ghost use Rattle.kb_multipliers.specs.Multipliers.{IsDifferenceAcceptor, IsMultiplied};
+ghost use Rattle.kb_diff.specs.Languages.{DifferenceMultiplier, IsDifferenceAcceptor};
+ghost use Rattle.kb_multipliers.specs.Multipliers.{IsMultiplied};
 
 /// Over the acceptor of the differences, the pairs of a multiplier are those of the multiplier of the differences.
 pub fn pairs_over_the_difference_acceptor()

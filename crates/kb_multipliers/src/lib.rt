@@ -21,9 +21,8 @@
 //!
 //! In `specs/`, `Tracks` has where the track of a word stands, `Pairs` the machine and its moves, and `Multipliers`
 //! what is returned and counted. In `proofs/`, `Crossing` has the crossing of two rows and `TrackMoves` the moves of a
-//! place; `TrackRuns`, `StepRuns` and `PairRuns` have where a word's track, the differences and the machine lead along
-//! a pair of words; `Multiplying` has the language and the counts, and `OtherTargets` the one exploration for all
-//! generators.
+//! place; `TrackRuns` and `PairRuns` have where a word's track and the machine lead along a pair of words; `Multiplying`
+//! has the language and the counts, and `AllGenerators` the one exploration for all generators.
 //!
 //! Below are `kb_diff`, with the differences and their machine, and `kb_fsa` and `kb_explore`. Automatic structures are
 //! made from the multipliers above.
@@ -33,7 +32,6 @@ mod construction;
 mod laws;
 mod pairs;
 mod place;
-mod retargeting;
 
 pub use construction::{multiplier, multipliers};
 pub use kb_explore::Det;

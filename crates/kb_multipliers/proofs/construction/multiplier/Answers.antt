@@ -10,12 +10,12 @@ pub returns-in_err-exploration-clause-many : goal.returns-in_err-exploration-cla
 returns-in_err-exploration-clause-many g c =
     let n = c.generators-n.ensures ∙ ap generators (c.alphabet.ensures.alphabet ∙ c.requires.alphabet) in
     let kept = c.len-kept.ensures.kept in
-    let p = err_from_is_err_and c.from_residual-in_err-exploration.result c.from_residual-in_err-exploration.ensures.1 in
+    let p = err_from_is_err_and c.from_residual.result c.from_residual.ensures.1 in
     λ most e.
     let same : c.in_err-exploration.field-0.0 ≡ TooManyStates most = cc in
     let more = c.in_err-exploration.ensures.many most (ap (λ d. Err d) same) in (
       more.0,
-      (made_counts n c.requires.alphabet c.alphabet.ensures.automaton c.in_ok-machine.ensures kept.apart kept.first c.step-target.result c.args.limit).0
+      (made_counts n c.requires.alphabet c.alphabet.ensures.automaton c.requires.steps kept.apart kept.first c.step-target.result c.args.limit).0
           more.1,
     )
 
@@ -23,7 +23,7 @@ pub new-requires : goal.new-requires
 new-requires g c =
     let n = c.generators-n.ensures ∙ ap generators (c.alphabet.ensures.alphabet ∙ c.requires.alphabet) in
     let kept = c.len-kept.ensures.kept in
-    made_automaton n c.requires.alphabet c.alphabet.ensures.automaton c.in_ok-machine.ensures kept.apart kept.first c.step-target.result
+    made_automaton n c.requires.alphabet c.alphabet.ensures.automaton c.requires.steps kept.apart kept.first c.step-target.result
     c.in_ok-exploration.ensures.explored c.in_ok-exploration.ensures.symbols
 
 pub returns-clause-language : goal.returns-clause-language
@@ -33,7 +33,7 @@ returns-clause-language g c =
     let given = c.args.differences.now in
     let P : Automaton → Type 0 = λ fsa. IsMultiplier given.group given.words c.args.acceptor.now c.args.x fsa in
     subst P (sym c.new.ensures)
-    (made_multiplier n c.requires.alphabet c.alphabet.ensures.automaton c.in_ok-machine.ensures kept.apart kept.first c.step-target.result
+    (made_multiplier n c.requires.alphabet c.alphabet.ensures.automaton c.requires.steps kept.apart kept.first c.step-target.result
     c.in_ok-exploration.ensures.explored c.args.x c.requires.positive c.requires.letter c.step-target.ensures)
 
 pub returns-clause-few : goal.returns-clause-few
@@ -42,5 +42,5 @@ returns-clause-few g c =
     let kept = c.len-kept.ensures.kept in
     λ _ more.
     c.in_ok-exploration.ensures.few refl
-    ((made_counts n c.requires.alphabet c.alphabet.ensures.automaton c.in_ok-machine.ensures kept.apart kept.first c.step-target.result c.args.limit).1
+    ((made_counts n c.requires.alphabet c.alphabet.ensures.automaton c.requires.steps kept.apart kept.first c.step-target.result c.args.limit).1
     more)
