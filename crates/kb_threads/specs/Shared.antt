@@ -29,12 +29,14 @@ nothing = record {
   journal = [];
 }
 
--- what lies under the lock: a completion, and how many overlaps its workers were told that they entered
+-- what lies under the lock: a completion, and how many overlaps its workers were told that they
+-- entered
 pub record LockedParts : Type 0 where
   pub course : Course
   pub entered : ℕ
 
--- a later stage of the completion that was given, with an entry more for each time that a worker was told so
+-- a later stage of the completion that was given, with an entry more for each time that a worker
+-- was told so
 pub record IsStageOf (given : Course) (locked : LockedParts) : Type 0 where
   pub later : IsLater given locked.course
   pub entries : entries locked.course.journal ≡ entries given.journal + locked.entered
@@ -70,7 +72,8 @@ pub record PublishesAs (before after : Course) (version : VersionParts) : Type 0
   pub takes : Takes Published before after
   pub is : version ≡ version_of after.state
 
--- something was pending and was settled, no limit is reached, and then this version of the live lines was published
+-- something was pending and was settled, no limit is reached, and then this version of the live
+-- lines was published
 pub record SettlesAndPublishes (before after : Course) (version : VersionParts) : Type 0 where
   pub pending : before.state.pending ≢ []
   pub settled : Course

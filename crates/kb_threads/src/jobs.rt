@@ -8,7 +8,8 @@ use kb_word::Memory;
 use std::alloc::Global;
 use std::sync::Wait;
 
-/// The jobs of a pass: the lines that are live when it begins. A job is a line, with all those lines that overlap it.
+/// The jobs of a pass: the lines that are live when it begins. A job is a line, with all those
+/// lines that overlap it.
 #[derive(Drop)]
 pub(crate) struct Jobs {
     lines: Vec<u32>,

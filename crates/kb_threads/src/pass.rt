@@ -6,7 +6,8 @@ use crate::sharing::Sharing;
 use std::marker::Model;
 use std::sync::ledger::{Book, Share};
 
-/// A worker's part in a completion that is shared: its number, and how many overlaps it has entered. It is never copied.
+/// A worker's part in a completion that is shared: its number, and how many overlaps it has
+/// entered. It is never copied.
 #[derive(Drop)]
 pub struct Pass<S: Sharing> {
     worker: u32,

@@ -19,8 +19,8 @@ use std::alloc::Global;
 use std::sync::ledger::{Blank, Share};
 use std::sync::{Mutex, Wait};
 
-/// A book under a lock. Whenever the lock is got, the book is a later stage of the completion that was given, and has as many
-/// entries more as the workers were told that they made.
+/// A book under a lock. Whenever the lock is got, the book is a later stage of the completion that
+/// was given, and has as many entries more as the workers were told that they made.
 #[derive(Drop)]
 pub struct Shared<R: Reducer, S: Sharing> {
     locked: Mutex<Locked<R, S>>,
@@ -59,8 +59,14 @@ impl<R: Reducer, S: Sharing> Shared<R, S> {
         self.locked.lock(rt).enter(pass, one)
     }
 
-    /// Settles the book, and publishes its live lines where something was pending and no limit is reached. The lock is held
-    /// while the book is settled, and free while the version is published.
+    /// Whether enough is pending for the book to advance now.
+    pub(crate) fn is_due<T: Wait>(&self, rt: &T) -> bool {
+        self.locked.lock(rt).is_due()
+    }
+
+    /// Settles the book, and publishes its live lines where something was pending and no limit is
+    /// reached. The lock is held while the book is settled, and free while the version is
+    /// published.
     pub fn advance<T: Wait>(
         &self,
         rt: &T,

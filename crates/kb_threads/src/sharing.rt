@@ -3,8 +3,8 @@
 use std::marker::Brand;
 use std::sync::ledger::Ledger;
 
-/// Which completion is shared. What lies under the lock, and what workers hold, is of a type with this name, so that all of it
-/// speaks of one completion. No value of it is made.
+/// Which completion is shared. What lies under the lock, and what workers hold, is of a type with
+/// this name, so that all of it speaks of one completion. No value of it is made.
 pub trait Sharing: Ledger {
     ghost use Rattle.kb_machine.specs.Course.{Course};
 

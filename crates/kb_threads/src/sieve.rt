@@ -1,31 +1,18 @@
 //! What a worker sifts with.
 
-ghost use Rattle.std.specs.Prelude.{◌≡◌};
+ghost use Rattle.std.specs.Prelude.{◌≡◌, IfOk};
 
 use crate::jobs::JobSeat;
-use kb_io::{Gate, Point};
 use kb_overlap::{LeftSides, Overlap};
 use kb_rules::Reducer;
 use kb_share::{Found, Sifter, Version, apart_in_row};
 use kb_word::Memory;
 use std::alloc::Global;
 
-/// How many jobs a worker does at most by one look at a version, where it finds nothing to enter. To begin, it has to sort the
-/// version's left sides.
-const MOST_JOBS: usize = 32;
-
-/// Whether jobs may be left.
-#[derive(Clone, Copy, Debug, PartialEq, Eq)]
-pub(crate) enum Left {
-    /// The worker's seat is dry.
-    None,
-    /// There may be some.
-    Some,
-}
-
-/// Memory that a worker keeps from one job to the next, and what it found by its last look.
+/// Memory that a worker keeps from one job to the next.
 #[derive(Drop)]
 pub(crate) struct Sieve {
+    alloc: Global,
     sifter: Sifter,
     overlaps: Vec<Overlap>,
     found: Vec<Found>,
@@ -35,65 +22,48 @@ impl Sieve {
     /// A sieve that has taken no memory yet.
     pub(crate) fn new(alloc: Global) -> Sieve {
         Sieve {
+            alloc,
             sifter: Sifter::new(alloc),
             overlaps: Vec::new(alloc),
             found: Vec::new(alloc),
         }
     }
 
-    /// What was found to be entered.
-    pub(crate) fn found(&self) -> &[Found] {
-        &self.found
+    /// The left sides of a version's lines, by which their overlaps are found.
+    pub(crate) fn sorted<'v, R: Reducer>(
+        &self,
+        version: &'v Version<R>,
+    ) -> Result<LeftSides<'v>, Memory>
+        ensures { IfOk result (λ left_sides. left_sides ≡ version.now.rules) }
+    {
+        LeftSides::of(self.alloc, version.rules().as_slice())
     }
 
-    /// Draws jobs and does them by this version, until one has something to enter.
-    pub(crate) fn sift_some<R: Reducer, G: Gate>(
-        &mut self,
-        alloc: Global,
-        version: &Version<R>,
-        gate: &G,
-        worker: u32,
-        seat: &mut JobSeat<'_>,
-    ) -> Result<Left, Memory> {
-        let left_sides = LeftSides::of(alloc, version.rules().as_slice())?;
-        self.found.clear();
-        for _ in 0..MOST_JOBS {
-            gate.at(worker, Point::Draw);
-            let Some(line) = seat.next() else {
-                return Ok(Left::None);
-            };
-            gate.at(worker, Point::Sift);
-            self.sift_line(version, &left_sides, line, seat)?;
-            if !self.found.is_empty() {
-                break;
-            }
-        }
-        Ok(Left::Some)
-    }
-
-    /// Finds what is apart of the overlaps in which this line begins first, if the version has it. The second line is one of
-    /// the pass's lines too: newer ones wait for the next pass.
-    fn sift_line<R: Reducer>(
+    /// Finds what is apart of the overlaps in which this line begins first, if the version has it.
+    /// The second line is one of the pass's lines too: newer ones wait for the next pass.
+    pub(crate) fn sift<R: Reducer>(
         &mut self,
         version: &Version<R>,
         left_sides: &LeftSides<'_>,
         line: u32,
         seat: &JobSeat<'_>,
-    ) -> Result<(), Memory>
+    ) -> Result<&[Found], Memory>
         requires { left_sides.now ≡ version.now.rules }
     {
-        let Ok(index) = version.numbers().binary_search(&line) else {
-            return Ok(());
-        };
         let Sieve {
+            alloc: _,
             sifter,
             overlaps,
             found,
         } = self;
+        found.clear();
+        let Ok(index) = version.numbers().binary_search(&line) else {
+            return Ok(&*found);
+        };
         let first = &version.rules().as_slice()[index];
         left_sides.overlaps(first.left(), overlaps)?;
         apart_in_row(version, index, first, overlaps, sifter, found)?;
         found.retain(|one| seat.has(one.second));
-        Ok(())
+        Ok(&*found)
     }
 }

@@ -21,15 +21,16 @@ use std::sync::ledger::Blank;
 use std::test::Fail;
 use std::thread;
 
-/// The free abelian group of rank 2. Of its first five lines the overlaps of lines 1 and 2 at place 1 and of 5 and 1 at place 1
-/// are apart, and no other.
+/// The free abelian group of rank 2. Of its first five lines the overlaps of lines 1 and 2 at place
+/// 1 and of 5 and 1 at place 1 are apart, and no other.
 const FREE_ABELIAN: &str = "_RWS := rec(isRWS := true, generatorOrder := [a,A,b,B], \
     inverses := [A,a,B,b], equations := [[b*a,a*b]]);";
 
 /// As many turns as a worker waits at the meeting: a turn is one look at the other.
 const TURNS: u32 = 100_000_000;
 
-/// A gate at which two workers meet: each waits at each point, when it comes there first, for the other.
+/// A gate at which two workers meet: each waits at each point, when it comes there first, for the
+/// other.
 #[derive(Drop)]
 struct Meeting {
     draw: AtomicU64,
@@ -154,11 +155,13 @@ fn what_is_apart_gets_entered(rt: HostRuntime) -> Result<(), Fail> {
     Ok(())
 }
 
-/// The braid group's monoid of two generators. Its first line overlaps itself at place 2, and those words are apart.
+/// The braid group's monoid of two generators. Its first line overlaps itself at place 2, and those
+/// words are apart.
 const BRAID: &str =
     "_RWS := rec(isRWS := true, generatorOrder := [a,b], equations := [[b*a*b,a*b*a]]);";
 
-/// What a reader sees: the number of the version and the numbers of its lines. Nothing has number 0.
+/// What a reader sees: the number of the version and the numbers of its lines. Nothing has number
+/// 0.
 fn seen_by(
     alloc: Global,
     reader: VersionReader<RuledGlass<Version<Scan>>>,

@@ -23,7 +23,8 @@ use std::sync::Wait;
 use std::sync::ledger::Blank;
 use std::thread;
 
-/// Workers that are threads of their own, beside the caller's, which works and lets the completion advance.
+/// Workers that are threads of their own, beside the caller's, which works and lets the completion
+/// advance.
 #[derive(Drop)]
 pub struct Threads<'g, G: Gate> {
     workers: u32,
@@ -35,18 +36,21 @@ impl<'g, G: Gate> Threads<'g, G> {
     /// So many workers, who pass this gate.
     pub fn new(workers: u32, gate: &'g G) -> Threads<'g, G>
         requires { (1 ≤ workers) × (workers ≤ 64) }
+        ensures { result.workers ≡ workers }
     {
         Threads { workers, gate }
     }
 
     /// How many workers there are.
     pub fn count(&self) -> u32
-        ensures { (1 ≤ result) × (result ≤ 64) }
+        ensures number { result ≡ self.now.workers }
+        ensures bounds { (1 ≤ result) × (result ≤ 64) }
     {
         self.workers
     }
 
-    /// Makes a pass over a book whose last version has its live lines. Lines may be made meanwhile, and the book may halt.
+    /// Makes a pass over a book whose last version has its live lines. Lines may be made meanwhile,
+    /// and the book may halt.
     pub fn pass<R: Reducer + Send + Sync, T: thread::Threads + Wait + Sync>(
         &self,
         rt: &T,
@@ -129,7 +133,8 @@ fn last_of<X: Drop>(list: &mut Vec<X>) -> X
     }
 }
 
-/// All workers work, the last one in this thread, which also lets the completion advance. Their passes are given back.
+/// All workers work, the last one in this thread, which also lets the completion advance. Their
+/// passes are given back.
 fn all_work<
     S: Sharing + Send + Sync,
     R: Reducer + Send + Sync,

@@ -5,7 +5,7 @@ use crate::jobs::JobSeat;
 use crate::pass::Pass;
 use crate::shared::Shared;
 use crate::sharing::Sharing;
-use crate::sieve::{Left, Sieve};
+use crate::sieve::Sieve;
 use kb_io::{Gate, Point};
 use kb_publish::{Publisher, RuledGlass, VersionReader};
 use kb_rules::Reducer;
@@ -13,6 +13,20 @@ use kb_share::{Found, Version};
 use kb_word::Memory;
 use std::alloc::Global;
 use std::sync::Wait;
+
+/// How many jobs a worker does at most by one look at a version. To begin, it has to sort the
+/// version's left sides, which takes the time of a few jobs; and the longer a look lasts, the fewer
+/// of the rules that were made meanwhile it knows.
+const MOST_JOBS: usize = 32;
+
+/// Whether jobs may be left.
+#[derive(Clone, Copy, Debug, PartialEq, Eq)]
+enum Left {
+    /// The worker's seat is dry.
+    None,
+    /// There may be some.
+    Some,
+}
 
 /// A worker: its seat at the jobs, its pass, and its reader of versions.
 #[derive(Drop)]
@@ -32,7 +46,7 @@ pub(crate) fn work<R: Reducer, S: Sharing, G: Gate, T: Wait>(
 ) -> Result<Pass<S>, Memory> {
     let mut sieve = Sieve::new(alloc);
     for _ in rt.forever() {
-        let (left, next) = worker.do_some(rt, alloc, shared, gate, &mut sieve)?;
+        let (left, next) = worker.do_some(rt, shared, gate, &mut sieve)?;
         worker = next;
         if left == Left::None {
             break;
@@ -41,7 +55,8 @@ pub(crate) fn work<R: Reducer, S: Sharing, G: Gate, T: Wait>(
     Ok(worker.pass)
 }
 
-/// Does jobs as any worker, and lets the completion advance after its own jobs. At a halt the jobs that are left are left out.
+/// Does jobs as any worker, and after them lets the completion advance where enough is pending. At
+/// a halt the jobs that are left are left out.
 pub(crate) fn lead<R: Reducer, S: Sharing, G: Gate, T: Wait>(
     rt: &T,
     alloc: Global,
@@ -52,10 +67,13 @@ pub(crate) fn lead<R: Reducer, S: Sharing, G: Gate, T: Wait>(
 ) -> Result<Pass<S>, Memory> {
     let mut sieve = Sieve::new(alloc);
     for _ in rt.forever() {
-        let (left, next) = worker.do_some(rt, alloc, shared, gate, &mut sieve)?;
+        let (left, next) = worker.do_some(rt, shared, gate, &mut sieve)?;
         worker = next;
         if left == Left::None {
             break;
+        }
+        if !shared.is_due(rt) {
+            continue;
         }
         match shared.advance(rt, alloc, publisher)? {
             Advance::Published(_) => worker = worker.told(publisher),
@@ -77,12 +95,11 @@ impl<'j, R: Reducer, S: Sharing> Worker<'j, R, S> {
         Worker { seat, pass, reader }
     }
 
-    /// Does jobs by one look at the version that was published last, until one of them has something to enter. A worker that
-    /// gets no look leaves the jobs to the others.
+    /// Does jobs by one look at the version that was published last. A worker that gets no look
+    /// leaves the jobs to the others.
     fn do_some<G: Gate, T: Wait>(
         self,
         rt: &T,
-        alloc: Global,
         shared: &Shared<R, S>,
         gate: &G,
         sieve: &mut Sieve,
@@ -94,19 +111,50 @@ impl<'j, R: Reducer, S: Sharing> Worker<'j, R, S> {
         } = self;
         match reader.look() {
             Ok(look) => {
-                let sifted = sieve.sift_some(alloc, look.version(), gate, pass.worker(), &mut seat);
-                // A look ends before anything is entered, and before want of memory is told.
+                let done = do_jobs(
+                    rt,
+                    shared,
+                    gate,
+                    look.version(),
+                    &mut seat,
+                    &mut pass,
+                    sieve,
+                );
+                // A look ends before want of memory is told.
                 let reader = look.leave();
-                let left = sifted?;
-                enter_all(rt, shared, gate, &mut pass, sieve.found())?;
-                Ok((left, Worker { seat, pass, reader }))
+                Ok((done?, Worker { seat, pass, reader }))
             }
             Err(reader) => Ok((Left::None, Worker { seat, pass, reader })),
         }
     }
 }
 
-/// Enters overlaps, one after another. What is no overlap of the book's lines is left out, though versions have none such.
+/// Draws some jobs and does them by this version. What a job finds is entered before the next is
+/// drawn. So a look may wait for the lock, but nobody who holds the lock waits for a look to end.
+fn do_jobs<R: Reducer, S: Sharing, G: Gate, T: Wait>(
+    rt: &T,
+    shared: &Shared<R, S>,
+    gate: &G,
+    version: &Version<R>,
+    seat: &mut JobSeat<'_>,
+    pass: &mut Pass<S>,
+    sieve: &mut Sieve,
+) -> Result<Left, Memory> {
+    let left_sides = sieve.sorted(version)?;
+    for _ in 0..MOST_JOBS {
+        gate.at(pass.worker(), Point::Draw);
+        let Some(line) = seat.next() else {
+            return Ok(Left::None);
+        };
+        gate.at(pass.worker(), Point::Sift);
+        let found = sieve.sift(version, &left_sides, line, seat)?;
+        enter_all(rt, shared, gate, pass, found)?;
+    }
+    Ok(Left::Some)
+}
+
+/// Enters overlaps, one after another. What is no overlap of the book's lines is left out, though
+/// versions have none such.
 fn enter_all<R: Reducer, S: Sharing, G: Gate, T: Wait>(
     rt: &T,
     shared: &Shared<R, S>,

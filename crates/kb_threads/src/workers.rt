@@ -1,8 +1,9 @@
 //! As many workers as a command asks for.
 
-ghost use Rattle.std.specs.Prelude.{◌≤◌, IfOk};
+ghost use Rattle.std.specs.Prelude.{◌≡◌, ◌≤◌, IfOk};
 ghost use Rattle.kb_settle.specs.Later.{IsLater};
 ghost use Rattle.kb_share.specs.Versions.{IsPublished};
+ghost use Rattle.kb_threads.specs.Crews.{number_of};
 
 use crate::threads::Threads;
 use kb_book::Book;
@@ -14,7 +15,8 @@ use std::alloc::Global;
 use std::sync::Wait;
 use std::thread::Threads as Threading;
 
-/// As many live lines are worth threads. A pass over fewer takes less time than threads take to begin and to end.
+/// As many live lines are worth threads. A pass over fewer takes less time than threads take to
+/// begin and to end.
 const MANY_LINES: usize = 32;
 
 /// One worker, or more that are threads.
@@ -30,6 +32,7 @@ impl<'g, G: Gate> Workers<'g, G> {
     /// So many workers. Threads pass this gate.
     pub fn of(count: u32, gate: &'g G) -> Workers<'g, G>
         requires { (1 ≤ count) × (count ≤ 64) }
+        ensures { number_of result ≡ count }
     {
         if count == 1 {
             Workers::One(OneByOne)
@@ -40,7 +43,8 @@ impl<'g, G: Gate> Workers<'g, G> {
 
     /// How many workers there are.
     pub fn count(&self) -> u32
-        ensures { (1 ≤ result) × (result ≤ 64) }
+        ensures number { result ≡ number_of self.now }
+        ensures bounds { (1 ≤ result) × (result ≤ 64) }
     {
         match self {
             Workers::One(_) => 1,
@@ -48,7 +52,8 @@ impl<'g, G: Gate> Workers<'g, G> {
         }
     }
 
-    /// Makes a pass over a book whose last version has its live lines. Lines may be made meanwhile, and the book may halt.
+    /// Makes a pass over a book whose last version has its live lines. Lines may be made meanwhile,
+    /// and the book may halt.
     pub fn pass<R: Reducer + Send + Sync, T: Threading + Wait + Sync>(
         &self,
         rt: &T,
