@@ -23,24 +23,29 @@ use Rattle.kb_automata.specs.declared.compare.Compare.{Compare}
 
 -- the line of a text that exactly one of two automata accepts: the word, or the pair of words
 pub data IsDifferenceLine (names : List (List ℕ)) (text : List ℕ) : Alphabet → List ℕ → Type 0 where
-  word : {n : ℕ} {line : List ℕ} → line ≡ codes "no equal " ++ text_of_word names text ++ newline ∷ [] → IsDifferenceLine names text (Plain n) line
+  word : {n : ℕ} {line : List ℕ} → line ≡ codes "no equal " ++ text_of_word names text ++ newline ∷ []
+      → IsDifferenceLine names text (Plain n) line
   pair : {n : ℕ} {line : List ℕ} (parts : IsPadded n text)
-      → line ≡ codes "no equal " ++ text_of_word names parts.first ++ codes " " ++ text_of_word names parts.second ++ newline ∷ []
+      → line ≡ codes "no equal " ++ text_of_word names parts.first ++ codes " " ++ text_of_word names
+      parts.second ++ newline ∷ []
       → IsDifferenceLine names text (Pair n) line
 
 -- the line that a comparison prints, and the status that it then has
 pub data IsComparisonLine (names : List (List ℕ)) (one two : Automaton) (most : ℕ) : List ℕ → Status → Type 0 where
-  same : SameLanguage one two → ¬ CountedOr one.table two.table most → IsComparisonLine names one two most (codes "yes\n") Yes
+  same : SameLanguage one two → ¬ CountedOr one.table two.table most
+      → IsComparisonLine names one two most (codes "yes\n") Yes
   differ : {text line : List ℕ} → IsLeastDifference one two text → ¬ CountedOr one.table two.table most
       → IsDifferenceLine names text one.alphabet line → IsComparisonLine names one two most line (No (NotEqual text))
   undecided : CountedOr one.table two.table most
       → IsComparisonLine names one two most (undecided_line (States Equal)) (Undecided (States Equal))
 
 -- the comparison's line was written with its status; or the output failed in it, or memory ran out before
-pub data ComparisonIsPrinted (names : List (List ℕ)) (one two : Automaton) (most : ℕ) (before after : List ℕ) : Status → Type 0 where
+pub data ComparisonIsPrinted (names : List (List ℕ)) (one two : Automaton) (most : ℕ)
+    (before after : List ℕ) : Status → Type 0 where
   printed : {line : List ℕ} {status : Status} → IsComparisonLine names one two most line status → after ≡ before ++ line
       → ComparisonIsPrinted names one two most before after status
-  failed : {line : List ℕ} {status : Status} → IsComparisonLine names one two most line status → AppendsPrefix before after line
+  failed : {line : List ℕ} {status : Status} → IsComparisonLine names one two most line status
+      → AppendsPrefix before after line
       → ComparisonIsPrinted names one two most before after (Fault Output)
   no_memory : after ≡ before → ComparisonIsPrinted names one two most before after Memory
 
@@ -48,11 +53,14 @@ pub data ComparisonIsPrinted (names : List (List ℕ)) (one two : Automaton) (mo
 abbrev pub DifferenceIsPrinted : List (List ℕ) → Alphabet → List ℕ → List ℕ → List ℕ → Status → Type 0
 DifferenceIsPrinted names alphabet text before after status =
     ((line : List ℕ) × IsDifferenceLine names text alphabet line
-    × (((status ≡ No (NotEqual text)) × (after ≡ before ++ line)) ⊎ ((status ≡ Fault Output) × AppendsPrefix before after line)))
+    × (((status ≡ No (NotEqual text)) × (after ≡ before ++ line))
+    ⊎ ((status ≡ Fault Output) × AppendsPrefix before after line)))
     ⊎ ((status ≡ Memory) × (after ≡ before))
 
 abbrev pub CompareMeans : Compare → Outside → Outside → Status → Type 0
-CompareMeans task = TwoMean WordsOrPairs task.one task.two (λ names one two. OnlyPrints (ComparisonIsPrinted names one two task.max_states))
+CompareMeans task =
+    TwoMean WordsOrPairs task.one task.two
+    (λ names one two. OnlyPrints (ComparisonIsPrinted names one two task.max_states))
 
 -- it stores nothing
 abbrev pub compare_may_store : Compare → List ℕ → Type 0

@@ -23,7 +23,8 @@ pub record IsAsked (automaton : Automaton) (least most : ℕ) (word : List ℕ) 
 pub record AreFirstAsked (automaton : Automaton) (least most : ℕ) (words : List (List ℕ)) : Type 0 where
   pub ascend : AllPairs Less words
   pub asked : (word : List ℕ) → Contains words word → IsAsked automaton least most word
-  pub none_before : (word other : List ℕ) → Contains words word → IsAsked automaton least most other → Less other word → Contains words other
+  pub none_before : (word other : List ℕ) → Contains words word → IsAsked automaton least most other
+      → Less other word → Contains words other
 
 -- the words are all that are asked for
 pub record AreAllAsked (automaton : Automaton) (least most : ℕ) (words : List (List ℕ)) : Type 0 where
@@ -36,20 +37,26 @@ lines_of_words names [] = []
 lines_of_words names (first ∷ others) = text_of_word names first ++ newline ∷ lines_of_words names others
 
 -- a front of the lines of the first words was written
-pub record IsFrontOfWords (names : List (List ℕ)) (automaton : Automaton) (least most : ℕ) (before after : List ℕ) : Type 0 where
+pub record IsFrontOfWords (names : List (List ℕ)) (automaton : Automaton) (least most : ℕ)
+    (before after : List ℕ) : Type 0 where
   pub words : List (List ℕ)
   pub first : AreFirstAsked automaton least most words
   pub front : AppendsPrefix before after (lines_of_words names words)
 
 -- all words that are asked for were written, each on a line; or a front of that, where the output failed or memory ran out
-pub data WordsArePrinted (names : List (List ℕ)) (automaton : Automaton) (least most : ℕ) (before after : List ℕ) : Status → Type 0 where
-  printed : {words : List (List ℕ)} → AreAllAsked automaton least most words → after ≡ before ++ lines_of_words names words
+pub data WordsArePrinted (names : List (List ℕ)) (automaton : Automaton) (least most : ℕ)
+    (before after : List ℕ) : Status → Type 0 where
+  printed : {words : List (List ℕ)} → AreAllAsked automaton least most words
+      → after ≡ before ++ lines_of_words names words
       → WordsArePrinted names automaton least most before after Yes
-  failed : IsFrontOfWords names automaton least most before after → WordsArePrinted names automaton least most before after (Fault Output)
-  no_memory : IsFrontOfWords names automaton least most before after → WordsArePrinted names automaton least most before after Memory
+  failed : IsFrontOfWords names automaton least most before after
+      → WordsArePrinted names automaton least most before after (Fault Output)
+  no_memory : IsFrontOfWords names automaton least most before after
+      → WordsArePrinted names automaton least most before after Memory
 
 abbrev pub EnumerateMeans : Enumerate → Outside → Outside → Status → Type 0
-EnumerateMeans task = OneMeans Words task.file (λ names automaton. OnlyPrints (WordsArePrinted names automaton task.min task.max))
+EnumerateMeans task =
+    OneMeans Words task.file (λ names automaton. OnlyPrints (WordsArePrinted names automaton task.min task.max))
 
 -- it stores nothing
 abbrev pub enumerate_may_store : Enumerate → List ℕ → Type 0

@@ -53,11 +53,13 @@ with_out app = with_rule app (needed_rule (codes "out"))
 abbrev pub command_app : Name → App
 command_app (names.Combine operation) =
     with_rule (with_out (with_second (with_first (new_app (name_text (names.Combine operation)))))) states_rule
-command_app (names.Transform operation) = with_rule (with_out (with_first (new_app (name_text (names.Transform operation))))) states_rule
+command_app (names.Transform operation) =
+    with_rule (with_out (with_first (new_app (name_text (names.Transform operation))))) states_rule
 command_app names.Minimise = with_out (with_first (new_app (name_text names.Minimise)))
 command_app names.Compare = with_rule (with_second (with_first (new_app (name_text names.Compare)))) states_rule
 command_app names.Enumerate =
-    with_first (with_rule (with_rule (new_app (name_text names.Enumerate)) (length_rule (codes "min"))) (length_rule (codes "max")))
+    with_first (with_rule (with_rule (new_app (name_text names.Enumerate)) (length_rule (codes "min")))
+    (length_rule (codes "max")))
 
 -- a program with commands added
 abbrev pub with_commands : App → List Name → App

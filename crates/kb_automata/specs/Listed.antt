@@ -14,7 +14,8 @@ over automaton least most given = record { automaton = automaton; min = least; m
 -- the enumeration has given these words: the first of those that are asked for; it still gives the others, which come after
 pub record HasGiven (enumeration : Enumeration) (words : List (List ℕ)) : Type 0 where
   pub first : AreFirstAsked enumeration.automaton enumeration.min enumeration.max words
-  pub others : (other : List ℕ) → IsAsked enumeration.automaton enumeration.min enumeration.max other → Contains words other ⊎ IsLeft enumeration other
+  pub others : (other : List ℕ) → IsAsked enumeration.automaton enumeration.min enumeration.max other
+      → Contains words other ⊎ IsLeft enumeration other
   pub behind : (given other : List ℕ) → Contains words given → IsLeft enumeration other → Less given other
 
 -- The lines of the words given are what was written after `before`, and what is still pending.

@@ -15,21 +15,26 @@ abbrev pub MeaningOfTwo : Type 1
 MeaningOfTwo = List (List ℕ) → Automaton → Automaton → Outside → Outside → Status → Type 0
 
 -- what a run over one file of an automaton of the kind means
-pub data OneMeans (kind : Kind) (file : List ℕ) (Means : MeaningOfOne) (before after : Outside) (status : Status) : Type 0 where
+pub data OneMeans (kind : Kind) (file : List ℕ) (Means : MeaningOfOne) (before after : Outside)
+    (status : Status) : Type 0 where
   at_load : EndsAtLoad (IsAutomatonFault kind before.shelf.holds file) file status → IsUnchanged before after
       → OneMeans kind file Means before after status
   loaded : {names : List (List ℕ)} {automaton : Automaton} → HoldsAutomaton before.shelf.holds file names automaton
-      → HasKind kind automaton.alphabet → Means names automaton before after status → OneMeans kind file Means before after status
+      → HasKind kind automaton.alphabet → Means names automaton before after status
+      → OneMeans kind file Means before after status
 
 -- what a run over two files of automata of the kind means: the first and then the second, over the same alphabet
-pub data TwoMean (kind : Kind) (one two : List ℕ) (Mean : MeaningOfTwo) (before after : Outside) (status : Status) : Type 0 where
+pub data TwoMean (kind : Kind) (one two : List ℕ) (Mean : MeaningOfTwo) (before after : Outside)
+    (status : Status) : Type 0 where
   at_first : EndsAtLoad (IsAutomatonFault kind before.shelf.holds one) one status → IsUnchanged before after
       → TwoMean kind one two Mean before after status
   at_second : {names : List (List ℕ)} {first : Automaton} → HoldsAutomaton before.shelf.holds one names first
-      → HasKind kind first.alphabet → EndsAtLoad (IsSecondFault kind names first.alphabet before.shelf.holds two) two status
+      → HasKind kind first.alphabet
+      → EndsAtLoad (IsSecondFault kind names first.alphabet before.shelf.holds two) two status
       → IsUnchanged before after → TwoMean kind one two Mean before after status
   both : {names : List (List ℕ)} {first second : Automaton} → HoldsAutomaton before.shelf.holds one names first
-      → HasKind kind first.alphabet → HoldsAutomaton before.shelf.holds two names second → second.alphabet ≡ first.alphabet
+      → HasKind kind first.alphabet → HoldsAutomaton before.shelf.holds two names second
+      → second.alphabet ≡ first.alphabet
       → Mean names first second before after status → TwoMean kind one two Mean before after status
 
 -- the file isn't refused where an automaton of the kind is needed

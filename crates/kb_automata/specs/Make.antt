@@ -32,7 +32,8 @@ use Rattle.kb_automata.specs.declared.transform.Transformation.TheVariants as tr
 -- ---- what is made and stored
 
 -- the canonical automaton of those that are meant was stored
-pub record StoresMade (IsMade : Automaton → Type 0) (out : List ℕ) (names : List (List ℕ)) (before after : Outside) : Type 0 where
+pub record StoresMade (IsMade : Automaton → Type 0) (out : List ℕ) (names : List (List ℕ))
+    (before after : Outside) : Type 0 where
   pub made : Automaton
   pub is_made : IsMade made
   pub automaton : IsAutomaton made
@@ -45,9 +46,11 @@ IsWithin Exceeds = (limit : Limit) → ¬ Exceeds limit
 
 -- What a run means that makes an automaton and stores it: it stored the text of the canonical automaton of those that are
 -- meant, and did nothing else; or it printed the limit that its construction exceeds, and stored nothing.
-abbrev pub MakeMeans : (Automaton → Type 0) → (Limit → Type 0) → List ℕ → List (List ℕ) → Outside → Outside → Status → Type 0
+abbrev pub MakeMeans : (Automaton → Type 0) → (Limit → Type 0) → List ℕ → List (List ℕ) → Outside → Outside
+    → Status → Type 0
 MakeMeans IsMade Exceeds out names before after Yes = StoresMade IsMade out names before after × IsWithin Exceeds
-MakeMeans IsMade Exceeds out names before after (Undecided limit) = Exceeds limit × Writes (undecided_line limit) before after
+MakeMeans IsMade Exceeds out names before after (Undecided limit) =
+    Exceeds limit × Writes (undecided_line limit) before after
 MakeMeans IsMade Exceeds out names before after (Fault (Store name)) =
     (name ≡ out) × LeavesUnknown out before after × IsWithin Exceeds
 MakeMeans IsMade Exceeds out names before after (Fault Output) =
@@ -86,11 +89,13 @@ IsMadeOfTwo operation one two made = (made.alphabet ≡ one.alphabet) × IsCombi
 
 -- the limit is that of the operation's construction, which counts more states
 abbrev pub ExceedsCombined : Combination → ℕ → Automaton → Automaton → Limit → Type 0
-ExceedsCombined operation most one two limit = (limit ≡ States (combined_by operation)) × HasMoreCombined operation one two most
+ExceedsCombined operation most one two limit =
+    (limit ≡ States (combined_by operation)) × HasMoreCombined operation one two most
 
 abbrev pub CombineMeans : Combine → Outside → Outside → Status → Type 0
 CombineMeans task = TwoMean (combined_kind task.operation) task.one task.two (λ names one two.
-    MakeMeans (IsMadeOfTwo task.operation one two) (ExceedsCombined task.operation task.max_states one two) task.out names)
+    MakeMeans (IsMadeOfTwo task.operation one two) (ExceedsCombined task.operation task.max_states one two)
+    task.out names)
 
 abbrev pub combine_may_store : Combine → List ℕ → Type 0
 combine_may_store task name = name ≡ task.out
@@ -122,7 +127,8 @@ transformed_by transformations.Reverse = constructions.Reverse
 -- the automaton's alphabet and language are made of those of one
 abbrev pub IsTransformed : Transformation → Automaton → Automaton → Type 0
 IsTransformed transformations.Not one made = (made.alphabet ≡ one.alphabet) × IsComplement one made
-IsTransformed transformations.Exists one made = (made.alphabet ≡ Plain (generators one.alphabet)) × IsProjection one made
+IsTransformed transformations.Exists one made =
+    (made.alphabet ≡ Plain (generators one.alphabet)) × IsProjection one made
 IsTransformed transformations.Star one made = (made.alphabet ≡ one.alphabet) × IsStar one made
 IsTransformed transformations.Reverse one made = (made.alphabet ≡ one.alphabet) × IsReversal one made
 
@@ -133,7 +139,8 @@ HasMoreTransformed transformations.Star one limit = CountedStar one limit
 HasMoreTransformed transformations.Reverse one limit = CountedReverse one limit
 
 abbrev pub ExceedsTransformed : Transformation → ℕ → Automaton → Limit → Type 0
-ExceedsTransformed operation most one limit = (limit ≡ States (transformed_by operation)) × HasMoreTransformed operation one most
+ExceedsTransformed operation most one limit =
+    (limit ≡ States (transformed_by operation)) × HasMoreTransformed operation one most
 
 abbrev pub TransformMeans : Transform → Outside → Outside → Status → Type 0
 TransformMeans task = OneMeans (transformed_kind task.operation) task.file (λ names one.
@@ -159,7 +166,8 @@ IsMinimised one made = (made.alphabet ≡ one.alphabet) × SameLanguage one made
 
 -- it has no limit
 abbrev pub MinimiseMeans : Minimise → Outside → Outside → Status → Type 0
-MinimiseMeans task = OneMeans WordsOrPairs task.file (λ names one. MakeMeans (IsMinimised one) (λ limit. ⊥) task.out names)
+MinimiseMeans task =
+    OneMeans WordsOrPairs task.file (λ names one. MakeMeans (IsMinimised one) (λ limit. ⊥) task.out names)
 
 abbrev pub minimise_may_store : Minimise → List ℕ → Type 0
 minimise_may_store task name = name ≡ task.out

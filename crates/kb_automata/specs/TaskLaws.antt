@@ -11,7 +11,8 @@ use Rattle.kb_automata.specs.Tasks.{AutomataMeans, automata_may_store, automata_
 use Rattle.kb_automata.specs.declared.task.AutomataTask.{AutomataTask}
 use Rattle.kb_automata.specs.declared.task.AutomataTask.TheVariants.{Combine, Transform, Minimise, Compare, Enumerate}
 
-pub automata_complete : (task : AutomataTask) (before after : Outside) (status : Status) → AutomataMeans task before after status
+pub automata_complete : (task : AutomataTask) (before after : Outside) (status : Status)
+    → AutomataMeans task before after status
     → automata_is_unrefused task before → IsFaultless status → automata_answers task status
 automata_complete (Combine task) = combine_complete task
 automata_complete (Transform task) = transform_complete task
@@ -28,13 +29,17 @@ automata_settled (Minimise task) = minimise_settled task
 automata_settled (Compare task) = compare_settled task
 automata_settled (Enumerate task) = enumerate_settled task
 
-pub automata_one_function : (task other_task : AutomataTask) (before after other_before other_after : Outside) (status other : Status)
-    → AutomataMeans task before after status → AutomataMeans other_task other_before other_after other → IsYes status → IsYes other
-    → AutomataDifferInOptions task other_task → ReadsSame (automata_reads task) before other_before → before.input.left ≡ other_before.input.left
+pub automata_one_function : (task other_task : AutomataTask) (before after other_before other_after : Outside)
+    (status other : Status)
+    → AutomataMeans task before after status → AutomataMeans other_task other_before other_after other
+    → IsYes status → IsYes other
+    → AutomataDifferInOptions task other_task → ReadsSame (automata_reads task) before other_before
+    → before.input.left ≡ other_before.input.left
     → HasSameEffect (automata_may_store task) before after other_before other_after
 automata_one_function (Combine task) (Combine other) = combine_one_function task other
 automata_one_function (Transform task) (Transform other) = transform_one_function task other
 automata_one_function (Minimise task) (Minimise other) = minimise_one_function task other
 automata_one_function (Compare task) (Compare other) = compare_one_function task other
 automata_one_function (Enumerate task) (Enumerate other) = enumerate_one_function task other
-automata_one_function _ _ = λ before after other_before other_after status answer means others yes also none same input. absurd none
+automata_one_function _ _ =
+    λ before after other_before other_after status answer means others yes also none same input. absurd none

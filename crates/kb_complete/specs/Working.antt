@@ -25,7 +25,8 @@ abbrev pub AdvanceSays : {R : Type 0} → ℕ → Course → Round R → Type 0
 AdvanceSays given before (rounds.Over (grown.More after)) =
     IsLater before after.course × IsSettled after.course × (given < length after.course.state.lines)
 AdvanceSays given before (rounds.Over (grown.Confluent rules after)) = ⊥
-AdvanceSays given before (rounds.Over (grown.Halted after halt)) = IsLater before after.course × GivesHalt after.course halt
+AdvanceSays given before (rounds.Over (grown.Halted after halt)) =
+    IsLater before after.course × GivesHalt after.course halt
 AdvanceSays given before (rounds.Open after) = IsLater before after.course × IsSettled after.course
 
 -- the rules at these indices, from 1 on, overlap at the place, and the words of the critical pair have different normal forms

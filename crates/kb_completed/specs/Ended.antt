@@ -11,4 +11,5 @@ abbrev pub EndsAs : Limits → PresentationParts → Ending → Type 0
 EndsAs limits parts (Completed rules acceptor) = (rules.order ≡ parts.order) × IsCompletion parts rules.rules acceptor
 EndsAs limits parts (Halted reached lines waiting rules) =
     (rules.order ≡ parts.order) × IsHalted limits parts lines.items waiting rules.rules reached
-EndsAs limits parts (TooLarge lines rules) = (rules.order ≡ parts.order) × IsTooLarge limits parts lines.items rules.rules
+EndsAs limits parts (TooLarge lines rules) =
+    (rules.order ≡ parts.order) × IsTooLarge limits parts lines.items rules.rules

@@ -50,7 +50,8 @@ pub record IsHalted (limits : Limits) (parts : PresentationParts) (lines : List 
   pub live : AreLiveRules lines rules
 
 -- a completion whose word acceptor has more states than may be, with its log
-pub record IsTooLarge (limits : Limits) (parts : PresentationParts) (lines : List Line) (rules : List Pair) : Type 0 where
+pub record IsTooLarge (limits : Limits) (parts : PresentationParts) (lines : List Line)
+    (rules : List Pair) : Type 0 where
   pub justified : IsJustified (below parts) (relations parts) lines
   pub reduced : IsReducedComplete (below parts) (relations parts) rules
   pub counted : CountedPrefixes rules limits.states

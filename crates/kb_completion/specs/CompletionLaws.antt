@@ -32,7 +32,8 @@ one_yes _ _ is_yes also = absurd is_yes
 pub one_held : {files others : Files} {name : List ℕ} {one other : PresentationParts} → files name ≡ others name
     → HoldsPresentation files name one → HoldsPresentation others name other → one ≡ other
 one_held {one = one} {other = other} same first second =
-    let read : PresentationOf second.bytes one = subst (λ b. PresentationOf b one) (same_bytes same first.held second.held) first.says in
+    let read : PresentationOf second.bytes one =
+    subst (λ b. PresentationOf b one) (same_bytes same first.held second.held) first.says in
     let tree = one_tree second.bytes read.text second.says.text read.formed second.says.formed in
     let P : TextTree → Type 0 = λ text. TreeHoldsPresentation text.fields one in
     one_presentation second.says.text.fields one other (subst P tree read.holds) second.says.holds
@@ -43,14 +44,17 @@ module _ (parts : PresentationParts) {rules others : List Pair} {acceptor other 
   pub one_rules : rules ≡ others
   one_rules =
       let laws = word_orders parts.order in
-      sorted_same (λ (p q : Pair). below parts p.0 q.0) (λ x. laws.irreflexive x.0) (λ x y z. laws.transitive x.0 y.0 z.0) rules others
+      sorted_same (λ (p q : Pair). below parts p.0 q.0) (λ x. laws.irreflexive x.0)
+      (λ x y z. laws.transitive x.0 y.0 z.0) rules others
       one.reduced.sorted also.reduced.sorted
-      (λ rule is. also.reduced.all rule (one.reduced.each rule is)) (λ rule is. one.reduced.all rule (also.reduced.each rule is))
+      (λ rule is. also.reduced.all rule (one.reduced.each rule is))
+      (λ rule is. one.reduced.all rule (also.reduced.each rule is))
 
   -- and one word acceptor
   pub one_acceptor : acceptor ≡ other
   one_acceptor =
-      one_canonical acceptor other one.acceptor.automaton also.acceptor.automaton (one.acceptor.alphabet ∙ sym also.acceptor.alphabet)
+      one_canonical acceptor other one.acceptor.automaton also.acceptor.automaton
+      (one.acceptor.alphabet ∙ sym also.acceptor.alphabet)
       one.acceptor.canonical also.acceptor.canonical
       (λ w. (
         λ accepts. (also.acceptor.language w).1 ((one.acceptor.language w).0 accepts),

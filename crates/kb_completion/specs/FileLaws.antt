@@ -40,10 +40,13 @@ names_differ file one other differ same = differ (ap length (append_cancel_left 
 
 module _ (file : List ℕ) where
   pub rules_beside_acceptor : rules_file file ≢ acceptor_file file
-  rules_beside_acceptor = names_differ file (codes ".kbprog") (codes ".wa") (λ same. let seven_three : 7 ≡ 3 = same in omega arith)
+  rules_beside_acceptor =
+      names_differ file (codes ".kbprog") (codes ".wa") (λ same. let seven_three : 7 ≡ 3 = same in omega arith)
 
   pub log_beside_rules : log_file file ≢ rules_file file
-  log_beside_rules = names_differ file (codes ".kblog") (codes ".kbprog") (λ same. let six_seven : 6 ≡ 7 = same in omega arith)
+  log_beside_rules =
+      names_differ file (codes ".kblog") (codes ".kbprog") (λ same. let six_seven : 6 ≡ 7 = same in omega arith)
 
   pub log_beside_acceptor : log_file file ≢ acceptor_file file
-  log_beside_acceptor = names_differ file (codes ".kblog") (codes ".wa") (λ same. let six_three : 6 ≡ 3 = same in omega arith)
+  log_beside_acceptor =
+      names_differ file (codes ".kblog") (codes ".wa") (λ same. let six_three : 6 ≡ 3 = same in omega arith)

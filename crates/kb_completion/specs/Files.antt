@@ -46,7 +46,8 @@ evidence_texts file parts log rules confluent =
 
 -- the files of a completion that halted
 abbrev pub halted_texts : List ℕ → PresentationParts → List Line → Line → List Pair → List Text
-halted_texts file parts lines waiting rules = evidence_texts file parts (log_text parts.names lines (Some waiting)) rules false
+halted_texts file parts lines waiting rules =
+    evidence_texts file parts (log_text parts.names lines (Some waiting)) rules false
 
 -- the files of a completion whose word acceptor would be too large
 abbrev pub too_large_texts : List ℕ → PresentationParts → List Line → List Pair → List Text

@@ -37,7 +37,8 @@ LinesStop given parts before after stop =
     HasCompleted given parts before after × Stops parts (IsLeastIn parts) (streams_of before) (streams_of after) stop
 
 -- the files that show the limit were stored, and the line that says so was written
-pub record ReachesLimit (given : KbprogGiven) (parts : PresentationParts) (limit : Limit) (before after : Outside) : Type 0 where
+pub record ReachesLimit (given : KbprogGiven) (parts : PresentationParts) (limit : Limit)
+    (before after : Outside) : Type 0 where
   pub texts : List Text
   pub line : List ℕ
   pub shows : ShowsLimit given.limits given.file parts limit texts line
@@ -81,7 +82,8 @@ abbrev pub AnswersMean : KbprogGiven → PresentationParts → Outside → Outsi
 AnswersMean given parts before after Yes =
     HasCompleted given parts before after × AllAnswered parts (IsLeastIn parts) (streams_of before) (streams_of after)
 AnswersMean given parts before after (Undecided limit) = ReachesLimit given parts limit before after
-AnswersMean given parts before after (Refused (RefusedLine number fault)) = LinesStop given parts before after (stops.Refused number fault)
+AnswersMean given parts before after (Refused (RefusedLine number fault)) =
+    LinesStop given parts before after (stops.Refused number fault)
 AnswersMean given parts before after (Refused InputTooLong) = LinesStop given parts before after stops.TooLong
 AnswersMean given parts before after (Fault Input) = LinesStop given parts before after stops.Input
 AnswersMean given parts before after (Fault Output) =

@@ -64,7 +64,8 @@ pub kbprog_complete : (given : KbprogGiven) (before after : Outside) (status : S
     → kbprog_is_unrefused given before → IsFaultless status → AnswersYesOrLimit status
 kbprog_complete given before after status (inl means) unrefused faultless =
     subst AnswersYesOrLimit
-    (sym (memory_at_load (IsPresentationFault before.shelf.holds given.file) given.file status unrefused.file faultless means.0)) tt
+    (sym (memory_at_load (IsPresentationFault before.shelf.holds given.file) given.file status unrefused.file
+    faultless means.0)) tt
 kbprog_complete given before after status (inr means) unrefused faultless =
     lines_answer given means.0 before after status means.1 unrefused faultless means.2
 
@@ -73,7 +74,8 @@ kbprog_complete given before after status (inr means) unrefused faultless =
 pub kbprog_settled : (given : KbprogGiven) (before after other_before other_after : Outside) (status other : Status)
     → KbprogMeans given before after status → KbprogMeans given other_before other_after other
     → ReadsSame (kbprog_reads given) before other_before → IsYes status → IsYes other → status ≡ other
-kbprog_settled given before after other_before other_after status other means others same one also = one_yes status other one also
+kbprog_settled given before after other_before other_after status other means others same one also =
+    one_yes status other one also
 
 -- ---- one function
 
@@ -84,54 +86,71 @@ stores_same : (given : KbprogGiven) (parts : PresentationParts) (before after ot
 stores_same given parts before after other_before other_after one other name may =
     let texts = completed_texts given.file parts one.1.rules one.1.acceptor in
     let rules : Text = record { name = rules_file given.file; bytes = text_of_presentation parts one.1.rules true } in
-    let acceptor : Text = record { name = acceptor_file given.file; bytes = text_of_automaton parts.names one.1.acceptor } in
+    let acceptor : Text =
+    record { name = acceptor_file given.file; bytes = text_of_automaton parts.names one.1.acceptor } in
     let same = sym (one_completed given.file parts one.0 other.0 one.1 other.1) ∙ one.1.are in
     let first = subst (λ t. HoldsTexts t before.shelf after.shelf) one.1.are one.2 in
     let second = subst (λ t. HoldsTexts t other_before.shelf other_after.shelf) same other.2 in
     elim may [
       | inl is ↦
           let here = first_contained rules (acceptor ∷ []) in
-          inl (ap after.shelf.holds is ∙ first.stored rules here ∙ (sym (second.stored rules here) ∙ sym (ap other_after.shelf.holds is)))
+          inl (ap after.shelf.holds is ∙ first.stored rules here
+          ∙ (sym (second.stored rules here) ∙ sym (ap other_after.shelf.holds is)))
       | inr (inl is) ↦
           let here = second_contained rules acceptor in
-          inl (ap after.shelf.holds is ∙ first.stored acceptor here ∙ (sym (second.stored acceptor here) ∙ sym (ap other_after.shelf.holds is)))
+          inl (ap after.shelf.holds is ∙ first.stored acceptor here
+          ∙ (sym (second.stored acceptor here) ∙ sym (ap other_after.shelf.holds is)))
       | inr (inr is) ↦
-          let none : ¬ Contains (names_of texts) name = λ here. elim (contained_cases (rules_file given.file) (acceptor_file given.file) name here) [
+          let none : ¬ Contains (names_of texts) name =
+          λ here. elim (contained_cases (rules_file given.file) (acceptor_file given.file) name here) [
             | inl rules_is ↦ log_beside_rules given.file (sym (rules_is ∙ is))
             | inr acceptor_is ↦ log_beside_acceptor given.file (sym (acceptor_is ∙ is))
           ] in
           inr (first.others name none, second.others name none)
     ]
 
-lines_same : (given other_given : KbprogGiven) (parts : PresentationParts) (before after other_before other_after : Outside) (status other : Status)
+lines_same : (given other_given : KbprogGiven) (parts : PresentationParts)
+    (before after other_before other_after : Outside) (status other : Status)
     → given.file ≡ other_given.file → IsYes status → IsYes other → AnswersMean given parts before after status
     → AnswersMean other_given parts other_before other_after other → before.input.left ≡ other_before.input.left
     → HasSameEffect (kbprog_may_store given) before after other_before other_after
 lines_same given other_given parts before after other_before other_after Yes Yes file is_yes also means others same =
     let one = means.1 in
     let other = others.1 in
-    let text = one-answered (streams_of before) (streams_of after) (streams_of other_before) (streams_of other_after) (one_least parts) one other same in
-    let Completed : List ℕ → Type 0 = λ name. (texts : List Text) × AreCompleted name parts texts × HoldsTexts texts other_before.shelf other_after.shelf in
+    let text = one-answered (streams_of before) (streams_of after) (streams_of other_before)
+    (streams_of other_after) (one_least parts) one other same in
+    let Completed : List ℕ → Type 0 =
+    λ name. (texts : List Text) × AreCompleted name parts texts
+    × HoldsTexts texts other_before.shelf other_after.shelf in
     record {
       bytes = one.given;
       written = one.sent;
       other_written = other.sent ∙ ap (λ g. other_before.output.written ++ g) (sym text);
-      stored = stores_same given parts before after other_before other_after means.0 (subst Completed (sym file) others.0);
+      stored = stores_same given parts before after other_before other_after means.0
+          (subst Completed (sym file) others.0);
     }
-lines_same given other_given parts before after other_before other_after Yes other file is_yes also means others same = absurd also
-lines_same given other_given parts before after other_before other_after status other file is_yes also means others same = absurd is_yes
+lines_same given other_given parts before after other_before other_after Yes other file is_yes also means
+    others same = absurd also
+lines_same given other_given parts before after other_before other_after status other file is_yes also means
+    others same = absurd is_yes
 
-pub kbprog_one_function : (given other_given : KbprogGiven) (before after other_before other_after : Outside) (status other : Status)
+pub kbprog_one_function : (given other_given : KbprogGiven) (before after other_before other_after : Outside)
+    (status other : Status)
     → KbprogMeans given before after status → KbprogMeans other_given other_before other_after other
     → IsYes status → IsYes other
     → KbprogsDifferInOptions given other_given → ReadsSame (kbprog_reads given) before other_before
     → before.input.left ≡ other_before.input.left
     → HasSameEffect (kbprog_may_store given) before after other_before other_after
-kbprog_one_function given other_given before after other_before other_after status other (inl means) others is_yes also file same input =
-    absurd (load_inconclusive (IsPresentationFault before.shelf.holds given.file) given.file status means.0 (yes-conclusive status is_yes))
-kbprog_one_function given other_given before after other_before other_after status other (inr means) (inl others) is_yes also file same input =
-    absurd (load_inconclusive (IsPresentationFault other_before.shelf.holds other_given.file) other_given.file other others.0 (yes-conclusive other also))
-kbprog_one_function given other_given before after other_before other_after status other (inr means) (inr others) is_yes also file same input =
+kbprog_one_function given other_given before after other_before other_after status other (inl means) others
+    is_yes also file same input =
+    absurd (load_inconclusive (IsPresentationFault before.shelf.holds given.file) given.file status means.0
+    (yes-conclusive status is_yes))
+kbprog_one_function given other_given before after other_before other_after status other (inr means)
+    (inl others) is_yes also file same input =
+    absurd (load_inconclusive (IsPresentationFault other_before.shelf.holds other_given.file) other_given.file
+    other others.0 (yes-conclusive other also))
+kbprog_one_function given other_given before after other_before other_after status other (inr means)
+    (inr others) is_yes also file same input =
     let held = subst (λ name. HoldsPresentation other_before.shelf.holds name others.0) (sym file) others.1 in
     let parts = one_held (same given.file refl) means.1 held in
     lines_same given other_given others.0 before after other_before other_after status other file is_yes also

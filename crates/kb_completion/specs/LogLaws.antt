@@ -34,7 +34,8 @@ opens_same (Some one) None same = absurd same
 
 line_of : ℕ → ℕ → List ℕ → List ℕ
 line_of version lines opens =
-    codes "log " ++ (decimal version ++ (codes ": lines " ++ (decimal lines ++ (codes ", " ++ (opens ++ newline ∷ [])))))
+    codes "log " ++ (decimal
+    version ++ (codes ": lines " ++ (decimal lines ++ (codes ", " ++ (opens ++ newline ∷ [])))))
 
 -- files of the same bytes hold logs of which the same is said
 pub one_logread : {files others : Files} {name : List ℕ} {names : List (List ℕ)} {log other : Log}
@@ -42,9 +43,12 @@ pub one_logread : {files others : Files} {name : List ℕ} {names : List (List �
     → HoldsLog files name names log → HoldsLog others name names other → logread_line log ≡ logread_line other
 unfolding line_of
 one_logread {names = names} {log = log} {other = other} apart same first second =
-    let texts : text_of_log names log ≡ text_of_log names other = sym first.says ∙ same_bytes same first.held second.held ∙ second.says in
+    let texts : text_of_log names log ≡ text_of_log names other =
+    sym first.says ∙ same_bytes same first.held second.held ∙ second.says in
     let logs = logs_same names log other first.readable apart first.printable second.printable texts in
-    let count : length log.lines.items ≡ length other.lines.items = sym (AllZip-long AreSameLines log.lines.items other.lines.items logs.lines) in
+    let count : length log.lines.items ≡ length other.lines.items =
+    sym (AllZip-long AreSameLines log.lines.items other.lines.items logs.lines) in
     ap (λ version. line_of (version_number version) (length log.lines.items) (open_text log.waiting)) logs.version
     ∙ ap (λ lines. line_of (version_number other.version) lines (open_text log.waiting)) count
-    ∙ ap (λ opens. line_of (version_number other.version) (length other.lines.items) opens) (opens_same log.waiting other.waiting logs.waiting)
+    ∙ ap (λ opens. line_of (version_number other.version) (length other.lines.items) opens)
+    (opens_same log.waiting other.waiting logs.waiting)

@@ -49,15 +49,18 @@ LogMeans log before after _ = ⊥
 -- What each status means once the file has been read as this presentation.
 abbrev pub LogFileMeans : LogreadGiven → PresentationParts → Outside → Outside → Status → Type 0
 LogFileMeans given parts before after status =
-    (EndsAtLoad (IsLogFault parts.names before.shelf.holds (log_file given.file)) (log_file given.file) status × IsUnchanged before after)
-    ⊎ ((log : Log) × HoldsLog before.shelf.holds (log_file given.file) parts.names log × LogMeans log before after status)
+    (EndsAtLoad (IsLogFault parts.names before.shelf.holds (log_file given.file)) (log_file given.file) status
+    × IsUnchanged before after)
+    ⊎ ((log : Log) × HoldsLog before.shelf.holds (log_file given.file) parts.names log
+    × LogMeans log before after status)
 
 -- What each status means: the run ended at the load of the presentation, at that of the log, or both were read. Before the log's
 -- name is known memory may run out.
 abbrev pub LogreadMeans : LogreadGiven → Outside → Outside → Status → Type 0
 LogreadMeans given before after status =
     (EndsAtLoad (IsPresentationFault before.shelf.holds given.file) given.file status × IsUnchanged before after)
-    ⊎ ((parts : PresentationParts) × HoldsPresentation before.shelf.holds given.file parts × LogFileMeans given parts before after status)
+    ⊎ ((parts : PresentationParts) × HoldsPresentation before.shelf.holds given.file parts
+    × LogFileMeans given parts before after status)
 
 abbrev pub logread_may_store : LogreadGiven → List ℕ → Type 0
 logread_may_store given name = ⊥

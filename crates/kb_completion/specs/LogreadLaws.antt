@@ -32,15 +32,19 @@ file_answers : (given : LogreadGiven) (parts : PresentationParts) (before after 
     → HoldsPresentation before.shelf.holds given.file parts → logread_is_unrefused given before → IsFaultless status
     → LogFileMeans given parts before after status → AnswersYes status
 file_answers given parts before after status holds unrefused faultless (inl ends) =
-    let is_memory = memory_at_load (IsLogFault parts.names before.shelf.holds (log_file given.file)) (log_file given.file) status
+    let is_memory =
+    memory_at_load (IsLogFault parts.names before.shelf.holds (log_file given.file)) (log_file given.file) status
     (unrefused.log parts holds) faultless ends.0 in
     subst AnswersYes (sym is_memory) tt
-file_answers given parts before after status holds unrefused faultless (inr read) = log_answers read.0 before after status faultless read.2
+file_answers given parts before after status holds unrefused faultless (inr read) =
+    log_answers read.0 before after status faultless read.2
 
 answers : (given : LogreadGiven) (before after : Outside) (status : Status) → LogreadMeans given before after status
     → logread_is_unrefused given before → IsFaultless status → AnswersYes status
 answers given before after status (inl ends) unrefused faultless =
-    let is_memory = memory_at_load (IsPresentationFault before.shelf.holds given.file) given.file status unrefused.file faultless ends.0 in
+    let is_memory =
+    memory_at_load (IsPresentationFault before.shelf.holds given.file) given.file status unrefused.file
+    faultless ends.0 in
     subst AnswersYes (sym is_memory) tt
 answers given before after status (inr read) unrefused faultless =
     file_answers given read.0 before after status read.1 unrefused faultless read.2
@@ -49,7 +53,9 @@ pub logread_complete : IsComplete LogreadMeans logread_is_unrefused (λ given. A
 logread_complete = answers
 
 pub logread_settled : IsSettledByFiles LogreadMeans logread_reads (λ given. IsYes)
-logread_settled = λ given before after other_before other_after status other means others same is_yes also. one_yes status other is_yes also
+logread_settled =
+    λ given before after other_before other_after status other means others same is_yes also. one_yes status
+    other is_yes also
 
 -- ---- one line
 
@@ -68,7 +74,8 @@ record HasRead (given : LogreadGiven) (parts : PresentationParts) (before after 
 read_log : (given : LogreadGiven) (parts : PresentationParts) (before after : Outside) (status : Status) → IsYes status
     → LogFileMeans given parts before after status → HasRead given parts before after
 read_log given parts before after status is_yes (inl ends) =
-    absurd (load_inconclusive (IsLogFault parts.names before.shelf.holds (log_file given.file)) (log_file given.file) status ends.0
+    absurd (load_inconclusive (IsLogFault parts.names before.shelf.holds (log_file given.file))
+    (log_file given.file) status ends.0
     (yes-conclusive status is_yes))
 read_log given parts before after status is_yes (inr read) =
     record { log = read.0; holds = read.1; wrote = written read.0 before after status is_yes read.2 }
@@ -83,7 +90,8 @@ read_both : (given : LogreadGiven) (before after : Outside) (status : Status) �
     → LogreadMeans given before after status
     → HasReadBoth given before after
 read_both given before after status is_yes (inl ends) =
-    absurd (load_inconclusive (IsPresentationFault before.shelf.holds given.file) given.file status ends.0 (yes-conclusive status is_yes))
+    absurd (load_inconclusive (IsPresentationFault before.shelf.holds given.file) given.file status ends.0
+    (yes-conclusive status is_yes))
 read_both given before after status is_yes (inr read) =
     record { parts = read.0; presents = read.1; reads = read_log given read.0 before after status is_yes read.2 }
 
@@ -94,7 +102,8 @@ same_effect : (given : LogreadGiven) (before after other_before other_after : Ou
     → HasSameEffect (logread_may_store given) before after other_before other_after
 same_effect given before after other_before other_after one other file log =
     let parts = one_held file one.presents other.presents in
-    let held = subst (λ p. HoldsLog before.shelf.holds (log_file given.file) p.names one.reads.log) parts one.reads.holds in
+    let held = subst (λ p. HoldsLog before.shelf.holds (log_file given.file) p.names one.reads.log) parts
+    one.reads.holds in
     let line = one_logread (names_apart other.parts.names other.presents.says.holds.names) log held other.reads.holds in
     record {
       bytes = logread_line one.reads.log;
@@ -104,8 +113,10 @@ same_effect given before after other_before other_after one other file log =
     }
 
 pub logread_one_function : IsFunctionOfInputs LogreadMeans LogreadsDifferInOptions logread_reads logread_may_store
-logread_one_function = λ given other_given before after other_before other_after status other means others is_yes also file same input.
-    let means_given = subst (λ name. LogreadMeans (record { file = name }) other_before other_after other) (sym file) others in
+logread_one_function =
+    λ given other_given before after other_before other_after status other means others is_yes also file same input.
+    let means_given =
+    subst (λ name. LogreadMeans (record { file = name }) other_before other_after other) (sym file) others in
     same_effect given before after other_before other_after (read_both given before after status is_yes means)
     (read_both given other_before other_after other also means_given)
     (same given.file (inl refl)) (same (log_file given.file) (inr refl))

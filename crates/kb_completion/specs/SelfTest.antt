@@ -47,7 +47,8 @@ pub record IsCompletedReport (rank rules states : ℕ) (report : Report) : Type 
   pub text : report.text.items ≡ summary_line rank rules states
 
 -- the report of a completion that halted: its log, and the line of the limit with the words that wait
-pub record IsHaltedReport (names : List (List ℕ)) (reached : Reached) (lines : List Line) (waiting : Line) (report : Report) : Type 0 where
+pub record IsHaltedReport (names : List (List ℕ)) (reached : Reached) (lines : List Line) (waiting : Line)
+    (report : Report) : Type 0 where
   pub status : report.status ≡ Undecided (limit_of reached)
   pub text : report.text.items ≡ log_text names lines (Some waiting)
       ++ undecided_words_line names (limit_of reached) waiting.left waiting.right

@@ -27,7 +27,9 @@ pub selftest_complete : IsComplete SelfTestMeans selftest_is_unrefused (λ given
 selftest_complete = answers
 
 pub selftest_settled : IsSettledByFiles SelfTestMeans selftest_reads (λ given. IsYes)
-selftest_settled = λ given before after other_before other_after status other means others same is_yes also. one_yes status other is_yes also
+selftest_settled =
+    λ given before after other_before other_after status other means others same is_yes also. one_yes status
+    other is_yes also
 
 -- ---- one line
 
@@ -51,7 +53,8 @@ one_line rank bytes others one other =
     let rules = one_rules (free_abelian rank) one.completion other.completion in
     let acceptor = one_acceptor (free_abelian rank) one.completion other.completion in
     one.line ∙ ap (λ (list : List Pair). summary_line rank (length list) (length one.acceptor.table.rows)) rules
-    ∙ ap (λ (automaton : Automaton). summary_line rank (length other.rules) (length automaton.table.rows)) acceptor ∙ sym other.line
+    ∙ ap (λ (automaton : Automaton). summary_line rank (length other.rules) (length automaton.table.rows))
+    acceptor ∙ sym other.line
 
 -- what a yes wrote
 record Wrote (rank : ℕ) (before after : Outside) : Type 0 where
@@ -74,11 +77,14 @@ same_effect given rank before after other_before other_after one other =
       bytes = one.bytes;
       written = one.written;
       other_written = other.written
-          ∙ ap (λ bytes. other_before.output.written ++ bytes) (one_line rank other.bytes one.bytes other.counted one.counted);
+          ∙ ap (λ bytes. other_before.output.written ++ bytes)
+          (one_line rank other.bytes one.bytes other.counted one.counted);
       stored = λ name none. absurd none;
     }
 
 pub selftest_one_function : IsFunctionOfInputs SelfTestMeans SelfTestsDifferInOptions selftest_reads selftest_may_store
-selftest_one_function = λ given other_given before after other_before other_after status other means others is_yes also rank same input.
+selftest_one_function =
+    λ given other_given before after other_before other_after status other means others is_yes also rank same input.
     same_effect given given.rank before after other_before other_after (wrote given before after status is_yes means)
-    (subst (λ n. Wrote n other_before other_after) (sym rank) (wrote other_given other_before other_after other also others))
+    (subst (λ n. Wrote n other_before other_after) (sym rank)
+    (wrote other_given other_before other_after other also others))

@@ -33,7 +33,8 @@ none_of_empty : (pair : Pair) (k : ℕ) → slice_get [] k ≡ Some pair → ⊥
 none_of_empty pair zero is = none-some pair is
 none_of_empty pair (suc k) is = none-some pair is
 
-module _ (R : Pair → Pair → Type 0) (irreflexive : (x : Pair) → ¬ R x x) (transitive : (x y z : Pair) → R x y → R y z → R x z) where
+module _ (R : Pair → Pair → Type 0) (irreflexive : (x : Pair) → ¬ R x x) (transitive : (x y z : Pair) → R x y
+    → R y z → R x z) where
   -- an element that isn't the first is one of the rest
   abbrev AreOf : List Pair → List Pair → Type 0
   AreOf xs ys = (z : Pair) → OneOf xs z → OneOf ys z
@@ -46,7 +47,8 @@ module _ (R : Pair → Pair → Type 0) (irreflexive : (x : Pair) → ¬ R x x) 
   rest_of x y xs ys same sorted are z one =
       let there = are z (suc one.0, one.1) in
       let before : R x z = head_before R x xs z sorted one in
-      in_rest y ys z (λ e. let P : Pair → Type 0 = λ p. R x p in irreflexive x (subst P (sym (same ∙ e)) before)) there.0 there.1
+      in_rest y ys z
+      (λ e. let P : Pair → Type 0 = λ p. R x p in irreflexive x (subst P (sym (same ∙ e)) before)) there.0 there.1
 
   -- the first elements are the same
   same_first : (x y : Pair) (xs ys : List Pair) (k l : ℕ) → AllPairs R (x ∷ xs) → AllPairs R (y ∷ ys)
@@ -54,7 +56,8 @@ module _ (R : Pair → Pair → Type 0) (irreflexive : (x : Pair) → ¬ R x x) 
   same_first x y xs ys zero l up others is other = sym (same_Some y x is)
   same_first x y xs ys (suc k) zero up others is other = same_Some x y other
   same_first x y xs ys (suc k) (suc l) up others is other =
-      absurd (irreflexive x (transitive x y x (head_before R x xs y up (l, other)) (head_before R y ys x others (k, is))))
+      absurd (irreflexive x
+      (transitive x y x (head_before R x xs y up (l, other)) (head_before R y ys x others (k, is))))
 
   pub sorted_same : (xs ys : List Pair) → AllPairs R xs → AllPairs R ys → AreOf xs ys → AreOf ys xs → xs ≡ ys
   sorted_same [] [] up others are back = refl
@@ -64,6 +67,7 @@ module _ (R : Pair → Pair → Type 0) (irreflexive : (x : Pair) → ¬ R x x) 
       let there = are x (0, refl) in
       let here = back y (0, refl) in
       let same : x ≡ y = same_first x y xs ys there.0 here.0 up others there.1 here.1 in
-      let rest : xs ≡ ys = sorted_same xs ys (sorted_rest R x xs up) (sorted_rest R y ys others) (rest_of x y xs ys same up are)
+      let rest : xs ≡ ys =
+      sorted_same xs ys (sorted_rest R x xs up) (sorted_rest R y ys others) (rest_of x y xs ys same up are)
       (rest_of y x ys xs (sym same) others back) in
       cc

@@ -18,7 +18,8 @@ completion_complete (Kbprog task) = kbprog_complete task
 completion_complete (Logread task) = logread_complete task
 completion_complete (SelfTest task) = selftest_complete task
 
-pub completion_settled : (task : CompletionTask) (before after other_before other_after : Outside) (status other : Status)
+pub completion_settled : (task : CompletionTask) (before after other_before other_after : Outside)
+    (status other : Status)
     → CompletionMeans task before after status → CompletionMeans task other_before other_after other
     → ReadsSame (completion_reads task) before other_before → completion_settles task status
     → completion_settles task other → status ≡ other
@@ -26,7 +27,8 @@ completion_settled (Kbprog task) = kbprog_settled task
 completion_settled (Logread task) = logread_settled task
 completion_settled (SelfTest task) = selftest_settled task
 
-pub completion_one_function : (task other_task : CompletionTask) (before after other_before other_after : Outside) (status other : Status)
+pub completion_one_function : (task other_task : CompletionTask)
+    (before after other_before other_after : Outside) (status other : Status)
     → CompletionMeans task before after status
     → CompletionMeans other_task other_before other_after other → IsYes status → IsYes other
     → CompletionsDifferInOptions task other_task
@@ -35,4 +37,5 @@ pub completion_one_function : (task other_task : CompletionTask) (before after o
 completion_one_function (Kbprog task) (Kbprog other) = kbprog_one_function task other
 completion_one_function (Logread task) (Logread other) = logread_one_function task other
 completion_one_function (SelfTest task) (SelfTest other) = selftest_one_function task other
-completion_one_function _ _ = λ before after other_before other_after status answer means others yes also none same input. absurd none
+completion_one_function _ _ =
+    λ before after other_before other_after status answer means others yes also none same input. absurd none

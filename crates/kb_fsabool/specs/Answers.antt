@@ -15,7 +15,8 @@ IsUnion one two either = (text : List ℕ) → AcceptsText either text ↔ (Acce
 
 -- the automaton accepts the texts of the alphabet that the other one doesn't
 abbrev pub IsComplement : Automaton → Automaton → Type 0
-IsComplement automaton rest = (text : List ℕ) → AcceptsText rest text ↔ (IsTextOf automaton.alphabet text × ¬ AcceptsText automaton text)
+IsComplement automaton rest =
+    (text : List ℕ) → AcceptsText rest text ↔ (IsTextOf automaton.alphabet text × ¬ AcceptsText automaton text)
 
 -- exactly one of the two accepts the text
 abbrev pub IsInOne : Automaton → Automaton → List ℕ → Type 0

@@ -17,7 +17,8 @@ place_at state (Some ended) = Some (record { state = state; ended = ended })
 abbrev pub complement : Automaton → Machine Place
 complement automaton = record {
   start = Some (record { state = automaton.table.initial; ended = Neither });
-  follow = λ place symbol. place_at (step automaton.table place.state symbol) (ended_after automaton.alphabet place.ended symbol);
+  follow = λ place symbol. place_at (step automaton.table place.state symbol)
+      (ended_after automaton.alphabet place.ended symbol);
   accepts = λ place. not (is_accepting automaton.table place.state);
 }
 

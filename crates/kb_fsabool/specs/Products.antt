@@ -56,15 +56,18 @@ pub record IsLeastSymbol (first second : Moves) (symbol : ℕ) : Type 0 where
   pub low_second : All (λ move. symbol ≤ move.0) second
 
 -- the merging of two rows has come so far: the moves before, with those of what is left of the rows, are those of the rows
-pub record IsMerging (connective : Connective) (first second : Moves) (moves : List (ℕ × StatePair)) (left_first left_second : Moves) : Type 0 where
+pub record IsMerging (connective : Connective) (first second : Moves) (moves : List (ℕ × StatePair))
+    (left_first left_second : Moves) : Type 0 where
   pub first_row : IsRow left_first
   pub second_row : IsRow left_second
-  pub whole : (rest : List (ℕ × StatePair)) → AreMerged connective left_first left_second rest → AreMerged connective first second (moves ++ rest)
+  pub whole : (rest : List (ℕ × StatePair)) → AreMerged connective left_first left_second rest
+      → AreMerged connective first second (moves ++ rest)
 
 -- the automaton accepts the texts for which the answers of the two give yes
 abbrev pub IsCombination : Connective → Automaton → Automaton → Automaton → Type 0
 IsCombination connective one two result = (text : List ℕ) → AcceptsText result text ↔
-    IsTrue (holds connective (is_accepting one.table (state_after one.table text)) (is_accepting two.table (state_after two.table text)))
+    IsTrue (holds connective (is_accepting one.table (state_after one.table text))
+    (is_accepting two.table (state_after two.table text)))
 
 -- the number is that of the first accepting state
 pub record IsFirstAccepting (table : Table) (state : ℕ) : Type 0 where

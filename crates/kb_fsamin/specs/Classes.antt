@@ -15,5 +15,7 @@ pub record AreRepresentatives (table : Table) (listed : List ℕ) : Type 0 where
   pub dead : (state : ℕ) → IsState table state → representative listed state ≡ 0 → ¬ IsLive table state
   pub live : (state : ℕ) → IsState table state → representative listed state ≢ 0 → IsLive table state
   pub is_state : (state : ℕ) → representative listed state ≢ 0 → IsState table (representative listed state)
-  pub equivalent : (state : ℕ) → representative listed state ≢ 0 → AreEquivalent table state (representative listed state)
-  pub same : (p q : ℕ) → IsState table p → IsState table q → AreEquivalent table p q → representative listed p ≡ representative listed q
+  pub equivalent : (state : ℕ) → representative listed state ≢ 0
+      → AreEquivalent table state (representative listed state)
+  pub same : (p q : ℕ) → IsState table p → IsState table q → AreEquivalent table p q
+      → representative listed p ≡ representative listed q

@@ -22,6 +22,9 @@ pub record AreFirsts (table : Table) (classes : List ℕ) (done : ℕ) (firsts l
   pub one_each : length firsts ≡ suc (length table.rows)
   pub all_done : length listed + 1 ≡ done
   pub none : get_or firsts 0 0 ≡ 0
-  pub first : (class : ℕ) → get_or firsts class 0 ≢ 0 → IsState table (get_or firsts class 0) × (class_of classes (get_or firsts class 0) ≡ class)
-  pub listed_each : (place : ℕ) → suc place < done → get_or listed place 0 ≡ get_or firsts (class_of classes (suc place)) 0
-  pub some : (place : ℕ) → suc place < done → class_of classes (suc place) ≢ 0 → get_or firsts (class_of classes (suc place)) 0 ≢ 0
+  pub first : (class : ℕ) → get_or firsts class 0 ≢ 0 → IsState table (get_or firsts class 0)
+      × (class_of classes (get_or firsts class 0) ≡ class)
+  pub listed_each : (place : ℕ) → suc place < done
+      → get_or listed place 0 ≡ get_or firsts (class_of classes (suc place)) 0
+  pub some : (place : ℕ) → suc place < done → class_of classes (suc place) ≢ 0
+      → get_or firsts (class_of classes (suc place)) 0 ≢ 0

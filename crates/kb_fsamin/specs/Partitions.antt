@@ -27,13 +27,16 @@ pub record IsMember (of elements places : List ℕ) (part place : ℕ) : Type 0 
 -- The first items, as many as are done, stand in the ranges of their parts, and nothing else stands there.
 pub record Stand (of : List ℕ) (done : ℕ) (elements places : List ℕ) (parts : List Part) : Type 0 where
   pub placed : (item : ℕ) → item < done → IsPlaced of elements places parts item
-  pub within : (part place : ℕ) → part < length parts → (range_of parts part).first ≤ place → place < (range_of parts part).past
+  pub within : (part place : ℕ) → part < length parts → (range_of parts part).first ≤ place
+      → place < (range_of parts part).past
       → get_or elements place 0 < done
-  pub member : (part place : ℕ) → part < length parts → (range_of parts part).first ≤ place → place < (range_of parts part).past
+  pub member : (part place : ℕ) → part < length parts → (range_of parts part).first ≤ place
+      → place < (range_of parts part).past
       → IsMember of elements places part place
   pub fits : (part : ℕ) → part < length parts → (range_of parts part).past ≤ length elements
   pub order : (part : ℕ) → part < length parts
-      → ((range_of parts part).first ≤ (range_of parts part).middle) × ((range_of parts part).middle ≤ (range_of parts part).past)
+      → ((range_of parts part).first ≤ (range_of parts part).middle)
+      × ((range_of parts part).middle ≤ (range_of parts part).past)
 
 -- the item stands among the marked items of its part
 abbrev pub IsMarked : List ℕ → List ℕ → List Part → ℕ → Type 0
@@ -73,7 +76,8 @@ pub record IsSplitBy (items old new : List ℕ) : Type 0 where
 pub record IsMarkedMore (item : ℕ) (old new : Partition) : Type 0 where
   pub of_is : new.of.items ≡ old.of.items
   pub count : length new.parts.items ≡ length old.parts.items
-  pub marked : (other : ℕ) → other < length old.of.items → IsMarkedIn new other ↔ (IsMarkedIn old other ⊎ (other ≡ item))
+  pub marked : (other : ℕ) → other < length old.of.items → IsMarkedIn new other
+      ↔ (IsMarkedIn old other ⊎ (other ≡ item))
 
 -- The part is split into its marked items and the others, none of which is marked; other parts are as they were.
 pub record IsDivided (part : ℕ) (old new : Partition) : Type 0 where
@@ -84,7 +88,8 @@ pub record IsDivided (part : ℕ) (old new : Partition) : Type 0 where
   pub splits : (one other : ℕ) → one < length old.of.items → other < length old.of.items
       → part_of new.of.items one ≡ part_of new.of.items other → part_of old.of.items one ≡ part_of old.of.items other
   pub cleared : (item : ℕ) → item < length old.of.items → part_of old.of.items item ≡ part → ¬ IsMarkedIn new item
-  pub kept : (item : ℕ) → item < length old.of.items → part_of old.of.items item ≢ part → IsMarkedIn new item ↔ IsMarkedIn old item
+  pub kept : (item : ℕ) → item < length old.of.items → part_of old.of.items item ≢ part
+      → IsMarkedIn new item ↔ IsMarkedIn old item
 
 -- The parts are those of before, and the items in the list are marked.
 pub record AreMarked (items : List ℕ) (old new : Partition) : Type 0 where
@@ -122,7 +127,8 @@ pub record AreMembers (of : List ℕ) (part : ℕ) (listed : List ℕ) : Type 0 
 
 -- what stands in the range of a part
 abbrev pub group_of : Groups → ℕ → List ℕ
-group_of groups part = slice_range groups.elements.items (range_of groups.parts.items part).first (range_of groups.parts.items part).past
+group_of groups part =
+    slice_range groups.elements.items (range_of groups.parts.items part).first (range_of groups.parts.items part).past
 
 -- the ranges are within what stands there
 abbrev pub AreWithin : Groups → Type 0
@@ -136,7 +142,8 @@ AreGroups of groups = (part : ℕ) → part < length groups.parts.items → AreM
 
 -- the list has what stands in the ranges of these parts
 pub record AreGathered (groups : Groups) (chosen listed : List ℕ) : Type 0 where
-  pub sound : (item : ℕ) → Contains listed item → (part : ℕ) × Contains chosen part × Contains (group_of groups part) item
+  pub sound : (item : ℕ) → Contains listed item → (part : ℕ) × Contains chosen part
+      × Contains (group_of groups part) item
   pub complete : (part item : ℕ) → Contains chosen part → Contains (group_of groups part) item → Contains listed item
 
 -- how many of the items have the part
@@ -153,13 +160,15 @@ pub record AreCounts (of : List ℕ) (done count : ℕ) (counts : List ℕ) : Ty
 pub record AreRanges (counts : List ℕ) (done : ℕ) (parts : List Part) : Type 0 where
   pub one_each : length parts ≡ done
   pub empty : (part : ℕ) → part < done
-      → range_of parts part ≡ record { first = sum (take part counts); middle = sum (take part counts); past = sum (take part counts) }
+      → range_of parts part ≡ record
+      { first = sum (take part counts); middle = sum (take part counts); past = sum (take part counts) }
 
 -- Ranges with room for as many items have the first items, as many as are done.
 pub record AreFilled (of counts : List ℕ) (done : ℕ) (elements places : List ℕ) (parts : List Part) : Type 0 where
   pub one_each : length parts ≡ length counts
   pub first : (part : ℕ) → part < length counts → (range_of parts part).first ≡ sum (take part counts)
-  pub past : (part : ℕ) → part < length counts → (range_of parts part).past ≡ sum (take part counts) + occurrences part (take done of)
+  pub past : (part : ℕ) → part < length counts
+      → (range_of parts part).past ≡ sum (take part counts) + occurrences part (take done of)
   pub none_marked : (part : ℕ) → part < length counts → (range_of parts part).middle ≡ sum (take part counts)
   pub element_each : length elements ≡ length of
   pub place_each : length places ≡ done

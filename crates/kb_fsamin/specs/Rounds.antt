@@ -26,7 +26,8 @@ sight table classes state = (class_of classes state, class_row classes (moves_of
 
 -- Classes are numbered from 1 in the order of their first states: none is by more than 1 above those before it.
 abbrev pub IsFirstSeen : List ℕ → ℕ → Type 0
-IsFirstSeen classes done = (state most : ℕ) → state < done → ((earlier : ℕ) → earlier < state → class_of classes earlier ≤ most)
+IsFirstSeen classes done =
+    (state most : ℕ) → state < done → ((earlier : ℕ) → earlier < state → class_of classes earlier ≤ most)
     → class_of classes state ≤ suc most
 
 -- The first states, as many as are done, have new classes: the place, from 1 on, of what is seen of them.
@@ -63,9 +64,11 @@ pub record IsClassing (table : Table) (classes : List ℕ) : Type 0 where
   pub one_each : length classes ≡ suc (length table.rows)
   pub none : class_of classes 0 ≡ 0
   pub live : (state : ℕ) → IsState table state → class_of classes state ≢ 0 ↔ IsLive table state
-  pub accepting : (p q : ℕ) → IsState table p → IsState table q → class_of classes p ≢ 0 → class_of classes p ≡ class_of classes q
+  pub accepting : (p q : ℕ) → IsState table p → IsState table q → class_of classes p ≢ 0
+      → class_of classes p ≡ class_of classes q
       → is_accepting table p ≡ is_accepting table q
-  pub respects : (p q : ℕ) → IsState table p → IsState table q → AreEquivalent table p q → class_of classes p ≡ class_of classes q
+  pub respects : (p q : ℕ) → IsState table p → IsState table q → AreEquivalent table p q
+      → class_of classes p ≡ class_of classes q
 
 -- What is seen is put at the end of the list, where it isn't there yet; the number is its place.
 pub record Inserted {X : Type 0} (seen seen' : List X) (x : X) (number : ℕ) : Type 0 where
@@ -83,7 +86,8 @@ sight_of signature = (signature.class, signature.moves.items)
 
 -- states of one class have one right language
 abbrev pub IsStable : Table → List ℕ → Type 0
-IsStable table classes = (p q : ℕ) → IsState table p → IsState table q → class_of classes p ≢ 0 → class_of classes p ≡ class_of classes q
+IsStable table classes =
+    (p q : ℕ) → IsState table p → IsState table q → class_of classes p ≢ 0 → class_of classes p ≡ class_of classes q
     → AreEquivalent table p q
 
 -- A state has its own number for class, and the row of another state has the same class row as its own.

@@ -11,7 +11,8 @@ use Rattle.kb_fsamin.specs.declared.partition.Partition.{Partition}
 pub record AreNumbered (symbols : List ℕ) (done : ℕ) (seen numbers : List ℕ) : Type 0 where
   pub one_each : length numbers ≡ done
   pub few : length seen ≤ done
-  pub place : (k : ℕ) → k < done → (part_of numbers k < length seen) × (get_or seen (part_of numbers k) 0 ≡ get_or symbols k 0)
+  pub place : (k : ℕ) → k < done → (part_of numbers k < length seen)
+      × (get_or seen (part_of numbers k) 0 ≡ get_or symbols k 0)
   pub distinct : (j k : ℕ) → j < length seen → k < length seen → get_or seen j 0 ≡ get_or seen k 0 → j ≡ k
 
 -- the list has the moves into the block
@@ -42,10 +43,13 @@ pub record ArePaired (edges : List (ℕ × ℕ)) (start : List ℕ) (blocks cord
 -- States of one right language are in one block, and moves by one symbol to such states in one cord. Blocks are within
 -- the classes that they came from.
 pub record IsSplitting (table : Table) (edges : List (ℕ × ℕ)) (symbols start blocks cords : List ℕ) : Type 0 where
-  pub one_block : (p q : ℕ) → p < length start → q < length start → AreEquivalent table p q → part_of blocks p ≡ part_of blocks q
-  pub one_cord : (move other : ℕ) → move < length edges → other < length edges → get_or symbols move 0 ≡ get_or symbols other 0
+  pub one_block : (p q : ℕ) → p < length start → q < length start → AreEquivalent table p q
+      → part_of blocks p ≡ part_of blocks q
+  pub one_cord : (move other : ℕ) → move < length edges → other < length edges
+      → get_or symbols move 0 ≡ get_or symbols other 0
       → AreEquivalent table (source edges move) (source edges other) → part_of cords move ≡ part_of cords other
-  pub refines : (p q : ℕ) → p < length start → q < length start → part_of blocks p ≡ part_of blocks q → class_of start p ≡ class_of start q
+  pub refines : (p q : ℕ) → p < length start → q < length start → part_of blocks p ≡ part_of blocks q
+      → class_of start p ≡ class_of start q
 
 -- for whatever table has these moves and classes, the splitting goes on
 abbrev pub KeepsSplitting : List (ℕ × ℕ) → List ℕ → List ℕ → Partition → Partition → Partition → Partition → Type 0
@@ -58,7 +62,8 @@ KeepsSplitting edges symbols start blocks cords blocks' cords' = (table : Table)
 pub record AreClassesOfBlocks (start : List ℕ) (blocks : Partition) (done : ℕ) (classes : List ℕ) : Type 0 where
   pub one_each : length classes ≡ done
   pub dead : (state : ℕ) → state < done → class_of start state ≡ 0 → class_of classes state ≡ 0
-  pub live : (state : ℕ) → state < done → class_of start state ≢ 0 → class_of classes state ≡ first_of blocks (part_of blocks.of.items state)
+  pub live : (state : ℕ) → state < done → class_of start state ≢ 0
+      → class_of classes state ≡ first_of blocks (part_of blocks.of.items state)
 
 -- where each move leads
 abbrev pub targets : List (ℕ × ℕ) → List ℕ

@@ -12,7 +12,8 @@ pub record IsGiven (automaton : Automaton) (min max : ℕ) (word : List ℕ) : T
   pub most_length : length word ≤ max
 
 -- what every enumeration keeps
-pub record IsEnumerating (automaton : Automaton) (min max : ℕ) (layers : Option Layering) (given : Option (List ℕ)) : Type 0 where
+pub record IsEnumerating (automaton : Automaton) (min max : ℕ) (layers : Option Layering)
+    (given : Option (List ℕ)) : Type 0 where
   pub plain : (n : ℕ) × (automaton.alphabet ≡ Plain n)
   pub table : IfSome layers (λ layering. layering.table ≡ automaton.table)
   pub last : IfSome given (IsGiven automaton min max)

@@ -34,7 +34,9 @@ pub record ComesRound (start count k place : ℕ) : Type 0 where
 
 -- the rows have the table's moves, each turned round
 abbrev pub AreTurned : Table → List Moves → Type 0
-AreTurned table rows = (place symbol source : ℕ) → Contains (get_or rows place []) (symbol, source) ↔ Contains (moves_of table source) (symbol, suc place)
+AreTurned table rows =
+    (place symbol source : ℕ) → Contains (get_or rows place []) (symbol, source)
+    ↔ Contains (moves_of table source) (symbol, suc place)
 
 -- where the moves of these states lead
 abbrev pub targets_of_each : List Moves → List ℕ → List ℕ

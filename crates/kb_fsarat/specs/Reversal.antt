@@ -7,7 +7,8 @@ use Rattle.kb_fsadet.specs.Nondeterministic.{Nondeterministic, accepts_at}
 -- the rows have the moves that they had before, and those that are added to the row of a place
 pub record HaveAdded (before after : List Moves) (Added : ℕ → ℕ × ℕ → Type 0) : Type 0 where
   pub one_row_each : length after ≡ length before
-  pub moves : (place : ℕ) (move : ℕ × ℕ) → Contains (get_or after place []) move ↔ (Contains (get_or before place []) move ⊎ Added place move)
+  pub moves : (place : ℕ) (move : ℕ × ℕ) → Contains (get_or after place []) move
+      ↔ (Contains (get_or before place []) move ⊎ Added place move)
 
 -- the move leads back to the state by one of its moves to the state of the place
 abbrev pub TurnsOne : ℕ → Moves → ℕ → ℕ × ℕ → Type 0

@@ -18,7 +18,8 @@ pub record IsCompleted (table : Table) (k state : ℕ) (front text : List ℕ) :
 
 -- no text as long leads from the state to acceptance and is later
 abbrev pub NoneLater : Table → ℕ → List ℕ → Type 0
-NoneLater table state text = (other : List ℕ) → length other ≡ length text → AcceptsFrom table state other → ¬ IsEarlier text other
+NoneLater table state text =
+    (other : List ℕ) → length other ≡ length text → AcceptsFrom table state other → ¬ IsEarlier text other
 
 -- of the later texts, as long, that lead from the state to acceptance the next one is the earliest
 pub record IsNextFrom (table : Table) (state : ℕ) (text next : List ℕ) : Type 0 where

@@ -10,7 +10,8 @@ use Rattle.kb_lines.specs.declared.stop.Stop.{Stop}
 use Rattle.kb_lines.specs.declared.stop.Stop.TheVariants.{Refused, TooLong, Input, Output, Memory}
 
 -- the input was read to its end, it is no longer than may be, and each line of it was answered
-pub record AllAnswered (parts : PresentationParts) (Answers : List ℕ → List ℕ → Type 0) (before after : Streams) : Type 0 where
+pub record AllAnswered (parts : PresentationParts) (Answers : List ℕ → List ℕ → Type 0)
+    (before after : Streams) : Type 0 where
   pub ended : after.input.left ≡ []
   pub short : length before.input.left ≤ most_input
   pub lines : List (List ℕ)
@@ -31,7 +32,8 @@ pub record EndedAnswered (parts : PresentationParts) (Answers : List ℕ → Lis
   pub sent : Sends given before after
 
 -- a front of what lines at the front of the input give was sent
-pub record FrontAnswered (parts : PresentationParts) (Answers : List ℕ → List ℕ → Type 0) (before after : Streams) : Type 0 where
+pub record FrontAnswered (parts : PresentationParts) (Answers : List ℕ → List ℕ → Type 0)
+    (before after : Streams) : Type 0 where
   pub lines : List (List ℕ)
   pub each : AllByRecursion IsOneLine lines
   pub rest : List ℕ
@@ -52,7 +54,8 @@ pub record RefusedAt (parts : PresentationParts) (Answers : List ℕ → List �
 
 -- What is true after each stop, where these bytes were taken.
 abbrev pub StopMeans : PresentationParts → (List ℕ → List ℕ → Type 0) → List ℕ → Streams → Streams → Stop → Type 0
-StopMeans parts Answers taken before after (Refused number fault) = RefusedAt parts Answers number fault taken before after
+StopMeans parts Answers taken before after (Refused number fault) =
+    RefusedAt parts Answers number fault taken before after
 StopMeans parts Answers taken before after TooLong =
     (most_input < length taken) × EndedAnswered parts Answers (take most_input before.input.left) before after
 StopMeans parts Answers taken before after Input =
@@ -61,7 +64,8 @@ StopMeans parts Answers taken before after Output = FrontAnswered parts Answers 
 StopMeans parts Answers taken before after Memory = FrontAnswered parts Answers before after
 
 -- what is true after a stop: these bytes were taken of the input, the others are left, and what was answered
-pub record Stops (parts : PresentationParts) (Answers : List ℕ → List ℕ → Type 0) (before after : Streams) (stop : Stop) : Type 0 where
+pub record Stops (parts : PresentationParts) (Answers : List ℕ → List ℕ → Type 0) (before after : Streams)
+    (stop : Stop) : Type 0 where
   pub taken : List ℕ
   pub takes : Takes taken before after
   pub means : StopMeans parts Answers taken before after stop

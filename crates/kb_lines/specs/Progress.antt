@@ -99,7 +99,8 @@ pub record RefusesIn (parts : PresentationParts) (Answers : List ℕ → List �
   pub sent : after.written ≡ before.written ++ (old.pending.items ++ given)
 
 -- what is true where a line among the bytes stops the answers
-abbrev pub StopsIn : PresentationParts → (List ℕ → List ℕ → Type 0) → List ℕ → Progress → SinkState → SinkState → Stop → Type 0
+abbrev pub StopsIn : PresentationParts → (List ℕ → List ℕ → Type 0) → List ℕ → Progress → SinkState → SinkState
+    → Stop → Type 0
 StopsIn parts Answers bytes old before after (Refused number fault) =
     RefusesIn parts Answers bytes old before after number fault
 StopsIn parts Answers bytes old before after Output = FrontIn parts Answers bytes old before after

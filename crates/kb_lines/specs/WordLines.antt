@@ -34,7 +34,8 @@ IsFunction Answers = (w m n : List ℕ) → Answers w m → Answers w n → m �
 
 -- A line of blanks and comment alone gives nothing. Another line that is a word gives the word that answers it, and a
 -- newline.
-pub data LineGives (parts : PresentationParts) (Answers : List ℕ → List ℕ → Type 0) (line : List ℕ) : List ℕ → Type 0 where
+pub data LineGives (parts : PresentationParts) (Answers : List ℕ → List ℕ → Type 0) (line : List ℕ) : List ℕ
+    → Type 0 where
   blank : after_gap line ≡ [] → LineGives parts Answers line []
   word : {w m : List ℕ} → after_gap line ≢ [] → Meaning line parts.names parts.inverses (Ok w) → Answers w m
       → LineGives parts Answers line (text_of_word parts.names m ++ newline ∷ [])
@@ -74,7 +75,8 @@ pub record IsFirstRefused (parts : PresentationParts) (Answers : List ℕ → Li
   pub faulty : LineHasFault parts line fault
 
 -- what the line gives was added to what was pending
-pub record AddsGiven (parts : PresentationParts) (Answers : List ℕ → List ℕ → Type 0) (line pending pending' : List ℕ) : Type 0 where
+pub record AddsGiven (parts : PresentationParts) (Answers : List ℕ → List ℕ → Type 0)
+    (line pending pending' : List ℕ) : Type 0 where
   pub given : List ℕ
   pub gives : LineGives parts Answers line given
   pub added : pending' ≡ pending ++ given

@@ -42,7 +42,8 @@ IsAutomatonFault kind files name NotPairs = (kind ≡ Pairs) × HoldsOtherKind k
 IsAutomatonFault kind files name _ = ⊥
 
 -- the file holds an automaton of the kind, over other letters or of the other kind than the first one
-pub record HoldsOtherAlphabet (kind : Kind) (names : List (List ℕ)) (alphabet : Alphabet) (files : Files) (name : List ℕ) : Type 0 where
+pub record HoldsOtherAlphabet (kind : Kind) (names : List (List ℕ)) (alphabet : Alphabet) (files : Files)
+    (name : List ℕ) : Type 0 where
   pub others : List (List ℕ)
   pub automaton : Automaton
   pub holds : HoldsAutomaton files name others automaton

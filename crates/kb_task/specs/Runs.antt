@@ -19,7 +19,8 @@ FaultIsCounted before after status = IfSome (fault_of status) (HasFailed before 
 
 -- every file is as it was, but those that may be stored
 abbrev pub HoldsSameBesides : (List ℕ → Type 0) → Outside → Outside → Type 0
-HoldsSameBesides MayStore before after = (name : List ℕ) → ¬ MayStore name → after.shelf.holds name ≡ before.shelf.holds name
+HoldsSameBesides MayStore before after =
+    (name : List ℕ) → ¬ MayStore name → after.shelf.holds name ≡ before.shelf.holds name
 
 -- A run from one moment of the outside to another that ended with the status: what the status means, where the outside
 -- tells its bytes; and, also where it doesn't, the cause of a fault, and that counts never fall and other files stay.
@@ -38,7 +39,8 @@ ReadsSame IsRead one other = (name : List ℕ) → IsRead name → one.shelf.hol
 abbrev pub LeavesSame : Outside → Outside → Outside → Outside → List ℕ → Type 0
 LeavesSame before after other_before other_after name =
     (after.shelf.holds name ≡ other_after.shelf.holds name)
-    ⊎ ((after.shelf.holds name ≡ before.shelf.holds name) × (other_after.shelf.holds name ≡ other_before.shelf.holds name))
+    ⊎ ((after.shelf.holds name ≡ before.shelf.holds name)
+    × (other_after.shelf.holds name ≡ other_before.shelf.holds name))
 
 -- two runs wrote the same bytes, and stored the same
 pub record HasSameEffect (MayStore : List ℕ → Type 0) (before after other_before other_after : Outside) : Type 0 where
@@ -56,8 +58,10 @@ IsComplete {Task} Means IsUnrefused Answers = (task : Task) (before after : Outs
 -- The files that are read settle the answer: two runs of one command with statuses that the files settle have one status.
 abbrev pub IsSettledByFiles : {Task : Type 0} → (Task → Outside → Outside → Status → Type 0) → (Task → List ℕ → Type 0)
     → (Task → Status → Type 0) → Type 0
-IsSettledByFiles {Task} Means IsRead Settles = (task : Task) (before after other_before other_after : Outside) (status other : Status)
-    → Means task before after status → Means task other_before other_after other → ReadsSame (IsRead task) before other_before
+IsSettledByFiles {Task} Means IsRead Settles =
+    (task : Task) (before after other_before other_after : Outside) (status other : Status)
+    → Means task before after status → Means task other_before other_after other
+    → ReadsSame (IsRead task) before other_before
     → Settles task status → Settles task other → status ≡ other
 
 -- What status 0 writes and stores is one function of the command without its options, of the files that are read and
@@ -67,5 +71,6 @@ abbrev pub IsFunctionOfInputs : {Task : Type 0} → (Task → Outside → Outsid
 IsFunctionOfInputs {Task} Means DifferInOptions IsRead MayStore =
     (task other_task : Task) (before after other_before other_after : Outside) (status other : Status)
     → Means task before after status → Means other_task other_before other_after other → IsYes status → IsYes other
-    → DifferInOptions task other_task → ReadsSame (IsRead task) before other_before → before.input.left ≡ other_before.input.left
+    → DifferInOptions task other_task → ReadsSame (IsRead task) before other_before
+    → before.input.left ≡ other_before.input.left
     → HasSameEffect (MayStore task) before after other_before other_after

@@ -40,7 +40,8 @@ abbrev pub dictionary : ℕ → Automaton → Machine ℕ
 dictionary n automaton = record {
   start = Some 0;
   follow = λ state letter. if may_move n automaton state letter
-      then unless_left_side automaton (state_after automaton.edges.items (word automaton.edges.items state ++ letter ∷ []))
+      then unless_left_side automaton
+      (state_after automaton.edges.items (word automaton.edges.items state ++ letter ∷ []))
       else None;
   accepts = λ state. true;
 }

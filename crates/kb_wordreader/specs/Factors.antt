@@ -20,21 +20,26 @@ pub record NameFront (names : List (List ℕ)) (text rest letters : List ℕ) : 
   pub means : name_meaning names spelling ≡ Ok letters
 
 -- what a power makes of the letters before it; no power leaves them
-pub record PowerFront (names : List (List ℕ)) (inverses : List (Option ℕ)) (text rest base letters : List ℕ) : Type 0 where
+pub record PowerFront (names : List (List ℕ)) (inverses : List (Option ℕ))
+    (text rest base letters : List ℕ) : Type 0 where
   pub power : Option ℤ
   pub onward : (tokens : List Token) → TokensOf rest tokens → TokensOf text (power_tokens power ++ tokens)
   pub means : power_meaning names inverses power base ≡ Ok letters
 
 -- a factor stands in front, up to its power
-pub record BaseFront (names : List (List ℕ)) (inverses : List (Option ℕ)) (depth : ℕ) (text rest letters : List ℕ) : Type 0 where
+pub record BaseFront (names : List (List ℕ)) (inverses : List (Option ℕ)) (depth : ℕ)
+    (text rest letters : List ℕ) : Type 0 where
   pub tree : Option ℤ → Factor
   pub formed : (power : Option ℤ) → IsFactorTree (tree power)
   pub shallow : (power : Option ℤ) → factor_nesting (tree power) ≤ depth
-  pub onward : (power : Option ℤ) (tokens : List Token) → TokensOf rest (power_tokens power ++ tokens) → TokensOf text (factor_tokens (tree power) ++ tokens)
-  pub means : (power : Option ℤ) → factor_meaning names inverses (tree power) ≡ power_meaning names inverses power letters
+  pub onward : (power : Option ℤ) (tokens : List Token) → TokensOf rest (power_tokens power ++ tokens)
+      → TokensOf text (factor_tokens (tree power) ++ tokens)
+  pub means : (power : Option ℤ)
+      → factor_meaning names inverses (tree power) ≡ power_meaning names inverses power letters
 
 -- a factor stands in front
-pub record FactorFront (names : List (List ℕ)) (inverses : List (Option ℕ)) (depth : ℕ) (text rest letters : List ℕ) : Type 0 where
+pub record FactorFront (names : List (List ℕ)) (inverses : List (Option ℕ)) (depth : ℕ)
+    (text rest letters : List ℕ) : Type 0 where
   pub tree : Factor
   pub formed : IsFactorTree tree
   pub shallow : factor_nesting tree ≤ depth
@@ -42,7 +47,8 @@ pub record FactorFront (names : List (List ℕ)) (inverses : List (Option ℕ)) 
   pub means : factor_meaning names inverses tree ≡ Ok letters
 
 -- factors joined by `*` stand in front
-pub record FactorsFront (names : List (List ℕ)) (inverses : List (Option ℕ)) (depth : ℕ) (text rest letters : List ℕ) : Type 0 where
+pub record FactorsFront (names : List (List ℕ)) (inverses : List (Option ℕ)) (depth : ℕ)
+    (text rest letters : List ℕ) : Type 0 where
   pub tree : Factors
   pub formed : IsWord tree
   pub shallow : word_nesting tree ≤ depth
@@ -50,7 +56,8 @@ pub record FactorsFront (names : List (List ℕ)) (inverses : List (Option ℕ))
   pub means : product_meaning names inverses [] tree ≡ Ok letters
 
 -- factors joined by `*` and a closing bracket stand in front
-pub record GroupFront (names : List (List ℕ)) (inverses : List (Option ℕ)) (depth : ℕ) (text rest letters : List ℕ) : Type 0 where
+pub record GroupFront (names : List (List ℕ)) (inverses : List (Option ℕ)) (depth : ℕ)
+    (text rest letters : List ℕ) : Type 0 where
   pub tree : Factors
   pub formed : IsWord tree
   pub shallow : word_nesting tree < depth

@@ -28,13 +28,15 @@ Takes names so_far text None w (Some fault) = Evaluates (times_name names so_far
 Takes names so_far text (Some fault) w next = next ≡ Some fault
 
 -- the name at the front of a text was taken
-pub record TakesFirst (names : List (List ℕ)) (text rest old : List ℕ) (before : Option WordError) (new : List ℕ) (after : Option WordError) : Type 0 where
+pub record TakesFirst (names : List (List ℕ)) (text rest old : List ℕ) (before : Option WordError)
+    (new : List ℕ) (after : Option WordError) : Type 0 where
   pub spelling : List ℕ
   pub first : FirstToken (after_gap text) (name spelling) rest
   pub takes : Takes names old spelling before new after
 
 -- what the whole means where others are still to come: what they mean behind the word so far, or the fault that was met
-abbrev pub SoFar : List (List ℕ) → List (Option ℕ) → List ℕ → Factors → Result (List ℕ) WordFault → Option WordError → Type 0
+abbrev pub SoFar : List (List ℕ) → List (Option ℕ) → List ℕ → Factors → Result (List ℕ) WordFault
+    → Option WordError → Type 0
 SoFar names inverses w others whole None = whole ≡ product_meaning names inverses w others
 SoFar names inverses w others whole (Some fault) = Evaluates whole (Err fault)
 
@@ -42,4 +44,5 @@ SoFar names inverses w others whole (Some fault) = Evaluates whole (Err fault)
 pub record Passed (names : List (List ℕ)) (bytes rest w : List ℕ) (fault : Option WordError) : Type 0 where
   pub texts : List (List ℕ)
   pub onward : (tokens : List Token) → TokensOf rest tokens → TokensOf bytes (starred texts ++ tokens)
-  pub means : (inverses : List (Option ℕ)) (others : Factors) → SoFar names inverses w others (product_meaning names inverses [] (before texts others)) fault
+  pub means : (inverses : List (Option ℕ)) (others : Factors)
+      → SoFar names inverses w others (product_meaning names inverses [] (before texts others)) fault

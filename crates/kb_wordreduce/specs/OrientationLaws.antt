@@ -6,7 +6,8 @@ use Rattle.kb_word.specs.Relations.{IsOrientation, Orients, none_left, equal_sid
 
 module _ {below : List ℕ → List ℕ → Type 0} (order : IsReductionOrder below) where
   -- one orientation at most
-  pub one_orientation : (pair one other : Pair) → IsOrientation below pair one → IsOrientation below pair other → one ≡ other
+  pub one_orientation : (pair one other : Pair) → IsOrientation below pair one → IsOrientation below pair other
+      → one ≡ other
   one_orientation pair one other a b = elim a.1 [
     | inl as_is ↦ elim b.1 [
       | inl too ↦ as_is ∙ sym too
@@ -39,17 +40,20 @@ module _ {below : List ℕ → List ℕ → Type 0} (order : IsReductionOrder be
       ⊎ ((rule : Pair) × (more : List Pair) × IsOrientation below pair rule × (¬ OneOf standing rule)
       × Orients below (standing ++ rule ∷ []) rest more × (rules ≡ rule ∷ more)))
 
-  inverted : {standing relations rules : List Pair} → Orients below standing relations rules → Inverted standing relations rules
+  inverted : {standing relations rules : List Pair} → Orients below standing relations rules
+      → Inverted standing relations rules
   inverted none_left = refl
   inverted (equal_sides h) = inl (refl, h)
   inverted (repeated {rule = rule} is stands h) = inr (inl (rule, is, stands, h))
   inverted (added {rules = rules} {rule = rule} is fresh h) = inr (inr (rule, rules, is, fresh, h, refl))
 
   not_equal : (pair rule : Pair) → pair.0 ≡ pair.1 → ¬ IsOrientation below pair rule
-  not_equal pair rule same is = equal_not_oriented pair.0 rule (subst (λ r. IsOrientation below (pair.0, r) rule) (sym same) is)
+  not_equal pair rule same is =
+      equal_not_oriented pair.0 rule (subst (λ r. IsOrientation below (pair.0, r) rule) (sym same) is)
 
   -- relations are oriented in one way
-  pub one_orienting : (standing relations one other : List Pair) → Orients below standing relations one → Orients below standing relations other → one ≡ other
+  pub one_orienting : (standing relations one other : List Pair) → Orients below standing relations one
+      → Orients below standing relations other → one ≡ other
   one_orienting standing [] one other a b = inverted a ∙ sym (inverted b)
   one_orienting standing (pair ∷ rest) one other a b =
       by_cases (λ s u v g h. one_orienting s rest u v g h) (inverted a) (inverted b)
@@ -70,5 +74,7 @@ module _ {below : List ℕ → List ℕ → Type 0} (order : IsReductionOrder be
           absurd (g.3 (subst (OneOf standing) same h.2))
       by_cases again (inr (inr g)) (inr (inr h)) =
           let same = one_orientation pair g.0 h.0 g.2 h.2 in
-          let rest_same = again (standing ++ h.0 ∷ []) g.1 h.1 (subst (λ r. Orients below (standing ++ r ∷ []) rest g.1) same g.4) h.4 in
+          let rest_same =
+          again (standing ++ h.0 ∷ []) g.1 h.1
+          (subst (λ r. Orients below (standing ++ r ∷ []) rest g.1) same g.4) h.4 in
           g.5 ∙ (ap₂ (λ r l. r ∷ l) same rest_same ∙ sym h.5)

@@ -53,7 +53,8 @@ AnswersMean parts before after _ = ⊥
 abbrev pub WordReduceMeans : Given → Outside → Outside → Status → Type 0
 WordReduceMeans given before after status =
     (EndsAtLoad (IsPresentationFault before.shelf.holds given.file) given.file status × IsUnchanged before after)
-    ⊎ ((parts : PresentationParts) × HoldsPresentation before.shelf.holds given.file parts × AnswersMean parts before after status)
+    ⊎ ((parts : PresentationParts) × HoldsPresentation before.shelf.holds given.file parts
+    × AnswersMean parts before after status)
 
 -- nothing is stored, and one file is read
 abbrev pub StoresNothing : List ℕ → Type 0
