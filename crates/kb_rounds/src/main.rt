@@ -1,0 +1,47 @@
+//! Makes the word acceptors and multipliers of groups by word differences, and compares and measures them.
+//!
+//! Each automaton is proved to accept exactly what the differences say. What no clause says is seen here: that the calls
+//! succeed where there are memory and room, how the automata are printed, and that the differences of a complete system's
+//! rules are enough for its acceptor, which is then that of the words that the rules leave. The program prints what it made
+//! and compared, and ends with status 1 where something differs. It compares groups of `data/`, each with a complete
+//! system of rules by the shortlex order, as `kb kbprog FILE` stores it in `FILE.kbprog`:
+//!
+//! - the infinite cyclic group and the free abelian group of rank 2,
+//! - the Coxeter group B3, the symmetries of the cube, each of whose generators is its own inverse,
+//! - the fundamental group of the closed orientable surface of genus 2,
+//! - PSL(2,Z), the group of the trefoil knot modulo its center.
+//!
+//! With the words `round FILE` on the command line it makes one round for the complete system in that file, and prints
+//! how large it is: the differences of the rules, the normal forms that their machine takes, and how many states of the
+//! acceptor and of the multipliers were explored. bench/run times these runs.
+//!
+//! # How it is made
+//!
+//! - `system` reads a complete system from a file, and `round` makes its automata.
+//! - `cyclic` shows those of the infinite cyclic group, and its differences and limits.
+//! - `comparison` compares acceptors with those of rules, and `measured` has the run that is timed.
+//! - `texts` has words and automata as they are printed, and `figures` how large a round is.
+//!
+//! Below are `kb_presfile`, which reads files, `kb_diff`, `kb_acceptor` and `kb_multipliers`, which make the automata, and
+//! `kb_wa` with the acceptor of rules; nothing is above.
+#![tactic(auto)]
+
+mod comparison;
+mod cyclic;
+mod figures;
+mod measured;
+mod round;
+mod system;
+mod texts;
+
+use anyhow::Context;
+
+fn main(rt: HostRuntime) -> anyhow::Result<()> {
+    let arguments = std::env::args(&rt).context("the command line")?;
+    let words = arguments.skip(1).collect::<Vec<String>>(rt.alloc())?;
+    if !words.is_empty() {
+        return measured::measure(&rt, words.as_slice());
+    }
+    cyclic::show(&rt)?;
+    comparison::compare(&rt)
+}
