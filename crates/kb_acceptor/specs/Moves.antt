@@ -24,7 +24,8 @@ abbrev pub StepsWithin : ℕ → (ℕ → ℕ → ℕ → ℕ) → Type 0
 StepsWithin differences step = (d a b : ℕ) → step d a b ≤ differences
 
 -- the move by a letter a leads from the rival to another one: its word goes on with a letter, or with the padding
-pub record GoesOn (n : ℕ) (step : ℕ → ℕ → ℕ → ℕ) (rival : Rival) (a : ℕ) (later : Rival) : Type 0 where
+pub record GoesOn (n : ℕ) (step : ℕ → ℕ → ℕ → ℕ) (rival : Rival) (a : ℕ)
+    (later : Rival) : Type 0 where
   pub b : ℕ
   pub positive : 0 < b
   pub letter : b ≤ n + 1
@@ -34,14 +35,16 @@ pub record GoesOn (n : ℕ) (step : ℕ → ℕ → ℕ → ℕ) (rival : Rival)
 
 -- a move of the automaton from the rival: its word goes on, or the first rival stays, as a new suffix begins
 pub data IsMove (n : ℕ) (step : ℕ → ℕ → ℕ → ℕ) (rival : Rival) (a next : ℕ) : Type 0 where
-  begins : 0 < a → a ≤ n → rival ≡ first_rival → next ≡ state_of first_rival → IsMove n step rival a next
+  begins : 0 < a → a ≤ n → rival ≡ first_rival → next ≡ state_of first_rival
+      → IsMove n step rival a next
   goes_on : (later : Rival) → 0 < a → a ≤ n → GoesOn n step rival a later → next ≡ state_of later
       → IsMove n step rival a next
 
 -- ---- how its moves are made
 
 -- the letter a of the suffix and the letter b of its own word, or the padding, lead a rival on to another one
-pub record IsLedOn (n : ℕ) (step : ℕ → ℕ → ℕ → ℕ) (rival : Rival) (a b : ℕ) (later : Rival) : Type 0 where
+pub record IsLedOn (n : ℕ) (step : ℕ → ℕ → ℕ → ℕ) (rival : Rival) (a b : ℕ)
+    (later : Rival) : Type 0 where
   pub difference : step rival.difference a b ≡ later.difference
   pub kept : 0 < later.difference
   pub comparison : compared n rival.comparison a b ≡ Some later.comparison
@@ -53,7 +56,8 @@ pub record IsStart (rival : Rival) (letter a next : ℕ) : Type 0 where
   pub target : next ≡ state_of first_rival
 
 -- a move by the letter, by which the rival's word goes on with a letter up to the bound
-pub record IsMoveOn (n : ℕ) (step : ℕ → ℕ → ℕ → ℕ) (rival : Rival) (letter bound a next : ℕ) : Type 0 where
+pub record IsMoveOn (n : ℕ) (step : ℕ → ℕ → ℕ → ℕ) (rival : Rival)
+    (letter bound a next : ℕ) : Type 0 where
   pub by_letter : a ≡ letter
   pub later : Rival
   pub going : GoesOn n step rival letter later
@@ -67,7 +71,8 @@ AddsStart rival letter old new =
 
 abbrev pub AddsMovesOn : ℕ → (ℕ → ℕ → ℕ → ℕ) → Rival → ℕ → ℕ → Moves → Moves → Type 0
 AddsMovesOn n step rival letter bound old new =
-    (a next : ℕ) → Contains new (a, next) ↔ (Contains old (a, next) ⊎ IsMoveOn n step rival letter bound a next)
+    (a next : ℕ) → Contains new (a, next)
+    ↔ (Contains old (a, next) ⊎ IsMoveOn n step rival letter bound a next)
 
 -- these are the moves from the rival
 abbrev pub AreMoves : ℕ → (ℕ → ℕ → ℕ → ℕ) → Rival → Moves → Type 0
@@ -76,7 +81,8 @@ AreMoves n step rival moves = (a next : ℕ) → Contains moves (a, next) ↔ Is
 -- ---- the whole
 
 -- the automaton has the rivals with the numbers of so many differences as its states
-pub record IsRivalAutomaton (n differences : ℕ) (step : ℕ → ℕ → ℕ → ℕ) (automaton : Nondeterministic) : Type 0 where
+pub record IsRivalAutomaton (n differences : ℕ) (step : ℕ → ℕ → ℕ → ℕ)
+    (automaton : Nondeterministic) : Type 0 where
   pub alphabet : automaton.alphabet ≡ Plain n
   pub initial : automaton.initial ≡ state_of first_rival ∷ []
   pub one_row_each : length automaton.rows ≡ differences * 4

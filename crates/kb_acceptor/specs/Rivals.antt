@@ -11,7 +11,8 @@ use Rattle.kb_acceptor.specs.Comparing.{Compares}
 
 -- The rival is that of the word v beside s: by differences that are kept the two lead from the empty word to the one
 -- with the rival's number, and v compares with s as the rival says.
-pub record IsRival (group : Group) (words : List (List ℕ)) (s v : List ℕ) (rival : Rival) : Type 0 where
+pub record IsRival (group : Group) (words : List (List ℕ)) (s v : List ℕ)
+    (rival : Rival) : Type 0 where
   pub letters : IsOver group.n v
   pub difference : List ℕ
   pub number : HasNumber words rival.difference difference
@@ -19,7 +20,8 @@ pub record IsRival (group : Group) (words : List (List ℕ)) (s v : List ℕ) (r
   pub compares : Compares s v rival.comparison
 
 -- the rival is that of some word beside some suffix of w
-pub record IsRivalAfter (group : Group) (words : List (List ℕ)) (w : List ℕ) (rival : Rival) : Type 0 where
+pub record IsRivalAfter (group : Group) (words : List (List ℕ)) (w : List ℕ)
+    (rival : Rival) : Type 0 where
   pub front : List ℕ
   pub suffix : List ℕ
   pub whole : w ≡ front ++ suffix
@@ -27,7 +29,8 @@ pub record IsRivalAfter (group : Group) (words : List (List ℕ)) (w : List ℕ)
   pub is_rival : IsRival group words suffix word rival
 
 -- the same, where w is accepted
-pub record IsRivalOfAccepted (group : Group) (words : List (List ℕ)) (w : List ℕ) (rival : Rival) : Type 0 where
+pub record IsRivalOfAccepted (group : Group) (words : List (List ℕ)) (w : List ℕ)
+    (rival : Rival) : Type 0 where
   pub accepted : DifferenceAcceptor group words w
   pub is_after : IsRivalAfter group words w rival
 

@@ -23,26 +23,33 @@ use Rattle.kb_automata.specs.declared.compare.Compare.{Compare}
 
 -- the line of a text that exactly one of two automata accepts: the word, or the pair of words
 pub data IsDifferenceLine (names : List (List ℕ)) (text : List ℕ) : Alphabet → List ℕ → Type 0 where
-  word : {n : ℕ} {line : List ℕ} → line ≡ codes "no equal " ++ text_of_word names text ++ newline ∷ []
+  word : {n : ℕ} {line : List ℕ}
+      → line ≡ codes "no equal " ++ text_of_word names text ++ newline ∷ []
       → IsDifferenceLine names text (Plain n) line
   pair : {n : ℕ} {line : List ℕ} (parts : IsPadded n text)
-      → line ≡ codes "no equal " ++ text_of_word names parts.first ++ codes " " ++ text_of_word names
+      → line ≡ codes "no equal " ++ text_of_word names parts.first ++ codes " "
+      ++ text_of_word names
       parts.second ++ newline ∷ []
       → IsDifferenceLine names text (Pair n) line
 
 -- the line that a comparison prints, and the status that it then has
-pub data IsComparisonLine (names : List (List ℕ)) (one two : Automaton) (most : ℕ) : List ℕ → Status → Type 0 where
+pub data IsComparisonLine (names : List (List ℕ)) (one two : Automaton) (most : ℕ) : List ℕ → Status
+    → Type 0 where
   same : SameLanguage one two → ¬ CountedOr one.table two.table most
       → IsComparisonLine names one two most (codes "yes\n") Yes
-  differ : {text line : List ℕ} → IsLeastDifference one two text → ¬ CountedOr one.table two.table most
-      → IsDifferenceLine names text one.alphabet line → IsComparisonLine names one two most line (No (NotEqual text))
+  differ : {text line : List ℕ} → IsLeastDifference one two text
+      → ¬ CountedOr one.table two.table most
+      → IsDifferenceLine names text one.alphabet line
+      → IsComparisonLine names one two most line (No (NotEqual text))
   undecided : CountedOr one.table two.table most
-      → IsComparisonLine names one two most (undecided_line (States Equal)) (Undecided (States Equal))
+      → IsComparisonLine names one two most (undecided_line (States Equal))
+      (Undecided (States Equal))
 
 -- the comparison's line was written with its status; or the output failed in it, or memory ran out before
 pub data ComparisonIsPrinted (names : List (List ℕ)) (one two : Automaton) (most : ℕ)
     (before after : List ℕ) : Status → Type 0 where
-  printed : {line : List ℕ} {status : Status} → IsComparisonLine names one two most line status → after ≡ before ++ line
+  printed : {line : List ℕ} {status : Status} → IsComparisonLine names one two most line status
+      → after ≡ before ++ line
       → ComparisonIsPrinted names one two most before after status
   failed : {line : List ℕ} {status : Status} → IsComparisonLine names one two most line status
       → AppendsPrefix before after line
@@ -50,7 +57,8 @@ pub data ComparisonIsPrinted (names : List (List ℕ)) (one two : Automaton) (mo
   no_memory : after ≡ before → ComparisonIsPrinted names one two most before after Memory
 
 -- the line of a difference was written, or a front of it; or memory ran out before
-abbrev pub DifferenceIsPrinted : List (List ℕ) → Alphabet → List ℕ → List ℕ → List ℕ → Status → Type 0
+abbrev pub DifferenceIsPrinted : List (List ℕ) → Alphabet → List ℕ → List ℕ → List ℕ → Status
+    → Type 0
 DifferenceIsPrinted names alphabet text before after status =
     ((line : List ℕ) × IsDifferenceLine names text alphabet line
     × (((status ≡ No (NotEqual text)) × (after ≡ before ++ line))

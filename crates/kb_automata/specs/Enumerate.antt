@@ -20,21 +20,24 @@ pub record IsAsked (automaton : Automaton) (least most : ℕ) (word : List ℕ) 
   pub most_length : length word ≤ most
 
 -- The words are asked for and ascend in the shortlex order, and no other that is asked for comes before their last.
-pub record AreFirstAsked (automaton : Automaton) (least most : ℕ) (words : List (List ℕ)) : Type 0 where
+pub record AreFirstAsked (automaton : Automaton) (least most : ℕ)
+    (words : List (List ℕ)) : Type 0 where
   pub ascend : AllPairs Less words
   pub asked : (word : List ℕ) → Contains words word → IsAsked automaton least most word
   pub none_before : (word other : List ℕ) → Contains words word → IsAsked automaton least most other
       → Less other word → Contains words other
 
 -- the words are all that are asked for
-pub record AreAllAsked (automaton : Automaton) (least most : ℕ) (words : List (List ℕ)) : Type 0 where
+pub record AreAllAsked (automaton : Automaton) (least most : ℕ)
+    (words : List (List ℕ)) : Type 0 where
   pub first : AreFirstAsked automaton least most words
   pub all : (word : List ℕ) → IsAsked automaton least most word → Contains words word
 
 -- the words, each on a line
 abbrev pub lines_of_words : List (List ℕ) → List (List ℕ) → List ℕ
 lines_of_words names [] = []
-lines_of_words names (first ∷ others) = text_of_word names first ++ newline ∷ lines_of_words names others
+lines_of_words names (first ∷ others) =
+    text_of_word names first ++ newline ∷ lines_of_words names others
 
 -- a front of the lines of the first words was written
 pub record IsFrontOfWords (names : List (List ℕ)) (automaton : Automaton) (least most : ℕ)
@@ -43,7 +46,8 @@ pub record IsFrontOfWords (names : List (List ℕ)) (automaton : Automaton) (lea
   pub first : AreFirstAsked automaton least most words
   pub front : AppendsPrefix before after (lines_of_words names words)
 
--- all words that are asked for were written, each on a line; or a front of that, where the output failed or memory ran out
+-- all words that are asked for were written, each on a line; or a front of that, where the output
+-- failed or memory ran out
 pub data WordsArePrinted (names : List (List ℕ)) (automaton : Automaton) (least most : ℕ)
     (before after : List ℕ) : Status → Type 0 where
   printed : {words : List (List ℕ)} → AreAllAsked automaton least most words
@@ -56,7 +60,8 @@ pub data WordsArePrinted (names : List (List ℕ)) (automaton : Automaton) (leas
 
 abbrev pub EnumerateMeans : Enumerate → Outside → Outside → Status → Type 0
 EnumerateMeans task =
-    OneMeans Words task.file (λ names automaton. OnlyPrints (WordsArePrinted names automaton task.min task.max))
+    OneMeans Words task.file
+    (λ names automaton. OnlyPrints (WordsArePrinted names automaton task.min task.max))
 
 -- it stores nothing
 abbrev pub enumerate_may_store : Enumerate → List ℕ → Type 0

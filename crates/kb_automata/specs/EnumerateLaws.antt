@@ -33,13 +33,15 @@ first_or_other x xs word here = elim (Contains-append_cases (x ∷ []) xs word h
 contains_first : (x : List ℕ) (xs : List (List ℕ)) → Contains (x ∷ xs) x
 contains_first x xs = Contains-append_left (x ∷ []) xs x (Contains-push [] x)
 
-contains_other : (x : List ℕ) (xs : List (List ℕ)) (word : List ℕ) → Contains xs word → Contains (x ∷ xs) word
+contains_other : (x : List ℕ) (xs : List (List ℕ)) (word : List ℕ) → Contains xs word
+    → Contains (x ∷ xs) word
 contains_other x xs word here = Contains-append_right (x ∷ []) xs word here
 
 others_ascend : (x : List ℕ) (xs : List (List ℕ)) → AllPairs Less (x ∷ xs) → AllPairs Less xs
 others_ascend x xs ascend i j d before within = ascend (suc i) (suc j) d (omega arith) (omega arith)
 
-first_is_less : (x : List ℕ) (xs : List (List ℕ)) (word : List ℕ) → AllPairs Less (x ∷ xs) → Contains xs word
+first_is_less : (x : List ℕ) (xs : List (List ℕ)) (word : List ℕ) → AllPairs Less (x ∷ xs)
+    → Contains xs word
     → Less x word
 first_is_less x xs word ascend here =
     let within : here.0 < length xs = here.1 in
@@ -50,10 +52,12 @@ abbrev AreAmong : List (List ℕ) → List (List ℕ) → Type 0
 AreAmong xs ys = (word : List ℕ) → Contains xs word → Contains ys word
 
 -- no element of a list that has both comes before its first
-none_less : (x y : List ℕ) (ys : List (List ℕ)) → AllPairs Less (y ∷ ys) → Contains (y ∷ ys) x → ¬ Less x y
+none_less : (x y : List ℕ) (ys : List (List ℕ)) → AllPairs Less (y ∷ ys) → Contains (y ∷ ys) x
+    → ¬ Less x y
 none_less x y ys ascend here less = elim (first_or_other y ys x here) [
   | inl is ↦ shortlex_irreflexive x (subst (λ w. Less x w) is less)
-  | inr other ↦ shortlex_irreflexive x (shortlex_transitive x y x less (first_is_less y ys x ascend other))
+  | inr other ↦ shortlex_irreflexive x
+      (shortlex_transitive x y x less (first_is_less y ys x ascend other))
 ]
 
 one_first : (x y : List ℕ) (xs ys : List (List ℕ)) → AllPairs Less (x ∷ xs) → AllPairs Less (y ∷ ys)
@@ -70,18 +74,23 @@ others_among : (x y : List ℕ) (xs ys : List (List ℕ)) → x ≡ y → AllPai
 others_among x y xs ys is ascend among word here =
     elim (first_or_other y ys word (among word (contains_other x xs word here))) [
       | inl first ↦
-          absurd (shortlex_irreflexive x (subst (λ w. Less x w) (sym (is ∙ first)) (first_is_less x xs word ascend here)))
+          absurd (shortlex_irreflexive x
+          (subst (λ w. Less x w) (sym (is ∙ first)) (first_is_less x xs word ascend here)))
       | inr other ↦ other
     ]
 
-one_ascending : (xs ys : List (List ℕ)) → AllPairs Less xs → AllPairs Less ys → AreAmong xs ys → AreAmong ys xs
+one_ascending : (xs ys : List (List ℕ)) → AllPairs Less xs → AllPairs Less ys → AreAmong xs ys
+    → AreAmong ys xs
     → xs ≡ ys
 one_ascending [] [] ascend also among back = refl
-one_ascending [] (y ∷ ys) ascend also among back = absurd (none_in_empty y (back y (contains_first y ys)))
-one_ascending (x ∷ xs) [] ascend also among back = absurd (none_in_empty x (among x (contains_first x xs)))
+one_ascending [] (y ∷ ys) ascend also among back =
+    absurd (none_in_empty y (back y (contains_first y ys)))
+one_ascending (x ∷ xs) [] ascend also among back =
+    absurd (none_in_empty x (among x (contains_first x xs)))
 one_ascending (x ∷ xs) (y ∷ ys) ascend also among back =
     let first : x ≡ y =
-    one_first x y xs ys ascend also (among x (contains_first x xs)) (back y (contains_first y ys)) in
+    one_first x y xs ys ascend also (among x (contains_first x xs))
+    (back y (contains_first y ys)) in
     let others : xs ≡ ys = one_ascending xs ys (others_ascend x xs ascend) (others_ascend y ys also)
     (others_among x y xs ys first ascend among) (others_among y x ys xs (sym first) also back) in
     ap₂ (λ (z : List ℕ) (zs : List (List ℕ)). z ∷ zs) first others
@@ -90,8 +99,10 @@ one_ascending (x ∷ xs) (y ∷ ys) ascend also among back =
 one_listing : (automaton : Automaton) (least most : ℕ) (words others : List (List ℕ))
     → AreAllAsked automaton least most words
     → AreAllAsked automaton least most others → words ≡ others
-one_listing automaton least most words others one other = one_ascending words others one.first.ascend other.first.ascend
-    (λ word here. other.all word (one.first.asked word here)) (λ word here. one.all word (other.first.asked word here))
+one_listing automaton least most words others one other =
+    one_ascending words others one.first.ascend other.first.ascend
+    (λ word here. other.all word (one.first.asked word here))
+    (λ word here. one.all word (other.first.asked word here))
 
 -- ---- the laws
 
@@ -121,15 +132,19 @@ module _ (names : List (List ℕ)) (automaton : Automaton) (least most : ℕ) wh
   wrote_all before after status is_yes (failed front) = absurd is_yes
   wrote_all before after status is_yes (no_memory front) = absurd is_yes
 
-  one_text : (before after other_before other_after : Outside) → WroteAll before.output.written after.output.written
+  one_text : (before after other_before other_after : Outside)
+      → WroteAll before.output.written after.output.written
       → WroteAll other_before.output.written other_after.output.written
       → HasSameEffect (λ name. ⊥) before after other_before other_after
   one_text before after other_before other_after one other =
-      let same : other.words ≡ one.words = one_listing automaton least most other.words one.words other.all one.all in
+      let same : other.words ≡ one.words =
+      one_listing automaton least most other.words one.words other.all one.all in
       record {
         bytes = lines_of_words names one.words;
         written = one.written;
-        other_written = other.written ∙ ap (λ words. other_before.output.written ++ lines_of_words names words) same;
+        other_written =
+            other.written
+            ∙ ap (λ words. other_before.output.written ++ lines_of_words names words) same;
         stored = λ name none. absurd none;
       }
 
@@ -141,25 +156,33 @@ enumerate_complete = λ task before after status means unrefused faultless.
     unrefused means
 
 pub enumerate_settled : IsSettledByFiles EnumerateMeans enumerate_reads (λ task. IsConclusive)
-enumerate_settled = λ task before after other_before other_after status other means others alike conclusive also.
-    over_one before after other_before other_after status other conclusive also (status ≡ other) Words task.file _ _
+enumerate_settled =
+    λ task before after other_before other_after status other means others alike conclusive also.
+    over_one before after other_before other_after status other conclusive also (status ≡ other)
+    Words task.file _ _
     (λ names automaton prints print.
-    words_yes names automaton task.min task.max before.output.written after.output.written status conclusive prints.so
-    ∙ sym (words_yes names automaton task.min task.max other_before.output.written other_after.output.written
+    words_yes names automaton task.min task.max before.output.written after.output.written status
+    conclusive prints.so
+    ∙ sym (words_yes names automaton task.min task.max other_before.output.written
+    other_after.output.written
     other also print.so))
     (alike task.file refl) means others
 
-pub enumerate_one_function : IsFunctionOfInputs EnumerateMeans EnumeratesDifferInOptions enumerate_reads
+pub enumerate_one_function : IsFunctionOfInputs EnumerateMeans
+    EnumeratesDifferInOptions enumerate_reads
     enumerate_may_store
 enumerate_one_function =
     λ task other_task before after other_before other_after status other means others is_yes also differs alike input.
     over_one before after other_before other_after status other (yes-conclusive status is_yes)
     (yes-conclusive other also)
-    (HasSameEffect (enumerate_may_store task) before after other_before other_after) Words task.file _ _
+    (HasSameEffect (enumerate_may_store task) before after other_before other_after)
+    Words task.file _ _
     (λ names automaton prints print.
     one_text names automaton task.min task.max before after other_before other_after
-    (wrote_all names automaton task.min task.max before.output.written after.output.written status is_yes prints.so)
-    (wrote_all names automaton task.min task.max other_before.output.written other_after.output.written other
+    (wrote_all names automaton task.min task.max before.output.written after.output.written status
+    is_yes prints.so)
+    (wrote_all names automaton task.min task.max other_before.output.written
+    other_after.output.written other
     also print.so))
     (alike task.file refl) means
     (subst (λ t. EnumerateMeans t other_before other_after other) differs others)

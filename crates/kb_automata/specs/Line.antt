@@ -31,7 +31,8 @@ name_text names.Enumerate = codes "fsaenumerate"
 -- the commands, in the order in which the program lists them
 abbrev pub all_names : List Name
 all_names =
-    names.Combine And ∷ names.Combine Or ∷ names.Transform Not ∷ names.Minimise ∷ names.Compare ∷ names.Transform Exists
+    names.Combine And ∷ names.Combine Or ∷ names.Transform Not ∷ names.Minimise ∷ names.Compare
+    ∷ names.Transform Exists
     ∷ names.Combine Concat ∷ names.Transform Star ∷ names.Transform Reverse ∷ names.Enumerate ∷ []
 
 abbrev pub command_names : List Text
@@ -49,22 +50,27 @@ with_second app = with_rule app (needed_rule (codes "second"))
 abbrev pub with_out : App → App
 with_out app = with_rule app (needed_rule (codes "out"))
 
--- `fsaand A B OUT`, `fsanot A OUT`, `fsamin A OUT`, `fsalequal A B` and `fsaenumerate MIN MAX A`, and those that take the same
+-- `fsaand A B OUT`, `fsanot A OUT`, `fsamin A OUT`, `fsalequal A B` and `fsaenumerate MIN MAX A`,
+-- and those that take the same
 abbrev pub command_app : Name → App
 command_app (names.Combine operation) =
-    with_rule (with_out (with_second (with_first (new_app (name_text (names.Combine operation)))))) states_rule
+    with_rule (with_out (with_second (with_first (new_app (name_text (names.Combine operation))))))
+    states_rule
 command_app (names.Transform operation) =
     with_rule (with_out (with_first (new_app (name_text (names.Transform operation))))) states_rule
 command_app names.Minimise = with_out (with_first (new_app (name_text names.Minimise)))
-command_app names.Compare = with_rule (with_second (with_first (new_app (name_text names.Compare)))) states_rule
+command_app names.Compare =
+    with_rule (with_second (with_first (new_app (name_text names.Compare)))) states_rule
 command_app names.Enumerate =
-    with_first (with_rule (with_rule (new_app (name_text names.Enumerate)) (length_rule (codes "min")))
+    with_first (with_rule
+    (with_rule (new_app (name_text names.Enumerate)) (length_rule (codes "min")))
     (length_rule (codes "max")))
 
 -- a program with commands added
 abbrev pub with_commands : App → List Name → App
 with_commands app [] = app
-with_commands app (name ∷ others) = with_commands (with_subcommand app (command_app name).top) others
+with_commands app (name ∷ others) =
+    with_commands (with_subcommand app (command_app name).top) others
 
 -- a program with all commands on automata added
 abbrev pub with_automata : App → App
@@ -117,7 +123,8 @@ GivesTask (tasks.Enumerate task) rows = GivesEnumerate rows task
 abbrev pub IsAutomataTask : Entered → AutomataTask → Type 0
 IsAutomataTask entered task = IsEntered entered (name_text (name_of_task task)) (GivesTask task)
 
--- what is read of the arguments and options of the command of a name: the command that they give, or none where they give none
+-- what is read of the arguments and options of the command of a name: the command that they give,
+-- or none where they give none
 abbrev pub IsRead : Name → List Row → Option AutomataTask → Type 0
 IsRead name rows (Some task) = (name_of_task task ≡ name) × GivesTask task rows
 IsRead name rows None = (task : AutomataTask) → name_of_task task ≡ name → ¬ GivesTask task rows

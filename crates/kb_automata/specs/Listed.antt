@@ -9,17 +9,22 @@ use Rattle.kb_task.specs.declared.status.Status.{Status}
 
 -- the enumeration of these words that has given the word
 abbrev pub over : Automaton → ℕ → ℕ → Option (List ℕ) → Enumeration
-over automaton least most given = record { automaton = automaton; min = least; max = most; given = given }
+over automaton least most given =
+    record { automaton = automaton; min = least; max = most; given = given }
 
--- the enumeration has given these words: the first of those that are asked for; it still gives the others, which come after
+-- the enumeration has given these words: the first of those that are asked for; it still gives the
+-- others, which come after
 pub record HasGiven (enumeration : Enumeration) (words : List (List ℕ)) : Type 0 where
   pub first : AreFirstAsked enumeration.automaton enumeration.min enumeration.max words
-  pub others : (other : List ℕ) → IsAsked enumeration.automaton enumeration.min enumeration.max other
+  pub others : (other : List ℕ)
+      → IsAsked enumeration.automaton enumeration.min enumeration.max other
       → Contains words other ⊎ IsLeft enumeration other
-  pub behind : (given other : List ℕ) → Contains words given → IsLeft enumeration other → Less given other
+  pub behind : (given other : List ℕ) → Contains words given → IsLeft enumeration other
+      → Less given other
 
 -- The lines of the words given are what was written after `before`, and what is still pending.
-pub record Listed (names : List (List ℕ)) (enumeration : Enumeration) (before written pending : List ℕ) : Type 0 where
+pub record Listed (names : List (List ℕ)) (enumeration : Enumeration)
+    (before written pending : List ℕ) : Type 0 where
   pub words : List (List ℕ)
   pub given : HasGiven enumeration words
   pub sent : List ℕ
@@ -50,4 +55,5 @@ pub record Steps (before after : Enumeration) (more : Bool) : Type 0 where
 
 -- what was printed of the words of an enumeration
 abbrev pub EnumerationIsPrinted : List (List ℕ) → Enumeration → List ℕ → List ℕ → Status → Type 0
-EnumerationIsPrinted names enumeration = WordsArePrinted names enumeration.automaton enumeration.min enumeration.max
+EnumerationIsPrinted names enumeration =
+    WordsArePrinted names enumeration.automaton enumeration.min enumeration.max

@@ -17,22 +17,27 @@ MeaningOfTwo = List (List ℕ) → Automaton → Automaton → Outside → Outsi
 -- what a run over one file of an automaton of the kind means
 pub data OneMeans (kind : Kind) (file : List ℕ) (Means : MeaningOfOne) (before after : Outside)
     (status : Status) : Type 0 where
-  at_load : EndsAtLoad (IsAutomatonFault kind before.shelf.holds file) file status → IsUnchanged before after
+  at_load : EndsAtLoad (IsAutomatonFault kind before.shelf.holds file) file status
+      → IsUnchanged before after
       → OneMeans kind file Means before after status
-  loaded : {names : List (List ℕ)} {automaton : Automaton} → HoldsAutomaton before.shelf.holds file names automaton
+  loaded : {names : List (List ℕ)} {automaton : Automaton}
+      → HoldsAutomaton before.shelf.holds file names automaton
       → HasKind kind automaton.alphabet → Means names automaton before after status
       → OneMeans kind file Means before after status
 
 -- what a run over two files of automata of the kind means: the first and then the second, over the same alphabet
 pub data TwoMean (kind : Kind) (one two : List ℕ) (Mean : MeaningOfTwo) (before after : Outside)
     (status : Status) : Type 0 where
-  at_first : EndsAtLoad (IsAutomatonFault kind before.shelf.holds one) one status → IsUnchanged before after
+  at_first : EndsAtLoad (IsAutomatonFault kind before.shelf.holds one) one status
+      → IsUnchanged before after
       → TwoMean kind one two Mean before after status
-  at_second : {names : List (List ℕ)} {first : Automaton} → HoldsAutomaton before.shelf.holds one names first
+  at_second : {names : List (List ℕ)} {first : Automaton}
+      → HoldsAutomaton before.shelf.holds one names first
       → HasKind kind first.alphabet
       → EndsAtLoad (IsSecondFault kind names first.alphabet before.shelf.holds two) two status
       → IsUnchanged before after → TwoMean kind one two Mean before after status
-  both : {names : List (List ℕ)} {first second : Automaton} → HoldsAutomaton before.shelf.holds one names first
+  both : {names : List (List ℕ)} {first second : Automaton}
+      → HoldsAutomaton before.shelf.holds one names first
       → HasKind kind first.alphabet → HoldsAutomaton before.shelf.holds two names second
       → second.alphabet ≡ first.alphabet
       → Mean names first second before after status → TwoMean kind one two Mean before after status
@@ -44,5 +49,6 @@ IsUnrefusedAs kind file before = IsUnrefused (IsAutomatonFault kind before.shelf
 -- nor is a second file, where one over the alphabet of the first is needed
 pub record AreBothUnrefused (kind : Kind) (one two : List ℕ) (before : Outside) : Type 0 where
   pub first : IsUnrefusedAs kind one before
-  pub second : (names : List (List ℕ)) (automaton : Automaton) → HoldsAutomaton before.shelf.holds one names automaton
+  pub second : (names : List (List ℕ)) (automaton : Automaton)
+      → HoldsAutomaton before.shelf.holds one names automaton
       → IsUnrefused (IsSecondFault kind names automaton.alphabet before.shelf.holds two)

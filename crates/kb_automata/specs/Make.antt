@@ -44,11 +44,14 @@ pub record StoresMade (IsMade : Automaton → Type 0) (out : List ℕ) (names : 
 abbrev pub IsWithin : (Limit → Type 0) → Type 0
 IsWithin Exceeds = (limit : Limit) → ¬ Exceeds limit
 
--- What a run means that makes an automaton and stores it: it stored the text of the canonical automaton of those that are
--- meant, and did nothing else; or it printed the limit that its construction exceeds, and stored nothing.
-abbrev pub MakeMeans : (Automaton → Type 0) → (Limit → Type 0) → List ℕ → List (List ℕ) → Outside → Outside
+-- What a run means that makes an automaton and stores it: it stored the text of the canonical
+-- automaton of those that are meant, and did nothing else; or it printed the limit that its
+-- construction exceeds, and stored nothing.
+abbrev pub MakeMeans : (Automaton → Type 0) → (Limit → Type 0) → List ℕ → List (List ℕ) → Outside
+    → Outside
     → Status → Type 0
-MakeMeans IsMade Exceeds out names before after Yes = StoresMade IsMade out names before after × IsWithin Exceeds
+MakeMeans IsMade Exceeds out names before after Yes =
+    StoresMade IsMade out names before after × IsWithin Exceeds
 MakeMeans IsMade Exceeds out names before after (Undecided limit) =
     Exceeds limit × Writes (undecided_line limit) before after
 MakeMeans IsMade Exceeds out names before after (Fault (Store name)) =
@@ -85,7 +88,8 @@ HasMoreCombined combinations.Concat one two limit = CountedConcat one two limit
 
 -- the automaton is over the alphabet of two, and its language is made of theirs
 abbrev pub IsMadeOfTwo : Combination → Automaton → Automaton → Automaton → Type 0
-IsMadeOfTwo operation one two made = (made.alphabet ≡ one.alphabet) × IsCombined operation one two made
+IsMadeOfTwo operation one two made =
+    (made.alphabet ≡ one.alphabet) × IsCombined operation one two made
 
 -- the limit is that of the operation's construction, which counts more states
 abbrev pub ExceedsCombined : Combination → ℕ → Automaton → Automaton → Limit → Type 0
@@ -94,7 +98,8 @@ ExceedsCombined operation most one two limit =
 
 abbrev pub CombineMeans : Combine → Outside → Outside → Status → Type 0
 CombineMeans task = TwoMean (combined_kind task.operation) task.one task.two (λ names one two.
-    MakeMeans (IsMadeOfTwo task.operation one two) (ExceedsCombined task.operation task.max_states one two)
+    MakeMeans (IsMadeOfTwo task.operation one two)
+    (ExceedsCombined task.operation task.max_states one two)
     task.out names)
 
 abbrev pub combine_may_store : Combine → List ℕ → Type 0
@@ -130,7 +135,8 @@ IsTransformed transformations.Not one made = (made.alphabet ≡ one.alphabet) ×
 IsTransformed transformations.Exists one made =
     (made.alphabet ≡ Plain (generators one.alphabet)) × IsProjection one made
 IsTransformed transformations.Star one made = (made.alphabet ≡ one.alphabet) × IsStar one made
-IsTransformed transformations.Reverse one made = (made.alphabet ≡ one.alphabet) × IsReversal one made
+IsTransformed transformations.Reverse one made =
+    (made.alphabet ≡ one.alphabet) × IsReversal one made
 
 abbrev pub HasMoreTransformed : Transformation → Automaton → ℕ → Type 0
 HasMoreTransformed transformations.Not one limit = CountedNot one limit
@@ -144,7 +150,8 @@ ExceedsTransformed operation most one limit =
 
 abbrev pub TransformMeans : Transform → Outside → Outside → Status → Type 0
 TransformMeans task = OneMeans (transformed_kind task.operation) task.file (λ names one.
-    MakeMeans (IsTransformed task.operation one) (ExceedsTransformed task.operation task.max_states one) task.out names)
+    MakeMeans (IsTransformed task.operation one)
+    (ExceedsTransformed task.operation task.max_states one) task.out names)
 
 abbrev pub transform_may_store : Transform → List ℕ → Type 0
 transform_may_store task name = name ≡ task.out
@@ -167,7 +174,8 @@ IsMinimised one made = (made.alphabet ≡ one.alphabet) × SameLanguage one made
 -- it has no limit
 abbrev pub MinimiseMeans : Minimise → Outside → Outside → Status → Type 0
 MinimiseMeans task =
-    OneMeans WordsOrPairs task.file (λ names one. MakeMeans (IsMinimised one) (λ limit. ⊥) task.out names)
+    OneMeans WordsOrPairs task.file
+    (λ names one. MakeMeans (IsMinimised one) (λ limit. ⊥) task.out names)
 
 abbrev pub minimise_may_store : Minimise → List ℕ → Type 0
 minimise_may_store task name = name ≡ task.out

@@ -20,18 +20,22 @@ automata_complete (Minimise task) = minimise_complete task
 automata_complete (Compare task) = compare_complete task
 automata_complete (Enumerate task) = enumerate_complete task
 
-pub automata_settled : (task : AutomataTask) (before after other_before other_after : Outside) (status other : Status)
+pub automata_settled : (task : AutomataTask) (before after other_before other_after : Outside)
+    (status other : Status)
     → AutomataMeans task before after status → AutomataMeans task other_before other_after other
-    → ReadsSame (automata_reads task) before other_before → IsConclusive status → IsConclusive other → status ≡ other
+    → ReadsSame (automata_reads task) before other_before → IsConclusive status → IsConclusive other
+    → status ≡ other
 automata_settled (Combine task) = combine_settled task
 automata_settled (Transform task) = transform_settled task
 automata_settled (Minimise task) = minimise_settled task
 automata_settled (Compare task) = compare_settled task
 automata_settled (Enumerate task) = enumerate_settled task
 
-pub automata_one_function : (task other_task : AutomataTask) (before after other_before other_after : Outside)
+pub automata_one_function : (task other_task : AutomataTask)
+    (before after other_before other_after : Outside)
     (status other : Status)
-    → AutomataMeans task before after status → AutomataMeans other_task other_before other_after other
+    → AutomataMeans task before after status
+    → AutomataMeans other_task other_before other_after other
     → IsYes status → IsYes other
     → AutomataDifferInOptions task other_task → ReadsSame (automata_reads task) before other_before
     → before.input.left ≡ other_before.input.left
@@ -42,4 +46,5 @@ automata_one_function (Minimise task) (Minimise other) = minimise_one_function t
 automata_one_function (Compare task) (Compare other) = compare_one_function task other
 automata_one_function (Enumerate task) (Enumerate other) = enumerate_one_function task other
 automata_one_function _ _ =
-    λ before after other_before other_after status answer means others yes also none same input. absurd none
+    λ before after other_before other_after status answer means others yes also none same input.
+    absurd none

@@ -22,7 +22,8 @@ use Rattle.kb_machine.specs.declared.halt.Halt.{Halt}
 use Rattle.kb_machine.specs.declared.halt.Halt.TheVariants.{Rules, Length}
 
 -- these are the normal forms, by the live rules, of the words of the first pending pair
-pub record PendingNormalForms (problem : Problem) (state : State) (one other : List ℕ) : Type 0 where
+pub record PendingNormalForms (problem : Problem) (state : State)
+    (one other : List ℕ) : Type 0 where
   pub origin : Origin
   pub rest : List Origin
   pub pending : state.pending ≡ origin ∷ rest
@@ -34,7 +35,8 @@ pub record PendingNormalForms (problem : Problem) (state : State) (one other : L
 -- u and v are, in one order or the other, the normal forms of the words of the first pending pair
 abbrev pub AreNormalForms : Course → List ℕ → List ℕ → Type 0
 AreNormalForms course u v =
-    PendingNormalForms course.problem course.state u v ⊎ PendingNormalForms course.problem course.state v u
+    PendingNormalForms course.problem course.state u v
+    ⊎ PendingNormalForms course.problem course.state v u
 
 -- the greater and the lesser word of a halt
 abbrev pub words_of : Halt → Pair
@@ -91,12 +93,14 @@ abbrev pub MakeSays : Course → Course → Result Make Memory → Type 0
 MakeSays before after (Ok (makes.Made k)) = MakesLine before after k
 MakeSays before after (Ok makes.Dropped) = DropsPair before after
 MakeSays before after (Ok makes.Idle) = (before.state.pending ≡ []) × (after ≡ before)
-MakeSays before after (Ok (makes.Halted halt)) = HaltsAt before after halt ⊎ IsHalted before after halt
+MakeSays before after (Ok (makes.Halted halt)) =
+    HaltsAt before after halt ⊎ IsHalted before after halt
 MakeSays before after (Err memory) = after ≡ before
 
 -- two lines with these numbers overlap at the place
 abbrev pub HasOverlap : State → ℕ → ℕ → ℕ → Type 0
-HasOverlap state i j place = (first second : Pair) × OverlapOfNumbers (rules_of state.lines) i j place first second
+HasOverlap state i j place =
+    (first second : Pair) × OverlapOfNumbers (rules_of state.lines) i j place first second
 
 -- what `enter` answers
 abbrev pub EnterSays : ℕ → ℕ → ℕ → ℕ → Course → Course → Result Unit EnterFault → Type 0
@@ -125,7 +129,8 @@ KillSays k before after (Err memory) = after ≡ before
 
 -- the pair is a live rule other than that of line k
 abbrev pub IsOtherLiveRule : State → ℕ → Pair → Type 0
-IsOtherLiveRule state k pair = (j : ℕ) × IsLive state j × (j ≢ k) × (numbered (rules_of state.lines) j ≡ Some pair)
+IsOtherLiveRule state k pair =
+    (j : ℕ) × IsLive state j × (j ≢ k) × (numbered (rules_of state.lines) j ≡ Some pair)
 
 -- line k is live, and other live rules reduce its right side
 pub record CanBeShortened (state : State) (k : ℕ) : Type 0 where
@@ -136,7 +141,8 @@ pub record CanBeShortened (state : State) (k : ℕ) : Type 0 where
 
 -- no line can be made any more
 abbrev pub HasNoRoom : Course → Type 0
-HasNoRoom course = (course.problem.most_lines ≤ length course.state.lines) ⊎ (course.state.halt ≢ None)
+HasNoRoom course =
+    (course.problem.most_lines ≤ length course.state.lines) ⊎ (course.state.halt ≢ None)
 
 -- line k is replaced by a new one, whose right side is the normal form of its own
 pub record ShortensLine (before after : Course) (k new : ℕ) : Type 0 where
@@ -150,12 +156,14 @@ pub record ShortensLine (before after : Course) (k new : ℕ) : Type 0 where
 -- what `shorten` answers
 abbrev pub ShortenSays : ℕ → Course → Course → Result Shorten Memory → Type 0
 ShortenSays k before after (Ok (shortens.Shortened new)) = ShortensLine before after k new
-ShortenSays k before after (Ok shortens.Least) = (after ≡ before) × (¬ CanBeShortened before.state k)
+ShortenSays k before after (Ok shortens.Least) =
+    (after ≡ before) × (¬ CanBeShortened before.state k)
 ShortenSays k before after (Ok shortens.NoRoom) =
     (after ≡ before) × CanBeShortened before.state k × HasNoRoom before
 ShortenSays k before after (Err memory) = after ≡ before
 
 -- what `publish` answers
 abbrev pub PublishSays : Course → Course → Result ℕ Memory → Type 0
-PublishSays before after (Ok number) = Takes Published before after × (number ≡ length after.state.versions)
+PublishSays before after (Ok number) =
+    Takes Published before after × (number ≡ length after.state.versions)
 PublishSays before after (Err memory) = after ≡ before

@@ -11,7 +11,8 @@ pub record BookParts : Type 0 where
   pub spare : ℕ
 
 -- what a book keeps: its completion is a course, it has the relations at hand, and it reduces by the live rules
-pub record IsBook (course : Course) (own_relations rules : List Pair) (order : WordOrder) : Type 0 where
+pub record IsBook (course : Course) (own_relations rules : List Pair)
+    (order : WordOrder) : Type 0 where
   pub is_course : IsCourse course
   pub has_relations : own_relations ≡ relations course.problem
   pub reduces : rules ≡ live_rules course.state

@@ -10,7 +10,8 @@ IsLeftFactor rules k w = (rule : Pair) × (numbered rules k ≡ Some rule) × Is
 
 -- one of the numbers, other than k, is that of a rule whose left side is a factor of the word
 abbrev pub HasOtherFactor : List Pair → List ℕ → ℕ → List ℕ → Type 0
-HasOtherFactor rules live k w = (other : ℕ) × Contains live other × (other ≢ k) × IsLeftFactor rules other w
+HasOtherFactor rules live k w =
+    (other : ℕ) × Contains live other × (other ≢ k) × IsLeftFactor rules other w
 
 -- number k stands at the place among the live ones, and its left side has another live one as a factor
 pub record IsReplaceable (rules : List Pair) (live : List ℕ) (k place : ℕ) : Type 0 where

@@ -18,7 +18,8 @@ abbrev pub HasPair : List Pair → List Pair → Origin → Type 0
 HasPair relations rules origin = (pair : Pair) × IsPairOf relations rules origin pair
 
 -- u and v are the normal forms, by the live rules, of the words of the origin's pair
-pub record HaveNormalForms (relations rules live_rules : List Pair) (origin : Origin) (u v : List ℕ) : Type 0 where
+pub record HaveNormalForms (relations rules live_rules : List Pair) (origin : Origin)
+    (u v : List ℕ) : Type 0 where
   pub pair : Pair
   pub is_pair : IsPairOf relations rules origin pair
   pub first : NormalForm live_rules pair.0 u
@@ -27,7 +28,8 @@ pub record HaveNormalForms (relations rules live_rules : List Pair) (origin : Or
 -- the words of the origin's pair have different normal forms
 abbrev pub HaveDifferentForms : Course → Origin → Type 0
 HaveDifferentForms course origin = (u v : List ℕ)
-    × HaveNormalForms (relations course.problem) (rules_of course.state.lines) (live_rules course.state)
+    × HaveNormalForms (relations course.problem) (rules_of course.state.lines)
+    (live_rules course.state)
     origin u v × (u ≢ v)
 
 -- the origin is the first pending one, and the book isn't halted
@@ -50,7 +52,8 @@ log_step live step = record { place = step.place; line = get_or live step.rule 0
 -- the words of the origin's pair have one normal form
 abbrev pub HaveOneForm : Course → Origin → Type 0
 HaveOneForm course origin = (joint : List ℕ)
-    × HaveNormalForms (relations course.problem) (rules_of course.state.lines) (live_rules course.state)
+    × HaveNormalForms (relations course.problem) (rules_of course.state.lines)
+    (live_rules course.state)
     origin joint joint
 
 -- the first pending pair would make a line, but a limit is reached, as the halt says

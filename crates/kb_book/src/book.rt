@@ -139,7 +139,8 @@ impl<R: Reducer> Book<R> {
 
     /// How many lines there may be, and how many letters a left side may have.
     pub fn limits(&self) -> (u32, u32)
-        ensures { result ≡ (self.now.course.problem.most_lines, self.now.course.problem.most_letters) }
+        ensures { result
+            ≡ (self.now.course.problem.most_lines, self.now.course.problem.most_letters) }
     {
         (self.most_lines, self.most_letters)
     }

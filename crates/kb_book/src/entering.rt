@@ -54,7 +54,8 @@ impl<R: Reducer> Book<R> {
 
 /// Whether the lines with these numbers overlap at the place.
 fn overlap(lines: &[Line], i: u32, j: u32, place: u64) -> bool
-    ensures { IsTrue result ↔ ((first second : Pair) × OverlapOfNumbers (rules_of lines.now) i j place first second) }
+    ensures { IsTrue result
+        ↔ ((first second : Pair) × OverlapOfNumbers (rules_of lines.now) i j place first second) }
 {
     match (line_at(lines, i), line_at(lines, j)) {
         (Some(first), Some(second)) => {

@@ -37,7 +37,8 @@ impl<R: Reducer> Book<R> {
 fn replaceable(lines: &[Line], live: &[u32], k: u32) -> Option<usize>
     requires { AllPairs (λ one other. one < other) live.now }
     ensures some { IfSome result (IsReplaceable (rules_of lines.now) live.now k) }
-    ensures none { IfNone result ((place : ℕ) → ¬ IsReplaceable (rules_of lines.now) live.now k place) }
+    ensures none { IfNone result
+        ((place : ℕ) → ¬ IsReplaceable (rules_of lines.now) live.now k place) }
 {
     let place = place_of(live, k)?;
     let line = line_at(lines, k)?;

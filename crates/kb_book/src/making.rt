@@ -139,7 +139,8 @@ impl<R: Reducer> Book<R> {
 
 /// The first of the origins.
 fn first_of(pending: &VecDeque<Origin>) -> Option<Origin>
-    ensures some { IfSome result (λ origin. (rest : List Origin) × (pending.now.items ≡ origin ∷ rest)) }
+    ensures some { IfSome result
+        (λ origin. (rest : List Origin) × (pending.now.items ≡ origin ∷ rest)) }
     ensures none { IfNone result (pending.now.items ≡ []) }
 {
     pending.front().copied()

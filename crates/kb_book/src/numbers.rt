@@ -9,7 +9,8 @@ use kb_log::Line;
 
 /// The line with this number, if there is one.
 pub(crate) fn line_at(lines: &[Line], k: u32) -> Option<&Line>
-    ensures some { IfSome result (λ line. numbered (rules_of lines.now) k ≡ Some (rule_of line.now)) }
+    ensures some { IfSome result
+        (λ line. numbered (rules_of lines.now) k ≡ Some (rule_of line.now)) }
     ensures none { IfNone result (numbered (rules_of lines.now) k ≡ None) }
 {
     let index = k.checked_sub(1)?;

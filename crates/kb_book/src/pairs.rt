@@ -22,7 +22,8 @@ pub(crate) fn reduce_pair<R: Reducer>(
     workspace: &mut Workspace,
 ) -> Result<(), Memory>
     requires { HasPair relations.now (rules_of lines.now) origin }
-    ensures { OnOk result (HaveNormalForms relations.now (rules_of lines.now) (R.rules reducer.now) origin
+    ensures { OnOk result
+        (HaveNormalForms relations.now (rules_of lines.now) (R.rules reducer.now) origin
         first.new second.new) }
 {
     put_pair(relations, lines, origin, first, second)?;
@@ -40,7 +41,8 @@ pub(crate) fn put_pair(
     second: &mut Word,
 ) -> Result<(), Memory>
     requires { HasPair relations.now (rules_of lines.now) origin }
-    ensures { OnOk result (IsPairOf relations.now (rules_of lines.now) origin (first.new, second.new)) }
+    ensures { OnOk result
+        (IsPairOf relations.now (rules_of lines.now) origin (first.new, second.new)) }
 {
     match origin {
         Origin::Relation(k) => put_relation(relations, k, first, second),

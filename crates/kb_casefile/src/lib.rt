@@ -1,10 +1,11 @@
 //! Files of worked cases: from their text to cases.
 //!
-//! A case is a run of `kb` as a mathematician writes it down: the command line, the files that there are, the input, and
-//! what has to come of them. `crates/kb_cases/data/README.md` describes the form. [`sections`] cuts a file into sections,
-//! [`Draft`] collects those of a case, [`rows`] reads the rows below them, and [`Draft::case`] makes the case that they
-//! are by a row. A malformed file is a [`Mistake`] on a line ([`Stop`]). No contract says more than that all of this is
-//! safe and returns: what a case means is seen where it is run.
+//! A case is a run of `kb` as a mathematician writes it down: the command line, the files that
+//! there are, the input, and what has to come of them. `crates/kb_cases/data/README.md` describes
+//! the form. [`sections`] cuts a file into sections, [`Draft`] collects those of a case, [`rows`]
+//! reads the rows below them, and [`Draft::case`] makes the case that they are by a row. A
+//! malformed file is a [`Mistake`] on a line ([`Stop`]). No contract says more than that all of
+//! this is safe and returns: what a case means is seen where it is run.
 //!
 //! - `section` cuts a file into sections: a keyword, what is behind it on its line, and the indented lines below.
 //! - `token`, `texts` and `terms` read texts: quoted, repeated, by a name, or from a file of data.

@@ -21,7 +21,8 @@ pub struct Row {
     pub columns: Vec<Named>,
 }
 
-/// The rows of a case: those below `each`, or the numbers from one to another. A case without has one row of no columns.
+/// The rows of a case: those below `each`, or the numbers from one to another. A case without has
+/// one row of no columns.
 pub fn rows(alloc: Global, draft: &Draft) -> Result<Vec<Row>, Stop> {
     let Some(heading) = draft.heading() else {
         let mut rows = Vec::new(alloc);

@@ -8,7 +8,8 @@ use std::alloc::Global;
 use std::fs;
 use std::rt::Files;
 
-/// The text of a section: that on its line, or else the lines below it, each with a newline. Without either it is empty.
+/// The text of a section: that on its line, or else the lines below it, each with a newline.
+/// Without either it is empty.
 pub fn text_of<R: Files + AllocGlobal>(
     rt: &R,
     section: &Section,
@@ -75,8 +76,8 @@ impl Verb {
 
 /// The texts of terms, one behind the other.
 ///
-/// A term is a quoted text, the name of a text, `N times` or `first N of` before one of these, or `from FILE`. `with NEW
-/// for OLD` replaces a part of what is before it.
+/// A term is a quoted text, the name of a text, `N times` or `first N of` before one of these, or
+/// `from FILE`. `with NEW for OLD` replaces a part of what is before it.
 fn evaluate<R: Files + AllocGlobal>(
     rt: &R,
     line: &str,

@@ -59,8 +59,8 @@ impl Comparison {
         }
     }
 
-    /// Compares what is written on err. Where nothing is told of it there is a message with the statuses 1, 4, 5 and 6, and
-    /// none with the others.
+    /// Compares what is written on err. Where nothing is told of it there is a message with the
+    /// statuses 1, 4, 5 and 6, and none with the others.
     fn compare_err(&mut self, wanted: &Wanted, came: &[u8]) -> Result<(), AllocError> {
         match &wanted.err {
             Some(err) => self.compare("err", Some(err.as_slice()), Some(came)),
@@ -75,8 +75,8 @@ impl Comparison {
         }
     }
 
-    /// Compares the files: those that have to be stored are there, the others are as they were, and no word of the command
-    /// line names a new one.
+    /// Compares the files: those that have to be stored are there, the others are as they were, and
+    /// no word of the command line names a new one.
     fn compare_files(&mut self, case: &Case, shelf: &MemShelf) -> Result<(), AllocError> {
         let stored = case.wanted.stored.as_slice();
         self.compare_each(stored, shelf)?;

@@ -18,7 +18,8 @@ commands_complete (WordReduce task) = wordreduce_complete task
 commands_complete (Automata task) = automata_complete task
 commands_complete (Completion task) = completion_complete task
 
-pub commands_settled : (command : Command) (before after other_before other_after : Outside) (status other : Status)
+pub commands_settled : (command : Command) (before after other_before other_after : Outside)
+    (status other : Status)
     → CommandMeans command before after status → CommandMeans command other_before other_after other
     → ReadsSame (command_reads command) before other_before → command_settles command status
     → command_settles command other → status ≡ other
@@ -26,13 +27,17 @@ commands_settled (WordReduce task) = wordreduce_settled task
 commands_settled (Automata task) = automata_settled task
 commands_settled (Completion task) = completion_settled task
 
-pub commands_one_function : (command other_command : Command) (before after other_before other_after : Outside) (status other : Status)
+pub commands_one_function : (command other_command : Command)
+    (before after other_before other_after : Outside) (status other : Status)
     → CommandMeans command before after status
     → CommandMeans other_command other_before other_after other → IsYes status → IsYes other
-    → CommandsDifferInOptions command other_command → ReadsSame (command_reads command) before other_before
+    → CommandsDifferInOptions command other_command
+    → ReadsSame (command_reads command) before other_before
     → before.input.left ≡ other_before.input.left
     → HasSameEffect (command_may_store command) before after other_before other_after
 commands_one_function (WordReduce task) (WordReduce other) = wordreduce_one_function task other
 commands_one_function (Automata task) (Automata other) = automata_one_function task other
 commands_one_function (Completion task) (Completion other) = completion_one_function task other
-commands_one_function _ _ = λ before after other_before other_after status answer means others is_yes also none same input. absurd none
+commands_one_function _ _ =
+    λ before after other_before other_after status answer means others is_yes also none same input.
+    absurd none

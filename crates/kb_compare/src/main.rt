@@ -5,9 +5,10 @@
 //! says is seen here: that calls succeed where there is memory. The words and rules come from a seed, the same at each
 //! run. The program prints what it compared, and ends with status 1 where something differs.
 //!
-//! With words on the command line it measures one reducer instead: `reduce REDUCER RULES LETTERS` makes so many rules at
-//! random and reduces a word of so many letters, and `change REDUCER COUNT` makes so many changes of a list: rules are
-//! put in and taken out at random. `REDUCER` is `scan` or `index`. bench/run times these runs.
+//! With words on the command line it measures one reducer instead: `reduce REDUCER RULES LETTERS`
+//! makes so many rules at random and reduces a word of so many letters, and `change REDUCER COUNT`
+//! makes so many changes of a list: rules are put in and taken out at random. `REDUCER` is `scan`
+//! or `index`. bench/run times these runs.
 //!
 //! # How it is made
 //!

@@ -36,11 +36,14 @@ pub record IsCompleted (course : Course) (list : OrderedRules) : Type 0 where
 -- what `grow` answers
 abbrev pub GrowSays : {R : Type 0} → Course → Grown R → Type 0
 GrowSays before (grown.More after) = Grows before after.course
-GrowSays before (grown.Confluent rules after) = IsLater before after.course × IsCompleted after.course rules
-GrowSays before (grown.Halted after halt) = IsLater before after.course × GivesHalt after.course halt
+GrowSays before (grown.Confluent rules after) =
+    IsLater before after.course × IsCompleted after.course rules
+GrowSays before (grown.Halted after halt) =
+    IsLater before after.course × GivesHalt after.course halt
 
 -- what `complete` answers
 abbrev pub CompleteSays : {R : Type 0} → Problem → Outcome R → Type 0
 CompleteSays problem (outcomes.Confluent rules after) =
     (after.course.problem ≡ problem) × IsCompleted after.course rules
-CompleteSays problem (outcomes.Halted after halt) = (after.course.problem ≡ problem) × GivesHalt after.course halt
+CompleteSays problem (outcomes.Halted after halt) =
+    (after.course.problem ≡ problem) × GivesHalt after.course halt

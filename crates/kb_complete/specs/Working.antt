@@ -29,7 +29,8 @@ AdvanceSays given before (rounds.Over (grown.Halted after halt)) =
     IsLater before after.course × GivesHalt after.course halt
 AdvanceSays given before (rounds.Open after) = IsLater before after.course × IsSettled after.course
 
--- the rules at these indices, from 1 on, overlap at the place, and the words of the critical pair have different normal forms
+-- the rules at these indices, from 1 on, overlap at the place, and the words of the critical pair
+-- have different normal forms
 pub record IsUnjoined (rules : List Pair) (i j place : ℕ) : Type 0 where
   pub first : Pair
   pub second : Pair

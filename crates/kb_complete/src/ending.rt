@@ -66,7 +66,8 @@ fn completed<R: Reducer>(alloc: Global, book: Book<R>, rules: &Rules) -> Result<
     Ok(Grown::Confluent(reduced, book))
 }
 
-/// Enters the overlap that isn't joined, of the live lines at these indices from 1 on, and makes a line of it, or halts.
+/// Enters the overlap that isn't joined, of the live lines at these indices from 1 on, and makes a
+/// line of it, or halts.
 fn add_unjoined<R: Reducer, W: Watch>(
     alloc: Global,
     mut book: Book<R>,

@@ -26,8 +26,8 @@ pub(crate) enum Round<R: Reducer> {
     Open(Book<R>),
 }
 
-/// Goes on until there is a line more than the book given has, or the completion is at its end. After want of memory the
-/// book is gone.
+/// Goes on until there is a line more than the book given has, or the completion is at its end.
+/// After want of memory the book is gone.
 pub fn grow<R: Reducer + Send + Sync, G: Gate, W: Watch, T: Threads + Wait + Sync>(
     rt: &T,
     alloc: Global,
@@ -63,7 +63,8 @@ fn look_for_more<R: Reducer + Send + Sync, G: Gate, W: Watch, T: Threads + Wait 
     }
 }
 
-/// Settles the book and publishes its live lines. The round is over where there are more lines than were given, or at a halt.
+/// Settles the book and publishes its live lines. The round is over where there are more lines than
+/// were given, or at a halt.
 fn advance<R: Reducer, W: Watch>(
     alloc: Global,
     mut book: Book<R>,

@@ -36,6 +36,7 @@ pub record IsWordAcceptor (parts : PresentationParts) (acceptor : Automaton) : T
   pub canonical : IsCanonical acceptor.table
 
 -- the rules are the presentation's reduced complete system, and the automaton is its word acceptor
-pub record IsCompletion (parts : PresentationParts) (rules : List Pair) (automaton : Automaton) : Type 0 where
+pub record IsCompletion (parts : PresentationParts) (rules : List Pair)
+    (automaton : Automaton) : Type 0 where
   pub reduced : IsReducedSystem parts rules
   pub acceptor : IsWordAcceptor parts automaton

@@ -8,7 +8,8 @@ use Rattle.kb_completed.specs.declared.ending.Ending.TheVariants.{Completed, Hal
 
 -- the presentation was completed; or a limit was reached, as the log shows
 abbrev pub EndsAs : Limits → PresentationParts → Ending → Type 0
-EndsAs limits parts (Completed rules acceptor) = (rules.order ≡ parts.order) × IsCompletion parts rules.rules acceptor
+EndsAs limits parts (Completed rules acceptor) =
+    (rules.order ≡ parts.order) × IsCompletion parts rules.rules acceptor
 EndsAs limits parts (Halted reached lines waiting rules) =
     (rules.order ≡ parts.order) × IsHalted limits parts lines.items waiting rules.rules reached
 EndsAs limits parts (TooLarge lines rules) =

@@ -40,10 +40,12 @@ pub record WaitsIn (parts : PresentationParts) (lines : List Line) (waiting : Li
 -- the limit of lines, or of letters, was reached at the line that waits
 abbrev pub IsReached : Limits → List Line → Line → Reached → Type 0
 IsReached limits lines waiting Lines = length lines ≡ limits.lines
-IsReached limits lines waiting Letters = (length lines < limits.lines) × (limits.letters < length waiting.left)
+IsReached limits lines waiting Letters =
+    (length lines < limits.lines) × (limits.letters < length waiting.left)
 
 -- a completion that halted at a limit of lines or letters, with its log and its live rules
-pub record IsHalted (limits : Limits) (parts : PresentationParts) (lines : List Line) (waiting : Line)
+pub record IsHalted (limits : Limits) (parts : PresentationParts)
+    (lines : List Line) (waiting : Line)
     (rules : List Pair) (reached : Reached) : Type 0 where
   pub waits : WaitsIn parts lines waiting
   pub is_reached : IsReached limits lines waiting reached

@@ -14,7 +14,8 @@ limits_of limits = record { lines = limits.rules; letters = limits.len; states =
 
 -- the presentation, to be completed within the limits
 abbrev pub problem_of : Limits → PresentationParts → Problem
-problem_of limits parts = record { presentation = parts; most_lines = limits.lines; most_letters = limits.letters }
+problem_of limits parts =
+    record { presentation = parts; most_lines = limits.lines; most_letters = limits.letters }
 
 -- the limit that a halt names
 abbrev pub limit_of : Halt → Reached

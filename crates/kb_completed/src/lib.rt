@@ -1,17 +1,19 @@
 //! Completed presentations: the rules and the word acceptor of one, or what shows that a limit was reached.
 //!
-//! The public contract is that of [`complete_presentation`]: `EndsAs` of `specs/Ended.antt` says what each [`Ending`] is.
-//! A completed presentation has its reduced complete system and the canonical automaton of its least words
-//! (`specs/Completed.antt`). At a limit there is evidence (`specs/Evidence.antt`): the log, which is justified line by line
-//! and with the line that waits; the live rules, which cover it; and why the limit is reached.
+//! The public contract is that of [`complete_presentation`]: `EndsAs` of `specs/Ended.antt` says
+//! what each [`Ending`] is. A completed presentation has its reduced complete system and the
+//! canonical automaton of its least words (`specs/Completed.antt`). At a limit there is evidence
+//! (`specs/Evidence.antt`): the log, which is justified line by line and with the line that waits;
+//! the live rules, which cover it; and why the limit is reached.
 //!
-//! `accepting` makes the word acceptor of the reduced complete system, in three steps: the left sides have no other letters
-//! than the relations, the automaton of the irreducible words accepts exactly the least ones, and the canonical automaton
-//! of that language is the word acceptor. `halting` reads the evidence from the book of a completion that halted, for
-//! which `kb_machine::courses_are_sound` has said all along that it holds.
+//! `accepting` makes the word acceptor of the reduced complete system, in three steps: the left
+//! sides have no other letters than the relations, the automaton of the irreducible words accepts
+//! exactly the least ones, and the canonical automaton of that language is the word acceptor.
+//! `halting` reads the evidence from the book of a completion that halted, for which
+//! `kb_machine::courses_are_sound` has said all along that it holds.
 //!
-//! Below are `kb_complete`, which completes, `kb_wa` and `kb_fsamin`, which make the acceptor; above are the commands of
-//! completion.
+//! Below are `kb_complete`, which completes, `kb_wa` and `kb_fsamin`, which make the acceptor;
+//! above are the commands of completion.
 #![tactic(auto)]
 
 mod accepting;

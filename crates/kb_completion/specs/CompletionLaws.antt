@@ -29,7 +29,8 @@ one_yes Yes _ is_yes also = absurd also
 one_yes _ _ is_yes also = absurd is_yes
 
 -- a file holds one presentation
-pub one_held : {files others : Files} {name : List ℕ} {one other : PresentationParts} → files name ≡ others name
+pub one_held : {files others : Files} {name : List ℕ} {one other : PresentationParts}
+    → files name ≡ others name
     → HoldsPresentation files name one → HoldsPresentation others name other → one ≡ other
 one_held {one = one} {other = other} same first second =
     let read : PresentationOf second.bytes one =

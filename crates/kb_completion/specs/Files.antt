@@ -51,10 +51,12 @@ halted_texts file parts lines waiting rules =
 
 -- the files of a completion whose word acceptor would be too large
 abbrev pub too_large_texts : List ℕ → PresentationParts → List Line → List Pair → List Text
-too_large_texts file parts lines rules = evidence_texts file parts (log_text parts.names lines None) rules true
+too_large_texts file parts lines rules =
+    evidence_texts file parts (log_text parts.names lines None) rules true
 
 -- these are the files of the completed presentation
-pub record AreCompleted (file : List ℕ) (parts : PresentationParts) (texts : List Text) : Type 0 where
+pub record AreCompleted (file : List ℕ) (parts : PresentationParts)
+    (texts : List Text) : Type 0 where
   pub rules : List Pair
   pub acceptor : Automaton
   pub completion : IsCompletion parts rules acceptor
@@ -70,7 +72,8 @@ pub data ShowsLimit (limits : Limits) (file : List ℕ) (parts : PresentationPar
     → List Text → List ℕ → Type 0 where
   halted : {lines : List Line} {waiting : Line} {rules : List Pair} {reached : Reached}
       → IsHalted limits parts lines waiting rules reached
-      → ShowsLimit limits file parts (limit_of reached) (halted_texts file parts lines waiting rules)
+      → ShowsLimit limits file parts (limit_of reached)
+      (halted_texts file parts lines waiting rules)
       (undecided_words_line parts.names (limit_of reached) waiting.left waiting.right)
   too_large : {lines : List Line} {rules : List Pair}
       → IsTooLarge limits parts lines rules

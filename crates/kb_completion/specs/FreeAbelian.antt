@@ -7,7 +7,8 @@ use Rattle.kb_word.specs.declared.word_order.WordOrder.TheVariants.{ShortLex}
 -- the generators are x1, X1, x2, X2, .., and Xi is the inverse of xi
 abbrev pub generator_names : ℕ → List (List ℕ)
 generator_names zero = []
-generator_names (suc i) = generator_names i ++ (codes "x" ++ decimal (suc i)) ∷ (codes "X" ++ decimal (suc i)) ∷ []
+generator_names (suc i) =
+    generator_names i ++ (codes "x" ++ decimal (suc i)) ∷ (codes "X" ++ decimal (suc i)) ∷ []
 
 abbrev pub generator_inverses : ℕ → List (Option ℕ)
 generator_inverses zero = []

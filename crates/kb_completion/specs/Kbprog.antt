@@ -29,12 +29,14 @@ streams_of moment = streams moment.input moment.output
 -- the files of the completed presentation were stored, whole
 abbrev pub HasCompleted : KbprogGiven → PresentationParts → Outside → Outside → Type 0
 HasCompleted given parts before after =
-    (texts : List Text) × AreCompleted given.file parts texts × HoldsTexts texts before.shelf after.shelf
+    (texts : List Text) × AreCompleted given.file parts texts
+    × HoldsTexts texts before.shelf after.shelf
 
 -- the files of the completed presentation were stored, and the answers to the word lines stopped so
 abbrev pub LinesStop : KbprogGiven → PresentationParts → Outside → Outside → Stop → Type 0
 LinesStop given parts before after stop =
-    HasCompleted given parts before after × Stops parts (IsLeastIn parts) (streams_of before) (streams_of after) stop
+    HasCompleted given parts before after
+    × Stops parts (IsLeastIn parts) (streams_of before) (streams_of after) stop
 
 -- the files that show the limit were stored, and the line that says so was written
 pub record ReachesLimit (given : KbprogGiven) (parts : PresentationParts) (limit : Limit)
@@ -47,7 +49,8 @@ pub record ReachesLimit (given : KbprogGiven) (parts : PresentationParts) (limit
   pub written : after.output.written ≡ before.output.written ++ line
 
 -- the files that show a limit were stored, and a front of the line that says so was written
-pub record FrontOfLimit (given : KbprogGiven) (parts : PresentationParts) (before after : Outside) : Type 0 where
+pub record FrontOfLimit (given : KbprogGiven) (parts : PresentationParts)
+    (before after : Outside) : Type 0 where
   pub limit : Limit
   pub texts : List Text
   pub line : List ℕ
@@ -60,13 +63,16 @@ pub record FrontOfLimit (given : KbprogGiven) (parts : PresentationParts) (befor
 abbrev pub AreStored : KbprogGiven → PresentationParts → List Text → Type 0
 AreStored given parts texts =
     AreCompleted given.file parts texts
-    ⊎ ((limit : Limit) × (line : List ℕ) × ShowsLimit given.limits given.file parts limit texts line)
+    ⊎ ((limit : Limit) × (line : List ℕ)
+    × ShowsLimit given.limits given.file parts limit texts line)
 
 -- what each status of a run that answers the word lines means
 abbrev pub LinesMean : PresentationParts → Outside → Outside → Status → Type 0
-LinesMean parts before after Yes = AllAnswered parts (IsLeastIn parts) (streams_of before) (streams_of after)
+LinesMean parts before after Yes =
+    AllAnswered parts (IsLeastIn parts) (streams_of before) (streams_of after)
 LinesMean parts before after (Refused (RefusedLine number fault)) =
-    Stops parts (IsLeastIn parts) (streams_of before) (streams_of after) (stops.Refused number fault)
+    Stops parts (IsLeastIn parts) (streams_of before) (streams_of after)
+    (stops.Refused number fault)
 LinesMean parts before after (Refused InputTooLong) =
     Stops parts (IsLeastIn parts) (streams_of before) (streams_of after) stops.TooLong
 LinesMean parts before after (Fault Input) =
@@ -80,11 +86,13 @@ LinesMean parts before after _ = ⊥
 -- What each status means once the file has been read as this presentation.
 abbrev pub AnswersMean : KbprogGiven → PresentationParts → Outside → Outside → Status → Type 0
 AnswersMean given parts before after Yes =
-    HasCompleted given parts before after × AllAnswered parts (IsLeastIn parts) (streams_of before) (streams_of after)
+    HasCompleted given parts before after
+    × AllAnswered parts (IsLeastIn parts) (streams_of before) (streams_of after)
 AnswersMean given parts before after (Undecided limit) = ReachesLimit given parts limit before after
 AnswersMean given parts before after (Refused (RefusedLine number fault)) =
     LinesStop given parts before after (stops.Refused number fault)
-AnswersMean given parts before after (Refused InputTooLong) = LinesStop given parts before after stops.TooLong
+AnswersMean given parts before after (Refused InputTooLong) =
+    LinesStop given parts before after stops.TooLong
 AnswersMean given parts before after (Fault Input) = LinesStop given parts before after stops.Input
 AnswersMean given parts before after (Fault Output) =
     FrontOfLimit given parts before after ⊎ LinesStop given parts before after stops.Output
@@ -99,13 +107,15 @@ AnswersMean given parts before after _ = ⊥
 -- What each status means: the run ended at the load of the file, or the file holds a presentation.
 abbrev pub KbprogMeans : KbprogGiven → Outside → Outside → Status → Type 0
 KbprogMeans given before after status =
-    (EndsAtLoad (IsPresentationFault before.shelf.holds given.file) given.file status × IsUnchanged before after)
+    (EndsAtLoad (IsPresentationFault before.shelf.holds given.file) given.file status
+    × IsUnchanged before after)
     ⊎ ((parts : PresentationParts) × HoldsPresentation before.shelf.holds given.file parts
     × AnswersMean given parts before after status)
 
 abbrev pub kbprog_may_store : KbprogGiven → List ℕ → Type 0
 kbprog_may_store given name =
-    (name ≡ rules_file given.file) ⊎ ((name ≡ acceptor_file given.file) ⊎ (name ≡ log_file given.file))
+    (name ≡ rules_file given.file)
+    ⊎ ((name ≡ acceptor_file given.file) ⊎ (name ≡ log_file given.file))
 
 abbrev pub kbprog_reads : KbprogGiven → List ℕ → Type 0
 kbprog_reads given name = name ≡ given.file

@@ -36,7 +36,9 @@ rank_rule = record (needed_rule (codes "rank")) { parser = Some (Signed (pos 1) 
 
 -- the options of a completion: its workers and its limits
 abbrev pub with_limits : App → App
-with_limits app = with_rule (with_rule (with_rule (with_rule app workers_rule) lines_rule) letters_rule) states_rule
+with_limits app =
+    with_rule (with_rule (with_rule (with_rule app workers_rule) lines_rule) letters_rule)
+    states_rule
 
 -- `kbprog FILE`, `logread FILE` and `selftest N`
 abbrev pub command_app : Name → App
@@ -47,7 +49,8 @@ command_app names.SelfTest = with_limits (with_rule (new_app (name_text names.Se
 -- a program with commands added
 abbrev pub with_commands : App → List Name → App
 with_commands app [] = app
-with_commands app (name ∷ others) = with_commands (with_subcommand app (command_app name).top) others
+with_commands app (name ∷ others) =
+    with_commands (with_subcommand app (command_app name).top) others
 
 -- a program with all commands of completion added
 abbrev pub with_completions : App → App
@@ -90,7 +93,8 @@ GivesTask (tasks.SelfTest task) rows = GivesSelfTest rows task
 abbrev pub IsCompletionTask : Entered → CompletionTask → Type 0
 IsCompletionTask entered task = IsEntered entered (name_text (name_of_task task)) (GivesTask task)
 
--- what is read of the arguments and options of the command of a name: the command that they give, or none where they give none
+-- what is read of the arguments and options of the command of a name: the command that they give,
+-- or none where they give none
 abbrev pub IsRead : Name → List Row → Option CompletionTask → Type 0
 IsRead name rows (Some task) = (name_of_task task ≡ name) × GivesTask task rows
 IsRead name rows None = (task : CompletionTask) → name_of_task task ≡ name → ¬ GivesTask task rows

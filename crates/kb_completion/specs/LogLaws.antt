@@ -20,15 +20,30 @@ pub names_apart : (names : List (List ℕ)) → AreGeneratorNames names → AreA
 names_apart names generators place other name at_place at_other = elim (cases_order place other) [
   | inl same ↦ same
   | inr (inl before) ↦ absurd (generators.free name
-      (inl (record { first = place; again = other; later = before; at_first = at_place; at_again = at_other })))
+      (inl (record {
+        first = place;
+        again = other;
+        later = before;
+        at_first = at_place;
+        at_again =
+            at_other;
+      })))
   | inr (inr after) ↦ absurd (generators.free name
-      (inl (record { first = other; again = place; later = after; at_first = at_other; at_again = at_place })))
+      (inl (record {
+        first = other;
+        again = place;
+        later = after;
+        at_first = at_other;
+        at_again =
+            at_place;
+      })))
 ]
 
 -- what waits alike is called alike
 opens_same : (one other : Option Line) → WaitSame one other → open_text one ≡ open_text other
 opens_same None None same = refl
-opens_same (Some one) (Some other) same = ap (λ origin. codes "open " ++ text_of_origin origin) same.origin
+opens_same (Some one) (Some other) same =
+    ap (λ origin. codes "open " ++ text_of_origin origin) same.origin
 opens_same None (Some other) same = absurd same
 opens_same (Some one) None same = absurd same
 
@@ -40,15 +55,19 @@ line_of version lines opens =
 -- files of the same bytes hold logs of which the same is said
 pub one_logread : {files others : Files} {name : List ℕ} {names : List (List ℕ)} {log other : Log}
     → AreApart names → files name ≡ others name
-    → HoldsLog files name names log → HoldsLog others name names other → logread_line log ≡ logread_line other
+    → HoldsLog files name names log → HoldsLog others name names other
+    → logread_line log ≡ logread_line other
 unfolding line_of
 one_logread {names = names} {log = log} {other = other} apart same first second =
     let texts : text_of_log names log ≡ text_of_log names other =
     sym first.says ∙ same_bytes same first.held second.held ∙ second.says in
-    let logs = logs_same names log other first.readable apart first.printable second.printable texts in
+    let logs = logs_same names log other first.readable apart first.printable
+    second.printable texts in
     let count : length log.lines.items ≡ length other.lines.items =
     sym (AllZip-long AreSameLines log.lines.items other.lines.items logs.lines) in
-    ap (λ version. line_of (version_number version) (length log.lines.items) (open_text log.waiting)) logs.version
+    ap (λ version.
+    line_of (version_number version) (length log.lines.items) (open_text log.waiting))
+    logs.version
     ∙ ap (λ lines. line_of (version_number other.version) lines (open_text log.waiting)) count
     ∙ ap (λ opens. line_of (version_number other.version) (length other.lines.items) opens)
     (opens_same log.waiting other.waiting logs.waiting)

@@ -36,7 +36,8 @@ open_text (Some waiting) = codes "open " ++ text_of_origin waiting.origin
 -- `log V: lines N, open ORIGIN`
 abbrev pub logread_line : Log → List ℕ
 logread_line log =
-    codes "log " ++ (decimal (version_number log.version) ++ (codes ": lines " ++ (decimal (length log.lines.items)
+    codes "log " ++ (decimal (version_number log.version)
+    ++ (codes ": lines " ++ (decimal (length log.lines.items)
     ++ (codes ", " ++ (open_text log.waiting ++ newline ∷ [])))))
 
 -- What each status means once the files have been read as this presentation and this log.
@@ -49,16 +50,18 @@ LogMeans log before after _ = ⊥
 -- What each status means once the file has been read as this presentation.
 abbrev pub LogFileMeans : LogreadGiven → PresentationParts → Outside → Outside → Status → Type 0
 LogFileMeans given parts before after status =
-    (EndsAtLoad (IsLogFault parts.names before.shelf.holds (log_file given.file)) (log_file given.file) status
+    (EndsAtLoad (IsLogFault parts.names before.shelf.holds (log_file given.file))
+    (log_file given.file) status
     × IsUnchanged before after)
     ⊎ ((log : Log) × HoldsLog before.shelf.holds (log_file given.file) parts.names log
     × LogMeans log before after status)
 
--- What each status means: the run ended at the load of the presentation, at that of the log, or both were read. Before the log's
--- name is known memory may run out.
+-- What each status means: the run ended at the load of the presentation, at that of the log, or
+-- both were read. Before the log's name is known memory may run out.
 abbrev pub LogreadMeans : LogreadGiven → Outside → Outside → Status → Type 0
 LogreadMeans given before after status =
-    (EndsAtLoad (IsPresentationFault before.shelf.holds given.file) given.file status × IsUnchanged before after)
+    (EndsAtLoad (IsPresentationFault before.shelf.holds given.file) given.file status
+    × IsUnchanged before after)
     ⊎ ((parts : PresentationParts) × HoldsPresentation before.shelf.holds given.file parts
     × LogFileMeans given parts before after status)
 

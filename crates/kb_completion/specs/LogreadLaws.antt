@@ -28,22 +28,27 @@ log_answers log before after (No cert) faultless means = means
 log_answers log before after (Fault which) faultless means = cc
 log_answers log before after (Usage kind) faultless means = means
 
-file_answers : (given : LogreadGiven) (parts : PresentationParts) (before after : Outside) (status : Status)
-    → HoldsPresentation before.shelf.holds given.file parts → logread_is_unrefused given before → IsFaultless status
+file_answers : (given : LogreadGiven) (parts : PresentationParts) (before after : Outside)
+    (status : Status)
+    → HoldsPresentation before.shelf.holds given.file parts → logread_is_unrefused given before
+    → IsFaultless status
     → LogFileMeans given parts before after status → AnswersYes status
 file_answers given parts before after status holds unrefused faultless (inl ends) =
     let is_memory =
-    memory_at_load (IsLogFault parts.names before.shelf.holds (log_file given.file)) (log_file given.file) status
+    memory_at_load (IsLogFault parts.names before.shelf.holds (log_file given.file))
+    (log_file given.file) status
     (unrefused.log parts holds) faultless ends.0 in
     subst AnswersYes (sym is_memory) tt
 file_answers given parts before after status holds unrefused faultless (inr read) =
     log_answers read.0 before after status faultless read.2
 
-answers : (given : LogreadGiven) (before after : Outside) (status : Status) → LogreadMeans given before after status
+answers : (given : LogreadGiven) (before after : Outside) (status : Status)
+    → LogreadMeans given before after status
     → logread_is_unrefused given before → IsFaultless status → AnswersYes status
 answers given before after status (inl ends) unrefused faultless =
     let is_memory =
-    memory_at_load (IsPresentationFault before.shelf.holds given.file) given.file status unrefused.file
+    memory_at_load (IsPresentationFault before.shelf.holds given.file) given.file
+    status unrefused.file
     faultless ends.0 in
     subst AnswersYes (sym is_memory) tt
 answers given before after status (inr read) unrefused faultless =
@@ -54,31 +59,40 @@ logread_complete = answers
 
 pub logread_settled : IsSettledByFiles LogreadMeans logread_reads (λ given. IsYes)
 logread_settled =
-    λ given before after other_before other_after status other means others same is_yes also. one_yes status
+    λ given before after other_before other_after status other means others same is_yes also.
+    one_yes status
     other is_yes also
 
 -- ---- one line
 
 -- the line that a yes wrote
-written : (log : Log) (before after : Outside) (status : Status) → IsYes status → LogMeans log before after status
+written : (log : Log) (before after : Outside) (status : Status) → IsYes status
+    → LogMeans log before after status
     → after.output.written ≡ before.output.written ++ logread_line log
 written log before after Yes is_yes means = means.written
 written log before after _ is_yes means = absurd is_yes
 
 -- the log that a yes read
-record HasRead (given : LogreadGiven) (parts : PresentationParts) (before after : Outside) : Type 0 where
+record HasRead (given : LogreadGiven) (parts : PresentationParts)
+    (before after : Outside) : Type 0 where
   log : Log
   holds : HoldsLog before.shelf.holds (log_file given.file) parts.names log
   wrote : after.output.written ≡ before.output.written ++ logread_line log
 
-read_log : (given : LogreadGiven) (parts : PresentationParts) (before after : Outside) (status : Status) → IsYes status
+read_log : (given : LogreadGiven) (parts : PresentationParts) (before after : Outside)
+    (status : Status) → IsYes status
     → LogFileMeans given parts before after status → HasRead given parts before after
 read_log given parts before after status is_yes (inl ends) =
     absurd (load_inconclusive (IsLogFault parts.names before.shelf.holds (log_file given.file))
     (log_file given.file) status ends.0
     (yes-conclusive status is_yes))
 read_log given parts before after status is_yes (inr read) =
-    record { log = read.0; holds = read.1; wrote = written read.0 before after status is_yes read.2 }
+    record {
+      log = read.0;
+      holds = read.1;
+      wrote =
+          written read.0 before after status is_yes read.2;
+    }
 
 -- the presentation and the log that a yes read
 record HasReadBoth (given : LogreadGiven) (before after : Outside) : Type 0 where
@@ -90,10 +104,16 @@ read_both : (given : LogreadGiven) (before after : Outside) (status : Status) �
     → LogreadMeans given before after status
     → HasReadBoth given before after
 read_both given before after status is_yes (inl ends) =
-    absurd (load_inconclusive (IsPresentationFault before.shelf.holds given.file) given.file status ends.0
+    absurd (load_inconclusive (IsPresentationFault before.shelf.holds given.file)
+    given.file status ends.0
     (yes-conclusive status is_yes))
 read_both given before after status is_yes (inr read) =
-    record { parts = read.0; presents = read.1; reads = read_log given read.0 before after status is_yes read.2 }
+    record {
+      parts = read.0;
+      presents = read.1;
+      reads =
+          read_log given read.0 before after status is_yes read.2;
+    }
 
 same_effect : (given : LogreadGiven) (before after other_before other_after : Outside)
     → HasReadBoth given before after → HasReadBoth given other_before other_after
@@ -102,21 +122,27 @@ same_effect : (given : LogreadGiven) (before after other_before other_after : Ou
     → HasSameEffect (logread_may_store given) before after other_before other_after
 same_effect given before after other_before other_after one other file log =
     let parts = one_held file one.presents other.presents in
-    let held = subst (λ p. HoldsLog before.shelf.holds (log_file given.file) p.names one.reads.log) parts
+    let held = subst
+    (λ p. HoldsLog before.shelf.holds (log_file given.file) p.names one.reads.log) parts
     one.reads.holds in
-    let line = one_logread (names_apart other.parts.names other.presents.says.holds.names) log held other.reads.holds in
+    let line = one_logread (names_apart other.parts.names other.presents.says.holds.names) log held
+    other.reads.holds in
     record {
       bytes = logread_line one.reads.log;
       written = one.reads.wrote;
-      other_written = other.reads.wrote ∙ ap (λ bytes. other_before.output.written ++ bytes) (sym line);
+      other_written =
+          other.reads.wrote ∙ ap (λ bytes. other_before.output.written ++ bytes) (sym line);
       stored = λ name none. absurd none;
     }
 
-pub logread_one_function : IsFunctionOfInputs LogreadMeans LogreadsDifferInOptions logread_reads logread_may_store
+pub logread_one_function : IsFunctionOfInputs LogreadMeans LogreadsDifferInOptions logread_reads
+    logread_may_store
 logread_one_function =
     λ given other_given before after other_before other_after status other means others is_yes also file same input.
     let means_given =
-    subst (λ name. LogreadMeans (record { file = name }) other_before other_after other) (sym file) others in
-    same_effect given before after other_before other_after (read_both given before after status is_yes means)
+    subst (λ name. LogreadMeans (record { file = name }) other_before other_after other)
+    (sym file) others in
+    same_effect given before after other_before other_after
+    (read_both given before after status is_yes means)
     (read_both given other_before other_after other also means_given)
     (same given.file (inl refl)) (same (log_file given.file) (inr refl))

@@ -23,18 +23,23 @@ use Rattle.kb_completion.specs.declared.selftest.Report.{Report}
 -- `selftest N: rules R, acceptor states S`
 abbrev pub summary_line : ℕ → ℕ → ℕ → List ℕ
 summary_line rank rules states =
-    codes "selftest " ++ (decimal rank ++ (codes ": rules " ++ (decimal rules ++ (codes ", acceptor states "
+    codes "selftest "
+    ++ (decimal rank ++ (codes ": rules " ++ (decimal rules ++ (codes ", acceptor states "
     ++ (decimal states ++ newline ∷ [])))))
 
 -- what is written about the free abelian group of the rank, by how its completion ended
 pub data Reports (given : SelfTestGiven) : Status → List ℕ → Type 0 where
-  completed : {rules : List Pair} {acceptor : Automaton} → IsCompletion (free_abelian given.rank) rules acceptor
+  completed : {rules : List Pair} {acceptor : Automaton}
+      → IsCompletion (free_abelian given.rank) rules acceptor
       → Reports given Yes (summary_line given.rank (length rules) (length acceptor.table.rows))
   halted : {lines : List Line} {waiting : Line} {rules : List Pair} {reached : Reached}
       → IsHalted given.limits (free_abelian given.rank) lines waiting rules reached
-      → Reports given (Undecided (limit_of reached)) (log_text (free_abelian given.rank).names lines (Some waiting)
-      ++ undecided_words_line (free_abelian given.rank).names (limit_of reached) waiting.left waiting.right)
-  too_large : {lines : List Line} {rules : List Pair} → IsTooLarge given.limits (free_abelian given.rank) lines rules
+      → Reports given (Undecided (limit_of reached))
+      (log_text (free_abelian given.rank).names lines (Some waiting)
+      ++ undecided_words_line (free_abelian given.rank).names (limit_of reached)
+      waiting.left waiting.right)
+  too_large : {lines : List Line} {rules : List Pair}
+      → IsTooLarge given.limits (free_abelian given.rank) lines rules
       → Reports given (Undecided (States Acceptor)) (undecided_line (States Acceptor))
 
 -- the report of a completion that was asked for
@@ -47,7 +52,8 @@ pub record IsCompletedReport (rank rules states : ℕ) (report : Report) : Type 
   pub text : report.text.items ≡ summary_line rank rules states
 
 -- the report of a completion that halted: its log, and the line of the limit with the words that wait
-pub record IsHaltedReport (names : List (List ℕ)) (reached : Reached) (lines : List Line) (waiting : Line)
+pub record IsHaltedReport (names : List (List ℕ)) (reached : Reached)
+    (lines : List Line) (waiting : Line)
     (report : Report) : Type 0 where
   pub status : report.status ≡ Undecided (limit_of reached)
   pub text : report.text.items ≡ log_text names lines (Some waiting)
@@ -60,14 +66,17 @@ pub record IsTooLargeReport (report : Report) : Type 0 where
 
 -- What each status means: what it reports was written; or the output failed after a front of a report.
 abbrev pub SelfTestMeans : SelfTestGiven → Outside → Outside → Status → Type 0
-SelfTestMeans given before after Yes = (bytes : List ℕ) × Reports given Yes bytes × Writes bytes before after
+SelfTestMeans given before after Yes =
+    (bytes : List ℕ) × Reports given Yes bytes × Writes bytes before after
 SelfTestMeans given before after (Undecided limit) =
     (bytes : List ℕ) × Reports given (Undecided limit) bytes × Writes bytes before after
 SelfTestMeans given before after (Fault Output) =
-    (status : Status) × (bytes : List ℕ) × Reports given status bytes × WritesFront bytes before after
+    (status : Status) × (bytes : List ℕ) × Reports given status bytes
+    × WritesFront bytes before after
 SelfTestMeans given before after Memory =
     IsUnchanged before after
-    ⊎ ((status : Status) × (bytes : List ℕ) × Reports given status bytes × WritesFront bytes before after)
+    ⊎ ((status : Status) × (bytes : List ℕ) × Reports given status bytes
+    × WritesFront bytes before after)
 SelfTestMeans given before after _ = ⊥
 
 -- nothing is stored or read

@@ -13,7 +13,8 @@ use Rattle.kb_completion.specs.FreeAbelian.{free_abelian}
 use Rattle.kb_completion.specs.Given.{SelfTestGiven}
 use Rattle.kb_completion.specs.SelfTest.{Reports, completed, halted, too_large, summary_line, SelfTestMeans, selftest_may_store, selftest_reads, selftest_is_unrefused, SelfTestsDifferInOptions}
 
-answers : (given : SelfTestGiven) (before after : Outside) (status : Status) → SelfTestMeans given before after status
+answers : (given : SelfTestGiven) (before after : Outside) (status : Status)
+    → SelfTestMeans given before after status
     → selftest_is_unrefused given before → IsFaultless status → AnswersYesOrLimit status
 answers given before after Yes means unrefused faultless = tt
 answers given before after (Undecided limit) means unrefused faultless = tt
@@ -28,7 +29,8 @@ selftest_complete = answers
 
 pub selftest_settled : IsSettledByFiles SelfTestMeans selftest_reads (λ given. IsYes)
 selftest_settled =
-    λ given before after other_before other_after status other means others same is_yes also. one_yes status
+    λ given before after other_before other_after status other means others same is_yes also.
+    one_yes status
     other is_yes also
 
 -- ---- one line
@@ -48,12 +50,16 @@ counts given status bytes is_yes (halted halts) = absurd is_yes
 counts given status bytes is_yes (too_large large) = absurd is_yes
 
 -- two completions of one presentation have the same counts
-one_line : (rank : ℕ) (bytes others : List ℕ) → Counts rank bytes → Counts rank others → bytes ≡ others
+one_line : (rank : ℕ) (bytes others : List ℕ) → Counts rank bytes → Counts rank others
+    → bytes ≡ others
 one_line rank bytes others one other =
     let rules = one_rules (free_abelian rank) one.completion other.completion in
     let acceptor = one_acceptor (free_abelian rank) one.completion other.completion in
-    one.line ∙ ap (λ (list : List Pair). summary_line rank (length list) (length one.acceptor.table.rows)) rules
-    ∙ ap (λ (automaton : Automaton). summary_line rank (length other.rules) (length automaton.table.rows))
+    one.line ∙ ap
+    (λ (list : List Pair). summary_line rank (length list) (length one.acceptor.table.rows))
+    rules
+    ∙ ap (λ (automaton : Automaton).
+    summary_line rank (length other.rules) (length automaton.table.rows))
     acceptor ∙ sym other.line
 
 -- what a yes wrote
@@ -66,7 +72,12 @@ wrote : (given : SelfTestGiven) (before after : Outside) (status : Status) → I
     → SelfTestMeans given before after status
     → Wrote given.rank before after
 wrote given before after Yes is_yes means =
-    record { bytes = means.0; counted = counts given Yes means.0 tt means.1; written = means.2.written }
+    record {
+      bytes = means.0;
+      counted = counts given Yes means.0 tt means.1;
+      written =
+          means.2.written;
+    }
 wrote given before after _ is_yes means = absurd is_yes
 
 same_effect : (given : SelfTestGiven) (rank : ℕ) (before after other_before other_after : Outside)
@@ -82,9 +93,11 @@ same_effect given rank before after other_before other_after one other =
       stored = λ name none. absurd none;
     }
 
-pub selftest_one_function : IsFunctionOfInputs SelfTestMeans SelfTestsDifferInOptions selftest_reads selftest_may_store
+pub selftest_one_function : IsFunctionOfInputs SelfTestMeans SelfTestsDifferInOptions selftest_reads
+    selftest_may_store
 selftest_one_function =
     λ given other_given before after other_before other_after status other means others is_yes also rank same input.
-    same_effect given given.rank before after other_before other_after (wrote given before after status is_yes means)
+    same_effect given given.rank before after other_before other_after
+    (wrote given before after status is_yes means)
     (subst (λ n. Wrote n other_before other_after) (sym rank)
     (wrote other_given other_before other_after other also others))

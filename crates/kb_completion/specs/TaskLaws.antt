@@ -32,10 +32,12 @@ pub completion_one_function : (task other_task : CompletionTask)
     → CompletionMeans task before after status
     → CompletionMeans other_task other_before other_after other → IsYes status → IsYes other
     → CompletionsDifferInOptions task other_task
-    → ReadsSame (completion_reads task) before other_before → before.input.left ≡ other_before.input.left
+    → ReadsSame (completion_reads task) before other_before
+    → before.input.left ≡ other_before.input.left
     → HasSameEffect (completion_may_store task) before after other_before other_after
 completion_one_function (Kbprog task) (Kbprog other) = kbprog_one_function task other
 completion_one_function (Logread task) (Logread other) = logread_one_function task other
 completion_one_function (SelfTest task) (SelfTest other) = selftest_one_function task other
 completion_one_function _ _ =
-    λ before after other_before other_after status answer means others yes also none same input. absurd none
+    λ before after other_before other_after status answer means others yes also none same input.
+    absurd none

@@ -8,8 +8,8 @@ use itoa::Buffer;
 use kb_word::{Equations, Inverses, Letter, Memory, Names, Presentation, Word, WordOrder};
 use std::alloc::Global;
 
-/// The presentation of the free abelian group of rank n, 1 to 40, by commuting generators: x1, X1, .. with Xi the inverse
-/// of xi.
+/// The presentation of the free abelian group of rank n, 1 to 40, by commuting generators: x1, X1,
+/// .. with Xi the inverse of xi.
 pub fn selftest_presentation(alloc: Global, n: u16) -> Result<Presentation, Memory>
     requires { (1 ≤ n) × (n ≤ 40) }
     ensures { IfOk result (λ presentation. parts_of presentation ≡ free_abelian n) }

@@ -1,5 +1,5 @@
-//! `kbprog FILE`: a presentation is completed, its rules and its word acceptor are stored, and word lines are answered by
-//! the rules; or what shows that a limit was reached is stored.
+//! `kbprog FILE`: a presentation is completed, its rules and its word acceptor are stored, and word
+//! lines are answered by the rules; or what shows that a limit was reached is stored.
 
 ghost use Rattle.std.specs.Prelude.{◌≡◌, ◌≢◌, List, ℕ, IfOk, IfErr, OnOk, OnErr};
 ghost use Rattle.std.specs.List.{AllPairs, Contains};

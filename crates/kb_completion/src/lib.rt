@@ -1,10 +1,12 @@
 //! The commands of completion: `kbprog FILE`, `logread FILE` and `selftest N`.
 //!
-//! The public contract is that of `kb_task::Task`, with what each command's statuses mean in `specs/`: `kbprog` stores the
-//! rules and the word acceptor of the completed presentation and answers word lines by them, or stores what shows
-//! that a limit was reached (`Kbprog`, `Files`); `logread` says what a log that was stored holds (`Logread`); `selftest`
-//! completes a free abelian group and counts its rules and its acceptor's states (`SelfTest`, `FreeAbelian`). By the laws
-//! of `Task` a yes is one function of the command and its files: which limit is reached may depend on the course.
+//! The public contract is that of `kb_task::Task`, with what each command's statuses mean in
+//! `specs/`: `kbprog` stores the rules and the word acceptor of the completed presentation and
+//! answers word lines by them, or stores what shows that a limit was reached (`Kbprog`, `Files`);
+//! `logread` says what a log that was stored holds (`Logread`); `selftest` completes a free abelian
+//! group and counts its rules and its acceptor's states (`SelfTest`, `FreeAbelian`). By the laws of
+//! `Task` a yes is one function of the command and its files: which limit is reached may depend on
+//! the course.
 //!
 //! - `kbprog`, `logread` and `selftest` are the commands, and `task` has the enum of all three.
 //! - `line` is what the command line says of them.
@@ -13,8 +15,8 @@
 //! - `printing` appends the parts of lines.
 //! - `free_abelian` makes the presentations of free abelian groups.
 //!
-//! Below are `kb_completed`, which completes presentations, `kb_proof`, which prints and reads logs, and `kb_task`; above is
-//! `kb_cli`.
+//! Below are `kb_completed`, which completes presentations, `kb_proof`, which prints and reads
+//! logs, and `kb_task`; above is `kb_cli`.
 #![tactic(auto)]
 
 mod evidence;

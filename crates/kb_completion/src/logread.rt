@@ -16,8 +16,8 @@ use kb_word::{Memory, OwnedText};
 use std::alloc::Global;
 use std::marker::Model;
 
-/// Says of the log that belongs to a presentation's file its version, how many lines it has, and what is open. Contracts
-/// see what the command line gives it.
+/// Says of the log that belongs to a presentation's file its version, how many lines it has, and
+/// what is open. Contracts see what the command line gives it.
 #[derive(Drop)]
 pub struct Logread {
     /// The name of the file with the presentation.

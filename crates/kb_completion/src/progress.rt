@@ -9,8 +9,8 @@ use kb_settle::Watch;
 /// The number of lines of a log at which progress is first told.
 const FIRST: usize = 1000;
 
-/// Tells how far a completion has come, when its log has 1,000 lines and then each time it has twice as many as the last
-/// time. What fails in that is ignored.
+/// Tells how far a completion has come, when its log has 1,000 lines and then each time it has
+/// twice as many as the last time. What fails in that is ignored.
 #[derive(Drop)]
 pub(crate) struct Progress<'a, E: Sink> {
     err: &'a mut E,

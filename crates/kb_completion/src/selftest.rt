@@ -26,8 +26,9 @@ use std::marker::Model;
 use std::sync::Wait;
 use std::thread::Threads;
 
-/// Completes a free abelian group, and counts its rules and the states of its word acceptor. Contracts see what the command
-/// line gives it; the rank is 1 to 40, and there are 1 to 64 workers.
+/// Completes a free abelian group, and counts its rules and the states of its word acceptor.
+/// Contracts see what the command line gives it; the rank is 1 to 40, and there are 1 to 64
+/// workers.
 #[derive(Drop)]
 pub struct SelfTest {
     /// The rank of the group.

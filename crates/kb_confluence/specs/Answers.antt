@@ -24,4 +24,5 @@ GivesCounterexample rules (No i j place u v) = IsCounterexample rules u v
 
 -- no words, where the pair joins, and otherwise its different normal forms
 abbrev pub Resolves : List Pair → Pair → Option Pair → Type 0
-Resolves rules pair words = MatchOption words (IsResolved rules pair) (λ ends. IsUnresolved rules pair ends.0 ends.1)
+Resolves rules pair words =
+    MatchOption words (IsResolved rules pair) (λ ends. IsUnresolved rules pair ends.0 ends.1)

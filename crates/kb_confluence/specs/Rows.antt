@@ -12,7 +12,9 @@ RowJoins rules i = (j place : ℕ) (first second : Pair) → OverlapOf rules i j
 
 -- each overlap of row i joins that comes before the one with rule l at place q
 abbrev pub EarlierOfRowJoin : List Pair → ℕ → ℕ → ℕ → Type 0
-EarlierOfRowJoin rules i l q = (j p : ℕ) (first second : Pair) → (j < l) ⊎ ((j ≡ l) × (p < q)) → OverlapOf rules i j p first second
+EarlierOfRowJoin rules i l q =
+    (j p : ℕ) (first second : Pair) → (j < l) ⊎ ((j ≡ l) × (p < q))
+    → OverlapOf rules i j p first second
     → IsResolved rules (critical_pair first second p)
 
 -- the overlap of row i with rule j is the first of the row that doesn't join: its words' normal forms are u and v

@@ -21,7 +21,8 @@ pub record IsShareOf (draw : Draw) (rules : List Pair) (share : Share) : Type 0 
   pub verdict : IsVerdictOn rules (Drew share.seat) share.verdict
 
 -- all shares together, of so many workers: dry seats of the draw, and the verdict on the rows that any of them drew
-pub record AreAllShares (draw : Draw) (rules : List Pair) (workers : ℕ) (seats : List Seat) (earliest : Verdict) : Type 0 where
+pub record AreAllShares (draw : Draw) (rules : List Pair) (workers : ℕ) (seats : List Seat)
+    (earliest : Verdict) : Type 0 where
   pub count : length seats ≡ workers
   pub each : All (IsSeatOf draw) seats
   pub dry : All (λ seat. seat.dry ≡ true) seats
@@ -29,5 +30,6 @@ pub record AreAllShares (draw : Draw) (rules : List Pair) (workers : ℕ) (seats
 
 -- the seats and the verdict are those of all shares, where each is a share of one draw of the rows
 abbrev pub IsMerged : List (Result Share Memory) → List Seat → Verdict → Type 0
-IsMerged shares seats verdict = (draw : Draw) (rules : List Pair) → All (λ share. IfOk share (IsShareOf draw rules)) shares
+IsMerged shares seats verdict =
+    (draw : Draw) (rules : List Pair) → All (λ share. IfOk share (IsShareOf draw rules)) shares
     → AreAllShares draw rules (length shares) seats verdict

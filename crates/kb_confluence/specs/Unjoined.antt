@@ -12,10 +12,12 @@ ComesBefore i j p k l q = (i < k) ⊎ ((i ≡ k) × ((j < l) ⊎ ((j ≡ l) × (
 
 -- each overlap before this one joins
 abbrev pub EarlierJoin : List Pair → ℕ → ℕ → ℕ → Type 0
-EarlierJoin rules k l q = (i j p : ℕ) (first second : Pair) → ComesBefore i j p k l q → OverlapOf rules i j p first second
+EarlierJoin rules k l q =
+    (i j p : ℕ) (first second : Pair) → ComesBefore i j p k l q → OverlapOf rules i j p first second
     → IsResolved rules (critical_pair first second p)
 
--- the overlap of the rules of indices i and j, from 0 on, is the first that doesn't join: its words' normal forms are u and v
+-- the overlap of the rules of indices i and j, from 0 on, is the first that doesn't join: its
+-- words' normal forms are u and v
 pub record IsFirstUnjoined (rules : List Pair) (i j place : ℕ) (u v : List ℕ) : Type 0 where
   pub first : Pair
   pub second : Pair

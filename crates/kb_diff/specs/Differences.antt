@@ -17,9 +17,11 @@ abbrev pub last_place : List ℕ → List ℕ → ℕ
 last_place u v = max (length u) (length v)
 
 -- these are the differences of u and v at the places 1, 2, .., so many
-pub record AreFirstDifferences (group : Group) (u v : List ℕ) (count : ℕ) (differences : List (List ℕ)) : Type 0 where
+pub record AreFirstDifferences (group : Group) (u v : List ℕ) (count : ℕ)
+    (differences : List (List ℕ)) : Type 0 where
   pub one_each : length differences ≡ count
-  pub each : (index : ℕ) (d : List ℕ) → slice_get differences index ≡ Some d → IsDifference group u v (suc index) d
+  pub each : (index : ℕ) (d : List ℕ) → slice_get differences index ≡ Some d
+      → IsDifference group u v (suc index) d
 
 -- the words have the difference of u and v at each place
 abbrev pub HaveDifferences : Group → List (List ℕ) → List ℕ → List ℕ → Type 0

@@ -27,4 +27,10 @@ pub record Group : Type 0 where
 -- the group that is presented, with these rules
 abbrev pub group_of : Presentation → List Pair → Group
 group_of presentation rules =
-    record { n = presentation.n; order = presentation.order; inverses = presentation.inv; rules = rules }
+    record {
+      n = presentation.n;
+      order = presentation.order;
+      inverses = presentation.inv;
+      rules =
+          rules;
+    }

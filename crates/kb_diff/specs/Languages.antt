@@ -1,5 +1,6 @@
--- The word acceptor and the multipliers that are made from word differences.
--- Epstein et al., Word Processing in Groups, 2.3 and 6; Holt, Eick, O'Brien, Handbook of Computational Group Theory, 13.2.
+-- The word acceptor and the multipliers that are made from word differences. Epstein et al., Word
+-- Processing in Groups, 2.3 and 6; Holt, Eick, O'Brien, Handbook of Computational Group Theory,
+-- 13.2.
 use Rattle.std.specs.Prelude.{◌↔◌, ℕ, List, [], ◌∷◌}
 use Rattle.kb_word.specs.Words.{IsFactor}
 use Rattle.kb_word.specs.Relations.{IsOver}
@@ -23,10 +24,12 @@ pub record DifferenceAcceptor (group : Group) (words : List (List ℕ)) (w : Lis
 
 -- the acceptor is that of the differences: it accepts the words that no kept differences show to be greater than others
 abbrev pub IsDifferenceAcceptor : Group → List (List ℕ) → Automaton → Type 0
-IsDifferenceAcceptor group words acceptor = (w : List ℕ) → Accepts acceptor w ↔ DifferenceAcceptor group words w
+IsDifferenceAcceptor group words acceptor =
+    (w : List ℕ) → Accepts acceptor w ↔ DifferenceAcceptor group words w
 
 -- the pairs of the multiplier of generator x: words of the acceptor that lead from the empty word to x's normal form
-pub record DifferenceMultiplier (group : Group) (words : List (List ℕ)) (x : ℕ) (u v : List ℕ) : Type 0 where
+pub record DifferenceMultiplier (group : Group) (words : List (List ℕ)) (x : ℕ)
+    (u v : List ℕ) : Type 0 where
   pub first : DifferenceAcceptor group words u
   pub second : DifferenceAcceptor group words v
   pub end : List ℕ

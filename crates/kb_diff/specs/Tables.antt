@@ -44,13 +44,15 @@ pub record IsFront (group : Group) (d : List ℕ) (a : ℕ) (front : List ℕ) :
   pub normal : NormalForm group.rules (inverse ++ d) front
 
 -- from the front the second letter leads to the number
-pub record FrontLeads (group : Group) (words : List (List ℕ)) (front : List ℕ) (b target : ℕ) : Type 0 where
+pub record FrontLeads (group : Group) (words : List (List ℕ)) (front : List ℕ)
+    (b target : ℕ) : Type 0 where
   pub word : List ℕ
   pub normal : NormalForm group.rules (front ++ letters_of group.n b) word
   pub number : IsNumberOf words word target
 
 -- from d the pair of letters leads to the number
-pub record LeadsToNumber (group : Group) (words : List (List ℕ)) (d : List ℕ) (a b target : ℕ) : Type 0 where
+pub record LeadsToNumber (group : Group) (words : List (List ℕ)) (d : List ℕ)
+    (a b target : ℕ) : Type 0 where
   pub word : List ℕ
   pub leads : LeadsBy group d a b word
   pub number : IsNumberOf words word target
@@ -61,18 +63,22 @@ pub record AddsTargets (group : Group) (words : List (List ℕ)) (front : List �
   pub row : List ℕ
   pub longer : new ≡ old ++ row
   pub one_each : length row ≡ count
-  pub each : (second : ℕ) → second < count → FrontLeads group words front (suc second) (get_or row second 0)
+  pub each : (second : ℕ) → second < count
+      → FrontLeads group words front (suc second) (get_or row second 0)
 
 -- where pairs lead from d, with so many letters as the first, is added to the table
-pub record AddsRows (group : Group) (words : List (List ℕ)) (d : List ℕ) (count : ℕ) (old new : List ℕ) : Type 0 where
+pub record AddsRows (group : Group) (words : List (List ℕ)) (d : List ℕ) (count : ℕ)
+    (old new : List ℕ) : Type 0 where
   pub rows : List ℕ
   pub longer : new ≡ old ++ rows
   pub one_each : length rows ≡ count * (group.n + 1)
   pub each : (first second : ℕ) → first < count → second < group.n + 1
-      → LeadsToNumber group words d (suc first) (suc second) (get_or rows (first * (group.n + 1) + second) 0)
+      → LeadsToNumber group words d (suc first) (suc second)
+      (get_or rows (first * (group.n + 1) + second) 0)
 
 -- the table has the steps from so many words
-pub record AreStepsOf (group : Group) (words : List (List ℕ)) (count : ℕ) (table : List ℕ) : Type 0 where
+pub record AreStepsOf (group : Group) (words : List (List ℕ)) (count : ℕ)
+    (table : List ℕ) : Type 0 where
   pub one_each : length table ≡ count * ((group.n + 1) * (group.n + 1))
   pub each : (index first second : ℕ) → index < count → first < group.n + 1 → second < group.n + 1
       → DifferenceStep group words (suc index) (suc first) (suc second)

@@ -16,9 +16,9 @@ use kb_word::{Memory, Word};
 use std::alloc::Global;
 
 impl<R: Reducer> Differences<R> {
-    /// Keeps the differences of u and v at the places 1, 2, .., as far as there is room. The path is that of u, x and v,
-    /// where u followed by x is to be the same element as v; its differences don't depend on x. After want of memory
-    /// what is kept is as it was.
+    /// Keeps the differences of u and v at the places 1, 2, .., as far as there is room. The path
+    /// is that of u, x and v, where u followed by x is to be the same element as v; its differences
+    /// don't depend on x. After want of memory what is kept is as it was.
     pub fn add_path(&mut self, alloc: Global, u: &Word, v: &Word, x: &Word) -> Result<Grow, Memory>
         requires first { IsOver self.old.group.n u.now }
         requires second { IsOver self.old.group.n v.now }

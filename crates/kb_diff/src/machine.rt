@@ -31,8 +31,8 @@ impl Machine {
         Machine { n, table }
     }
 
-    /// To which number the pair of letters a and b leads from d, and 0 where it leads to no difference that is kept. From
-    /// no number, and by what are no letters, it leads to 0 too.
+    /// To which number the pair of letters a and b leads from d, and 0 where it leads to no
+    /// difference that is kept. From no number, and by what are no letters, it leads to 0 too.
     pub fn step(&self, d: u32, a: u16, b: u16) -> u32
         ensures { result ≡ step_in self.now d a b }
     {

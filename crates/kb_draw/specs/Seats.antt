@@ -31,12 +31,15 @@ pub record IsSeatOf (draw : Draw) (seat : Seat) : Type 0 where
 abbrev pub IsNewSeatOf : Draw → Seat → Type 0
 IsNewSeatOf draw seat = IsSeatOf draw seat × (numbers_of seat ≡ [])
 
--- What a call of `next` does, by what the seat was, the answer and what the seat is afterwards. A dry seat draws nothing. A
--- seat that is not dry draws one number, the first one or more: that is the answer where it is less than the end, and makes
--- the seat dry where not.
+-- What a call of `next` does, by what the seat was, the answer and what the seat is afterwards. A
+-- dry seat draws nothing. A seat that is not dry draws one number, the first one or more: that is
+-- the answer where it is less than the end, and makes the seat dry where not.
 pub data Takes (bounds : Bounds) (before : Seat) : Option ℕ → Seat → Type 0 where
   nothing : before.dry ≡ true → Takes bounds before None before
-  one : {number : ℕ} {after : Seat} → before.dry ≡ false → bounds.first ≤ number → number < bounds.end
-      → numbers_of after ≡ numbers_of before ++ number ∷ [] → after.dry ≡ false → Takes bounds before (Some number) after
+  one : {number : ℕ} {after : Seat} → before.dry ≡ false → bounds.first ≤ number
+      → number < bounds.end
+      → numbers_of after ≡ numbers_of before ++ number ∷ [] → after.dry ≡ false
+      → Takes bounds before (Some number) after
   last : {number : ℕ} {after : Seat} → before.dry ≡ false → bounds.end ≤ number
-      → numbers_of after ≡ numbers_of before ++ number ∷ [] → after.dry ≡ true → Takes bounds before None after
+      → numbers_of after ≡ numbers_of before ++ number ∷ [] → after.dry ≡ true
+      → Takes bounds before None after

@@ -1,5 +1,5 @@
--- Totals over lists, and over the numbers below a bound. Two lists that have the same total by every weight have the same
--- elements, as many times each.
+-- Totals over lists, and over the numbers below a bound. Two lists that have the same total by
+-- every weight have the same elements, as many times each.
 use Rattle.std.specs.Prelude.{ℕ, zero, suc, ◌+◌, List, [], ◌∷◌, cond, ◌==◌, nat_le}
 
 abbrev pub total : {X : Type 0} → (X → ℕ) → List X → ℕ

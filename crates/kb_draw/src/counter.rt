@@ -12,8 +12,9 @@ pub struct Bounds {
     pub seats: u32,
 }
 
-/// What a place at the counter knows: the first number, the numbers that it drew, in their order, how many seats went into
-/// it, and how many may still be split off. No value of it is made; in contracts a `LinkedList` is a list.
+/// What a place at the counter knows: the first number, the numbers that it drew, in their order,
+/// how many seats went into it, and how many may still be split off. No value of it is made; in
+/// contracts a `LinkedList` is a list.
 pub struct View {
     pub first: u64,
     pub numbers: LinkedList<u64>,

@@ -34,7 +34,8 @@ impl Draw {
     pub fn new(alloc: Global, first: u64, end: u64, seats: u32) -> Result<(Draw, Vec<Seat>), Memory>
         requires { (first ≤ end) × (end ≤ 2 ^ 62) × (1 ≤ seats) × (seats ≤ 64) }
         ensures bounds { IfOk result (λ made.
-            (made.0.bounds.first ≡ first) × (made.0.bounds.end ≡ end) × (made.0.bounds.seats ≡ seats)) }
+            (made.0.bounds.first ≡ first) × (made.0.bounds.end ≡ end)
+            × (made.0.bounds.seats ≡ seats)) }
         ensures seats { IfOk result (λ made.
             (length made.1.items ≡ seats) × All (IsNewSeatOf made.0) made.1.items) }
     {
@@ -65,8 +66,8 @@ impl Draw {
         Ok(seats)
     }
 
-    /// Draws the next number. A number past the end is not answered, and the seat is dry from then on: it answers `None`
-    /// without a step.
+    /// Draws the next number. A number past the end is not answered, and the seat is dry from then
+    /// on: it answers `None` without a step.
     pub fn next(&self, seat: &mut Seat) -> Option<u64>
         requires { IsSeatOf self.now seat.old }
         ensures seat { IsSeatOf self.now seat.new }
@@ -86,12 +87,14 @@ impl Draw {
         None
     }
 
-    /// Ends a draw, by all its seats. No number was drawn twice, and where the seats are dry each number was drawn once.
+    /// Ends a draw, by all its seats. No number was drawn twice, and where the seats are dry each
+    /// number was drawn once.
     pub fn close(self, seats: Vec<Seat>)
         requires { (length seats.items ≡ self.bounds.seats) × All (IsSeatOf self) seats.items }
         ensures once { (number : ℕ) → times_drawn number seats.items ≤ 1 }
         ensures all { All (λ seat. seat.dry ≡ true) seats.items → (number : ℕ)
-            → self.bounds.first ≤ number → number < self.bounds.end → times_drawn number seats.items ≡ 1 }
+            → self.bounds.first ≤ number → number < self.bounds.end
+            → times_drawn number seats.items ≡ 1 }
     {
         let place = self.gathered(seats);
         let Draw { counter, bounds: _ } = self;
@@ -104,7 +107,8 @@ impl Draw {
         ensures place { (result.table_id ≡ self.now.counter.shared.table_id) × (result.me.1 ≡ []) }
         ensures seats { result.me.0.seats ≡ length seats.items }
         ensures numbers { (weight : ℕ → ℕ)
-            → total weight result.me.0.numbers ≡ total (λ seat. total weight (numbers_of seat)) seats.items }
+            → total weight result.me.0.numbers
+            ≡ total (λ seat. total weight (numbers_of seat)) seats.items }
     {
         let Some(last) = seats.pop() else {
             unreachable!()
@@ -120,7 +124,8 @@ impl Draw {
         ensures place { (result.table_id ≡ self.now.counter.shared.table_id) × (result.me.1 ≡ []) }
         ensures seats { result.me.0.seats ≡ place.me.0.seats + length seats.items }
         ensures numbers { (weight : ℕ → ℕ) → total weight result.me.0.numbers
-            ≡ total weight place.me.0.numbers + total (λ seat. total weight (numbers_of seat)) seats.items }
+            ≡ total weight place.me.0.numbers
+            + total (λ seat. total weight (numbers_of seat)) seats.items }
     {
         while let Some(seat) = seats.pop() {
             let Seat {

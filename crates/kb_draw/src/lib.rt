@@ -2,19 +2,23 @@
 //!
 //! # The public contract
 //!
-//! A [`Draw`] hands out the numbers from a first one up to an end. [`Draw::new`] makes it with a fixed number of seats, 1 to
-//! 64. A [`Seat`] is a token that takes part in the draw; it goes to a thread, and is never copied. [`Draw::next`] draws the
-//! next number by a seat, and answers `None` where that is the end or more; from then on the seat is dry, and draws no more.
-//! `next` is one addition to a word of memory that all threads share: it takes no memory and waits for nobody.
-//! [`Draw::close`] takes back all seats: no number was drawn twice, and where the seats are dry each number from the first
-//! one up to the end was drawn.
+//! A [`Draw`] hands out the numbers from a first one up to an end. [`Draw::new`] makes it with a
+//! fixed number of seats, 1 to
+//! 64. A [`Seat`] is a token that takes part in the draw; it goes to a thread, and is never copied.
+//! [`Draw::next`] draws the next number by a seat, and answers `None` where that is the end or
+//! more; from then on the seat is dry, and draws no more. `next` is one addition to a word of
+//! memory that all threads share: it takes no memory and waits for nobody. [`Draw::close`] takes
+//! back all seats: no number was drawn twice, and where the seats are dry each number from the
+//! first one up to the end was drawn.
 //!
 //! # How it is made
 //!
-//! The counter is a table of one word of `atomic_table`, under a rule that says what the word and the seats' views can be:
-//! `specs/Counter.antt` has it as a relation with a constructor for each kind of step, a number that is drawn, a seat that is
-//! split off and a seat that is joined to another. `proofs/Counting.antt` shows what follows from it: the numbers in all views
-//! are those from the first one up to the word, each once. `specs/Seats.antt` has the words of the public contract.
+//! The counter is a table of one word of `atomic_table`, under a rule that says what the word and
+//! the seats' views can be: `specs/Counter.antt` has it as a relation with a constructor for each
+//! kind of step, a number that is drawn, a seat that is split off and a seat that is joined to
+//! another. `proofs/Counting.antt` shows what follows from it: the numbers in all views are those
+//! from the first one up to the word, each once. `specs/Seats.antt` has the words of the public
+//! contract.
 //!
 //! The seats may draw numbers past the end, one each at most. So the counter never comes to the end of its 64 bits.
 //!

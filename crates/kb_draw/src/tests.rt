@@ -33,7 +33,8 @@ fn drawn_by_two<R: Threads + Sync>(
     other: Seat,
 ) -> Result<(Vec<Seat>, Vec<u64>), Memory>
     requires { IsSeatOf draw.now one × IsSeatOf draw.now other }
-    ensures { IfOk result (λ drawn. (length drawn.0.items ≡ 2) × All (IsSeatOf draw.now) drawn.0.items) }
+    ensures { IfOk result
+        (λ drawn. (length drawn.0.items ≡ 2) × All (IsSeatOf draw.now) drawn.0.items) }
 {
     let (mine, theirs) = join(
         rt,

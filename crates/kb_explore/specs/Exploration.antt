@@ -15,13 +15,15 @@ numbered states (suc place) = slice_get states place
 -- to the state. The initial state has the origin (0, 0).
 pub data IsTraced (origins : List (ℕ × ℕ)) : ℕ → List ℕ → Type 0 where
   at_start : {state : ℕ} → numbered origins state ≡ Some (0, 0) → IsTraced origins state []
-  along : {state parent symbol : ℕ} {text : List ℕ} → numbered origins state ≡ Some (suc parent, symbol)
+  along : {state parent symbol : ℕ} {text : List ℕ}
+      → numbered origins state ≡ Some (suc parent, symbol)
       → IsTraced origins (suc parent) text → IsTraced origins state (text ++ symbol ∷ [])
 
 -- each state but the initial one was first seen from an earlier one
 abbrev pub AreFromEarlier : List (ℕ × ℕ) → Type 0
 AreFromEarlier origins =
-    (state parent symbol : ℕ) → numbered origins state ≡ Some (suc parent, symbol) → suc parent < state
+    (state parent symbol : ℕ) → numbered origins state ≡ Some (suc parent, symbol)
+    → suc parent < state
 
 -- The table has the states that texts lead to in the machine, each once. Each is numbered by its least text, and
 -- traced back by its origin.
@@ -36,8 +38,10 @@ pub record IsExploration {S : Type 0} (machine : Machine S) (table : Table) (sta
       → slice_get states other ≡ Some state → place ≡ other
   pub words : List (List ℕ)
   pub one_word_each : length words ≡ length table.rows
-  pub least : (state : ℕ) (word : List ℕ) → numbered words state ≡ Some word → IsLeastText table state word
-  pub traced : (state : ℕ) (word : List ℕ) → numbered words state ≡ Some word → IsTraced origins state word
+  pub least : (state : ℕ) (word : List ℕ) → numbered words state ≡ Some word
+      → IsLeastText table state word
+  pub traced : (state : ℕ) (word : List ℕ) → numbered words state ≡ Some word
+      → IsTraced origins state word
   pub from_earlier : AreFromEarlier origins
   pub ascending : (p q : ℕ) (word other : List ℕ) → p < q → numbered words p ≡ Some word
       → numbered words q ≡ Some other → Less word other

@@ -31,7 +31,8 @@ pub record MachineAccepts {S : Type 0} (machine : Machine S) (text : List ℕ) :
   pub accepts : machine.accepts state ≡ true
 
 -- the moves are those of the state: symbols of 1 to k, ascending, each with where it leads; all others lead nowhere
-pub record AreMovesOf {S : Type 0} (machine : Machine S) (k : ℕ) (state : S) (moves : List (ℕ × S)) : Type 0 where
+pub record AreMovesOf {S : Type 0} (machine : Machine S) (k : ℕ) (state : S)
+    (moves : List (ℕ × S)) : Type 0 where
   pub ascends : Ascends moves
   pub symbols : All (λ move. (0 < move.0) × (move.0 ≤ k)) moves
   pub follow : (symbol : ℕ) → lookup moves symbol ≡ machine.follow state symbol
@@ -39,4 +40,5 @@ pub record AreMovesOf {S : Type 0} (machine : Machine S) (k : ℕ) (state : S) (
 -- more than m texts lead to different states
 abbrev pub HasMoreStates : {S : Type 0} → Machine S → ℕ → Type 0
 HasMoreStates machine =
-    MoreThan (λ text. IsSome (leads machine text)) (λ text other. leads machine text ≡ leads machine other)
+    MoreThan (λ text. IsSome (leads machine text))
+    (λ text other. leads machine text ≡ leads machine other)

@@ -8,7 +8,8 @@ pub use Rattle.kb_record.specs.View.{fields_view, places_view}
 -- the value of the first field with this name
 abbrev pub value_of : Fields → List ℕ → Option Value
 value_of no_fields name = None
-value_of (field text value others) name = if pointwise nat_eq text name then Some value else value_of others name
+value_of (field text value others) name =
+    if pointwise nat_eq text name then Some value else value_of others name
 
 -- the names of the fields, in order
 abbrev pub field_names : Fields → List (List ℕ)
@@ -28,18 +29,21 @@ abbrev mutual
   pub HasFieldTwice : Value → List ℕ → Type 0
   HasFieldTwice (number_value z) name = ⊥
   HasFieldTwice (string_value text) name = ⊥
-  HasFieldTwice (record_value fields) name = StandsTwice (field_names fields) name ⊎ SomeFieldHasTwice fields name
+  HasFieldTwice (record_value fields) name =
+      StandsTwice (field_names fields) name ⊎ SomeFieldHasTwice fields name
   HasFieldTwice (list_value places) name = SomePlaceHasTwice places name
   HasFieldTwice (range_value from to) name = ⊥
   HasFieldTwice (word_value _) name = ⊥
 
   pub SomeFieldHasTwice : Fields → List ℕ → Type 0
   SomeFieldHasTwice no_fields name = ⊥
-  SomeFieldHasTwice (field text value others) name = HasFieldTwice value name ⊎ SomeFieldHasTwice others name
+  SomeFieldHasTwice (field text value others) name =
+      HasFieldTwice value name ⊎ SomeFieldHasTwice others name
 
   pub SomePlaceHasTwice : Places → List ℕ → Type 0
   SomePlaceHasTwice no_places name = ⊥
-  SomePlaceHasTwice (place value others) name = HasFieldTwice value name ⊎ SomePlaceHasTwice others name
+  SomePlaceHasTwice (place value others) name =
+      HasFieldTwice value name ⊎ SomePlaceHasTwice others name
   SomePlaceHasTwice (empty_place others) name = SomePlaceHasTwice others name
 
 -- the value is a Name: a word of one factor that is a bare name

@@ -25,6 +25,8 @@ pub record AreGeneratorNames (names : List (List ℕ)) : Type 0 where
 -- The value has the fault: it is no list of names, or it is one of too many names, or of which one is taken.
 abbrev pub HasNamesFault : Value → NamesFault → Type 0
 HasNamesFault value faults.WrongKind = (names : List (List ℕ)) → ¬ IsListOf names value
-HasNamesFault value faults.TooMany = (names : List (List ℕ)) × IsListOf names value × (most_generators < length names)
-HasNamesFault value (faults.Taken name) = (names : List (List ℕ)) × IsListOf names value × IsTaken names name
+HasNamesFault value faults.TooMany =
+    (names : List (List ℕ)) × IsListOf names value × (most_generators < length names)
+HasNamesFault value (faults.Taken name) =
+    (names : List (List ℕ)) × IsListOf names value × IsTaken names name
 HasNamesFault value faults.Memory = Unit {0}

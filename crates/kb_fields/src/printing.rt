@@ -9,7 +9,8 @@ use kb_word::{Memory, Names};
 
 /// Appends the list of the names on one line.
 pub fn print_names(names: &Names, out: &mut Vec<u8>) -> Result<(), Memory>
-    ensures { OnOk result (out.new.items ≡ out.old.items ++ line_of (list_value (list_of_names names.now))) }
+    ensures { OnOk result
+        (out.new.items ≡ out.old.items ++ line_of (list_value (list_of_names names.now))) }
 {
     out.push(b'[')?;
     let mut before: &[u8] = b"";

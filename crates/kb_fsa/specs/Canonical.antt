@@ -20,7 +20,8 @@ IsBreadthFirst table = (p q : ℕ) (text other : List ℕ) → 0 < p → p < q
 
 -- each state is reached
 abbrev pub AreReached : Table → Type 0
-AreReached table = (state : ℕ) → IsState table state → (text : List ℕ) × IsLeastText table state text
+AreReached table =
+    (state : ℕ) → IsState table state → (text : List ℕ) × IsLeastText table state text
 
 -- Each state leads to acceptance; but where no text is accepted the initial state stands alone, without a move.
 abbrev pub IsTrim : Table → Type 0

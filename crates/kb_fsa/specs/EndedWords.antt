@@ -9,7 +9,8 @@ use Rattle.kb_fsa.specs.Language.{symbols}
 
 -- which word of a pair the symbol pads
 abbrev pub word_padded : ℕ → ℕ → Ended
-word_padded n symbol = if pads_first n symbol then First else (if pads_second n symbol then Second else Neither)
+word_padded n symbol =
+    if pads_first n symbol then First else (if pads_second n symbol then Second else Neither)
 
 -- which word has ended after a symbol that pads a word or none, unless the symbol has a letter of a word that has ended
 abbrev pub ended_next : Ended → Ended → Option Ended
@@ -25,13 +26,15 @@ is_symbol alphabet symbol = nat_lt 0 symbol && nat_le symbol (symbols alphabet)
 -- which word has ended after the symbol, if it may follow; in a plain text each may, and no word is padded
 abbrev pub ended_after : Alphabet → Ended → ℕ → Option Ended
 ended_after (Plain n) ended symbol = if is_symbol (Plain n) symbol then Some Neither else None
-ended_after (Pair n) ended symbol = if is_symbol (Pair n) symbol then ended_next ended (word_padded n symbol) else None
+ended_after (Pair n) ended symbol =
+    if is_symbol (Pair n) symbol then ended_next ended (word_padded n symbol) else None
 
 -- which word has ended after the text
 abbrev pub ended_by : Alphabet → Option Ended → List ℕ → Option Ended
 ended_by alphabet None text = None
 ended_by alphabet (Some ended) [] = Some ended
-ended_by alphabet (Some ended) (symbol ∷ text) = ended_by alphabet (ended_after alphabet ended symbol) text
+ended_by alphabet (Some ended) (symbol ∷ text) =
+    ended_by alphabet (ended_after alphabet ended symbol) text
 
 -- the symbols that may follow are apart by a stride, from the first on
 abbrev pub first_after : Alphabet → Ended → ℕ

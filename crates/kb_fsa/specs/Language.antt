@@ -32,7 +32,8 @@ pub record IsAutomaton (automaton : Automaton) : Type 0 where
   pub generators : generators automaton.alphabet ≤ 65534
   pub table : IsTable automaton.table
   pub symbols : HasSymbols (symbols automaton.alphabet) automaton.table
-  pub texts : (text : List ℕ) → state_after automaton.table text ≢ 0 → IsTextOf automaton.alphabet text
+  pub texts : (text : List ℕ) → state_after automaton.table text ≢ 0
+      → IsTextOf automaton.alphabet text
 
 -- the automaton accepts the text
 abbrev pub AcceptsText : Automaton → List ℕ → Type 0

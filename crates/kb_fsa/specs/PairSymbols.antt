@@ -1,5 +1,6 @@
--- The symbols of pairs of letters. Over n generators each of the two is a letter, with a number from 1 to n, or the
--- padding, with number n + 1. The symbols are numbered row by row: the first of the two is the row, the second the column.
+-- The symbols of pairs of letters. Over n generators each of the two is a letter, with a number
+-- from 1 to n, or the padding, with number n + 1. The symbols are numbered row by row: the first of
+-- the two is the row, the second the column.
 use Rattle.std.specs.Prelude.{ℕ, ◌+◌, ◌-◌, ◌*◌, ◌/◌, ◌%◌, nat_eq, Bool}
 
 -- the symbol of two letters

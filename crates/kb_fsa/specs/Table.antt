@@ -27,7 +27,8 @@ pub record IsRow (moves : Moves) : Type 0 where
 -- greater symbols.
 pub data IsSplit (row : Moves) (symbol : ℕ) : ℕ → Moves → Type 0 where
   without : All (λ move. symbol < move.0) row → IsSplit row symbol 0 row
-  with_move : {state : ℕ} {rest : Moves} → row ≡ (symbol, state) ∷ rest → IsSplit row symbol state rest
+  with_move : {state : ℕ} {rest : Moves} → row ≡ (symbol, state) ∷ rest
+      → IsSplit row symbol state rest
 
 -- States are numbered from 1, and 0 stands for no state. The lists say of state 1, of state 2, and so on, what its
 -- moves are and whether it accepts.

@@ -23,16 +23,30 @@ impl Model for Table {
 
     ghost Value = { Rattle.kb_fsa.specs.Table.Table };
 
-    ghost view = { λ table. record { initial = table.initial; rows = table.rows.items; accepting = table.accepting.items } };
+    ghost view = { λ table.
+        record {
+          initial = table.initial;
+          rows = table.rows.items;
+          accepting =
+              table.accepting.items;
+        } };
 
-    ghost invariant = { λ table. IsTable (record { initial = table.initial; rows = table.rows.items; accepting = table.accepting.items }) };
+    ghost invariant = { λ table. IsTable
+        (record {
+          initial = table.initial;
+          rows = table.rows.items;
+          accepting =
+              table.accepting.items;
+        }) };
 }
 
 impl Table {
     /// The table with these parts: the initial state, or 0, and each state's row and whether it accepts.
     pub fn new(initial: u32, rows: Vec<Row>, accepting: Vec<bool>) -> Table
-        requires { IsTable (record { initial = initial; rows = rows.items; accepting = accepting.items }) }
-        ensures { result ≡ record { initial = initial; rows = rows.items; accepting = accepting.items } }
+        requires { IsTable
+            (record { initial = initial; rows = rows.items; accepting = accepting.items }) }
+        ensures { result
+            ≡ record { initial = initial; rows = rows.items; accepting = accepting.items } }
     {
         Table {
             initial,

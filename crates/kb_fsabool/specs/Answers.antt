@@ -7,20 +7,25 @@ use Rattle.kb_fsabool.specs.declared.equality.Equality.TheVariants.{Equal, Diffe
 
 -- the automaton accepts what both accept
 abbrev pub IsIntersection : Automaton → Automaton → Automaton → Type 0
-IsIntersection one two both = (text : List ℕ) → AcceptsText both text ↔ (AcceptsText one text × AcceptsText two text)
+IsIntersection one two both =
+    (text : List ℕ) → AcceptsText both text ↔ (AcceptsText one text × AcceptsText two text)
 
 -- the automaton accepts what either accepts
 abbrev pub IsUnion : Automaton → Automaton → Automaton → Type 0
-IsUnion one two either = (text : List ℕ) → AcceptsText either text ↔ (AcceptsText one text ⊎ AcceptsText two text)
+IsUnion one two either =
+    (text : List ℕ) → AcceptsText either text ↔ (AcceptsText one text ⊎ AcceptsText two text)
 
 -- the automaton accepts the texts of the alphabet that the other one doesn't
 abbrev pub IsComplement : Automaton → Automaton → Type 0
 IsComplement automaton rest =
-    (text : List ℕ) → AcceptsText rest text ↔ (IsTextOf automaton.alphabet text × ¬ AcceptsText automaton text)
+    (text : List ℕ)
+    → AcceptsText rest text ↔ (IsTextOf automaton.alphabet text × ¬ AcceptsText automaton text)
 
 -- exactly one of the two accepts the text
 abbrev pub IsInOne : Automaton → Automaton → List ℕ → Type 0
-IsInOne one two text = (AcceptsText one text × ¬ AcceptsText two text) ⊎ (AcceptsText two text × ¬ AcceptsText one text)
+IsInOne one two text =
+    (AcceptsText one text × ¬ AcceptsText two text)
+    ⊎ (AcceptsText two text × ¬ AcceptsText one text)
 
 -- the least text that exactly one of the two accepts
 pub record IsLeastDifference (one two : Automaton) (text : List ℕ) : Type 0 where

@@ -23,9 +23,11 @@ complement automaton = record {
 }
 
 -- the moves from the place by the symbols before this one
-pub record AreMovesBefore (automaton : Automaton) (place : Place) (symbol : ℕ) (moves : List (ℕ × Place)) : Type 0 where
+pub record AreMovesBefore (automaton : Automaton) (place : Place) (symbol : ℕ)
+    (moves : List (ℕ × Place)) : Type 0 where
   pub ascends : Ascends moves
   pub below : All (λ move. move.0 < symbol) moves
   pub lookup : (other : ℕ) → other < symbol → lookup moves other
-      ≡ place_at (step automaton.table place.state other) (ended_after automaton.alphabet place.ended other)
+      ≡ place_at (step automaton.table place.state other)
+      (ended_after automaton.alphabet place.ended other)
   pub in_stride : IsInStride automaton.alphabet place.ended symbol

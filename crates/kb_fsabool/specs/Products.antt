@@ -29,33 +29,41 @@ AreState Xor p q = (p ≢ 0) ⊎ (q ≢ 0)
 
 -- the state that the two make
 abbrev pub paired : Connective → ℕ → ℕ → Option StatePair
-paired connective p q = if are_state connective p q then Some (record { first = p; second = q }) else None
+paired connective p q =
+    if are_state connective p q then Some (record { first = p; second = q }) else None
 
 -- the machine of the product
 abbrev pub product : Connective → Table → Table → Machine StatePair
 product connective one two = record {
   start = paired connective one.initial two.initial;
-  follow = λ state symbol. paired connective (step one state.first symbol) (step two state.second symbol);
-  accepts = λ state. holds connective (is_accepting one state.first) (is_accepting two state.second);
+  follow = λ state symbol.
+      paired connective (step one state.first symbol) (step two state.second symbol);
+  accepts = λ state.
+      holds connective (is_accepting one state.first) (is_accepting two state.second);
 }
 
 -- more than m pairs of states to which one text leads
 abbrev pub CountedPairs : Connective → Table → Table → ℕ → Type 0
 CountedPairs connective one two =
-    MoreThan (λ text. AreState connective (state_after one text) (state_after two text)) (SameTwo one two)
+    MoreThan (λ text. AreState connective (state_after one text) (state_after two text))
+    (SameTwo one two)
 
 -- the moves are those of two rows: by each symbol to the pair of their targets
-pub record AreMerged (connective : Connective) (first second : Moves) (moves : List (ℕ × StatePair)) : Type 0 where
+pub record AreMerged (connective : Connective) (first second : Moves)
+    (moves : List (ℕ × StatePair)) : Type 0 where
   pub ascends : Ascends moves
-  pub lookup : (symbol : ℕ) → lookup moves symbol ≡ paired connective (target first symbol) (target second symbol)
+  pub lookup : (symbol : ℕ)
+      → lookup moves symbol ≡ paired connective (target first symbol) (target second symbol)
 
 -- a row has a move by the symbol, which is the least of the two rows
 pub record IsLeastSymbol (first second : Moves) (symbol : ℕ) : Type 0 where
-  pub in_row : ((state : ℕ) × Contains first (symbol, state)) ⊎ ((state : ℕ) × Contains second (symbol, state))
+  pub in_row : ((state : ℕ) × Contains first (symbol, state))
+      ⊎ ((state : ℕ) × Contains second (symbol, state))
   pub low_first : All (λ move. symbol ≤ move.0) first
   pub low_second : All (λ move. symbol ≤ move.0) second
 
--- the merging of two rows has come so far: the moves before, with those of what is left of the rows, are those of the rows
+-- the merging of two rows has come so far: the moves before, with those of what is left of the
+-- rows, are those of the rows
 pub record IsMerging (connective : Connective) (first second : Moves) (moves : List (ℕ × StatePair))
     (left_first left_second : Moves) : Type 0 where
   pub first_row : IsRow left_first

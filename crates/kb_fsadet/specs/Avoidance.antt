@@ -7,7 +7,8 @@ use Rattle.kb_fsadet.specs.SubsetConstruction.{subsets}
 
 -- no prefix of the text is accepted in any way, the text itself among them
 abbrev pub Avoids : Nondeterministic → List ℕ → Type 0
-Avoids automaton text = (front rest : List ℕ) → text ≡ front ++ rest → ¬ AcceptsSomehow automaton front
+Avoids automaton text =
+    (front rest : List ℕ) → text ≡ front ++ rest → ¬ AcceptsSomehow automaton front
 
 -- the state is among those to which the text leads, and no prefix of the text is accepted
 pub record LeadsAvoiding (automaton : Nondeterministic) (text : List ℕ) (state : ℕ) : Type 0 where
@@ -21,7 +22,8 @@ any_accepts automaton = list_any (accepts_at automaton)
 -- the set, where none of its states accepts
 abbrev pub unless_accepting : Nondeterministic → Option (List ℕ) → Option (List ℕ)
 unless_accepting automaton None = None
-unless_accepting automaton (Some states) = if any_accepts automaton states then None else Some states
+unless_accepting automaton (Some states) =
+    if any_accepts automaton states then None else Some states
 
 -- The subset construction without the sets that accept; each set that is left does.
 abbrev pub avoiding : Nondeterministic → Machine (List ℕ)

@@ -21,11 +21,13 @@ tail_edge n state move = if pads_first n move.0 then Some (move.1, state) else N
 -- those of all states from a number on
 abbrev pub tail_edges : ℕ → ℕ → List Moves → List (ℕ × ℕ)
 tail_edges n state [] = []
-tail_edges n state (row ∷ rows) = filter_map (tail_edge n state) row ++ tail_edges n (suc state) rows
+tail_edges n state (row ∷ rows) =
+    filter_map (tail_edge n state) row ++ tail_edges n (suc state) rows
 
 -- from the state the rest of some second word, after the first word, leads to acceptance
 abbrev pub EndsFrom : ℕ → Table → ℕ → Type 0
-EndsFrom n table state = (second : List ℕ) × (IsOver n second × AcceptsFrom table state (padded n [] second))
+EndsFrom n table state =
+    (second : List ℕ) × (IsOver n second × AcceptsFrom table state (padded n [] second))
 
 -- which of states 1, 2, and so on are such
 pub record AreEnds (n : ℕ) (table : Table) (marks : List Bool) : Type 0 where
@@ -50,6 +52,7 @@ first_words n table ends = record {
 -- and it accepts where a longer one may end the pair.
 pub record IsFirstWords (pairs : Automaton) (automaton : Nondeterministic) : Type 0 where
   pub alphabet : automaton.alphabet ≡ Plain (generators pairs.alphabet)
-  pub among : (word : List ℕ) (state : ℕ) → LeadsSomehow automaton word state ↔ IsAfterFirst pairs word state
+  pub among : (word : List ℕ) (state : ℕ)
+      → LeadsSomehow automaton word state ↔ IsAfterFirst pairs word state
   pub accepts : (state : ℕ) → IsTrue (accepts_at automaton state)
       ↔ EndsFrom (generators pairs.alphabet) pairs.table state

@@ -33,7 +33,8 @@ accepts_at automaton (suc place) = get_or automaton.accepting place false
 abbrev pub LeadsFrom : Nondeterministic → ℕ → List ℕ → ℕ → Type 0
 LeadsFrom automaton state [] other = state ≡ other
 LeadsFrom automaton state (symbol ∷ text) other =
-    (next : ℕ) × Contains (moves_from automaton state) (symbol, next) × LeadsFrom automaton next text other
+    (next : ℕ) × Contains (moves_from automaton state) (symbol, next)
+    × LeadsFrom automaton next text other
 
 -- the state is among those to which the text leads
 pub record LeadsSomehow (automaton : Nondeterministic) (text : List ℕ) (state : ℕ) : Type 0 where
@@ -43,7 +44,8 @@ pub record LeadsSomehow (automaton : Nondeterministic) (text : List ℕ) (state 
 
 -- the text leads to acceptance in some way
 abbrev pub AcceptsSomehow : Nondeterministic → List ℕ → Type 0
-AcceptsSomehow automaton text = (state : ℕ) × LeadsSomehow automaton text state × IsTrue (accepts_at automaton state)
+AcceptsSomehow automaton text =
+    (state : ℕ) × LeadsSomehow automaton text state × IsTrue (accepts_at automaton state)
 
 -- the number is that of a state of so many
 abbrev pub IsOneOf : ℕ → ℕ → Type 0
@@ -56,6 +58,8 @@ pub record IsNondeterministic (automaton : Nondeterministic) : Type 0 where
   pub size : length automaton.rows < 2 ^ 32
   pub initial : All (IsOneOf (length automaton.rows)) automaton.initial
   pub moves : All
-      (All (λ move. IsOneOf (symbols automaton.alphabet) move.0 × IsOneOf (length automaton.rows) move.1))
+      (All (λ move.
+      IsOneOf (symbols automaton.alphabet) move.0 × IsOneOf (length automaton.rows) move.1))
       automaton.rows
-  pub texts : (text : List ℕ) (state : ℕ) → LeadsSomehow automaton text state → IsTextOf automaton.alphabet text
+  pub texts : (text : List ℕ) (state : ℕ) → LeadsSomehow automaton text state
+      → IsTextOf automaton.alphabet text

@@ -15,7 +15,8 @@ IsAscending = AllPairs (λ earlier later. earlier < later)
 -- the number, put into an ascending list that may have it
 abbrev pub insert : ℕ → List ℕ → List ℕ
 insert x [] = x ∷ []
-insert x (y ∷ ys) = if nat_lt x y then x ∷ y ∷ ys else (if nat_eq x y then y ∷ ys else y ∷ insert x ys)
+insert x (y ∷ ys) =
+    if nat_lt x y then x ∷ y ∷ ys else (if nat_eq x y then y ∷ ys else y ∷ insert x ys)
 
 -- the set of a list's numbers
 abbrev pub set_of : List ℕ → List ℕ
@@ -64,4 +65,5 @@ pub record AreGroupedBefore (moves rest : Moves) (groups : List (ℕ × List ℕ
   pub among : All (Contains moves) rest
   pub below : All (λ group. All (λ move. group.0 < move.0) rest) groups
   pub each : (symbol : ℕ)
-      → option_or (lookup groups symbol) (some_set (targets_by rest symbol)) ≡ some_set (targets_by moves symbol)
+      → option_or (lookup groups symbol) (some_set (targets_by rest symbol))
+      ≡ some_set (targets_by moves symbol)

@@ -42,7 +42,8 @@ fn initial_states(alloc: Global, table: &Table) -> Result<Vec<u32>, Memory>
 
 /// The moves of each state by first letters.
 fn rows_by_first(alloc: Global, rows: &[Row], symbols: PairSymbols) -> Result<Vec<Branches>, Memory>
-    ensures { IfOk result (λ branches. branches.items ≡ map (filter_map (by_first symbols.n)) rows.now) }
+    ensures { IfOk result
+        (λ branches. branches.items ≡ map (filter_map (by_first symbols.n)) rows.now) }
 {
     let mut branches = Vec::with_capacity(alloc, rows.len())?;
     for row in rows {
@@ -99,7 +100,8 @@ fn push_tail_edges(
     state: u32,
     symbols: PairSymbols,
 ) -> Result<(), Memory>
-    ensures { OnOk result (edges.new.items ≡ edges.old.items ++ filter_map (tail_edge symbols.n state) row.now) }
+    ensures { OnOk result
+        (edges.new.items ≡ edges.old.items ++ filter_map (tail_edge symbols.n state) row.now) }
 {
     for (symbol, target) in row.as_slice() {
         if symbols.pads_first(*symbol) {

@@ -47,8 +47,10 @@ pub record IsBaseOf (given base : Fields) : Type 0 where
 
 -- the record has the names of letters: the alphabet of words, or the base of pairs
 pub data HasNamesOf (given : Fields) : Fields → Type 0 where
-  of_words : {letters : Fields} → IsAlphabetOf given letters (codes "identifiers") → HasNamesOf given letters
-  of_pairs : {base : Fields} → IsBaseOf given base → HoldsString base (codes "type") (codes "identifiers") → HasNamesOf given base
+  of_words : {letters : Fields} → IsAlphabetOf given letters (codes "identifiers")
+      → HasNamesOf given letters
+  of_pairs : {base : Fields} → IsBaseOf given base
+      → HoldsString base (codes "type") (codes "identifiers") → HasNamesOf given base
 
 -- whether a field must be there
 pub data Need : Type 0 where
@@ -59,23 +61,35 @@ pub data Need : Type 0 where
 pub data StandsIn (given : Fields) : Field → Fields → Need → Type 0 where
   is_fsa_field : StandsIn given kinds.IsFsa given needed
   alphabet_field : StandsIn given kinds.Alphabet given needed
-  alphabet_type_field : {letters : Fields} → HoldsRecord given (codes "alphabet") letters → StandsIn given kinds.Type letters needed
-  arity_field : {letters : Fields} → IsAlphabetOf given letters (codes "product") → StandsIn given kinds.Arity letters needed
-  base_field : {letters : Fields} → IsAlphabetOf given letters (codes "product") → StandsIn given kinds.Base letters needed
+  alphabet_type_field : {letters : Fields} → HoldsRecord given (codes "alphabet") letters
+      → StandsIn given kinds.Type letters needed
+  arity_field : {letters : Fields} → IsAlphabetOf given letters (codes "product")
+      → StandsIn given kinds.Arity letters needed
+  base_field : {letters : Fields} → IsAlphabetOf given letters (codes "product")
+      → StandsIn given kinds.Base letters needed
   base_type_field : {base : Fields} → IsBaseOf given base → StandsIn given kinds.Type base needed
-  names_field : {letters : Fields} → HasNamesOf given letters → StandsIn given kinds.Names letters needed
-  size_field : {letters : Fields} → HasNamesOf given letters → StandsIn given kinds.Size letters needed
-  product_size_field : {letters : Fields} → IsAlphabetOf given letters (codes "product") → StandsIn given kinds.Size letters needed
-  names_format_field : {letters : Fields} → HasNamesOf given letters → StandsIn given kinds.Format letters optional
+  names_field : {letters : Fields} → HasNamesOf given letters
+      → StandsIn given kinds.Names letters needed
+  size_field : {letters : Fields} → HasNamesOf given letters
+      → StandsIn given kinds.Size letters needed
+  product_size_field : {letters : Fields} → IsAlphabetOf given letters (codes "product")
+      → StandsIn given kinds.Size letters needed
+  names_format_field : {letters : Fields} → HasNamesOf given letters
+      → StandsIn given kinds.Format letters optional
   states_field : StandsIn given kinds.States given needed
-  states_type_field : {states : Fields} → HoldsRecord given (codes "states") states → StandsIn given kinds.Type states needed
-  states_size_field : {states : Fields} → HoldsRecord given (codes "states") states → StandsIn given kinds.Size states needed
+  states_type_field : {states : Fields} → HoldsRecord given (codes "states") states
+      → StandsIn given kinds.Type states needed
+  states_size_field : {states : Fields} → HoldsRecord given (codes "states") states
+      → StandsIn given kinds.Size states needed
   initial_field : StandsIn given kinds.Initial given needed
   accepting_field : StandsIn given kinds.Accepting given needed
   table_field : StandsIn given kinds.Table given needed
-  default_field : {table : Fields} → HoldsRecord given (codes "table") table → StandsIn given kinds.DefaultTarget table optional
-  table_format_field : {table : Fields} → HoldsRecord given (codes "table") table → StandsIn given kinds.Format table needed
-  transitions_field : {table : Fields} → HoldsRecord given (codes "table") table → StandsIn given kinds.Transitions table needed
+  default_field : {table : Fields} → HoldsRecord given (codes "table") table
+      → StandsIn given kinds.DefaultTarget table optional
+  table_format_field : {table : Fields} → HoldsRecord given (codes "table") table
+      → StandsIn given kinds.Format table needed
+  transitions_field : {table : Fields} → HoldsRecord given (codes "table") table
+      → StandsIn given kinds.Transitions table needed
 
 -- the place holds a row of the format, whatever its numbers are
 abbrev pub IsRowKind : Format → Value → Type 0
@@ -85,7 +99,8 @@ IsRowKind Sparse value = (entries : List (ℤ × ℤ)) × (value ≡ list_value 
 -- the value is a list of rows of the format that the table's record names
 abbrev pub IsTransitions : Fields → Value → Type 0
 IsTransitions table value = (places : Places) × (value ≡ list_value places)
-    × ((format : Format) → HoldsString table (codes "format") (format_name format) → (k : ℕ) → k < place_count places
+    × ((format : Format) → HoldsString table (codes "format") (format_name format) → (k : ℕ)
+    → k < place_count places
     → (row : Value) × (value_at places k ≡ Some row) × IsRowKind format row)
 
 -- the value is of the kind that the field of the record holds
@@ -95,11 +110,13 @@ HasFieldKind owner kinds.Alphabet value = (fields : Fields) × (value ≡ record
 HasFieldKind owner kinds.Type value = (text : List ℕ) × (value ≡ string_value text)
 HasFieldKind owner kinds.Arity value = (z : ℤ) × (value ≡ number_value z)
 HasFieldKind owner kinds.Base value = (fields : Fields) × (value ≡ record_value fields)
-HasFieldKind owner kinds.Names value = (names : List (List ℕ)) × (value ≡ list_value (list_of_names names))
+HasFieldKind owner kinds.Names value =
+    (names : List (List ℕ)) × (value ≡ list_value (list_of_names names))
 HasFieldKind owner kinds.Size value = (n : ℕ) × (value ≡ count_value n)
 HasFieldKind owner kinds.Format value = (text : List ℕ) × (value ≡ string_value text)
 HasFieldKind owner kinds.States value = (fields : Fields) × (value ≡ record_value fields)
-HasFieldKind owner kinds.Initial value = (numbers : List ℤ) × (value ≡ list_value (list_of_numbers numbers))
+HasFieldKind owner kinds.Initial value =
+    (numbers : List ℤ) × (value ≡ list_value (list_of_numbers numbers))
 HasFieldKind owner kinds.Accepting value = IsNumbers value
 HasFieldKind owner kinds.Table value = (fields : Fields) × (value ≡ record_value fields)
 HasFieldKind owner kinds.DefaultTarget value = (z : ℤ) × (value ≡ number_value z)
@@ -113,14 +130,22 @@ pub record ListsNames (given : Fields) (names : List (List ℕ)) : Type 0 where
 
 -- an alphabet's type, arity, size or format is none that is read
 pub data HasOtherAlphabet (given : Fields) : Type 0 where
-  other_type : (letters : Fields) (type : List ℕ) → IsAlphabetOf given letters type → type ≢ codes "identifiers" → type ≢ codes "product" → HasOtherAlphabet given
-  other_base : (base : Fields) (type : List ℕ) → IsBaseOf given base → HoldsString base (codes "type") type → type ≢ codes "identifiers" → HasOtherAlphabet given
-  other_arity : (letters : Fields) (z : ℤ) → IsAlphabetOf given letters (codes "product") → value_of letters (codes "arity") ≡ Some (number_value z) → z ≢ pos 2 → HasOtherAlphabet given
+  other_type : (letters : Fields) (type : List ℕ) → IsAlphabetOf given letters type
+      → type ≢ codes "identifiers" → type ≢ codes "product" → HasOtherAlphabet given
+  other_base : (base : Fields) (type : List ℕ) → IsBaseOf given base
+      → HoldsString base (codes "type") type → type ≢ codes "identifiers" → HasOtherAlphabet given
+  other_arity : (letters : Fields) (z : ℤ) → IsAlphabetOf given letters (codes "product")
+      → value_of letters (codes "arity") ≡ Some (number_value z) → z ≢ pos 2
+      → HasOtherAlphabet given
   other_size : (letters : Fields) (names : List (List ℕ)) (n : ℕ) → HasNamesOf given letters
-      → value_of letters (codes "names") ≡ Some (list_value (list_of_names names)) → HoldsCount letters (codes "size") n → n ≢ length names → HasOtherAlphabet given
-  other_product_size : (letters : Fields) (names : List (List ℕ)) (n : ℕ) → IsAlphabetOf given letters (codes "product")
-      → ListsNames given names → HoldsCount letters (codes "size") n → ¬ IsPairSize (length names) n → HasOtherAlphabet given
-  other_format : (letters : Fields) (text : List ℕ) → HasNamesOf given letters → HoldsString letters (codes "format") text → text ≢ codes "dense" → HasOtherAlphabet given
+      → value_of letters (codes "names") ≡ Some (list_value (list_of_names names))
+      → HoldsCount letters (codes "size") n → n ≢ length names → HasOtherAlphabet given
+  other_product_size : (letters : Fields) (names : List (List ℕ)) (n : ℕ)
+      → IsAlphabetOf given letters (codes "product")
+      → ListsNames given names → HoldsCount letters (codes "size") n → ¬ IsPairSize (length names) n
+      → HasOtherAlphabet given
+  other_format : (letters : Fields) (text : List ℕ) → HasNamesOf given letters
+      → HoldsString letters (codes "format") text → text ≢ codes "dense" → HasOtherAlphabet given
 
 -- the table's rows, in the format that its record names
 pub record ListsRows (given : Fields) (format : Format) (places : Places) : Type 0 where
@@ -137,34 +162,50 @@ pub record HasSize (given : Fields) (size : ℕ) : Type 0 where
 
 -- the states are of another type, or the rows are not one for each state, or a dense row is not as long as the alphabet
 pub data HasWrongStates (given : Fields) : Type 0 where
-  other_type : (states : Fields) (type : List ℕ) → HoldsRecord given (codes "states") states → HoldsString states (codes "type") type
+  other_type : (states : Fields) (type : List ℕ) → HoldsRecord given (codes "states") states
+      → HoldsString states (codes "type") type
       → type ≢ codes "simple" → HasWrongStates given
-  other_rows : (count : ℕ) (format : Format) (places : Places) → HoldsStates given count → ListsRows given format places
+  other_rows : (count : ℕ) (format : Format) (places : Places) → HoldsStates given count
+      → ListsRows given format places
       → place_count places ≢ count → HasWrongStates given
-  other_row : (size : ℕ) (places : Places) (k : ℕ) (numbers : List ℤ) → HasSize given size → ListsRows given Dense places
-      → value_at places k ≡ Some (list_value (list_of_numbers numbers)) → length numbers ≢ size → HasWrongStates given
+  other_row : (size : ℕ) (places : Places) (k : ℕ) (numbers : List ℤ) → HasSize given size
+      → ListsRows given Dense places
+      → value_at places k ≡ Some (list_value (list_of_numbers numbers)) → length numbers ≢ size
+      → HasWrongStates given
 
 -- a state, a target or a symbol is out of range
 pub data HasOutOfRange (given : Fields) : Type 0 where
-  initial_state : (count : ℕ) (numbers : List ℤ) (z : ℤ) → HoldsStates given count → value_of given (codes "initial") ≡ Some (list_value (list_of_numbers numbers))
+  initial_state : (count : ℕ) (numbers : List ℤ) (z : ℤ) → HoldsStates given count
+      → value_of given (codes "initial") ≡ Some (list_value (list_of_numbers numbers))
       → Contains numbers z → ¬ IsNumberOf count z → HasOutOfRange given
-  accepting_state : (count : ℕ) (value : Value) (z : ℤ) → HoldsStates given count → value_of given (codes "accepting") ≡ Some value
+  accepting_state : (count : ℕ) (value : Value) (z : ℤ) → HoldsStates given count
+      → value_of given (codes "accepting") ≡ Some value
       → StandsFor value z → ¬ IsNumberOf count z → HasOutOfRange given
-  row_target : (count : ℕ) (places : Places) (k : ℕ) (numbers : List ℤ) (z : ℤ) → HoldsStates given count → ListsRows given Dense places
-      → value_at places k ≡ Some (list_value (list_of_numbers numbers)) → Contains numbers z → ¬ IsTargetOf count z → HasOutOfRange given
-  row_entry : (count size : ℕ) (places : Places) (k : ℕ) (entries : List (ℤ × ℤ)) (z t : ℤ) → HoldsStates given count → HasSize given size
-      → ListsRows given Sparse places → value_at places k ≡ Some (list_value (list_of_entries entries)) → Contains entries (z, t)
+  row_target : (count : ℕ) (places : Places) (k : ℕ) (numbers : List ℤ) (z : ℤ)
+      → HoldsStates given count → ListsRows given Dense places
+      → value_at places k ≡ Some (list_value (list_of_numbers numbers)) → Contains numbers z
+      → ¬ IsTargetOf count z → HasOutOfRange given
+  row_entry : (count size : ℕ) (places : Places) (k : ℕ) (entries : List (ℤ × ℤ)) (z t : ℤ)
+      → HoldsStates given count → HasSize given size
+      → ListsRows given Sparse places
+      → value_at places k ≡ Some (list_value (list_of_entries entries)) → Contains entries (z, t)
       → (¬ IsNumberOf size z) ⊎ (¬ IsTargetOf count t) → HasOutOfRange given
 
 -- the automaton is not deterministic in a way that is read
 pub data HasOtherForm (given : Fields) : Type 0 where
-  many_initial : (numbers : List ℤ) → value_of given (codes "initial") ≡ Some (list_value (list_of_numbers numbers)) → 1 < length numbers → HasOtherForm given
-  other_default : (table : Fields) (z : ℤ) → HoldsRecord given (codes "table") table → value_of table (codes "defaultTarget") ≡ Some (number_value z)
+  many_initial : (numbers : List ℤ)
+      → value_of given (codes "initial") ≡ Some (list_value (list_of_numbers numbers))
+      → 1 < length numbers → HasOtherForm given
+  other_default : (table : Fields) (z : ℤ) → HoldsRecord given (codes "table") table
+      → value_of table (codes "defaultTarget") ≡ Some (number_value z)
       → z ≢ pos 0 → HasOtherForm given
-  other_table_format : (table : Fields) (text : List ℕ) → HoldsRecord given (codes "table") table → HoldsString table (codes "format") text
+  other_table_format : (table : Fields) (text : List ℕ) → HoldsRecord given (codes "table") table
+      → HoldsString table (codes "format") text
       → ((format : Format) → text ≢ format_name format) → HasOtherForm given
-  symbol_twice : (places : Places) (k : ℕ) (entries : List (ℤ × ℤ)) (first again : ℕ) (z t u : ℤ) → ListsRows given Sparse places
-      → value_at places k ≡ Some (list_value (list_of_entries entries)) → first < again → slice_get entries first ≡ Some (z, t)
+  symbol_twice : (places : Places) (k : ℕ) (entries : List (ℤ × ℤ)) (first again : ℕ) (z t u : ℤ)
+      → ListsRows given Sparse places
+      → value_at places k ≡ Some (list_value (list_of_entries entries)) → first < again
+      → slice_get entries first ≡ Some (z, t)
       → slice_get entries again ≡ Some (z, u) → HasOtherForm given
 
 -- an accepted text of pairs is not padded
@@ -179,12 +220,16 @@ pub record HasPaddingInside (given : Fields) : Type 0 where
 
 -- the fields have the fault
 abbrev pub HasFieldFault : Fields → FsaError → Type 0
-HasFieldFault given (errors.MissingField field) = (owner : Fields) × StandsIn given field owner needed × (value_of owner (name_of field) ≡ None)
-HasFieldFault given (errors.WrongKind field) = (owner : Fields) × (need : Need) × (value : Value) × StandsIn given field owner need
+HasFieldFault given (errors.MissingField field) =
+    (owner : Fields) × StandsIn given field owner needed × (value_of owner (name_of field) ≡ None)
+HasFieldFault given (errors.WrongKind field) =
+    (owner : Fields) × (need : Need) × (value : Value) × StandsIn given field owner need
     × (value_of owner (name_of field) ≡ Some value) × ¬ HasFieldKind owner field value
 HasFieldFault given (errors.FieldTwice name) = HasFieldTwice (record_value given) name
-HasFieldFault given (errors.NameTaken name) = (names : List (List ℕ)) × ListsNames given names × IsTaken names name
-HasFieldFault given errors.TooManyGenerators = (names : List (List ℕ)) × ListsNames given names × (most_generators < length names)
+HasFieldFault given (errors.NameTaken name) =
+    (names : List (List ℕ)) × ListsNames given names × IsTaken names name
+HasFieldFault given errors.TooManyGenerators =
+    (names : List (List ℕ)) × ListsNames given names × (most_generators < length names)
 HasFieldFault given errors.StatesWrong = HasWrongStates given
 HasFieldFault given errors.TargetOutOfRange = HasOutOfRange given
 HasFieldFault given errors.AlphabetOther = HasOtherAlphabet given
@@ -196,11 +241,14 @@ HasFieldFault given errors.Memory = Unit {0}
 
 -- a text of the bytes has the fault
 abbrev pub SomeTextHasFault : List ℕ → FsaError → Type 0
-SomeTextHasFault bytes error = (text : TextTree) × TextOf bytes text × (text_nesting text ≤ deepest) × HasFieldFault text.fields error
+SomeTextHasFault bytes error =
+    (text : TextTree) × TextOf bytes text × (text_nesting text ≤ deepest)
+    × HasFieldFault text.fields error
 
 -- The bytes have the fault that the refusal names.
 abbrev pub HasFsaFault : List ℕ → FsaError → Type 0
 HasFsaFault bytes (errors.Syntax at) = (text : TextTree) → ¬ TextOf bytes text
-HasFsaFault bytes (errors.TooDeep at) = IsTooDeep (λ tokens. (text : TextTree) × IsText tokens text) bytes
+HasFsaFault bytes (errors.TooDeep at) =
+    IsTooDeep (λ tokens. (text : TextTree) × IsText tokens text) bytes
 HasFsaFault bytes errors.Memory = Unit {0}
 HasFsaFault bytes error = SomeTextHasFault bytes error

@@ -55,9 +55,11 @@ pub record HoldsPairs (fields : Fields) (names : List (List ℕ)) (size : ℕ) :
 
 -- the record of an alphabet over these names, which has so many symbols
 pub data HoldsAlphabet (fields : Fields) (names : List (List ℕ)) : Alphabet → ℕ → Type 0 where
-  plain : {alphabet : Alphabet} {size : ℕ} → alphabet ≡ Plain (length names) → size ≡ length names → HoldsNames fields names
+  plain : {alphabet : Alphabet} {size : ℕ} → alphabet ≡ Plain (length names) → size ≡ length names
+      → HoldsNames fields names
       → HoldsAlphabet fields names alphabet size
-  pairs : {alphabet : Alphabet} {size : ℕ} → alphabet ≡ Pair (length names) → HoldsPairs fields names size
+  pairs : {alphabet : Alphabet} {size : ℕ} → alphabet ≡ Pair (length names)
+      → HoldsPairs fields names size
       → HoldsAlphabet fields names alphabet size
 
 -- there are so many states
@@ -69,8 +71,10 @@ pub record HoldsStates (fields : Fields) (count : ℕ) : Type 0 where
 
 -- there is no initial state, or this one
 pub data HoldsInitial (fields : Fields) (count : ℕ) : ℕ → Type 0 where
-  none : value_of fields (codes "initial") ≡ Some (list_value no_places) → HoldsInitial fields count 0
-  one : {state : ℕ} → value_of fields (codes "initial") ≡ Some (list_value (place (count_value state) no_places))
+  none : value_of fields (codes "initial") ≡ Some (list_value no_places)
+      → HoldsInitial fields count 0
+  one : {state : ℕ}
+      → value_of fields (codes "initial") ≡ Some (list_value (place (count_value state) no_places))
       → 0 < state → state ≤ count → HoldsInitial fields count state
 
 -- of so many states those accept that the list or range stands for
@@ -80,15 +84,19 @@ pub record HoldsAccepting (fields : Fields) (count : ℕ) (accepting : List Bool
   pub kind : IsNumbers value
   pub within : (z : ℤ) → StandsFor value z → IsNumberOf count z
   pub one_each : length accepting ≡ count
-  pub each : (place : ℕ) → place < count → IsTrue (get_or accepting place false) ↔ StandsFor value (pos (suc place))
+  pub each : (place : ℕ) → place < count
+      → IsTrue (get_or accepting place false) ↔ StandsFor value (pos (suc place))
 
 -- A row over so many symbols has these entries, each a symbol and a target: in a dense row there is one for each
 -- symbol in order, in a sparse one at most one.
 pub data HoldsEntries (size : ℕ) (value : Value) : Format → List (ℕ × ℕ) → Type 0 where
-  dense : (targets : List ℕ) {entries : List (ℕ × ℕ)} → value ≡ list_value (list_of_numbers (map pos targets)) → length targets ≡ size
+  dense : (targets : List ℕ) {entries : List (ℕ × ℕ)}
+      → value ≡ list_value (list_of_numbers (map pos targets)) → length targets ≡ size
       → entries ≡ numbered_from 1 targets → HoldsEntries size value Dense entries
-  sparse : {entries : List (ℕ × ℕ)} → value ≡ list_value (list_of_entries (map (λ (e : ℕ × ℕ). (pos e.0, pos e.1)) entries))
-      → AllPairs (λ (e : ℕ × ℕ) (later : ℕ × ℕ). e.0 ≢ later.0) entries → All (λ (e : ℕ × ℕ). (0 < e.0) × (e.0 ≤ size)) entries
+  sparse : {entries : List (ℕ × ℕ)}
+      → value ≡ list_value (list_of_entries (map (λ (e : ℕ × ℕ). (pos e.0, pos e.1)) entries))
+      → AllPairs (λ (e : ℕ × ℕ) (later : ℕ × ℕ). e.0 ≢ later.0) entries
+      → All (λ (e : ℕ × ℕ). (0 < e.0) × (e.0 ≤ size)) entries
       → HoldsEntries size value Sparse entries
 
 -- the value is this row: entries with target 0 are no moves
@@ -103,7 +111,8 @@ pub record HoldsRow (size count : ℕ) (format : Format) (value : Value) (row : 
 abbrev pub HoldsRows : ℕ → ℕ → Format → Places → List Moves → Type 0
 HoldsRows size count format no_places rows = rows ≡ []
 HoldsRows size count format (place value others) [] = ⊥
-HoldsRows size count format (place value others) (row ∷ rows) = HoldsRow size count format value row × HoldsRows size count format others rows
+HoldsRows size count format (place value others) (row ∷ rows) =
+    HoldsRow size count format value row × HoldsRows size count format others rows
 HoldsRows size count format (empty_place others) rows = ⊥
 
 -- the table has no other default target than 0
@@ -128,7 +137,8 @@ pub record HoldsMoves (fields : Fields) (size : ℕ) (rows : List Moves) : Type 
   pub each : HoldsRows size (length rows) format places rows
 
 -- the fields say this table over this alphabet, as it stands
-pub record HoldsTable (fields : Fields) (names : List (List ℕ)) (alphabet : Alphabet) (read : Table) : Type 0 where
+pub record HoldsTable (fields : Fields) (names : List (List ℕ)) (alphabet : Alphabet)
+    (read : Table) : Type 0 where
   pub once : (name : List ℕ) → ¬ HasFieldTwice (record_value fields) name
   pub is_fsa : value_of fields (codes "isFSA") ≡ Some (bare_name (codes "true"))
   pub letters : Fields
@@ -141,13 +151,15 @@ pub record HoldsTable (fields : Fields) (names : List (List ℕ)) (alphabet : Al
   pub moves : HoldsMoves fields size read.rows
 
 -- the fields say this automaton over letters with these names
-pub record HoldsAutomaton (fields : Fields) (names : List (List ℕ)) (automaton : Automaton) : Type 0 where
+pub record HoldsAutomaton (fields : Fields) (names : List (List ℕ))
+    (automaton : Automaton) : Type 0 where
   pub read : Table
   pub holds : HoldsTable fields names automaton.alphabet read
   pub cleaned : IsCleaned automaton.alphabet read automaton.table
 
 -- the bytes are a text that says this automaton over letters with these names
-pub record AutomatonOf (bytes : List ℕ) (names : List (List ℕ)) (automaton : Automaton) : Type 0 where
+pub record AutomatonOf (bytes : List ℕ) (names : List (List ℕ))
+    (automaton : Automaton) : Type 0 where
   pub text : TextTree
   pub formed : TextOf bytes text
   pub shallow : text_nesting text ≤ deepest

@@ -15,7 +15,8 @@ IsNumbers (word_value _) = ⊥
 
 -- The list or the range stands for the number. A range whose first number is above its last stands for none.
 abbrev pub StandsFor : Value → ℤ → Type 0
-StandsFor (list_value places) z = (numbers : List ℤ) × (places ≡ list_of_numbers numbers) × Contains numbers z
+StandsFor (list_value places) z =
+    (numbers : List ℤ) × (places ≡ list_of_numbers numbers) × Contains numbers z
 StandsFor (range_value from to) z = (from ≤ℤ z) × (z ≤ℤ to)
 StandsFor (number_value _) z = ⊥
 StandsFor (string_value _) z = ⊥

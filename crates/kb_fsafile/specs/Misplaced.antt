@@ -18,7 +18,8 @@ PadsSecond n symbol = second_letter n symbol ≡ n + 1
 -- behind the text the symbol has a letter after padding on one track, or it is two paddings
 abbrev pub IsOutOfPlace : ℕ → List ℕ → ℕ → Type 0
 IsOutOfPlace n text symbol = (Any (PadsFirst n) text × ¬ PadsFirst n symbol)
-    ⊎ ((Any (PadsSecond n) text × ¬ PadsSecond n symbol) ⊎ (PadsFirst n symbol × PadsSecond n symbol))
+    ⊎ ((Any (PadsSecond n) text × ¬ PadsSecond n symbol)
+    ⊎ (PadsFirst n symbol × PadsSecond n symbol))
 
 -- some text takes the move of the state by the symbol where the symbol is out of place
 pub record IsMisplaced (n : ℕ) (table : Table) (state symbol : ℕ) : Type 0 where
@@ -38,17 +39,20 @@ pub record IsWithoutMisplaced (n : ℕ) (read table : Table) : Type 0 where
   pub accepting : table.accepting ≡ read.accepting
   pub size : length table.rows ≡ length read.rows
   pub dropped : (state symbol : ℕ) → IsDropped n read state symbol → step table state symbol ≡ 0
-  pub kept : (state symbol : ℕ) → ¬ IsDropped n read state symbol → step table state symbol ≡ step read state symbol
+  pub kept : (state symbol : ℕ) → ¬ IsDropped n read state symbol
+      → step table state symbol ≡ step read state symbol
 
--- The table of an automaton that a file's table gives: for words that table; for pairs that table without the moves that
--- no padded text takes, none of which may lie on an accepted text.
+-- The table of an automaton that a file's table gives: for words that table; for pairs that table
+-- without the moves that no padded text takes, none of which may lie on an accepted text.
 abbrev pub IsCleaned : Alphabet → Table → Table → Type 0
 IsCleaned (Plain n) read table = table ≡ read
 IsCleaned (Pair n) read table =
-    IsWithoutMisplaced n read table × ((text : List ℕ) → AcceptsFrom read read.initial text → IsPadded n text)
+    IsWithoutMisplaced n read table
+    × ((text : List ℕ) → AcceptsFrom read read.initial text → IsPadded n text)
 
 -- why the table is refused: a text that it accepts isn't padded
 abbrev pub IsPaddingFault : ℕ → Table → FsaError → Type 0
-IsPaddingFault n read errors.PaddingInside = (text : List ℕ) × AcceptsFrom read read.initial text × ¬ IsPadded n text
+IsPaddingFault n read errors.PaddingInside =
+    (text : List ℕ) × AcceptsFrom read read.initial text × ¬ IsPadded n text
 IsPaddingFault n read errors.Memory = Unit {0}
 IsPaddingFault n read error = ⊥

@@ -27,14 +27,16 @@ abbrev pub moves_among : List (ℕ × ℕ) → Moves
 moves_among entries = filter (λ (e : ℕ × ℕ). not (nat_eq e.1 0)) entries
 
 -- the place holds this row
-pub record IsRowAt (size count : ℕ) (format : Format) (place : Option Value) (row : Moves) : Type 0 where
+pub record IsRowAt (size count : ℕ) (format : Format) (place : Option Value)
+    (row : Moves) : Type 0 where
   pub value : Value
   pub stands : place ≡ Some value
   pub holds : HoldsRow size count format value row
   pub within : All (IsWithin size count) row
 
 -- the places hold these rows
-pub record AreRowsAt (size count : ℕ) (format : Format) (places : Places) (rows : List Moves) : Type 0 where
+pub record AreRowsAt (size count : ℕ) (format : Format) (places : Places)
+    (rows : List Moves) : Type 0 where
   pub holds : HoldsRows size count format places rows
   pub one_each : length rows ≡ place_count places
   pub are_rows : All IsRow rows
@@ -49,7 +51,8 @@ pub record HasRows (given : Fields) (size count : ℕ) (rows : List Moves) : Typ
   pub within : All (All (IsWithin size count)) rows
 
 -- a table of the text over so many symbols and of so many states has this at the place of a row
-pub record HasRowAt (given : Fields) (format : Format) (size count : ℕ) (row : Option Value) : Type 0 where
+pub record HasRowAt (given : Fields) (format : Format) (size count : ℕ)
+    (row : Option Value) : Type 0 where
   pub counted : HoldsStates given count
   pub sized : HasSize given size
   pub places : Places
@@ -60,18 +63,22 @@ pub record HasRowAt (given : Fields) (format : Format) (size count : ℕ) (row :
 
 -- the refusal is for a fault of each text that has this at the place of a row; these places of rows
 abbrev pub IsFaultOfRow : Format → ℕ → ℕ → Option Value → FsaError → Type 0
-IsFaultOfRow format size count row error = (given : Fields) → HasRowAt given format size count row → HasFieldFault given error
+IsFaultOfRow format size count row error =
+    (given : Fields) → HasRowAt given format size count row → HasFieldFault given error
 
 abbrev pub IsFaultOfRows : Format → ℕ → ℕ → Places → FsaError → Type 0
 IsFaultOfRows format size count places error =
-    (given : Fields) → HoldsStates given count → HasSize given size → ListsRows given format places → HasFieldFault given error
+    (given : Fields) → HoldsStates given count → HasSize given size → ListsRows given format places
+    → HasFieldFault given error
 
 -- the refusal is for a fault of each text that has these targets as a row; these entries as a row
 abbrev pub IsFaultOfTargets : ℕ → ℕ → List ℤ → FsaError → Type 0
-IsFaultOfTargets size count numbers = IsFaultOfRow Dense size count (Some (list_value (list_of_numbers numbers)))
+IsFaultOfTargets size count numbers =
+    IsFaultOfRow Dense size count (Some (list_value (list_of_numbers numbers)))
 
 abbrev pub IsFaultOfEntries : ℕ → ℕ → List (ℤ × ℤ) → FsaError → Type 0
-IsFaultOfEntries size count pairs = IsFaultOfRow Sparse size count (Some (list_value (list_of_entries pairs)))
+IsFaultOfEntries size count pairs =
+    IsFaultOfRow Sparse size count (Some (list_value (list_of_entries pairs)))
 
 -- the numbers are targets, of so many states, and these are the moves among them
 pub record AreRowTargets (count : ℕ) (numbers : List ℤ) (moves : List (ℕ × ℕ)) : Type 0 where
@@ -81,7 +88,8 @@ pub record AreRowTargets (count : ℕ) (numbers : List ℤ) (moves : List (ℕ �
   pub kept : moves ≡ moves_among (numbered_from 1 targets)
 
 -- the pairs of numbers are entries, no two of one symbol
-pub record AreEntries (size count : ℕ) (pairs : List (ℤ × ℤ)) (entries : List (ℕ × ℕ)) : Type 0 where
+pub record AreEntries (size count : ℕ) (pairs : List (ℤ × ℤ))
+    (entries : List (ℕ × ℕ)) : Type 0 where
   pub same : pairs ≡ map (λ (e : ℕ × ℕ). (pos e.0, pos e.1)) entries
   pub apart : AllPairs (λ (e : ℕ × ℕ) (later : ℕ × ℕ). e.0 ≢ later.0) entries
   pub symbols : All (λ (e : ℕ × ℕ). (0 < e.0) × (e.0 ≤ size)) entries
@@ -93,8 +101,10 @@ pub record HasEntries (size count : ℕ) (pairs : List (ℤ × ℤ)) (found : BT
   pub are : AreEntries size count pairs entries
   pub each : (symbol : ℕ) → get nat_cmp found symbol ≡ lookup entries symbol
 
--- the pairs of numbers are entries of ascending symbols, none of them above the last, and these are the moves among them
-pub record AreAscendingEntries (size count last : ℕ) (pairs : List (ℤ × ℤ)) (moves : Moves) : Type 0 where
+-- the pairs of numbers are entries of ascending symbols, none of them above the last, and these are
+-- the moves among them
+pub record AreAscendingEntries (size count last : ℕ) (pairs : List (ℤ × ℤ))
+    (moves : Moves) : Type 0 where
   pub entries : List (ℕ × ℕ)
   pub are : AreEntries size count pairs entries
   pub ascends : Ascends entries
@@ -123,14 +133,16 @@ most_symbols (Plain n) = n
 most_symbols (Pair n) = (n + 1) * (n + 1)
 
 -- the fields have this table over these letters, as it stands
-pub record HasLetteredTable (given : Fields) (names : List (List ℕ)) (alphabet : Alphabet) (read : Table) : Type 0 where
+pub record HasLetteredTable (given : Fields) (names : List (List ℕ)) (alphabet : Alphabet)
+    (read : Table) : Type 0 where
   pub holds : HoldsTable given names alphabet read
   pub few : generators alphabet ≤ 65534
   pub symbols : HasSymbols (most_symbols alphabet) read
   pub is_table : IsTable read
 
 -- the bytes are a text that has it
-pub record TableOf (bytes : List ℕ) (names : List (List ℕ)) (alphabet : Alphabet) (read : Table) : Type 0 where
+pub record TableOf (bytes : List ℕ) (names : List (List ℕ)) (alphabet : Alphabet)
+    (read : Table) : Type 0 where
   pub text : TextTree
   pub formed : TextOf bytes text
   pub shallow : text_nesting text ≤ deepest

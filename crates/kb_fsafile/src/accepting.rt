@@ -30,7 +30,10 @@ impl Accepting {
     pub fn answers(&self, alloc: Global, count: usize) -> Result<Vec<bool>, Memory>
         requires { (state : ℕ) → IsAcceptingState self.now state → (0 < state) × (state ≤ count) }
         ensures one_each { IfOk result (λ answers. length answers.items ≡ count) }
-        ensures each { IfOk result (λ answers. (place : ℕ) → IsTrue (get_or answers.items place false) ↔ IsAcceptingState self.now (suc place)) }
+        ensures each { IfOk result
+            (λ answers. (place : ℕ)
+            → IsTrue (get_or answers.items place false)
+            ↔ IsAcceptingState self.now (suc place)) }
     {
         match self {
             Accepting::Listed(states) => accepting_marks(alloc, states.as_slice(), count),
@@ -43,7 +46,9 @@ impl Accepting {
 fn accepting_marks(alloc: Global, states: &[u64], count: usize) -> Result<Vec<bool>, Memory>
     requires { All (λ state. (0 < state) × (state ≤ count)) states.now }
     ensures one_each { IfOk result (λ marks. length marks.items ≡ count) }
-    ensures each { IfOk result (λ marks. (place : ℕ) → IsTrue (get_or marks.items place false) ↔ Contains states.now (suc place)) }
+    ensures each { IfOk result
+        (λ marks. (place : ℕ)
+        → IsTrue (get_or marks.items place false) ↔ Contains states.now (suc place)) }
 {
     let mut marks = vec![in alloc; false; count]?;
     for state in states {
@@ -57,7 +62,9 @@ fn range_marks(alloc: Global, from: u64, to: u64, count: usize) -> Result<Vec<bo
     requires first { 0 < from }
     requires last { from ≤ to → to ≤ count }
     ensures one_each { IfOk result (λ marks. length marks.items ≡ count) }
-    ensures each { IfOk result (λ marks. (place : ℕ) → IsTrue (get_or marks.items place false) ↔ ((from ≤ suc place) × (suc place ≤ to))) }
+    ensures each { IfOk result
+        (λ marks. (place : ℕ)
+        → IsTrue (get_or marks.items place false) ↔ ((from ≤ suc place) × (suc place ≤ to))) }
 {
     let mut marks = vec![in alloc; false; count]?;
     for place in (from - 1) as usize..to as usize {

@@ -35,7 +35,8 @@ pub fn read_alphabet<'a>(
     alloc: Global,
     fields: &[(&'a str, Value<'a>)],
 ) -> Result<Letters, FsaError>
-    ensures read { IfOk result (λ found. HasLetters (fields_view fields.now) found.names found.alphabet found.size) }
+    ensures read { IfOk result
+        (λ found. HasLetters (fields_view fields.now) found.names found.alphabet found.size) }
     ensures fault { IfErr result (HasFieldFault (fields_view fields.now)) }
 {
     let letters = needed_record(fields, Field::Alphabet)?.as_slice();
@@ -49,7 +50,8 @@ pub fn read_alphabet<'a>(
 /// The alphabet of an automaton that reads words.
 fn read_words<'a>(alloc: Global, letters: &[(&'a str, Value<'a>)]) -> Result<Letters, FsaError>
     requires { HoldsString (fields_view letters.now) (codes "type") (codes "identifiers") }
-    ensures read { IfOk result (λ found. HoldsAlphabet (fields_view letters.now) found.names found.alphabet found.size) }
+    ensures read { IfOk result
+        (λ found. HoldsAlphabet (fields_view letters.now) found.names found.alphabet found.size) }
     ensures fault { IfErr result (IsFaultOfAlphabet (codes "identifiers") (fields_view letters.now)) }
 {
     let names = read_names(alloc, letters)?;
@@ -66,7 +68,8 @@ fn read_words<'a>(alloc: Global, letters: &[(&'a str, Value<'a>)]) -> Result<Let
 /// The alphabet of an automaton that reads pairs of words.
 fn read_pairs<'a>(alloc: Global, letters: &[(&'a str, Value<'a>)]) -> Result<Letters, FsaError>
     requires { HoldsString (fields_view letters.now) (codes "type") (codes "product") }
-    ensures read { IfOk result (λ found. HoldsAlphabet (fields_view letters.now) found.names found.alphabet found.size) }
+    ensures read { IfOk result
+        (λ found. HoldsAlphabet (fields_view letters.now) found.names found.alphabet found.size) }
     ensures fault { IfErr result (IsFaultOfAlphabet (codes "product") (fields_view letters.now)) }
 {
     check_arity(letters)?;
@@ -98,8 +101,12 @@ fn check_arity<'a>(letters: &[(&'a str, Value<'a>)]) -> Result<(), FsaError>
 fn read_base<'r, 'a>(
     letters: &'r [(&'a str, Value<'a>)],
 ) -> Result<&'r Vec<(&'a str, Value<'a>)>, FsaError>
-    ensures found { IfOk result (λ base. HoldsRecord (fields_view letters.now) (codes "base") (fields_view base.now.items)) }
-    ensures typed { IfOk result (λ base. HoldsString (fields_view base.now.items) (codes "type") (codes "identifiers")) }
+    ensures found { IfOk result
+        (λ base. HoldsRecord (fields_view letters.now) (codes "base")
+        (fields_view base.now.items)) }
+    ensures typed { IfOk result
+        (λ base. HoldsString (fields_view base.now.items) (codes "type")
+        (codes "identifiers")) }
     ensures fault { IfErr result (IsFaultOfAlphabet (codes "product") (fields_view letters.now)) }
 {
     let base = needed_record(letters, Field::Base)?;
@@ -124,7 +131,9 @@ fn read_names<'a>(alloc: Global, letters: &[(&'a str, Value<'a>)]) -> Result<Nam
 
 /// The refusal for a fault of the letters' names.
 fn refusal_of(fault: NamesFault) -> FsaError
-    ensures { (letters : tree.Fields) (value : tree.Value) → value_of letters (codes "names") ≡ Some value → HasNamesFault value fault → IsFaultOfNames letters result }
+    ensures { (letters : tree.Fields) (value : tree.Value)
+        → value_of letters (codes "names") ≡ Some value → HasNamesFault value fault
+        → IsFaultOfNames letters result }
 {
     match fault {
         NamesFault::WrongKind => FsaError::WrongKind {
@@ -139,7 +148,8 @@ fn refusal_of(fault: NamesFault) -> FsaError
 /// Refuses another size than the number of names.
 fn check_size<'a>(letters: &[(&'a str, Value<'a>)], names: &Names) -> Result<(), FsaError>
     requires { ListsLetters (fields_view letters.now) names.now }
-    ensures ok { OnOk result (HoldsCount (fields_view letters.now) (codes "size") (length names.now)) }
+    ensures ok { OnOk result
+        (HoldsCount (fields_view letters.now) (codes "size") (length names.now)) }
     ensures fault { IfErr result (IsFaultOfNames (fields_view letters.now)) }
 {
     if needed_count(letters, Field::Size)? != names.len() as u64 {

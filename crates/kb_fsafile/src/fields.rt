@@ -18,7 +18,8 @@ use std::alloc::Global;
 
 /// Refuses a record with a field name twice, nested ones too.
 pub fn check_once<'a>(alloc: Global, fields: &[(&'a str, Value<'a>)]) -> Result<(), FsaError>
-    ensures once { OnOk result ((name : List ℕ) → ¬ HasFieldTwice (record_value (fields_view fields.now)) name) }
+    ensures once { OnOk result
+        ((name : List ℕ) → ¬ HasFieldTwice (record_value (fields_view fields.now)) name) }
     ensures fault { IfErr result (HasFieldFault (fields_view fields.now)) }
 {
     match repeated_name(alloc, fields)? {
@@ -32,7 +33,9 @@ pub fn needed_value<'r, 'a>(
     fields: &'r [(&'a str, Value<'a>)],
     field: Field,
 ) -> Result<&'r Value<'a>, FsaError>
-    ensures found { IfOk result (λ value. value_of (fields_view fields.now) (name_of field) ≡ Some (value_view value.now)) }
+    ensures found { IfOk result
+        (λ value. value_of (fields_view fields.now) (name_of field)
+        ≡ Some (value_view value.now)) }
     ensures fault { IfErr result (IsFaultOf field needed (fields_view fields.now)) }
 {
     match field_named(fields, field.name()) {
@@ -47,7 +50,9 @@ pub fn needed_record<'r, 'a>(
     field: Field,
 ) -> Result<&'r Vec<(&'a str, Value<'a>)>, FsaError>
     requires { HasRecords field }
-    ensures found { IfOk result (λ inner. value_of (fields_view fields.now) (name_of field) ≡ Some (record_value (fields_view inner.now.items))) }
+    ensures found { IfOk result
+        (λ inner. value_of (fields_view fields.now) (name_of field)
+        ≡ Some (record_value (fields_view inner.now.items))) }
     ensures fault { IfErr result (IsFaultOf field needed (fields_view fields.now)) }
 {
     match needed_value(fields, field)? {
@@ -80,7 +85,9 @@ pub fn needed_list<'r, 'a>(
 /// The string that a field holds.
 pub fn needed_string<'a>(fields: &[(&'a str, Value<'a>)], field: Field) -> Result<&'a str, FsaError>
     requires { HasStrings field }
-    ensures found { IfOk result (λ text. value_of (fields_view fields.now) (name_of field) ≡ Some (string_value text.now)) }
+    ensures found { IfOk result
+        (λ text. value_of (fields_view fields.now) (name_of field)
+        ≡ Some (string_value text.now)) }
     ensures fault { IfErr result (IsFaultOf field needed (fields_view fields.now)) }
 {
     match string_of(needed_value(fields, field)?) {
@@ -92,7 +99,9 @@ pub fn needed_string<'a>(fields: &[(&'a str, Value<'a>)], field: Field) -> Resul
 /// The number that a field holds.
 pub fn needed_number<'a>(fields: &[(&'a str, Value<'a>)], field: Field) -> Result<i64, FsaError>
     requires { HasNumbers field }
-    ensures found { IfOk result (λ number. value_of (fields_view fields.now) (name_of field) ≡ Some (number_value number)) }
+    ensures found { IfOk result
+        (λ number. value_of (fields_view fields.now) (name_of field)
+        ≡ Some (number_value number)) }
     ensures fault { IfErr result (IsFaultOf field needed (fields_view fields.now)) }
 {
     match number_of(needed_value(fields, field)?) {
@@ -104,7 +113,9 @@ pub fn needed_number<'a>(fields: &[(&'a str, Value<'a>)], field: Field) -> Resul
 /// The number from 0 on that a field holds.
 pub fn needed_count<'a>(fields: &[(&'a str, Value<'a>)], field: Field) -> Result<u64, FsaError>
     requires { HasCounts field }
-    ensures found { IfOk result (λ count. value_of (fields_view fields.now) (name_of field) ≡ Some (count_value count)) }
+    ensures found { IfOk result
+        (λ count. value_of (fields_view fields.now) (name_of field)
+        ≡ Some (count_value count)) }
     ensures fault { IfErr result (IsFaultOf field needed (fields_view fields.now)) }
 {
     match needed_value(fields, field)? {
@@ -119,7 +130,9 @@ pub fn optional_string<'a>(
     field: Field,
 ) -> Result<Option<&'a str>, FsaError>
     requires { HasStrings field }
-    ensures found { IfOk result (λ text. value_of (fields_view fields.now) (name_of field) ≡ option_map (λ text. string_value text.now) text) }
+    ensures found { IfOk result
+        (λ text. value_of (fields_view fields.now) (name_of field)
+        ≡ option_map (λ text. string_value text.now) text) }
     ensures fault { IfErr result (IsFaultOf field optional (fields_view fields.now)) }
 {
     let Some(value) = field_named(fields, field.name()) else {
@@ -137,7 +150,9 @@ pub fn optional_number<'a>(
     field: Field,
 ) -> Result<Option<i64>, FsaError>
     requires { HasNumbers field }
-    ensures found { IfOk result (λ number. value_of (fields_view fields.now) (name_of field) ≡ option_map number_value number) }
+    ensures found { IfOk result
+        (λ number. value_of (fields_view fields.now) (name_of field)
+        ≡ option_map number_value number) }
     ensures fault { IfErr result (IsFaultOf field optional (fields_view fields.now)) }
 {
     let Some(value) = field_named(fields, field.name()) else {

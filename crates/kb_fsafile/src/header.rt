@@ -11,7 +11,8 @@ use kb_record::Value;
 
 /// Refuses a file that doesn't say `isFSA := true`.
 pub fn check_is_fsa<'a>(fields: &[(&'a str, Value<'a>)]) -> Result<(), FsaError>
-    ensures ok { OnOk result (value_of (fields_view fields.now) (codes "isFSA") ≡ Some (bare_name (codes "true"))) }
+    ensures ok { OnOk result
+        (value_of (fields_view fields.now) (codes "isFSA") ≡ Some (bare_name (codes "true"))) }
     ensures fault { IfErr result (HasFieldFault (fields_view fields.now)) }
 {
     if !is_true(needed_value(fields, Field::IsFsa)?) {

@@ -16,7 +16,8 @@ use kb_record::{a_shallow_text_is_not_too_deep, a_text_has_one_tree};
 
 /// Bytes that say an automaton have no fault; want of memory is none of theirs.
 pub fn an_automaton_file_has_no_fault()
-    ensures { (bytes : List ℕ) (names : List (List ℕ)) (automaton : Automaton) (error : FsaError) → AutomatonOf bytes names automaton
+    ensures { (bytes : List ℕ) (names : List (List ℕ)) (automaton : Automaton) (error : FsaError)
+        → AutomatonOf bytes names automaton
         → HasFsaFault bytes error → error ≡ errors.Memory }
 {
     a_text_has_one_tree();
@@ -25,7 +26,8 @@ pub fn an_automaton_file_has_no_fault()
 
 /// Bytes say one automaton at most.
 pub fn a_text_says_one_automaton()
-    ensures { (bytes : List ℕ) (names others : List (List ℕ)) (one other : Automaton) → AutomatonOf bytes names one
+    ensures { (bytes : List ℕ) (names others : List (List ℕ)) (one other : Automaton)
+        → AutomatonOf bytes names one
         → AutomatonOf bytes others other → (names ≡ others) × (one ≡ other) }
 {
     a_text_has_one_tree();
@@ -33,7 +35,8 @@ pub fn a_text_says_one_automaton()
 
 /// The text that is written of a canonical automaton says it.
 pub fn a_written_automaton_is_read_again()
-    ensures { (names : List (List ℕ)) (automaton : Automaton) → IsAutomaton automaton → IsCanonical automaton.table
+    ensures { (names : List (List ℕ)) (automaton : Automaton) → IsAutomaton automaton
+        → IsCanonical automaton.table
         → AreGeneratorNames names → All IsName names → length names ≡ generators automaton.alphabet
         → AutomatonOf (text_of_automaton names automaton) names automaton }
 {

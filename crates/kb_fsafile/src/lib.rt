@@ -38,8 +38,8 @@
 //!   to 10^18 before the rows are seen to be as many, so the accepting states are marked after the rows.
 //! - `rows` reads the rows of a table, dense or sparse, as ascending symbols with targets that are states. A row that
 //!   the tree keeps as numbers is read where it stands, and a sparse row needs no map where its symbols ascend.
-//! - `misplaced` drops moves of automata of pairs, or refuses them. By then the tree of the text is let go, and the moves
-//!   that are listed to find them are let go before rows are made anew.
+//! - `misplaced` drops moves of automata of pairs, or refuses them. By then the tree of the text is
+//!   let go, and the moves that are listed to find them are let go before rows are made anew.
 //! - `reader` joins them, each step a function called in the order of the refusals.
 //!
 //! # Where the definitions and proofs are

@@ -38,8 +38,11 @@ pub(crate) fn without_misplaced(alloc: Global, n: u16, read: Table) -> Result<Ta
 fn checked_reach(alloc: Global, n: u16, table: &Table) -> Result<Reach, FsaError>
     requires generators { n ≤ 65534 }
     requires symbols { HasSymbols ((n + 1) * (n + 1)) table.now }
-    ensures reach { IfOk result (λ reach. AreReachMarks n table.now reach.marks.items reach.first.items reach.second.items) }
-    ensures padded { OnOk result ((text : List ℕ) → AcceptsFrom table.now table.now.initial text → IsPadded n text) }
+    ensures reach { IfOk result
+        (λ reach. AreReachMarks n table.now reach.marks.items reach.first.items
+        reach.second.items) }
+    ensures padded { OnOk result
+        ((text : List ℕ) → AcceptsFrom table.now table.now.initial text → IsPadded n text) }
     ensures fault { IfErr result (IsPaddingFault n table.now) }
 {
     let moves = reversed(alloc, table)?;
@@ -88,7 +91,9 @@ impl Reach {
     /// Whether a text takes the state's move by the symbol where the symbol is out of place.
     fn is_misplaced(&self, n: u16, state: u32, symbol: u32) -> bool
         requires { n ≤ 65534 }
-        ensures { result ≡ is_misplaced n self.now.marks.items self.now.first.items self.now.second.items state symbol }
+        ensures { result
+            ≡ is_misplaced n self.now.marks.items self.now.first.items
+            self.now.second.items state symbol }
     {
         let first = Track::First.pads(n, symbol);
         let second = Track::Second.pads(n, symbol);
@@ -101,7 +106,9 @@ impl Reach {
     /// Whether no padded text takes the state's move by the symbol.
     fn drops(&self, n: u16, state: u32, symbol: u32) -> bool
         requires { n ≤ 65534 }
-        ensures { result ≡ is_dropped n self.now.marks.items self.now.first.items self.now.second.items state symbol }
+        ensures { result
+            ≡ is_dropped n self.now.marks.items self.now.first.items
+            self.now.second.items state symbol }
     {
         let paddings = PairSymbols { n }.count() + 1;
         self.is_misplaced(n, state, symbol) || symbol == paddings
@@ -141,9 +148,12 @@ fn reach_of(
     edges: &[(u32, u32)],
 ) -> Result<Reach, Memory>
     requires generators { n ≤ 65534 }
-    requires moves { AreBackward table.now (suc (length table.now.rows)) 0 moves.now.edges.items moves.now.symbols.items }
+    requires moves { AreBackward table.now (suc (length table.now.rows)) 0 moves.now.edges.items
+        moves.now.symbols.items }
     requires edges { HaveSameEdges edges.now (turned moves.now.edges.items) }
-    ensures { IfOk result (λ reach. AreReachMarks n table.now reach.marks.items reach.first.items reach.second.items) }
+    ensures { IfOk result
+        (λ reach. AreReachMarks n table.now reach.marks.items reach.first.items
+        reach.second.items) }
 {
     let mut start = vec![in alloc; false; table.rows().len() + 1]?;
     start[table.initial() as usize] = true;
@@ -161,8 +171,13 @@ fn reach_of(
 
 /// For state 0, that is no state, and the states from 1 on, whether edges of the table lead to acceptance.
 fn live_along(alloc: Global, table: &Table, edges: &[(u32, u32)]) -> Result<Vec<bool>, Memory>
-    requires { All (λ edge. (edge.0 < length table.now.rows + 1) × (edge.1 < length table.now.rows + 1)) edges.now }
-    ensures { IfOk result (λ marks. (state : ℕ) → IsMarked marks.items state ↔ IsReached (turned edges.now) (false ∷ table.now.accepting) state) }
+    requires { All
+        (λ edge. (edge.0 < length table.now.rows + 1) × (edge.1 < length table.now.rows + 1))
+        edges.now }
+    ensures { IfOk result
+        (λ marks. (state : ℕ)
+        → IsMarked marks.items state
+        ↔ IsReached (turned edges.now) (false ∷ table.now.accepting) state) }
 {
     let back = backward(alloc, edges)?;
     let mut seeds = vec![in alloc; false]?;
@@ -189,7 +204,8 @@ fn padded_targets(
     requires generators { n ≤ 65534 }
     requires one_each { length moves.now.symbols.items ≡ length moves.now.edges.items }
     requires targets { All (λ edge. edge.0 < length marks.now) moves.now.edges.items }
-    ensures { IfOk result (λ targets. ArePaddedTargets track n moves.now.edges.items moves.now.symbols.items marks.now
+    ensures { IfOk result
+        (λ targets. ArePaddedTargets track n moves.now.edges.items moves.now.symbols.items marks.now
         (length moves.now.edges.items) targets.items) }
 {
     let mut targets = vec![in alloc; false; marks.len()]?;
@@ -205,7 +221,8 @@ fn padded_targets(
 fn accepts_misplaced(n: u16, moves: &Backward, reach: &Reach, live: &[bool]) -> bool
     requires generators { n ≤ 65534 }
     requires one_each { length moves.now.symbols.items ≡ length moves.now.edges.items }
-    ensures { IsTrue result ↔ ((place : ℕ) × IsAccepted n moves.now.edges.items moves.now.symbols.items
+    ensures { IsTrue result
+        ↔ ((place : ℕ) × IsAccepted n moves.now.edges.items moves.now.symbols.items
         reach.now.marks.items reach.now.first.items reach.now.second.items live.now place) }
 {
     for ((target, state), symbol) in moves.edges.iter().zip(moves.symbols.as_slice()) {
@@ -221,7 +238,8 @@ fn kept_rows(alloc: Global, n: u16, rows: &[Row], reach: &Reach) -> Result<Vec<R
     requires generators { n ≤ 65534 }
     requires size { length rows.now < 2 ^ 32 }
     ensures { IfOk result (λ kept. kept.items
-        ≡ kept_rows (is_dropped n reach.now.marks.items reach.now.first.items reach.now.second.items) 1 rows.now) }
+        ≡ kept_rows (is_dropped n reach.now.marks.items reach.now.first.items
+        reach.now.second.items) 1 rows.now) }
 {
     let mut kept = Vec::with_capacity(alloc, rows.len())?;
     let mut state = 0;
@@ -236,7 +254,9 @@ fn kept_rows(alloc: Global, n: u16, rows: &[Row], reach: &Reach) -> Result<Vec<R
 fn kept_row(alloc: Global, n: u16, row: &Row, state: u32, reach: &Reach) -> Result<Row, Memory>
     requires { n ≤ 65534 }
     ensures { IfOk result (λ kept. kept
-        ≡ filter (λ move. not (is_dropped n reach.now.marks.items reach.now.first.items reach.now.second.items state move.0)) row.now) }
+        ≡ filter (λ move.
+        not (is_dropped n reach.now.marks.items reach.now.first.items reach.now.second.items state
+        move.0)) row.now) }
 {
     let mut kept = Vec::with_capacity(alloc, row.len())?;
     for (symbol, target) in row.as_slice() {

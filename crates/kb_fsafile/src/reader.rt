@@ -64,7 +64,8 @@ fn lettered_table<'a>(
     fields: &[(&'a str, Value<'a>)],
 ) -> Result<(Letters, Table), FsaError>
     ensures read { IfOk result
-        (λ found. HasLetteredTable (fields_view fields.now) found.0.names found.0.alphabet found.1) }
+        (λ found. HasLetteredTable (fields_view fields.now) found.0.names
+        found.0.alphabet found.1) }
     ensures fault { IfErr result (HasFieldFault (fields_view fields.now)) }
 {
     check_once(alloc, fields)?;

@@ -44,7 +44,8 @@ pub fn read_rows<'a>(
 
 /// Refuses another default target than 0, which stands where none is given.
 fn check_default<'a>(table: &[(&'a str, Value<'a>)]) -> Result<(), FsaError>
-    ensures ok { OnOk result (HasNoDefault (value_of (fields_view table.now) (codes "defaultTarget"))) }
+    ensures ok { OnOk result
+        (HasNoDefault (value_of (fields_view table.now) (codes "defaultTarget"))) }
     ensures fault { IfErr result (IsFaultOfTable (fields_view table.now)) }
 {
     let Some(target) = optional_number(table, Field::DefaultTarget)? else {
@@ -58,7 +59,8 @@ fn check_default<'a>(table: &[(&'a str, Value<'a>)]) -> Result<(), FsaError>
 
 /// The format of the table.
 fn read_format<'a>(table: &[(&'a str, Value<'a>)]) -> Result<Format, FsaError>
-    ensures named { IfOk result (λ format. HoldsString (fields_view table.now) (codes "format") (format_name format)) }
+    ensures named { IfOk result
+        (λ format. HoldsString (fields_view table.now) (codes "format") (format_name format)) }
     ensures fault { IfErr result (IsFaultOfTable (fields_view table.now)) }
 {
     match Format::named(needed_string(table, Field::Format)?) {
@@ -77,7 +79,8 @@ fn rows_listed<'a>(
 ) -> Result<Vec<Row>, FsaError>
     requires { length (listed (value_view list.now)) ≡ count }
     ensures read { IfOk result
-        (λ rows. AreRowsAt size count format (places_of (listed (value_view list.now))) rows.items) }
+        (λ rows. AreRowsAt size count format
+        (places_of (listed (value_view list.now))) rows.items) }
     ensures fault { IfErr result
         (IsFaultOfRows format size count (places_of (listed (value_view list.now)))) }
 {

@@ -12,9 +12,12 @@ representative listed (suc place) = get_or listed place 0
 -- language have the same. A state that leads to none has 0.
 pub record AreRepresentatives (table : Table) (listed : List ℕ) : Type 0 where
   pub one_each : length listed ≡ length table.rows
-  pub dead : (state : ℕ) → IsState table state → representative listed state ≡ 0 → ¬ IsLive table state
-  pub live : (state : ℕ) → IsState table state → representative listed state ≢ 0 → IsLive table state
-  pub is_state : (state : ℕ) → representative listed state ≢ 0 → IsState table (representative listed state)
+  pub dead : (state : ℕ) → IsState table state → representative listed state ≡ 0
+      → ¬ IsLive table state
+  pub live : (state : ℕ) → IsState table state → representative listed state ≢ 0
+      → IsLive table state
+  pub is_state : (state : ℕ) → representative listed state ≢ 0
+      → IsState table (representative listed state)
   pub equivalent : (state : ℕ) → representative listed state ≢ 0
       → AreEquivalent table state (representative listed state)
   pub same : (p q : ℕ) → IsState table p → IsState table q → AreEquivalent table p q

@@ -11,14 +11,17 @@ acceptance true false = 1
 acceptance true true = 2
 
 -- the classes of the states below a bound are by acceptance
-pub record AreByAcceptance (table : Table) (marks : List Bool) (done : ℕ) (classes : List ℕ) : Type 0 where
+pub record AreByAcceptance (table : Table) (marks : List Bool) (done : ℕ)
+    (classes : List ℕ) : Type 0 where
   pub one_each : length classes ≡ done
   pub none : class_of classes 0 ≡ 0
   pub each : (place : ℕ) → suc place < done
-      → class_of classes (suc place) ≡ acceptance (get_or marks (suc place) false) (get_or table.accepting place false)
+      → class_of classes (suc place)
+      ≡ acceptance (get_or marks (suc place) false) (get_or table.accepting place false)
 
 -- The first state of each class is known, as far as the states below a bound have it, and is listed for each of them.
-pub record AreFirsts (table : Table) (classes : List ℕ) (done : ℕ) (firsts listed : List ℕ) : Type 0 where
+pub record AreFirsts (table : Table) (classes : List ℕ) (done : ℕ)
+    (firsts listed : List ℕ) : Type 0 where
   pub one_each : length firsts ≡ suc (length table.rows)
   pub all_done : length listed + 1 ≡ done
   pub none : get_or firsts 0 0 ≡ 0

@@ -25,7 +25,8 @@ pub record IsMember (of elements places : List ℕ) (part place : ℕ) : Type 0 
   pub place_is : get_or places (get_or elements place 0) 0 ≡ place
 
 -- The first items, as many as are done, stand in the ranges of their parts, and nothing else stands there.
-pub record Stand (of : List ℕ) (done : ℕ) (elements places : List ℕ) (parts : List Part) : Type 0 where
+pub record Stand (of : List ℕ) (done : ℕ) (elements places : List ℕ)
+    (parts : List Part) : Type 0 where
   pub placed : (item : ℕ) → item < done → IsPlaced of elements places parts item
   pub within : (part place : ℕ) → part < length parts → (range_of parts part).first ≤ place
       → place < (range_of parts part).past
@@ -44,7 +45,8 @@ IsMarked of places parts item = get_or places item 0 < (range_of parts (part_of 
 
 -- all items stand in the ranges of their parts
 pub record IsArranged (parts : Partition) : Type 0 where
-  pub stand : Stand parts.of.items (length parts.of.items) parts.elements.items parts.places.items parts.parts.items
+  pub stand : Stand parts.of.items (length parts.of.items) parts.elements.items parts.places.items
+      parts.parts.items
   pub element_each : length parts.elements.items ≡ length parts.of.items
   pub place_each : length parts.places.items ≡ length parts.of.items
   pub few : length parts.of.items < 2 ^ 32
@@ -67,9 +69,11 @@ first_of parts part = get_or parts.elements.items (range_of parts.parts.items pa
 -- in two parts is still.
 pub record IsSplitBy (items old new : List ℕ) : Type 0 where
   pub one_each : length new ≡ length old
-  pub keeps : (one other : ℕ) → one < length old → other < length old → part_of old one ≡ part_of old other
+  pub keeps : (one other : ℕ) → one < length old → other < length old
+      → part_of old one ≡ part_of old other
       → Contains items one ↔ Contains items other → part_of new one ≡ part_of new other
-  pub splits : (one other : ℕ) → one < length old → other < length old → part_of new one ≡ part_of new other
+  pub splits : (one other : ℕ) → one < length old → other < length old
+      → part_of new one ≡ part_of new other
       → part_of old one ≡ part_of old other
 
 -- the item is marked, and nothing else changes
@@ -83,11 +87,14 @@ pub record IsMarkedMore (item : ℕ) (old new : Partition) : Type 0 where
 pub record IsDivided (part : ℕ) (old new : Partition) : Type 0 where
   pub one_each : length new.of.items ≡ length old.of.items
   pub keeps : (one other : ℕ) → one < length old.of.items → other < length old.of.items
-      → part_of old.of.items one ≡ part_of old.of.items other → IsMarkedIn old one ↔ IsMarkedIn old other
+      → part_of old.of.items one ≡ part_of old.of.items other
+      → IsMarkedIn old one ↔ IsMarkedIn old other
       → part_of new.of.items one ≡ part_of new.of.items other
   pub splits : (one other : ℕ) → one < length old.of.items → other < length old.of.items
-      → part_of new.of.items one ≡ part_of new.of.items other → part_of old.of.items one ≡ part_of old.of.items other
-  pub cleared : (item : ℕ) → item < length old.of.items → part_of old.of.items item ≡ part → ¬ IsMarkedIn new item
+      → part_of new.of.items one ≡ part_of new.of.items other
+      → part_of old.of.items one ≡ part_of old.of.items other
+  pub cleared : (item : ℕ) → item < length old.of.items → part_of old.of.items item ≡ part
+      → ¬ IsMarkedIn new item
   pub kept : (item : ℕ) → item < length old.of.items → part_of old.of.items item ≢ part
       → IsMarkedIn new item ↔ IsMarkedIn old item
 
@@ -104,7 +111,8 @@ pub record AreDivided (items done : List ℕ) (old new : Partition) : Type 0 whe
   pub sound : (item : ℕ) → item < length old.of.items → IsMarkedIn new item → Contains items item
   pub cleared : (item : ℕ) → item < length old.of.items → Contains done item → ¬ IsMarkedIn new item
   pub even : (one other : ℕ) → one < length old.of.items → other < length old.of.items
-      → part_of new.of.items one ≡ part_of new.of.items other → Contains items one ↔ Contains items other
+      → part_of new.of.items one ≡ part_of new.of.items other
+      → Contains items one ↔ Contains items other
       → IsMarkedIn new one → IsMarkedIn new other
 
 -- an item is found at the place
@@ -113,11 +121,14 @@ pub record IsFound (of elements places : List ℕ) (place : ℕ) : Type 0 where
   pub place_is : get_or places (get_or elements place 0) 0 ≡ place
 
 -- the items that stand in the range, up to the place, are in the part, and the others where they were
-pub record AreRelabelled (places : List ℕ) (range : Part) (part place : ℕ) (old new : List ℕ) : Type 0 where
+pub record AreRelabelled (places : List ℕ) (range : Part) (part place : ℕ)
+    (old new : List ℕ) : Type 0 where
   pub one_each : length new ≡ length old
-  pub inside : (item : ℕ) → item < length old → range.first ≤ get_or places item 0 → get_or places item 0 < place
+  pub inside : (item : ℕ) → item < length old → range.first ≤ get_or places item 0
+      → get_or places item 0 < place
       → part_of new item ≡ part
-  pub outside : (item : ℕ) → item < length old → (range.first ≤ get_or places item 0 → get_or places item 0 < place → ⊥)
+  pub outside : (item : ℕ) → item < length old
+      → (range.first ≤ get_or places item 0 → get_or places item 0 < place → ⊥)
       → part_of new item ≡ part_of old item
 
 -- the list has the items of the part
@@ -128,7 +139,8 @@ pub record AreMembers (of : List ℕ) (part : ℕ) (listed : List ℕ) : Type 0 
 -- what stands in the range of a part
 abbrev pub group_of : Groups → ℕ → List ℕ
 group_of groups part =
-    slice_range groups.elements.items (range_of groups.parts.items part).first (range_of groups.parts.items part).past
+    slice_range groups.elements.items (range_of groups.parts.items part).first
+    (range_of groups.parts.items part).past
 
 -- the ranges are within what stands there
 abbrev pub AreWithin : Groups → Type 0
@@ -138,13 +150,15 @@ AreWithin groups = (part : ℕ) → part < length groups.parts.items
 
 -- the items of each part stand in its range
 abbrev pub AreGroups : List ℕ → Groups → Type 0
-AreGroups of groups = (part : ℕ) → part < length groups.parts.items → AreMembers of part (group_of groups part)
+AreGroups of groups =
+    (part : ℕ) → part < length groups.parts.items → AreMembers of part (group_of groups part)
 
 -- the list has what stands in the ranges of these parts
 pub record AreGathered (groups : Groups) (chosen listed : List ℕ) : Type 0 where
   pub sound : (item : ℕ) → Contains listed item → (part : ℕ) × Contains chosen part
       × Contains (group_of groups part) item
-  pub complete : (part item : ℕ) → Contains chosen part → Contains (group_of groups part) item → Contains listed item
+  pub complete : (part item : ℕ) → Contains chosen part → Contains (group_of groups part) item
+      → Contains listed item
 
 -- how many of the items have the part
 abbrev pub occurrences : ℕ → List ℕ → ℕ
@@ -160,23 +174,32 @@ pub record AreCounts (of : List ℕ) (done count : ℕ) (counts : List ℕ) : Ty
 pub record AreRanges (counts : List ℕ) (done : ℕ) (parts : List Part) : Type 0 where
   pub one_each : length parts ≡ done
   pub empty : (part : ℕ) → part < done
-      → range_of parts part ≡ record
-      { first = sum (take part counts); middle = sum (take part counts); past = sum (take part counts) }
+      → range_of parts part ≡ record {
+        first = sum (take part counts);
+        middle = sum (take part counts);
+        past =
+            sum (take part counts);
+      }
 
 -- Ranges with room for as many items have the first items, as many as are done.
-pub record AreFilled (of counts : List ℕ) (done : ℕ) (elements places : List ℕ) (parts : List Part) : Type 0 where
+pub record AreFilled (of counts : List ℕ) (done : ℕ) (elements places : List ℕ)
+    (parts : List Part) : Type 0 where
   pub one_each : length parts ≡ length counts
-  pub first : (part : ℕ) → part < length counts → (range_of parts part).first ≡ sum (take part counts)
+  pub first : (part : ℕ) → part < length counts
+      → (range_of parts part).first ≡ sum (take part counts)
   pub past : (part : ℕ) → part < length counts
       → (range_of parts part).past ≡ sum (take part counts) + occurrences part (take done of)
-  pub none_marked : (part : ℕ) → part < length counts → (range_of parts part).middle ≡ sum (take part counts)
+  pub none_marked : (part : ℕ) → part < length counts
+      → (range_of parts part).middle ≡ sum (take part counts)
   pub element_each : length elements ≡ length of
   pub place_each : length places ≡ done
   pub stand : Stand of done elements places parts
 
 -- two ranges without marked items, one of the marked items of the whole, and one of the others
 pub data AreHalves (whole : Part) : Part → Part → Type 0 where
-  others_first : AreHalves whole (record { first = whole.middle; middle = whole.middle; past = whole.past })
+  others_first : AreHalves whole
+      (record { first = whole.middle; middle = whole.middle; past = whole.past })
       (record { first = whole.first; middle = whole.first; past = whole.middle })
-  marked_first : AreHalves whole (record { first = whole.first; middle = whole.first; past = whole.middle })
+  marked_first : AreHalves whole
+      (record { first = whole.first; middle = whole.first; past = whole.middle })
       (record { first = whole.middle; middle = whole.middle; past = whole.past })

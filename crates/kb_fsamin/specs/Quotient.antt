@@ -10,7 +10,8 @@ abbrev pub some_state : ℕ → Option ℕ
 some_state zero = None
 some_state (suc place) = Some (suc place)
 
--- the machine whose states are the representatives: each target is replaced by its representative, and left out where it has none
+-- the machine whose states are the representatives: each target is replaced by its representative,
+-- and left out where it has none
 abbrev pub quotient_of : Table → List ℕ → Machine ℕ
 quotient_of table listed = record {
   start = some_state (representative listed table.initial);
@@ -20,7 +21,8 @@ quotient_of table listed = record {
 
 -- the move with its target replaced by the target's representative, and none where it has none
 abbrev pub represented_move : List ℕ → ℕ × ℕ → Option (ℕ × ℕ)
-represented_move listed move = option_map (λ class. (move.0, class)) (some_state (representative listed move.1))
+represented_move listed move =
+    option_map (λ class. (move.0, class)) (some_state (representative listed move.1))
 
 -- the moves with each target replaced by its representative, and without those whose target has none
 abbrev pub represented_moves : List ℕ → Moves → Moves

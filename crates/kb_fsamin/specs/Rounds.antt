@@ -4,14 +4,15 @@ use Rattle.kb_fsa.specs.Table.{Moves, Table, IsTable, moves_of, is_accepting, Is
 use Rattle.kb_fsa.specs.Canonical.{IsState}
 use Rattle.kb_fsamin.specs.declared.rounds.Signature.{Signature}
 
--- The list has the classes of state 0, that is no state, and of the states from 1 on. Class 0 is that of what leads to no
--- acceptance.
+-- The list has the classes of state 0, that is no state, and of the states from 1 on. Class 0 is
+-- that of what leads to no acceptance.
 abbrev pub class_of : List ℕ → ℕ → ℕ
 class_of classes state = get_or classes state 0
 
 -- a move with the class of its target in place of the target, unless that is 0
 abbrev pub classed : List ℕ → ℕ × ℕ → Option (ℕ × ℕ)
-classed classes move = if nat_eq (class_of classes move.1) 0 then None else Some (move.0, class_of classes move.1)
+classed classes move =
+    if nat_eq (class_of classes move.1) 0 then None else Some (move.0, class_of classes move.1)
 
 -- a row of moves with the targets' classes
 abbrev pub class_row : List ℕ → Moves → Moves
@@ -27,21 +28,26 @@ sight table classes state = (class_of classes state, class_row classes (moves_of
 -- Classes are numbered from 1 in the order of their first states: none is by more than 1 above those before it.
 abbrev pub IsFirstSeen : List ℕ → ℕ → Type 0
 IsFirstSeen classes done =
-    (state most : ℕ) → state < done → ((earlier : ℕ) → earlier < state → class_of classes earlier ≤ most)
+    (state most : ℕ) → state < done
+    → ((earlier : ℕ) → earlier < state → class_of classes earlier ≤ most)
     → class_of classes state ≤ suc most
 
 -- The first states, as many as are done, have new classes: the place, from 1 on, of what is seen of them.
-pub record IsRound (table : Table) (old : List ℕ) (done : ℕ) (seen : List Sight) (new : List ℕ) : Type 0 where
+pub record IsRound (table : Table) (old : List ℕ) (done : ℕ) (seen : List Sight)
+    (new : List ℕ) : Type 0 where
   pub one_each : length new ≡ done
   pub few : length seen < done
   pub dead : (state : ℕ) → state < done → class_of old state ≡ 0 → class_of new state ≡ 0
   pub place : (state k : ℕ) → state < done → class_of old state ≢ 0 → class_of new state ≡ suc k
       → (k < length seen) × ((d : Sight) → get_or seen k d ≡ sight table old state)
   pub alive : (state : ℕ) → state < done → class_of old state ≢ 0 → class_of new state ≢ 0
-  pub distinct : (j k : ℕ) (d : Sight) → j < length seen → k < length seen → get_or seen j d ≡ get_or seen k d → j ≡ k
-  pub attained : (k : ℕ) → k < length seen → (state : ℕ) × (state < done) × (class_of new state ≡ suc k)
+  pub distinct : (j k : ℕ) (d : Sight) → j < length seen → k < length seen
+      → get_or seen j d ≡ get_or seen k d → j ≡ k
+  pub attained : (k : ℕ) → k < length seen
+      → (state : ℕ) × (state < done) × (class_of new state ≡ suc k)
   pub first_seen : IsFirstSeen new done
-  pub above : IsFirstSeen old done → (k : ℕ) (d : Sight) → k < length seen → (get_or seen k d).0 ≤ suc k
+  pub above : IsFirstSeen old done → (k : ℕ) (d : Sight) → k < length seen
+      → (get_or seen k d).0 ≤ suc k
   pub bounded : IsFirstSeen old done → (state : ℕ) → state < done → class_of old state ≤ length seen
 
 -- The new classes are those of what is seen of the states by the old ones.
@@ -49,13 +55,17 @@ pub record IsRefined (table : Table) (old new : List ℕ) : Type 0 where
   pub one_each : length new ≡ suc (length table.rows)
   pub small : (state : ℕ) → class_of new state ≤ length table.rows
   pub dead : (state : ℕ) → class_of old state ≡ 0 → class_of new state ≡ 0
-  pub alive : (state : ℕ) → state ≤ length table.rows → class_of old state ≢ 0 → class_of new state ≢ 0
-  pub refines : (p q : ℕ) → p ≤ length table.rows → q ≤ length table.rows → class_of old p ≢ 0 → class_of old q ≢ 0
+  pub alive : (state : ℕ) → state ≤ length table.rows → class_of old state ≢ 0
+      → class_of new state ≢ 0
+  pub refines : (p q : ℕ) → p ≤ length table.rows → q ≤ length table.rows → class_of old p ≢ 0
+      → class_of old q ≢ 0
       → class_of new p ≡ class_of new q → sight table old p ≡ sight table old q
-  pub respects : (p q : ℕ) → p ≤ length table.rows → q ≤ length table.rows → class_of old p ≢ 0 → class_of old q ≢ 0
+  pub respects : (p q : ℕ) → p ≤ length table.rows → q ≤ length table.rows → class_of old p ≢ 0
+      → class_of old q ≢ 0
       → sight table old p ≡ sight table old q → class_of new p ≡ class_of new q
   pub first_seen : IsFirstSeen new (suc (length table.rows))
-  pub grows : IsFirstSeen old (suc (length table.rows)) → (state : ℕ) → class_of old state ≤ class_of new state
+  pub grows : IsFirstSeen old (suc (length table.rows)) → (state : ℕ)
+      → class_of old state ≤ class_of new state
 
 -- States of one right language have one class, states of one class are alike as to acceptance, and only what leads to
 -- no acceptance has class 0.
@@ -87,7 +97,8 @@ sight_of signature = (signature.class, signature.moves.items)
 -- states of one class have one right language
 abbrev pub IsStable : Table → List ℕ → Type 0
 IsStable table classes =
-    (p q : ℕ) → IsState table p → IsState table q → class_of classes p ≢ 0 → class_of classes p ≡ class_of classes q
+    (p q : ℕ) → IsState table p → IsState table q → class_of classes p ≢ 0
+    → class_of classes p ≡ class_of classes q
     → AreEquivalent table p q
 
 -- A state has its own number for class, and the row of another state has the same class row as its own.

@@ -13,12 +13,16 @@ pub record AreNumbered (symbols : List ℕ) (done : ℕ) (seen numbers : List �
   pub few : length seen ≤ done
   pub place : (k : ℕ) → k < done → (part_of numbers k < length seen)
       × (get_or seen (part_of numbers k) 0 ≡ get_or symbols k 0)
-  pub distinct : (j k : ℕ) → j < length seen → k < length seen → get_or seen j 0 ≡ get_or seen k 0 → j ≡ k
+  pub distinct : (j k : ℕ) → j < length seen → k < length seen → get_or seen j 0 ≡ get_or seen k 0
+      → j ≡ k
 
 -- the list has the moves into the block
-pub record AreEntering (edges : List (ℕ × ℕ)) (blocks : List ℕ) (block : ℕ) (listed : List ℕ) : Type 0 where
-  pub sound : All (λ move. (move < length edges) × (part_of blocks (source edges move) ≡ block)) listed
-  pub complete : (move : ℕ) → move < length edges → part_of blocks (source edges move) ≡ block → Contains listed move
+pub record AreEntering (edges : List (ℕ × ℕ)) (blocks : List ℕ) (block : ℕ)
+    (listed : List ℕ) : Type 0 where
+  pub sound : All
+      (λ move. (move < length edges) × (part_of blocks (source edges move) ≡ block)) listed
+  pub complete : (move : ℕ) → move < length edges → part_of blocks (source edges move) ≡ block
+      → Contains listed move
 
 -- a move of the cord leads from the state to one that leads to acceptance
 pub record IsLeaving (edges : List (ℕ × ℕ)) (start cords : List ℕ) (cord state : ℕ) : Type 0 where
@@ -29,12 +33,14 @@ pub record IsLeaving (edges : List (ℕ × ℕ)) (start cords : List ℕ) (cord 
   pub state_is : end edges move ≡ state
 
 -- the list has the states from which the cord's moves lead to acceptance
-pub record AreLeaving (edges : List (ℕ × ℕ)) (start cords : List ℕ) (cord : ℕ) (listed : List ℕ) : Type 0 where
+pub record AreLeaving (edges : List (ℕ × ℕ)) (start cords : List ℕ) (cord : ℕ)
+    (listed : List ℕ) : Type 0 where
   pub sound : (state : ℕ) → Contains listed state → IsLeaving edges start cords cord state
   pub complete : (state : ℕ) → IsLeaving edges start cords cord state → Contains listed state
 
 -- there are blocks of the states, and cords of the moves
-pub record ArePaired (edges : List (ℕ × ℕ)) (start : List ℕ) (blocks cords : Partition) : Type 0 where
+pub record ArePaired (edges : List (ℕ × ℕ)) (start : List ℕ)
+    (blocks cords : Partition) : Type 0 where
   pub blocks_are : IsPartition blocks
   pub cords_are : IsPartition cords
   pub block_each : length blocks.of.items ≡ length start
@@ -42,24 +48,29 @@ pub record ArePaired (edges : List (ℕ × ℕ)) (start : List ℕ) (blocks cord
 
 -- States of one right language are in one block, and moves by one symbol to such states in one cord. Blocks are within
 -- the classes that they came from.
-pub record IsSplitting (table : Table) (edges : List (ℕ × ℕ)) (symbols start blocks cords : List ℕ) : Type 0 where
+pub record IsSplitting (table : Table) (edges : List (ℕ × ℕ))
+    (symbols start blocks cords : List ℕ) : Type 0 where
   pub one_block : (p q : ℕ) → p < length start → q < length start → AreEquivalent table p q
       → part_of blocks p ≡ part_of blocks q
   pub one_cord : (move other : ℕ) → move < length edges → other < length edges
       → get_or symbols move 0 ≡ get_or symbols other 0
-      → AreEquivalent table (source edges move) (source edges other) → part_of cords move ≡ part_of cords other
-  pub refines : (p q : ℕ) → p < length start → q < length start → part_of blocks p ≡ part_of blocks q
+      → AreEquivalent table (source edges move) (source edges other)
+      → part_of cords move ≡ part_of cords other
+  pub refines : (p q : ℕ) → p < length start → q < length start
+      → part_of blocks p ≡ part_of blocks q
       → class_of start p ≡ class_of start q
 
 -- for whatever table has these moves and classes, the splitting goes on
-abbrev pub KeepsSplitting : List (ℕ × ℕ) → List ℕ → List ℕ → Partition → Partition → Partition → Partition → Type 0
+abbrev pub KeepsSplitting : List (ℕ × ℕ) → List ℕ → List ℕ → Partition → Partition → Partition
+    → Partition → Type 0
 KeepsSplitting edges symbols start blocks cords blocks' cords' = (table : Table)
     → AreBackward table (suc (length table.rows)) 0 edges symbols → IsClassing table start
     → IsSplitting table edges symbols start blocks.of.items cords.of.items
     → IsSplitting table edges symbols start blocks'.of.items cords'.of.items
 
 -- the first states, as many as are done, have the first states of their blocks for classes, but for those of class 0
-pub record AreClassesOfBlocks (start : List ℕ) (blocks : Partition) (done : ℕ) (classes : List ℕ) : Type 0 where
+pub record AreClassesOfBlocks (start : List ℕ) (blocks : Partition) (done : ℕ)
+    (classes : List ℕ) : Type 0 where
   pub one_each : length classes ≡ done
   pub dead : (state : ℕ) → state < done → class_of start state ≡ 0 → class_of classes state ≡ 0
   pub live : (state : ℕ) → state < done → class_of start state ≢ 0

@@ -2,14 +2,15 @@
 //!
 //! States that lead to no acceptance are left out; the others fall into classes by whether they accept.
 //!
-//! The classes are split by splitters, the smaller half first: Hopcroft, "An n log n algorithm for minimizing states in
-//! a finite automaton", 1971, in the form for automata that lack moves of Valmari, "Fast brief practical DFA
-//! minimization", Information Processing Letters 112, 2012. Of this it is proved that it never separates states of one right
-//! language. Then each state is compared with one that stands for its class: where both have moves by the same symbols to
-//! the same classes, for all states, the states of a class have one right language. Otherwise Moore's rounds
-//! ("Gedanken-experiments on sequential machines", 1956) refine the classes until that is so. That the splitters leave them
-//! nothing to refine is not proved, and no clause rests on it: without the splitters the answer is the same, after more
-//! rounds.
+//! The classes are split by splitters, the smaller half first: Hopcroft, "An n log n algorithm for
+//! minimizing states in a finite automaton", 1971, in the form for automata that lack moves of
+//! Valmari, "Fast brief practical DFA minimization", Information Processing Letters 112, 2012. Of
+//! this it is proved that it never separates states of one right language. Then each state is
+//! compared with one that stands for its class: where both have moves by the same symbols to the
+//! same classes, for all states, the states of a class have one right language. Otherwise Moore's
+//! rounds ("Gedanken-experiments on sequential machines", 1956) refine the classes until that is
+//! so. That the splitters leave them nothing to refine is not proved, and no clause rests on it:
+//! without the splitters the answer is the same, after more rounds.
 
 ghost use Rattle.std.specs.Prelude.{◌≡◌, ◌↔◌, ◌+◌, ◌<◌, ◌≤◌, ℕ, length, All, IfOk};
 ghost use Rattle.kb_fsa.specs.Table.{IsLive};

@@ -10,8 +10,8 @@
 //! # Where the proofs are
 //!
 //! - `Uniqueness`: one language has one canonical automaton.
-//! - `AcceptanceClasses`, `Classings`, `RoundSteps`, `ClassRows`, `Signatures`, `RisingSums`: the classes by acceptance,
-//!   when they are stable, and the rounds that refine them until they are.
+//! - `AcceptanceClasses`, `Classings`, `RoundSteps`, `ClassRows`, `Signatures`, `RisingSums`: the
+//!   classes by acceptance, when they are stable, and the rounds that refine them until they are.
 //! - `Counting`, `Marking`, `Dividing`, `SplitSteps`: the refinable partition, by a counting sort, and how it is split.
 //! - `Numberings`, `Splittings`: the splitters.
 //! - `Represented`, `RepresentedMoves`, `Reduced`, `EmptyCanonical`: the quotient by the classes is canonical.

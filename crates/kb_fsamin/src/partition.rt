@@ -1,8 +1,9 @@
 //! A refinable partition: numbered items in parts, which are split by marking items.
 //!
-//! The items stand in one array, those of a part side by side, and of these the marked ones first, so that to mark an item
-//! is to exchange two items. Where some items of a part are marked, they or the others go to a new part, whichever are
-//! fewer; so each item goes to a new part at most as often as its part can be halved.
+//! The items stand in one array, those of a part side by side, and of these the marked ones first,
+//! so that to mark an item is to exchange two items. Where some items of a part are marked, they or
+//! the others go to a new part, whichever are fewer; so each item goes to a new part at most as
+//! often as its part can be halved.
 
 ghost use Rattle.std.specs.Prelude.{◌≡◌, ◌<◌, ◌≤◌, ◌^◌, ℕ, length, get_or, sum, All, IfOk, OnOk};
 ghost use Rattle.kb_fsamin.specs.Partitions.{AreCounts, AreGroups, AreHalves, AreMembers, AreRanges, AreRelabelled, IsArranged, IsDivided, IsFound, IsMarkedMore, IsPartition, IsSplitBy, AreWithin, first_of, group_of, part_of};

@@ -1,8 +1,9 @@
 //! Refinement of classes by splitters, the smaller half first.
 //!
-//! States are in blocks, and moves in cords: those of a cord have one symbol, and lead into one block as the blocks were
-//! once. A block that waits splits the cords into the moves that lead into it and the others; a cord splits the blocks into
-//! the states that have a move of the cord and the others. States of one right language are never split.
+//! States are in blocks, and moves in cords: those of a cord have one symbol, and lead into one
+//! block as the blocks were once. A block that waits splits the cords into the moves that lead into
+//! it and the others; a cord splits the blocks into the states that have a move of the cord and the
+//! others. States of one right language are never split.
 
 ghost use Rattle.std.specs.Prelude.{◌≡◌, ◌<◌, ◌≤◌, ◌^◌, ℕ, suc, ◌+◌, List, length, get_or, All, IfOk, OnOk};
 ghost use Rattle.kb_fsa.specs.Table.{Table};

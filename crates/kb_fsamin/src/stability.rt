@@ -5,8 +5,8 @@ ghost use Rattle.kb_fsamin.specs.Rounds.{IsClassing, IsStable, StandsFor, class_
 
 use kb_fsa::{Row, Table};
 
-/// Whether each class is numbered by a state of it, and the states of a class have moves by the same symbols to the same
-/// classes.
+/// Whether each class is numbered by a state of it, and the states of a class have moves by the
+/// same symbols to the same classes.
 pub(crate) fn is_stable(table: &Table, classes: &[u32]) -> bool
     requires { IsClassing table.now classes.now }
     ensures stable { IsTrue result → IsStable table.now classes.now }

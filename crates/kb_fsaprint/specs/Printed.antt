@@ -41,7 +41,8 @@ row_places Sparse row = list_of_moves row
 -- the rows in a format
 abbrev pub rows_places : RowFormat → List Moves → Places
 rows_places format [] = no_places
-rows_places format (row ∷ rows) = place (list_value (row_places format row)) (rows_places format rows)
+rows_places format (row ∷ rows) =
+    place (list_value (row_places format row)) (rows_places format rows)
 
 -- how many moves there are
 abbrev pub move_count : List Moves → ℕ
@@ -80,7 +81,9 @@ alphabet_fields (Pair n) names =
     (field (codes "base") (record_value (names_fields names)) no_fields))))
 
 abbrev pub states_fields : ℕ → Fields
-states_fields count = field (codes "type") (string_value (codes "simple")) (field (codes "size") (count_value count) no_fields)
+states_fields count =
+    field (codes "type") (string_value (codes "simple"))
+    (field (codes "size") (count_value count) no_fields)
 
 -- what holds of each canonical automaton
 abbrev pub flags_value : Value
@@ -108,7 +111,9 @@ tree_of names automaton = record {
       (field (codes "flags") flags_value
       (field (codes "initial") (numbers_value (1 ∷ []))
       (field (codes "accepting") (accepting_value automaton.table.accepting)
-      (field (codes "table") (record_value (table_fields (format_of automaton.alphabet) automaton.table.rows)) no_fields))))));
+      (field (codes "table")
+      (record_value (table_fields (format_of automaton.alphabet) automaton.table.rows))
+      no_fields))))));
 }
 
 -- the one printed text of a canonical automaton

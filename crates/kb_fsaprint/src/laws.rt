@@ -18,7 +18,8 @@ pub fn a_written_automaton_is_a_text_of_its_tree()
     ensures formed { (names : List (List ℕ)) (automaton : Automaton) → IsAutomaton automaton → All IsName names
         → length names ≤ most_generators → length names ≡ generators automaton.alphabet
         → TextOf (text_of_automaton names automaton) (tree_of names automaton) }
-    ensures shallow { (names : List (List ℕ)) (automaton : Automaton) → text_nesting (tree_of names automaton) ≤ deepest }
+    ensures shallow { (names : List (List ℕ)) (automaton : Automaton)
+        → text_nesting (tree_of names automaton) ≤ deepest }
     ensures once { (names : List (List ℕ)) (automaton : Automaton) (name : List ℕ)
         → ¬ HasFieldTwice (record_value (tree_of names automaton).fields) name }
 {

@@ -53,7 +53,10 @@ fn write_automaton(names: &Names, fsa: &Fsa, out: &mut Vec<u8>) -> Result<(), Me
 /// Appends the record of the alphabet.
 fn write_alphabet(alphabet: Alphabet, names: &Names, out: &mut Vec<u8>) -> Result<(), Memory>
     requires { generators alphabet ≤ 65534 }
-    ensures { OnOk result (out.new.items ≡ out.old.items ++ text_of_value 1 (record_value (alphabet_fields alphabet names.now))) }
+    ensures { OnOk result
+        (out.new.items
+        ≡ out.old.items
+        ++ text_of_value 1 (record_value (alphabet_fields alphabet names.now))) }
 {
     match alphabet {
         Alphabet::Plain(_) => write_names(1, names, out),
@@ -64,7 +67,10 @@ fn write_alphabet(alphabet: Alphabet, names: &Names, out: &mut Vec<u8>) -> Resul
 /// Appends the record of the alphabet of pairs over n letters.
 fn write_pairs(n: u16, names: &Names, out: &mut Vec<u8>) -> Result<(), Memory>
     requires { n ≤ 65534 }
-    ensures { OnOk result (out.new.items ≡ out.old.items ++ text_of_value 1 (record_value (alphabet_fields (Pair n) names.now))) }
+    ensures { OnOk result
+        (out.new.items
+        ≡ out.old.items
+        ++ text_of_value 1 (record_value (alphabet_fields (Pair n) names.now))) }
 {
     out.extend_from_slice(b"rec(\n    type := \"product\",\n    size := ")?;
     write_number(Alphabet::Pair(n).symbols(), out)?;
@@ -79,7 +85,9 @@ fn write_pairs(n: u16, names: &Names, out: &mut Vec<u8>) -> Result<(), Memory>
 /// Appends the record of the letters' names at a level.
 fn write_names(level: usize, names: &Names, out: &mut Vec<u8>) -> Result<(), Memory>
     requires { level ≤ 2 }
-    ensures { OnOk result (out.new.items ≡ out.old.items ++ text_of_value level (record_value (names_fields names.now))) }
+    ensures { OnOk result
+        (out.new.items
+        ≡ out.old.items ++ text_of_value level (record_value (names_fields names.now))) }
 {
     out.extend_from_slice(b"rec(\n")?;
     write_line(level + 1, b"type := \"identifiers\",\n", out)?;
@@ -112,7 +120,8 @@ fn write_number(number: u32, out: &mut Vec<u8>) -> Result<(), Memory>
 /// Appends the range of all states, where there are at least two and each accepts, and else the list of those that do.
 fn write_accepting(accepting: &[bool], out: &mut Vec<u8>) -> Result<(), Memory>
     requires { length accepting.now < 2 ^ 32 }
-    ensures { OnOk result (out.new.items ≡ out.old.items ++ text_of_value 1 (accepting_value accepting.now)) }
+    ensures { OnOk result
+        (out.new.items ≡ out.old.items ++ text_of_value 1 (accepting_value accepting.now)) }
 {
     if accepting.iter().all(|accepts| *accepts) && accepting.len() >= 2 {
         out.push(b'[')?;
@@ -128,7 +137,9 @@ fn write_accepting(accepting: &[bool], out: &mut Vec<u8>) -> Result<(), Memory>
 /// Appends the list of the states that accept.
 fn write_accepting_list(accepting: &[bool], out: &mut Vec<u8>) -> Result<(), Memory>
     requires { length accepting.now < 2 ^ 32 }
-    ensures { OnOk result (out.new.items ≡ out.old.items ++ line_of (numbers_value (accepting_from 1 accepting.now))) }
+    ensures { OnOk result
+        (out.new.items
+        ≡ out.old.items ++ line_of (numbers_value (accepting_from 1 accepting.now))) }
 {
     out.push(b'[')?;
     let mut before: &[u8] = b"";
@@ -148,7 +159,10 @@ fn write_accepting_list(accepting: &[bool], out: &mut Vec<u8>) -> Result<(), Mem
 /// Appends the record of the table, with its rows in a format.
 fn write_table(table: &Table, format: RowFormat, out: &mut Vec<u8>) -> Result<(), Memory>
     requires { table.now.rows ≢ [] }
-    ensures { OnOk result (out.new.items ≡ out.old.items ++ text_of_value 1 (record_value (table_fields format table.now.rows))) }
+    ensures { OnOk result
+        (out.new.items
+        ≡ out.old.items
+        ++ text_of_value 1 (record_value (table_fields format table.now.rows))) }
 {
     out.extend_from_slice(b"rec(\n    format := \"")?;
     out.extend_from_slice(format.name().as_bytes())?;
@@ -162,7 +176,8 @@ fn write_table(table: &Table, format: RowFormat, out: &mut Vec<u8>) -> Result<()
 
 /// Appends the number of moves.
 fn write_move_count(rows: &[Row], out: &mut Vec<u8>) -> Result<(), Memory>
-    ensures { OnOk result (out.new.items ≡ out.old.items ++ number_text (printed.move_count rows.now)) }
+    ensures { OnOk result
+        (out.new.items ≡ out.old.items ++ number_text (printed.move_count rows.now)) }
 {
     print_number(move_count(rows)?, out)
 }
@@ -181,7 +196,9 @@ fn move_count(rows: &[Row]) -> Result<i64, Memory>
 /// Appends the rows, each on a line of its own.
 fn write_rows(rows: &[Row], format: RowFormat, out: &mut Vec<u8>) -> Result<(), Memory>
     requires { rows.now ≢ [] }
-    ensures { OnOk result (out.new.items ≡ out.old.items ++ text_of_value 2 (list_value (rows_places format rows.now))) }
+    ensures { OnOk result
+        (out.new.items
+        ≡ out.old.items ++ text_of_value 2 (list_value (rows_places format rows.now))) }
 {
     out.push(b'[')?;
     let mut before: &[u8] = b"\n";
@@ -197,7 +214,8 @@ fn write_rows(rows: &[Row], format: RowFormat, out: &mut Vec<u8>) -> Result<(), 
 
 /// Appends the row.
 fn write_row(row: &Row, format: RowFormat, out: &mut Vec<u8>) -> Result<(), Memory>
-    ensures { OnOk result (out.new.items ≡ out.old.items ++ line_of (list_value (row_places format row.now))) }
+    ensures { OnOk result
+        (out.new.items ≡ out.old.items ++ line_of (list_value (row_places format row.now))) }
 {
     match format {
         RowFormat::Dense(symbols) => write_targets(row, symbols, out),
@@ -207,7 +225,9 @@ fn write_row(row: &Row, format: RowFormat, out: &mut Vec<u8>) -> Result<(), Memo
 
 /// Appends a target for each of so many symbols, 0 where there is no move.
 fn write_targets(row: &Row, symbols: u32, out: &mut Vec<u8>) -> Result<(), Memory>
-    ensures { OnOk result (out.new.items ≡ out.old.items ++ line_of (numbers_value (targets_from row.now 1 symbols))) }
+    ensures { OnOk result
+        (out.new.items
+        ≡ out.old.items ++ line_of (numbers_value (targets_from row.now 1 symbols))) }
 {
     out.push(b'[')?;
     let mut before: &[u8] = b"";
@@ -225,7 +245,8 @@ fn write_targets(row: &Row, symbols: u32, out: &mut Vec<u8>) -> Result<(), Memor
 
 /// Appends the moves, each with its symbol and its target.
 fn write_moves(moves: &[(u32, u32)], out: &mut Vec<u8>) -> Result<(), Memory>
-    ensures { OnOk result (out.new.items ≡ out.old.items ++ line_of (list_value (list_of_moves moves.now))) }
+    ensures { OnOk result
+        (out.new.items ≡ out.old.items ++ line_of (list_value (list_of_moves moves.now))) }
 {
     out.push(b'[')?;
     let mut before: &[u8] = b"";

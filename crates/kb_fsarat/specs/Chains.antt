@@ -18,4 +18,5 @@ start_after count initial = map (λ state. count + state) (start_of initial)
 
 -- the initial state of the table, and the other starts where the empty word is accepted
 abbrev pub initial_with : Table → List ℕ → List ℕ
-initial_with table starts = start_of table.initial ++ (if is_accepting table table.initial then starts else [])
+initial_with table starts =
+    start_of table.initial ++ (if is_accepting table table.initial then starts else [])

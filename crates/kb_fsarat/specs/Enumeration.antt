@@ -30,4 +30,5 @@ pub record IsNext (enumeration : Enumeration) (word : List ℕ) : Type 0 where
 -- after a word the enumeration has given that; after `None` it is as it was, and no word is left
 abbrev pub IsStepOf : Enumeration → Option (List ℕ) → Enumeration → Type 0
 IsStepOf before None after = ((word : List ℕ) → ¬ IsLeft before word) × (after ≡ before)
-IsStepOf before (Some word) after = IsNext before word × (after ≡ record before { given = Some word })
+IsStepOf before (Some word) after =
+    IsNext before word × (after ≡ record before { given = Some word })

@@ -53,20 +53,24 @@ pub record Layering : Type 0 where
   pub count : ℕ
 
 -- what the sets keep
-pub record IsLayering (table : Table) (sets : List (List ℕ)) (repeats_from : Option ℕ) : Type 0 where
+pub record IsLayering (table : Table) (sets : List (List ℕ))
+    (repeats_from : Option ℕ) : Type 0 where
   pub is_table : IsTable table
   pub symbols : HasSymbols 65534 table
   pub layers : AreLayers table sets
   pub repeats : IfSome repeats_from (RepeatsFrom table sets)
 
--- the move is the state's first by a symbol above the floor to a state from which a text of length k leads to acceptance
+-- the move is the state's first by a symbol above the floor to a state from which a text of length
+-- k leads to acceptance
 pub record IsFirstMove (table : Table) (k state floor : ℕ) (move : ℕ × ℕ) : Type 0 where
   pub above : floor < move.0
   pub fits : move.0 < 65535
   pub leads : step table state move.0 ≡ move.1
   pub live : HasText table k move.1
-  pub first : (other : ℕ) → floor < other → HasText table k (step table state other) → move.0 ≤ other
+  pub first : (other : ℕ) → floor < other → HasText table k (step table state other)
+      → move.0 ≤ other
 
 -- no move of the state is such a one
 abbrev pub NoMove : Table → ℕ → ℕ → ℕ → Type 0
-NoMove table k state floor = (symbol : ℕ) → floor < symbol → ¬ HasText table k (step table state symbol)
+NoMove table k state floor =
+    (symbol : ℕ) → floor < symbol → ¬ HasText table k (step table state symbol)

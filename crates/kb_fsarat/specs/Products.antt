@@ -21,4 +21,5 @@ IsStar automaton star = (word : List ℕ) → Accepts star word ↔ IsProduct au
 
 -- the automaton accepts the words that read backwards are accepted
 abbrev pub IsReversal : Automaton → Automaton → Type 0
-IsReversal automaton reversed = (word : List ℕ) → Accepts reversed word ↔ Accepts automaton (reverse word)
+IsReversal automaton reversed =
+    (word : List ℕ) → Accepts reversed word ↔ Accepts automaton (reverse word)

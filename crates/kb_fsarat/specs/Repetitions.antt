@@ -9,9 +9,11 @@ use Rattle.kb_fsadet.specs.Nondeterministic.{Nondeterministic, LeadsSomehow, Acc
 
 -- to what states words lead in it
 pub record IsStarNfa (automaton : Automaton) (nfa : Nondeterministic) : Type 0 where
-  pub states : (word : List ℕ) (state : ℕ) → state ≤ length automaton.table.rows → LeadsSomehow nfa word state
+  pub states : (word : List ℕ) (state : ℕ) → state ≤ length automaton.table.rows
+      → LeadsSomehow nfa word state
       ↔ IsAfterProduct automaton word state
-  pub mark : (word : List ℕ) → LeadsSomehow nfa word (length automaton.table.rows + 1) ↔ IsProduct automaton word
+  pub mark : (word : List ℕ)
+      → LeadsSomehow nfa word (length automaton.table.rows + 1) ↔ IsProduct automaton word
   pub no_others : (word : List ℕ) (state : ℕ) → LeadsSomehow nfa word state
       → (state ≤ length automaton.table.rows + 1) × IsOver (generators automaton.alphabet) word
   pub are_states : (word : List ℕ) (state : ℕ) → IsAfterProduct automaton word state

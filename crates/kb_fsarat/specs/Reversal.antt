@@ -39,5 +39,7 @@ pub record IsTurned (automaton : Automaton) (turned : Nondeterministic) : Type 0
   pub one_answer_each : length turned.accepting ≡ length automaton.table.rows
   pub moves : (place symbol source : ℕ) → Contains (get_or turned.rows place []) (symbol, source)
       ↔ Contains (moves_of automaton.table source) (symbol, suc place)
-  pub initial : (state : ℕ) → Contains turned.initial state ↔ IsTrue (is_accepting automaton.table state)
-  pub accepting : (state : ℕ) → IsTrue (accepts_at turned state) ↔ ((state ≡ automaton.table.initial) × (state ≢ 0))
+  pub initial : (state : ℕ)
+      → Contains turned.initial state ↔ IsTrue (is_accepting automaton.table state)
+  pub accepting : (state : ℕ)
+      → IsTrue (accepts_at turned state) ↔ ((state ≡ automaton.table.initial) × (state ≢ 0))

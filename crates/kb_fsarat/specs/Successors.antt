@@ -8,7 +8,8 @@ use Rattle.kb_fsarat.specs.Layers.{HasText}
 pub record IsLeastFrom (table : Table) (k state : ℕ) (text : List ℕ) : Type 0 where
   pub long : length text ≡ k
   pub accepts : AcceptsFrom table state text
-  pub least : (other : List ℕ) → length other ≡ k → AcceptsFrom table state other → ¬ IsEarlier other text
+  pub least : (other : List ℕ) → length other ≡ k → AcceptsFrom table state other
+      → ¬ IsEarlier other text
 
 -- the text is the front, and then the least
 pub record IsCompleted (table : Table) (k state : ℕ) (front text : List ℕ) : Type 0 where
@@ -19,14 +20,16 @@ pub record IsCompleted (table : Table) (k state : ℕ) (front text : List ℕ) :
 -- no text as long leads from the state to acceptance and is later
 abbrev pub NoneLater : Table → ℕ → List ℕ → Type 0
 NoneLater table state text =
-    (other : List ℕ) → length other ≡ length text → AcceptsFrom table state other → ¬ IsEarlier text other
+    (other : List ℕ) → length other ≡ length text → AcceptsFrom table state other
+    → ¬ IsEarlier text other
 
 -- of the later texts, as long, that lead from the state to acceptance the next one is the earliest
 pub record IsNextFrom (table : Table) (state : ℕ) (text next : List ℕ) : Type 0 where
   pub long : length next ≡ length text
   pub accepts : AcceptsFrom table state next
   pub later : IsEarlier text next
-  pub earliest : (other : List ℕ) → length other ≡ length text → AcceptsFrom table state other → IsEarlier text other
+  pub earliest : (other : List ℕ) → length other ≡ length text → AcceptsFrom table state other
+      → IsEarlier text other
       → ¬ IsEarlier other next
 
 -- the states are those before each letter of the text

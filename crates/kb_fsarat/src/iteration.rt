@@ -28,8 +28,9 @@ pub fn star(alloc: Global, one: &Fsa, limit: u32) -> Result<Fsa, Det>
 {
     let products = star_nfa(alloc, one)?;
     let answer = determinise(alloc, &products, limit)?;
-    // The empty set of states is counted too, where a word leads to it. It is none of the answer's states, each of which
-    // some word leads to: so a word leads to it exactly where one of them lacks a move.
+    // The empty set of states is counted too, where a word leads to it. It is none of the answer's
+    // states, each of which some word leads to: so a word leads to it exactly where one of them
+    // lacks a move.
     if answer.len() >= limit && lacks_move(&answer) {
         return Err(Det::TooManyStates { limit });
     }

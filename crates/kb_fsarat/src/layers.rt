@@ -56,10 +56,10 @@ fn push_targets(states: &mut Vec<u32>, moves: &[(u32, u32)]) -> Result<(), Memor
     Ok(())
 }
 
-/// The sets of a table's states for the lengths from 0 on. Set k has exactly the states from which some text of length k
-/// leads to acceptance; each is made when it is asked for, from the members of the one before by the moves turned round.
-/// Once the next one is the same as one that is kept already, the sets from that one on repeat for all further lengths, and
-/// no more are kept.
+/// The sets of a table's states for the lengths from 0 on. Set k has exactly the states from which
+/// some text of length k leads to acceptance; each is made when it is asked for, from the members
+/// of the one before by the moves turned round. Once the next one is the same as one that is kept
+/// already, the sets from that one on repeat for all further lengths, and no more are kept.
 #[derive(Drop)]
 pub(crate) struct Layers<'a> {
     table: &'a Table,
@@ -179,7 +179,8 @@ impl<'a> Layers<'a> {
         self.set(length).contains(state)
     }
 
-    /// The state's first move by a symbol above the floor to a state from which some text of the length leads to acceptance.
+    /// The state's first move by a symbol above the floor to a state from which some text of the
+    /// length leads to acceptance.
     pub(crate) fn first_move(&self, length: usize, state: u32, floor: u32) -> Option<(u32, u32)>
         requires { length < self.now.count }
         ensures some { IfSome result (IsFirstMove self.now.table length state floor) }

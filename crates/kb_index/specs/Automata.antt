@@ -23,10 +23,12 @@ pub record IsAutomaton (rules : List Pair) (automaton : Automaton) : Type 0 wher
   pub roots : AreRootChildren automaton.edges.items automaton.roots.items
   pub link_count : length automaton.links.items ≡ length automaton.edges.items + 1
   pub links : AreLinks automaton.edges.items automaton.links.items
-  pub rows : AreRows automaton.edges.items (length automaton.edges.items + 1) automaton.table.width automaton.table.rows.items
+  pub rows : AreRows automaton.edges.items (length automaton.edges.items + 1) automaton.table.width
+      automaton.table.rows.items
   pub head_count : length automaton.chains.heads.items ≡ length automaton.edges.items + 1
   pub rule_count : length automaton.chains.before.items ≡ length rules
-  pub heads : AreHeads rules (word automaton.edges.items) (length rules) automaton.chains.heads.items
+  pub heads : AreHeads rules (word automaton.edges.items) (length rules)
+      automaton.chains.heads.items
   pub before : AreBefore rules automaton.chains.before.items
   pub end_count : length automaton.ends.items ≡ length automaton.edges.items + 1
   pub ends : AreEnds automaton.edges.items automaton.chains.heads.items automaton.ends.items

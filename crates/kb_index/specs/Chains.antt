@@ -12,11 +12,14 @@ pub record IsHead (rules : List Pair) (tried : ℕ) (w : List ℕ) (head : ℕ) 
 -- for each of the first rules the one before it that has its left side
 pub record AreBefore (rules : List Pair) (before : List ℕ) : Type 0 where
   pub within : length before ≤ length rules
-  pub each : (place : ℕ) → place < length before → IsHead rules place (left_at rules place) (get_or before place 0)
+  pub each : (place : ℕ) → place < length before
+      → IsHead rules place (left_at rules place) (get_or before place 0)
 
 -- for each state the last of the first rules whose left side is what the state spells
-pub record AreHeads (rules : List Pair) (spelled : ℕ → List ℕ) (tried : ℕ) (heads : List ℕ) : Type 0 where
-  pub each : (state : ℕ) → state < length heads → IsHead rules tried (spelled state) (get_or heads state 0)
+pub record AreHeads (rules : List Pair) (spelled : ℕ → List ℕ) (tried : ℕ)
+    (heads : List ℕ) : Type 0 where
+  pub each : (state : ℕ) → state < length heads
+      → IsHead rules tried (spelled state) (get_or heads state 0)
 
 -- numbers that rise
 abbrev pub Rise : List ℕ → Type 0

@@ -38,4 +38,5 @@ AreRootChildren edges row = (letter : ℕ) → IsChildOrNone edges 0 letter (get
 -- the children of all states by the letters below 64, in rows of 64
 pub record AreShortChildren (edges : List Edge) (rows : List ℕ) : Type 0 where
   pub count : (length edges + 1) * 64 ≤ length rows
-  pub each : (state letter : ℕ) → letter < 64 → IsChildOrNone edges state letter (get_or rows (state * 64 + letter) 0)
+  pub each : (state letter : ℕ) → letter < 64
+      → IsChildOrNone edges state letter (get_or rows (state * 64 + letter) 0)

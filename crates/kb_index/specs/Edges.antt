@@ -15,7 +15,8 @@ rank edge = edge.parent * 65536 + edge.letter
 -- the words of the states, when those of the first states are known
 unfoldable pub words_from : List (List ℕ) → List Edge → List (List ℕ)
 words_from words [] = words
-words_from words (edge ∷ edges) = words_from (words ++ (get_or words edge.parent [] ++ edge.letter ∷ []) ∷ []) edges
+words_from words (edge ∷ edges) =
+    words_from (words ++ (get_or words edge.parent [] ++ edge.letter ∷ []) ∷ []) edges
 
 -- The word of a state: the letters on the way to it from state 0.
 unfoldable pub word : List Edge → ℕ → List ℕ
@@ -24,7 +25,8 @@ word edges state = get_or (words_from ([] ∷ []) edges) state []
 -- edges that each lead from an earlier state, no two of them by one letter from one state
 pub record IsTree (edges : List Edge) : Type 0 where
   pub parents : (i : ℕ) → i < length edges → (edge_at edges i).parent ≤ i
-  pub apart : (i j : ℕ) → i < length edges → j < length edges → edge_at edges i ≡ edge_at edges j → i ≡ j
+  pub apart : (i j : ℕ) → i < length edges → j < length edges → edge_at edges i ≡ edge_at edges j
+      → i ≡ j
   pub spelled : (i : ℕ) → i < length edges
       → word edges (i + 1) ≡ word edges (edge_at edges i).parent ++ (edge_at edges i).letter ∷ []
 
@@ -32,7 +34,8 @@ pub record IsTree (edges : List Edge) : Type 0 where
 pub record AreEdges (edges : List Edge) : Type 0 where
   pub parents : (i : ℕ) → i < length edges → (edge_at edges i).parent ≤ i
   pub letters : (i : ℕ) → i < length edges → (edge_at edges i).letter < 65536
-  pub rising : (i j : ℕ) → i < j → j < length edges → rank (edge_at edges i) < rank (edge_at edges j)
+  pub rising : (i j : ℕ) → i < j → j < length edges
+      → rank (edge_at edges i) < rank (edge_at edges j)
   pub spelled : (i : ℕ) → i < length edges
       → word edges (i + 1) ≡ word edges (edge_at edges i).parent ++ (edge_at edges i).letter ∷ []
 

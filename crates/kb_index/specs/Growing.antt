@@ -18,7 +18,8 @@ abbrev pub rank_of : Waiting → ℕ
 rank_of waiting = rank waiting.edge
 
 -- the rule waits at the state of the first letters of its left side, for the next letter
-pub record IsWaiting (rules : List Pair) (edges : List Edge) (depth start : ℕ) (waiting : Waiting) : Type 0 where
+pub record IsWaiting (rules : List Pair) (edges : List Edge) (depth start : ℕ)
+    (waiting : Waiting) : Type 0 where
   pub state : waiting.edge.parent ≤ length edges
   pub level : start ≤ waiting.edge.parent
   pub rule : waiting.rule < length rules
@@ -28,7 +29,8 @@ pub record IsWaiting (rules : List Pair) (edges : List Edge) (depth start : ℕ)
   pub small : waiting.edge.letter < 65536
 
 -- the rules whose left sides are longer than the depth wait, at states of a level that no edge leads from
-pub record AreWaiting (rules : List Pair) (edges : List Edge) (depth : ℕ) (waiting : List Waiting) : Type 0 where
+pub record AreWaiting (rules : List Pair) (edges : List Edge) (depth : ℕ)
+    (waiting : List Waiting) : Type 0 where
   pub start : ℕ
   pub bare : (i : ℕ) → i < length edges → (edge_at edges i).parent < start
   pub each : All (IsWaiting rules edges depth start) waiting
@@ -39,7 +41,12 @@ pub record AreWaiting (rules : List Pair) (edges : List Edge) (depth : ℕ) (wai
 abbrev pub waits : List Pair → ℕ → ℕ → ℕ → List Waiting
 waits rules depth state rule =
     cond (nat_lt depth (length (left_at rules rule)))
-    ((record { edge = record { parent = state; letter = get_or (left_at rules rule) depth 0 }; rule = rule }) ∷ []) []
+    ((record {
+      edge =
+          record { parent = state; letter = get_or (left_at rules rule) depth 0 };
+      rule = rule;
+    })
+    ∷ []) []
 
 -- the edges with this one as their last, which other states don't notice
 pub record Follows (before : List Edge) (edge : Edge) (after : List Edge) : Type 0 where

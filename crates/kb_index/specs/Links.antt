@@ -7,7 +7,8 @@ use Rattle.kb_index.specs.Edges.{edge_at, word}
 -- u is the longest suffix of w that is a state's word, or at least ends with each suffix of w that is one
 pub record IsLongestSuffix (edges : List Edge) (w u : List ℕ) : Type 0 where
   pub ends : EndsWith w u
-  pub longest : (state : ℕ) → state ≤ length edges → EndsWith w (word edges state) → EndsWith u (word edges state)
+  pub longest : (state : ℕ) → state ≤ length edges → EndsWith w (word edges state)
+      → EndsWith u (word edges state)
 
 -- each state's link leads to an earlier state, whose word is the longest proper suffix
 pub record AreLinks (edges : List Edge) (links : List ℕ) : Type 0 where

@@ -11,7 +11,8 @@ pub record IsSuch (such : List ℕ → Type 0) (rules : List Pair) (first number
   pub is : such (left_at rules (number - first))
 
 -- the first place of the list at which such a rule stands, or the length of the list
-pub record IsFirstSuch (such : List ℕ → Type 0) (rules : List Pair) (first : ℕ) (numbers : List ℕ) (place : ℕ) : Type 0 where
+pub record IsFirstSuch (such : List ℕ → Type 0) (rules : List Pair) (first : ℕ) (numbers : List ℕ)
+    (place : ℕ) : Type 0 where
   pub within : place ≤ length numbers
   pub is : place < length numbers → IsSuch such rules first (get_or numbers place 0)
   pub least : (earlier : ℕ) → earlier < place → ¬ IsSuch such rules first (get_or numbers earlier 0)
@@ -21,4 +22,5 @@ pub record AreNumbered (rules all : List Pair) (numbers : List ℕ) : Type 0 whe
   pub count : length numbers ≡ length rules
   pub rise : Rise numbers
   pub within : (place : ℕ) → place < length numbers → get_or numbers place 0 < length all
-  pub same : (place : ℕ) → place < length numbers → get_or rules place ([], []) ≡ get_or all (get_or numbers place 0) ([], [])
+  pub same : (place : ℕ) → place < length numbers
+      → get_or rules place ([], []) ≡ get_or all (get_or numbers place 0) ([], [])

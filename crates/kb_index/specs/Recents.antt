@@ -13,8 +13,10 @@ pub record IsRecent (rules : List Pair) (recent : Recent) : Type 0 where
   pub lefts : HaveLefts rules
   pub tree : IsTree recent.edges.keys
   pub children : AreShortChildren recent.edges.keys recent.children.rows.items
-  pub complete : (place : ℕ) → place < length rules → HasState recent.edges.keys (reverse (left_at rules place))
+  pub complete : (place : ℕ) → place < length rules
+      → HasState recent.edges.keys (reverse (left_at rules place))
   pub head_count : length recent.chains.heads.items ≡ length recent.edges.keys + 1
   pub rule_count : length recent.chains.before.items ≡ length rules
-  pub heads : AreHeads rules (λ state. reverse (word recent.edges.keys state)) (length rules) recent.chains.heads.items
+  pub heads : AreHeads rules (λ state. reverse (word recent.edges.keys state)) (length rules)
+      recent.chains.heads.items
   pub before : AreBefore rules recent.chains.before.items

@@ -23,7 +23,8 @@ pub record BeginsLeft (rules : List Pair) (w : List ℕ) : Type 0 where
 
 -- each state but state 0 stands for a word with which some left side begins
 abbrev pub AreBeginnings : List Pair → List Edge → Type 0
-AreBeginnings rules edges = (state : ℕ) → 0 < state → state ≤ length edges → BeginsLeft rules (word edges state)
+AreBeginnings rules edges =
+    (state : ℕ) → 0 < state → state ≤ length edges → BeginsLeft rules (word edges state)
 
 -- each left side is a state's word, and each state's word begins a left side
 pub record IsTrie (rules : List Pair) (edges : List Edge) : Type 0 where

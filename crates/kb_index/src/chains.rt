@@ -45,7 +45,8 @@ impl Chains {
     pub fn add(&mut self, state: usize) -> Result<(), Memory>
         requires { state < length self.old.heads.items }
         ensures heads { OnOk result
-            (self.new.heads.items ≡ set self.old.heads.items state (length self.old.before.items + 1)) }
+            (self.new.heads.items
+            ≡ set self.old.heads.items state (length self.old.before.items + 1)) }
         ensures before { OnOk result (self.new.before.items
             ≡ self.old.before.items ++ get_or self.old.heads.items state 0 ∷ []) }
         ensures err_heads { OnErr result (self.new.heads.items ≡ self.old.heads.items) }

@@ -74,16 +74,19 @@ fn next_step(
     workspace: &mut Workspace,
 ) -> Result<Option<Step>, Memory>
     requires lookup { IsLookup list.now.rules lookup.now }
-    requires states { AreStates lookup.now.settled.value.edges.items workspace.old.front workspace.old.states.items }
+    requires states { AreStates lookup.now.settled.value.edges.items workspace.old.front
+        workspace.old.states.items }
     requires irreducible { IsIrreducible (OneOf list.now.rules) workspace.old.front }
     requires range { All (λ x. x < 2 ^ 16) (workspace.old.front ++ workspace.old.unread) }
     ensures states { OnOk result
-        (AreStates lookup.now.settled.value.edges.items workspace.new.front workspace.new.states.items) }
+        (AreStates lookup.now.settled.value.edges.items workspace.new.front
+        workspace.new.states.items) }
     ensures irreducible { OnOk result (IsIrreducible (OneOf list.now.rules) workspace.new.front) }
     ensures range { IfOk result (λ found.
         IfSome found (λ _. All (λ x. x < 2 ^ 16) (workspace.new.front ++ workspace.new.unread))) }
     ensures some { IfOk result (λ found. IfSome found (λ step. IsFirstStep list.now.rules
-        (workspace.old.front ++ workspace.old.unread) step (workspace.new.front ++ workspace.new.unread))) }
+        (workspace.old.front ++ workspace.old.unread) step
+        (workspace.new.front ++ workspace.new.unread))) }
     ensures none { IfOk result (λ found.
         IfNone found (workspace.new.front ≡ workspace.old.front ++ workspace.old.unread)) }
 {
@@ -103,15 +106,18 @@ fn read_letter(
     letter: Letter,
 ) -> Result<Option<Step>, Memory>
     requires lookup { IsLookup list.now.rules lookup.now }
-    requires states { AreStates lookup.now.settled.value.edges.items workspace.old.front workspace.old.states.items }
+    requires states { AreStates lookup.now.settled.value.edges.items workspace.old.front
+        workspace.old.states.items }
     requires irreducible { IsIrreducible (OneOf list.now.rules) workspace.old.front }
     requires range { All (λ x. x < 2 ^ 16) (workspace.old.front ++ letter ∷ workspace.old.unread) }
     ensures states { OnOk result
-        (AreStates lookup.now.settled.value.edges.items workspace.new.front workspace.new.states.items) }
+        (AreStates lookup.now.settled.value.edges.items workspace.new.front
+        workspace.new.states.items) }
     ensures irreducible { OnOk result (IsIrreducible (OneOf list.now.rules) workspace.new.front) }
     ensures range { OnOk result (All (λ x. x < 2 ^ 16) (workspace.new.front ++ workspace.new.unread)) }
     ensures some { IfOk result (λ found. IfSome found (λ step. IsFirstStep list.now.rules
-        (workspace.old.front ++ letter ∷ workspace.old.unread) step (workspace.new.front ++ workspace.new.unread))) }
+        (workspace.old.front ++ letter ∷ workspace.old.unread) step
+        (workspace.new.front ++ workspace.new.unread))) }
     ensures read { IfOk result (λ found.
         IfNone found (workspace.new.front ≡ workspace.old.front ++ letter ∷ [])) }
     ensures unread { IfOk result (λ found. IfNone found (workspace.new.unread ≡ workspace.old.unread)) }

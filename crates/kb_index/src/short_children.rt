@@ -51,7 +51,8 @@ impl ShortChildren {
 
     /// Makes a row for a state, and for those before it. A row that is there stays.
     pub fn make_room(&mut self, state: usize) -> Result<(), Memory>
-        ensures same { (place : ℕ) → get_or self.new.rows.items place 0 ≡ get_or self.old.rows.items place 0 }
+        ensures same { (place : ℕ)
+            → get_or self.new.rows.items place 0 ≡ get_or self.old.rows.items place 0 }
         ensures longer { length self.old.rows.items ≤ length self.new.rows.items }
         ensures room { OnOk result ((state + 1) * 64 ≤ length self.new.rows.items) }
         ensures few { OnOk result (state < 2 ^ 32) }

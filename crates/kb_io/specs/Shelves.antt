@@ -22,7 +22,8 @@ mem_stores shelf = shelf.stores
 
 -- their states
 abbrev pub whole_state : WholeShelf → ShelfState
-whole_state shelf = record { told = true; holds = whole_holds shelf; load_faults = 0; store_faults = 0 }
+whole_state shelf =
+    record { told = true; holds = whole_holds shelf; load_faults = 0; store_faults = 0 }
 
 abbrev pub mem_state : MemShelf → ShelfState
 mem_state shelf = record {

@@ -42,4 +42,5 @@ HoldsSame before after = (name : List ℕ) → after.holds name ≡ before.holds
 
 -- the shelf holds the same under each name but this one
 abbrev pub HoldsSameBut : List ℕ → ShelfState → ShelfState → Type 0
-HoldsSameBut stored before after = (name : List ℕ) → name ≢ stored → after.holds name ≡ before.holds name
+HoldsSameBut stored before after =
+    (name : List ℕ) → name ≢ stored → after.holds name ≡ before.holds name

@@ -25,19 +25,24 @@ token_view Rec = tree.rec_word
 
 -- the first token of the text and the text behind it, or none where no token begins
 abbrev pub IsFirstLexeme : List ℕ → Option Lexeme → Type 0
-IsFirstLexeme text None = (token : tree.Token) (rest : List ℕ) → ¬ FirstToken (after_gap text) token rest
-IsFirstLexeme text (Some lexeme) = FirstToken (after_gap text) (token_view lexeme.token) lexeme.rest.now
+IsFirstLexeme text None =
+    (token : tree.Token) (rest : List ℕ) → ¬ FirstToken (after_gap text) token rest
+IsFirstLexeme text (Some lexeme) =
+    FirstToken (after_gap text) (token_view lexeme.token) lexeme.rest.now
 
 -- the tokens that stand first in the text, up to its end or to where no token begins
 abbrev pub AreFirstTokens : List ℕ → List tree.Token → Type 0
-AreFirstTokens text [] = (token : tree.Token) (rest : List ℕ) → ¬ FirstToken (after_gap text) token rest
-AreFirstTokens text (token ∷ tokens) = (rest : List ℕ) × FirstToken (after_gap text) token rest × AreFirstTokens rest tokens
+AreFirstTokens text [] =
+    (token : tree.Token) (rest : List ℕ) → ¬ FirstToken (after_gap text) token rest
+AreFirstTokens text (token ∷ tokens) =
+    (rest : List ℕ) × FirstToken (after_gap text) token rest × AreFirstTokens rest tokens
 
 -- the token that begins the bytes and the length of its spelling, or none where no token begins them
 abbrev pub IsFirst : List ℕ → Option (Token × ℕ) → Type 0
 IsFirst bytes None = (token : tree.Token) (rest : List ℕ) → ¬ FirstToken bytes token rest
 IsFirst bytes (Some found) =
-    FirstToken bytes (token_view found.0) (drop found.1 bytes) × (0 < found.1) × (found.1 ≤ length bytes)
+    FirstToken bytes (token_view found.0) (drop found.1 bytes) × (0 < found.1)
+    × (found.1 ≤ length bytes)
 
 -- the first n bytes have the form, and no longer front has it
 pub record IsLongestFront (HasForm : List ℕ → Type 0) (bytes : List ℕ) (n : ℕ) : Type 0 where

@@ -11,7 +11,8 @@ is_blank b = b == 32 || b == 9 || b == 10 || b == 13
 abbrev mutual
   pub after_gap : List ℕ → List ℕ
   after_gap [] = []
-  after_gap (b ∷ bytes) = if is_blank b then after_gap bytes else (if b == 35 then after_comment bytes else b ∷ bytes)
+  after_gap (b ∷ bytes) =
+      if is_blank b then after_gap bytes else (if b == 35 then after_comment bytes else b ∷ bytes)
 
   pub after_comment : List ℕ → List ℕ
   after_comment [] = []
@@ -35,7 +36,8 @@ BeginsWithNameByte (b ∷ bytes) = IsNameByte b
 -- what a name has after its first byte: name bytes, and single dots between them
 abbrev pub GoesOnAsName : List ℕ → Type 0
 GoesOnAsName [] = Unit {0}
-GoesOnAsName (b ∷ bytes) = (IsNameByte b ⊎ ((b ≡ 46) × BeginsWithNameByte bytes)) × GoesOnAsName bytes
+GoesOnAsName (b ∷ bytes) =
+    (IsNameByte b ⊎ ((b ≡ 46) × BeginsWithNameByte bytes)) × GoesOnAsName bytes
 
 -- parts joined by single dots, the first beginning with a letter or `_`; `rec` alone is no name
 abbrev pub IsName : List ℕ → Type 0
@@ -89,9 +91,11 @@ pub record FirstToken (bytes : List ℕ) (token : Token) (rest : List ℕ) : Typ
   pub spelling : List ℕ
   pub spelled : Spells token spelling
   pub whole : bytes ≡ spelling ++ rest
-  pub longest : (other : Token) (front tail : List ℕ) → Spells other front → bytes ≡ front ++ tail → length front ≤ length spelling
+  pub longest : (other : Token) (front tail : List ℕ) → Spells other front → bytes ≡ front ++ tail
+      → length front ≤ length spelling
 
 -- the text is these tokens, with blanks and comments before, between and behind them
 abbrev pub TokensOf : List ℕ → List Token → Type 0
 TokensOf bytes [] = after_gap bytes ≡ []
-TokensOf bytes (token ∷ tokens) = (rest : List ℕ) × FirstToken (after_gap bytes) token rest × TokensOf rest tokens
+TokensOf bytes (token ∷ tokens) =
+    (rest : List ℕ) × FirstToken (after_gap bytes) token rest × TokensOf rest tokens

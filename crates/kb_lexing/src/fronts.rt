@@ -23,7 +23,8 @@ pub fn behind_gap(text: &[u8]) -> &[u8]
 pub fn first_name(text: &[u8]) -> Option<(&[u8], &[u8])>
     ensures some { IfSome result (λ found. FirstToken text.now (name found.0.now) found.1.now) }
     ensures ascii { IfSome result (λ found. AllByRecursion (λ byte. byte < 128) found.0.now) }
-    ensures none { IfNone result ((spelling rest : List ℕ) → ¬ FirstToken text.now (name spelling) rest) }
+    ensures none { IfNone result
+        ((spelling rest : List ℕ) → ¬ FirstToken text.now (name spelling) rest) }
 {
     if !begins_names(*text.first()?) {
         return None;

@@ -2,11 +2,12 @@
 //!
 //! # The public contract
 //!
-//! [`first_lexeme`] returns the first token of a text, as long as possible, with the text behind it, or none where no
-//! token begins. So a text is read token by token, and its tokens take no memory. [`has_tokens`] tells whether the bytes
-//! have tokens (`TokensOf` of `specs/Spelling.antt`) up to their end, and [`is_blank`] whether they are blanks and
-//! comments alone. [`behind_gap`], [`first_name`] and [`first_number`] pass what stands at the front of a text, and
-//! [`short_name`] and [`starred_name`] a name of one byte. The laws are [`a_text_has_one_list_of_tokens`], and
+//! [`first_lexeme`] returns the first token of a text, as long as possible, with the text behind
+//! it, or none where no token begins. So a text is read token by token, and its tokens take no
+//! memory. [`has_tokens`] tells whether the bytes have tokens (`TokensOf` of `specs/Spelling.antt`)
+//! up to their end, and [`is_blank`] whether they are blanks and comments alone. [`behind_gap`],
+//! [`first_name`] and [`first_number`] pass what stands at the front of a text, and [`short_name`]
+//! and [`starred_name`] a name of one byte. The laws are [`a_text_has_one_list_of_tokens`], and
 //! [`a_front_ending_in_a_bracket_keeps_its_tokens`], by which what is read of a front stays so.
 //!
 //! [`syntax_place`] is the length of the longest front of the bytes with which some text begins. Whole runs

@@ -22,7 +22,8 @@ pub record AllAnswered (parts : PresentationParts) (Answers : List ℕ → List 
   pub sent : Sends given before after
 
 -- all lines that end within these bytes were answered, and nothing else
-pub record EndedAnswered (parts : PresentationParts) (Answers : List ℕ → List ℕ → Type 0) (bytes : List ℕ)
+pub record EndedAnswered (parts : PresentationParts)
+    (Answers : List ℕ → List ℕ → Type 0) (bytes : List ℕ)
     (before after : Streams) : Type 0 where
   pub lines : List (List ℕ)
   pub rest : List ℕ
@@ -46,25 +47,29 @@ pub record FrontAnswered (parts : PresentationParts) (Answers : List ℕ → Lis
   pub sends : Sends sent before after
 
 -- the line of this number is the first that is refused, it was taken, and the lines before it were answered
-pub record RefusedAt (parts : PresentationParts) (Answers : List ℕ → List ℕ → Type 0) (number : ℕ) (fault : WordError)
+pub record RefusedAt (parts : PresentationParts) (Answers : List ℕ → List ℕ → Type 0) (number : ℕ)
+    (fault : WordError)
     (taken : List ℕ) (before after : Streams) : Type 0 where
   pub refused : IsFirstRefused parts Answers before.input.left number fault
   pub seen : length (ended refused.lines ++ refused.line) ≤ length taken
   pub sent : Sends refused.given before after
 
 -- What is true after each stop, where these bytes were taken.
-abbrev pub StopMeans : PresentationParts → (List ℕ → List ℕ → Type 0) → List ℕ → Streams → Streams → Stop → Type 0
+abbrev pub StopMeans : PresentationParts → (List ℕ → List ℕ → Type 0) → List ℕ → Streams → Streams
+    → Stop → Type 0
 StopMeans parts Answers taken before after (Refused number fault) =
     RefusedAt parts Answers number fault taken before after
 StopMeans parts Answers taken before after TooLong =
-    (most_input < length taken) × EndedAnswered parts Answers (take most_input before.input.left) before after
+    (most_input < length taken)
+    × EndedAnswered parts Answers (take most_input before.input.left) before after
 StopMeans parts Answers taken before after Input =
     (length taken ≤ most_input) × EndedAnswered parts Answers taken before after
 StopMeans parts Answers taken before after Output = FrontAnswered parts Answers before after
 StopMeans parts Answers taken before after Memory = FrontAnswered parts Answers before after
 
 -- what is true after a stop: these bytes were taken of the input, the others are left, and what was answered
-pub record Stops (parts : PresentationParts) (Answers : List ℕ → List ℕ → Type 0) (before after : Streams)
+pub record Stops (parts : PresentationParts) (Answers : List ℕ → List ℕ → Type 0)
+    (before after : Streams)
     (stop : Stop) : Type 0 where
   pub taken : List ℕ
   pub takes : Takes taken before after

@@ -28,7 +28,8 @@ pub record PendingGoesOn (given pending pending' : List ℕ) (before after : Sin
   pub held : pending ++ given ≡ sent ++ pending'
 
 -- the line that had begun was answered
-pub record LineEnds (parts : PresentationParts) (Answers : List ℕ → List ℕ → Type 0) (old new : Progress)
+pub record LineEnds (parts : PresentationParts) (Answers : List ℕ → List ℕ → Type 0)
+    (old new : Progress)
     (before after : SinkState) : Type 0 where
   pub given : List ℕ
   pub answered : LineGives parts Answers old.line.items given
@@ -37,7 +38,8 @@ pub record LineEnds (parts : PresentationParts) (Answers : List ℕ → List ℕ
   pub pending : PendingGoesOn given old.pending.items new.pending.items before after
 
 -- a front of what was pending was sent, with what the line gives behind it or without that
-pub record LineFront (parts : PresentationParts) (Answers : List ℕ → List ℕ → Type 0) (old : Progress)
+pub record LineFront (parts : PresentationParts)
+    (Answers : List ℕ → List ℕ → Type 0) (old : Progress)
     (before after : SinkState) : Type 0 where
   pub given : List ℕ
   pub answered : (given ≡ []) ⊎ LineGives parts Answers old.line.items given
@@ -45,22 +47,26 @@ pub record LineFront (parts : PresentationParts) (Answers : List ℕ → List �
   pub pending : PendingGoesOn given old.pending.items unsent before after
 
 -- the line is refused, and what was pending was sent
-pub record LineRefused (parts : PresentationParts) (old : Progress) (before after : SinkState) (number : ℕ)
+pub record LineRefused (parts : PresentationParts) (old : Progress)
+    (before after : SinkState) (number : ℕ)
     (fault : WordError) : Type 0 where
   pub counted : number ≡ old.number + 1
   pub faulty : LineHasFault parts old.line.items fault
   pub sent : after.written ≡ before.written ++ old.pending.items
 
 -- what is true where the line that has begun stops the answers
-abbrev pub LineStops : PresentationParts → (List ℕ → List ℕ → Type 0) → Progress → SinkState → SinkState → Stop → Type 0
-LineStops parts Answers old before after (Refused number fault) = LineRefused parts old before after number fault
+abbrev pub LineStops : PresentationParts → (List ℕ → List ℕ → Type 0) → Progress → SinkState
+    → SinkState → Stop → Type 0
+LineStops parts Answers old before after (Refused number fault) =
+    LineRefused parts old before after number fault
 LineStops parts Answers old before after Output = LineFront parts Answers old before after
 LineStops parts Answers old before after Memory = LineFront parts Answers old before after
 LineStops parts Answers old before after _ = ⊥
 
 -- of these bytes, which go on with the line that had begun, the rest is still to come: each line that ended before it
 -- was answered
-pub record Advances (parts : PresentationParts) (Answers : List ℕ → List ℕ → Type 0) (bytes rest : List ℕ)
+pub record Advances (parts : PresentationParts) (Answers : List ℕ → List ℕ → Type 0)
+    (bytes rest : List ℕ)
     (old new : Progress) (before after : SinkState) : Type 0 where
   pub lines : List (List ℕ)
   pub whole : old.line.items ++ bytes ≡ ended lines ++ (new.line.items ++ rest)
@@ -72,7 +78,8 @@ pub record Advances (parts : PresentationParts) (Answers : List ℕ → List ℕ
   pub pending : PendingGoesOn given old.pending.items new.pending.items before after
 
 -- a front was sent of what was pending, and of what lines at the front of the bytes give
-pub record FrontIn (parts : PresentationParts) (Answers : List ℕ → List ℕ → Type 0) (bytes : List ℕ) (old : Progress)
+pub record FrontIn (parts : PresentationParts) (Answers : List ℕ → List ℕ → Type 0)
+    (bytes : List ℕ) (old : Progress)
     (before after : SinkState) : Type 0 where
   pub lines : List (List ℕ)
   pub each : AllByRecursion IsOneLine lines
@@ -84,7 +91,8 @@ pub record FrontIn (parts : PresentationParts) (Answers : List ℕ → List ℕ 
   pub pending : PendingGoesOn given old.pending.items unsent before after
 
 -- a line that ends within the bytes is refused, and all before it was answered and sent
-pub record RefusesIn (parts : PresentationParts) (Answers : List ℕ → List ℕ → Type 0) (bytes : List ℕ) (old : Progress)
+pub record RefusesIn (parts : PresentationParts) (Answers : List ℕ → List ℕ → Type 0)
+    (bytes : List ℕ) (old : Progress)
     (before after : SinkState) (number : ℕ) (fault : WordError) : Type 0 where
   pub lines : List (List ℕ)
   pub line : List ℕ
@@ -99,7 +107,8 @@ pub record RefusesIn (parts : PresentationParts) (Answers : List ℕ → List �
   pub sent : after.written ≡ before.written ++ (old.pending.items ++ given)
 
 -- what is true where a line among the bytes stops the answers
-abbrev pub StopsIn : PresentationParts → (List ℕ → List ℕ → Type 0) → List ℕ → Progress → SinkState → SinkState
+abbrev pub StopsIn : PresentationParts → (List ℕ → List ℕ → Type 0) → List ℕ → Progress → SinkState
+    → SinkState
     → Stop → Type 0
 StopsIn parts Answers bytes old before after (Refused number fault) =
     RefusesIn parts Answers bytes old before after number fault

@@ -6,7 +6,8 @@ use Rattle.kb_lines.specs.Streams.{Streams, Takes}
 use Rattle.kb_lines.specs.declared.progress.Progress.{Progress}
 
 -- `count` bytes were taken, and the lines that ended among them were answered
-pub record IsReading (parts : PresentationParts) (Answers : List ℕ → List ℕ → Type 0) (before now : Streams)
+pub record IsReading (parts : PresentationParts) (Answers : List ℕ → List ℕ → Type 0)
+    (before now : Streams)
     (progress : Progress) (count : ℕ) : Type 0 where
   pub taken : List ℕ
   pub takes : Takes taken before now

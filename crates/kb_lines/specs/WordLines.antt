@@ -34,23 +34,28 @@ IsFunction Answers = (w m n : List ℕ) → Answers w m → Answers w n → m �
 
 -- A line of blanks and comment alone gives nothing. Another line that is a word gives the word that answers it, and a
 -- newline.
-pub data LineGives (parts : PresentationParts) (Answers : List ℕ → List ℕ → Type 0) (line : List ℕ) : List ℕ
+pub data LineGives (parts : PresentationParts) (Answers : List ℕ → List ℕ → Type 0)
+    (line : List ℕ) : List ℕ
     → Type 0 where
   blank : after_gap line ≡ [] → LineGives parts Answers line []
-  word : {w m : List ℕ} → after_gap line ≢ [] → Meaning line parts.names parts.inverses (Ok w) → Answers w m
+  word : {w m : List ℕ} → after_gap line ≢ [] → Meaning line parts.names parts.inverses (Ok w)
+      → Answers w m
       → LineGives parts Answers line (text_of_word parts.names m ++ newline ∷ [])
 
 -- the line isn't blank, and has the fault
-pub record LineHasFault (parts : PresentationParts) (line : List ℕ) (fault : WordError) : Type 0 where
+pub record LineHasFault (parts : PresentationParts) (line : List ℕ)
+    (fault : WordError) : Type 0 where
   pub not_blank : after_gap line ≢ []
   pub faulty : HasWordFault line parts.names parts.inverses fault
   pub named : fault ≢ word_errors.Memory
 
 -- what the lines give, in order
-abbrev pub LinesGive : PresentationParts → (List ℕ → List ℕ → Type 0) → List (List ℕ) → List ℕ → Type 0
+abbrev pub LinesGive : PresentationParts → (List ℕ → List ℕ → Type 0) → List (List ℕ) → List ℕ
+    → Type 0
 LinesGive parts Answers [] given = given ≡ []
 LinesGive parts Answers (line ∷ lines) given =
-    (first : List ℕ) × (others : List ℕ) × LineGives parts Answers line first × LinesGive parts Answers lines others
+    (first : List ℕ) × (others : List ℕ) × LineGives parts Answers line first
+    × LinesGive parts Answers lines others
     × (given ≡ first ++ others)
 
 -- the line that begins after `front` ends within the first `most` bytes: at its newline, or at the end of the input
@@ -60,7 +65,8 @@ EndsWithin most front (byte ∷ bytes) = (byte ≡ newline) × (length front < m
 
 -- Of the input the line of this number is the first that is refused: it has the fault, each line before it gives its
 -- answer, and it ends within the bytes that may be read.
-pub record IsFirstRefused (parts : PresentationParts) (Answers : List ℕ → List ℕ → Type 0) (input : List ℕ)
+pub record IsFirstRefused (parts : PresentationParts)
+    (Answers : List ℕ → List ℕ → Type 0) (input : List ℕ)
     (number : ℕ) (fault : WordError) : Type 0 where
   pub lines : List (List ℕ)
   pub line : List ℕ

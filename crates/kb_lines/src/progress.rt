@@ -169,7 +169,8 @@ impl Progress {
 
         // After a failure.
         ensures front { IsTrue (O.state out.old).told → OnErr result
-            (AppendsPrefix (O.state out.old).written (O.state out.new).written self.old.pending.items) }
+            (AppendsPrefix (O.state out.old).written (O.state out.new).written
+            self.old.pending.items) }
         ensures output { IfErr result (λ stop. stop ≡ stops.Output) }
         ensures counted { OnErr result ((O.state out.old).faults < (O.state out.new).faults) }
         ensures goes_on { SinkGoesOn (O.state out.old) (O.state out.new) }

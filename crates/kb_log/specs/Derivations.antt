@@ -5,9 +5,10 @@ use Rattle.kb_rules.specs.Steps.{Leads}
 use Rattle.kb_log.specs.Lines.{numbered}
 use Rattle.kb_log.specs.declared.line.LogStep.{LogStep}
 
--- The step leads from u to v by a rule whose number is allowed: at its place in u stands the left side of that rule, and
--- in v the right side.
-pub record IsStepBy (allowed : ℕ → Type 0) (rules : List Pair) (u : List ℕ) (step : LogStep) (v : List ℕ) : Type 0 where
+-- The step leads from u to v by a rule whose number is allowed: at its place in u stands the left
+-- side of that rule, and in v the right side.
+pub record IsStepBy (allowed : ℕ → Type 0) (rules : List Pair) (u : List ℕ) (step : LogStep)
+    (v : List ℕ) : Type 0 where
   pub before : List ℕ
   pub rule : Pair
   pub after : List ℕ
@@ -26,7 +27,8 @@ abbrev pub Any : ℕ → Type 0
 Any k = Unit {0}
 
 -- derivations lead from the words of the pair to u and v, in one order or the other
-pub record DerivesBoth (allowed : ℕ → Type 0) (rules : List Pair) (pair : Pair) (first_steps second_steps : List LogStep)
+pub record DerivesBoth (allowed : ℕ → Type 0) (rules : List Pair) (pair : Pair)
+    (first_steps second_steps : List LogStep)
     (u v : List ℕ) : Type 0 where
   pub one : List ℕ
   pub other : List ℕ

@@ -12,7 +12,8 @@ use Rattle.kb_log.specs.declared.origin.Origin.TheVariants.{Relation, Overlap, K
 pub record ComesFromPair (relations earlier : List Pair) (line : Line) : Type 0 where
   pub pair : Pair
   pub is_pair : IsPairOf relations earlier line.origin pair
-  pub derived : DerivesBoth Any earlier pair line.first_steps.items line.second_steps.items line.left line.right
+  pub derived : DerivesBoth Any earlier pair line.first_steps.items line.second_steps.items
+      line.left line.right
   pub left_is_irreducible : IsIrreducible (OneOf earlier) line.left
 
 -- the left side of another rule is a factor of that of rule k
@@ -38,16 +39,21 @@ pub record ShortensRule (earlier : List Pair) (k : ℕ) (line : Line) : Type 0 w
 abbrev pub FollowsBy : List Pair → List Pair → Origin → Line → Type 0
 FollowsBy relations earlier (Relation k) line = ComesFromPair relations earlier line
 FollowsBy relations earlier (Overlap i j place) line = ComesFromPair relations earlier line
-FollowsBy relations earlier (Killed k) line = ComesFromPair relations earlier line × HasAnotherFactor earlier k
+FollowsBy relations earlier (Killed k) line =
+    ComesFromPair relations earlier line × HasAnotherFactor earlier k
 FollowsBy relations earlier (Shortened k) line = ShortensRule earlier k line
 
--- Each line follows from the relations and the lines before it and decreases; each relation is used once at most, and each
--- line is replaced once at most.
-pub record IsJustified (below : List ℕ → List ℕ → Type 0) (relations : List Pair) (lines : List Line) : Type 0 where
+-- Each line follows from the relations and the lines before it and decreases; each relation is used
+-- once at most, and each line is replaced once at most.
+pub record IsJustified (below : List ℕ → List ℕ → Type 0) (relations : List Pair)
+    (lines : List Line) : Type 0 where
   pub follows : (index : ℕ) (line : Line) → slice_get lines index ≡ Some line
       → FollowsBy relations (take index (rules_of lines)) line.origin line
-  pub decreases : (index : ℕ) (line : Line) → slice_get lines index ≡ Some line → below line.right line.left
+  pub decreases : (index : ℕ) (line : Line) → slice_get lines index ≡ Some line
+      → below line.right line.left
   pub relations_once : (index other k : ℕ) (line another : Line) → slice_get lines index ≡ Some line
-      → slice_get lines other ≡ Some another → line.origin ≡ Relation k → another.origin ≡ Relation k → index ≡ other
+      → slice_get lines other ≡ Some another → line.origin ≡ Relation k
+      → another.origin ≡ Relation k → index ≡ other
   pub replaced_once : (index other k : ℕ) (line another : Line) → slice_get lines index ≡ Some line
-      → slice_get lines other ≡ Some another → replaced line.origin ≡ Some k → replaced another.origin ≡ Some k → index ≡ other
+      → slice_get lines other ≡ Some another → replaced line.origin ≡ Some k
+      → replaced another.origin ≡ Some k → index ≡ other

@@ -10,7 +10,8 @@ ghost use Rattle.kb_log.specs.declared.line.Line.{Line};
 
 /// The sides of each line of a justified log are congruent by the relations.
 pub fn justified_lines_are_congruent()
-    ensures { (order : WordOrder) (relations : List Pair) (lines : List Line) (index : ℕ) (line : Line)
+    ensures { (order : WordOrder) (relations : List Pair) (lines : List Line)
+        (index : ℕ) (line : Line)
         → IsJustified (Below order) relations lines → slice_get lines index ≡ Some line
         → Congruent (OneOf relations) line.left line.right }
 {}

@@ -34,8 +34,10 @@ pub record Takes (event : Event) (before after : Course) : Type 0 where
 pub record KeepsCongruence (problem : Problem) (state : State) : Type 0 where
   pub covered : (pair : Pair) → OneOf (relations problem) pair
       → Congruent (λ one. IsLiveRule state one ⊎ IsPendingPair problem state one) pair.0 pair.1
-  pub rules_hold : (pair : Pair) → IsLiveRule state pair → Congruent (OneOf (relations problem)) pair.0 pair.1
-  pub pairs_hold : (pair : Pair) → IsPendingPair problem state pair → Congruent (OneOf (relations problem)) pair.0 pair.1
+  pub rules_hold : (pair : Pair) → IsLiveRule state pair
+      → Congruent (OneOf (relations problem)) pair.0 pair.1
+  pub pairs_hold : (pair : Pair) → IsPendingPair problem state pair
+      → Congruent (OneOf (relations problem)) pair.0 pair.1
 
 -- a live left side is a factor of the left side of each line
 abbrev pub IsCovered : State → Type 0
@@ -61,15 +63,18 @@ pub record Waits (problem : Problem) (state : State) (halt : Halt) : Type 0 wher
   pub origin : Origin
   pub rest : List Origin
   pub pending : state.pending ≡ origin ∷ rest
-  pub justified : IsJustified (below problem) (relations problem) (state.lines ++ waiting_line origin halt ∷ [])
-  pub apart : AreApart problem state (waiting_line origin halt).left (waiting_line origin halt).right
+  pub justified : IsJustified (below problem) (relations problem)
+      (state.lines ++ waiting_line origin halt ∷ [])
+  pub apart : AreApart problem state (waiting_line origin halt).left
+      (waiting_line origin halt).right
 
 -- what a halt says: a pair waits, and the limit is reached
 abbrev pub HaltSays : Problem → State → Halt → Type 0
 HaltSays problem state (Rules u v first second) =
     (length state.lines ≡ problem.most_lines) × Waits problem state (Rules u v first second)
 HaltSays problem state (Length u v first second) =
-    (length state.lines < problem.most_lines) × (problem.most_letters < length u) × Waits problem state (Length u v first second)
+    (length state.lines < problem.most_lines) × (problem.most_letters < length u)
+    × Waits problem state (Length u v first second)
 
 -- What holds along every course.
 pub record IsSound (problem : Problem) (state : State) : Type 0 where

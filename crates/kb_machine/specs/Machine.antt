@@ -1,7 +1,8 @@
--- The completion machine: which events are allowed in a state, and what they change.
--- Sims, Computation with Finitely Presented Groups, 2.5 and 2.6; Holt, Eick, O'Brien, Handbook of Computational Group
--- Theory, 12.2. Each event leaves what it doesn't name. A machine is free to choose among reducts and among lines, so that
--- what is shown of its runs holds of any interleaving of workers.
+-- The completion machine: which events are allowed in a state, and what they change. Sims,
+-- Computation with Finitely Presented Groups, 2.5 and 2.6; Holt, Eick, O'Brien, Handbook of
+-- Computational Group Theory, 12.2. Each event leaves what it doesn't name. A machine is free to
+-- choose among reducts and among lines, so that what is shown of its runs holds of any interleaving
+-- of workers.
 use Rattle.std.specs.Prelude.{◌≡◌, ◌≢◌, ℕ, ◌+◌, ◌<◌, ◌≤◌, List, [], ◌∷◌, ◌++◌, length, Some, None}
 use Rattle.std.specs.List.{Contains}
 use Rattle.kb_word.specs.Words.{Pair, IsFactor}
@@ -28,8 +29,8 @@ pub record FirstPending (state : State) (origin : Origin) (rest : List Origin) :
   pub running : state.halt ≡ None
   pub is : state.pending ≡ origin ∷ rest
 
--- Live lines lead from the words of the origin's pair to u and v, in one order or the other: different words, u the greater
--- one, that the live rules don't reduce.
+-- Live lines lead from the words of the origin's pair to u and v, in one order or the other:
+-- different words, u the greater one, that the live rules don't reduce.
 pub record LeadsApart (problem : Problem) (state : State) (origin : Origin) (u v : List ℕ)
     (first_steps second_steps : List LogStep) : Type 0 where
   pub pair : Pair
@@ -68,13 +69,17 @@ pub record Makes (problem : Problem) (before after : State) (k : ℕ) : Type 0 w
   pub room : length before.lines < problem.most_lines
   pub short : length line.left ≤ problem.most_letters
   pub of_origin : line.origin ≡ origin
-  pub apart : LeadsApart problem before origin line.left line.right line.first_steps.items line.second_steps.items
-  pub is : after ≡ record before { lines = before.lines ++ line ∷ []; live = before.live ++ k ∷ []; pending = rest }
+  pub apart : LeadsApart problem before origin line.left line.right line.first_steps.items
+      line.second_steps.items
+  pub is : after
+      ≡ record before
+      { lines = before.lines ++ line ∷ []; live = before.live ++ k ∷ []; pending = rest }
 
 -- the first pending pair would make a line, but a limit is reached
 abbrev pub IsAtLimit : Problem → State → Origin → Halt → Type 0
 IsAtLimit problem state origin (Rules u v first_steps second_steps) =
-    (length state.lines ≡ problem.most_lines) × LeadsApart problem state origin u v first_steps.items second_steps.items
+    (length state.lines ≡ problem.most_lines)
+    × LeadsApart problem state origin u v first_steps.items second_steps.items
 IsAtLimit problem state origin (Length u v first_steps second_steps) =
     (length state.lines < problem.most_lines) × (problem.most_letters < length u)
     × LeadsApart problem state origin u v first_steps.items second_steps.items
@@ -88,7 +93,8 @@ pub record Halts (problem : Problem) (before after : State) : Type 0 where
   pub limit : IsAtLimit problem before origin halt
   pub is : after ≡ record before { halt = Some halt }
 
--- line k, whose left side has another live one as a factor, is no longer live, and the pair of its sides becomes pending
+-- line k, whose left side has another live one as a factor, is no longer live, and the pair of its
+-- sides becomes pending
 pub record Kills (before after : State) (k : ℕ) : Type 0 where
   pub earlier : List ℕ
   pub later : List ℕ
@@ -101,7 +107,8 @@ pub record Kills (before after : State) (k : ℕ) : Type 0 where
   pub other_is_live : IsLive before other
   pub is_rule : numbered (rules_of before.lines) other ≡ Some rule
   pub factor : IsFactor own.0 rule.0
-  pub is : after ≡ record before { live = earlier ++ later; pending = before.pending ++ origins.Killed k ∷ [] }
+  pub is : after
+      ≡ record before { live = earlier ++ later; pending = before.pending ++ origins.Killed k ∷ [] }
 
 -- line k is replaced by a new one, whose right side comes from its own by other live lines
 pub record Shortens (problem : Problem) (before after : State) (k new : ℕ) : Type 0 where
@@ -116,10 +123,12 @@ pub record Shortens (problem : Problem) (before after : State) (k new : ℕ) : T
   pub room : length before.lines < problem.most_lines
   pub of_origin : line.origin ≡ origins.Shortened k
   pub left : line.left ≡ own.0
-  pub right : Derives (λ j. IsLive before j × (j ≢ k)) (rules_of before.lines) own.1 line.first_steps.items line.right
+  pub right : Derives (λ j. IsLive before j × (j ≢ k)) (rules_of before.lines) own.1
+      line.first_steps.items line.right
   pub changed : line.right ≢ own.1
   pub no_second : line.second_steps.items ≡ []
-  pub is : after ≡ record before { lines = before.lines ++ line ∷ []; live = earlier ++ later ++ new ∷ [] }
+  pub is : after
+      ≡ record before { lines = before.lines ++ line ∷ []; live = earlier ++ later ++ new ∷ [] }
 
 -- the event leads from one state to another
 abbrev pub Step : Problem → State → Event → State → Type 0
@@ -129,7 +138,8 @@ Step problem before (Made k) after = Makes problem before after k
 Step problem before Halted after = Halts problem before after
 Step problem before (Killed k) after = Kills before after k
 Step problem before (Shortened k new) after = Shortens problem before after k new
-Step problem before Published after = after ≡ record before { versions = before.versions ++ before.live ∷ [] }
+Step problem before Published after =
+    after ≡ record before { versions = before.versions ++ before.live ∷ [] }
 
 -- the events lead from the start to the state: a run of the machine
 abbrev pub Run : Problem → List Event → State → Type 0

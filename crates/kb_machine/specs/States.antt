@@ -25,8 +25,9 @@ relations problem = relations_of problem.presentation.inverses problem.presentat
 abbrev pub below : Problem → List ℕ → List ℕ → Type 0
 below problem = Below problem.presentation.order
 
--- How far a completion has come: all lines that were made, the numbers of those that are live, the origins of the pairs that
--- are still to be looked at, the live numbers of each version that was published, and why it halted, if it did.
+-- How far a completion has come: all lines that were made, the numbers of those that are live, the
+-- origins of the pairs that are still to be looked at, the live numbers of each version that was
+-- published, and why it halted, if it did.
 pub record State : Type 0 where
   pub lines : List Line
   pub live : List ℕ
@@ -44,12 +45,14 @@ live_rules state = map (rule_numbered state.lines) state.live
 
 -- the pair is a live rule
 abbrev pub IsLiveRule : State → Pair → Type 0
-IsLiveRule state pair = (k : ℕ) × Contains state.live k × (numbered (rules_of state.lines) k ≡ Some pair)
+IsLiveRule state pair =
+    (k : ℕ) × Contains state.live k × (numbered (rules_of state.lines) k ≡ Some pair)
 
 -- the pair is that of a pending origin
 abbrev pub IsPendingPair : Problem → State → Pair → Type 0
 IsPendingPair problem state pair =
-    (origin : Origin) × Contains state.pending origin × IsPairOf (relations problem) (rules_of state.lines) origin pair
+    (origin : Origin) × Contains state.pending origin
+    × IsPairOf (relations problem) (rules_of state.lines) origin pair
 
 -- the relations' origins, the first of which has this number
 abbrev pub relation_origins : ℕ → List Pair → List Origin

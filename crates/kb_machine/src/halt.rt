@@ -3,8 +3,8 @@
 use kb_log::LogStep;
 use kb_word::Word;
 
-/// A limit that was reached, with the normal forms `u` and `v` of the pair that waits, `u` the greater one. The steps lead to
-/// them from the first word of the pair and from the second.
+/// A limit that was reached, with the normal forms `u` and `v` of the pair that waits, `u` the
+/// greater one. The steps lead to them from the first word of the pair and from the second.
 #[derive(Debug, Drop)]
 pub enum Halt {
     /// The log has as many lines as it may have.

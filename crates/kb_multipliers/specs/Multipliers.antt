@@ -22,10 +22,11 @@ pub record IsMultiplied (group : Group) (words : List (List ℕ)) (acceptor : Au
   pub normal : NormalForm group.rules (x ∷ []) end
   pub leads : Leads group words [] u v end
 
--- The automaton accepts those pairs of words. It accepts no others, since each text that it accepts is that of a pair of
--- words over its generators.
+-- The automaton accepts those pairs of words. It accepts no others, since each text that it accepts
+-- is that of a pair of words over its generators.
 abbrev pub IsMultiplier : Group → List (List ℕ) → Automaton → ℕ → Automaton → Type 0
-IsMultiplier group words acceptor x multiplier = (u v : List ℕ) → IsOver group.n u → IsOver group.n v
+IsMultiplier group words acceptor x multiplier =
+    (u v : List ℕ) → IsOver group.n u → IsOver group.n v
     → AcceptsPair multiplier u v ↔ IsMultiplied group words acceptor x u v
 
 -- the automata are the multipliers of the generators 1, 2, .., so many

@@ -13,7 +13,8 @@ use Rattle.kb_multipliers.specs.Tracks.{may_end, track_moves}
 -- the place of two tracks with a difference's number, and none where the number is 0
 abbrev pub placed : ℕ → ℕ → ℕ → Option Place
 placed first second zero = None
-placed first second (suc index) = Some (record { first = first; second = second; difference = suc index })
+placed first second (suc index) =
+    Some (record { first = first; second = second; difference = suc index })
 
 -- the same, where each track leads somewhere
 abbrev pub both_placed : Option ℕ → Option ℕ → ℕ → Option Place
@@ -34,7 +35,8 @@ pairs table n step target = record {
       (lookup (track_moves table n place.second) (second_letter n symbol))
       (step place.difference (first_letter n symbol) (second_letter n symbol))
       else None;
-  accepts = λ place. may_end table place.first && (may_end table place.second && nat_eq place.difference target);
+  accepts = λ place.
+      may_end table place.first && (may_end table place.second && nat_eq place.difference target);
 }
 
 -- ---- the moves from a place
@@ -48,7 +50,8 @@ entered step n difference first second =
 -- the move by two letters
 abbrev pub move_by : (ℕ → ℕ → ℕ → ℕ) → ℕ → ℕ → ℕ × ℕ → ℕ × ℕ → Option (ℕ × Place)
 move_by step n difference first second =
-    option_map (λ (place : Place). (pair_symbol n first.0 second.0, place)) (entered step n difference first second)
+    option_map (λ (place : Place). (pair_symbol n first.0 second.0, place))
+    (entered step n difference first second)
 
 -- the moves by each first letter with each second one
 abbrev pub crossed : (ℕ → ℕ → ℕ → ℕ) → ℕ → ℕ → Moves → Moves → List (ℕ × Place)

@@ -9,11 +9,13 @@ may_end table (suc place) = is_accepting table (suc place)
 
 -- the moves of a track: those of the acceptor's state, and last, where the word may end, the padding, which leads to 0
 abbrev pub track_moves : Table → ℕ → ℕ → Moves
-track_moves table n track = moves_of table track ++ (if may_end table track then (n + 1, 0) ∷ [] else [])
+track_moves table n track =
+    moves_of table track ++ (if may_end table track then (n + 1, 0) ∷ [] else [])
 
 -- Where the track of a word stands, that began at a state and is read beside the other word, once both are read: at the
 -- acceptor's state after the word, or at 0 where it is the shorter one, which then is accepted.
 pub data IsTrackAfter (table : Table) (state : ℕ) (word other : List ℕ) : ℕ → Type 0 where
   at_state : {track : ℕ} → length other ≤ length word → after table state word ≡ track → track ≢ 0
       → IsTrackAfter table state word other track
-  has_ended : length word < length other → AcceptsFrom table state word → IsTrackAfter table state word other 0
+  has_ended : length word < length other → AcceptsFrom table state word
+      → IsTrackAfter table state word other 0

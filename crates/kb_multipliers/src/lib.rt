@@ -19,10 +19,11 @@
 //! not depend on the generator, so that one exploration serves all multipliers: they have one set of moves, and differ
 //! in the difference at which they accept. None is reduced to the fewest states: `kb_fsamin` does that.
 //!
-//! In `specs/`, `Tracks` has where the track of a word stands, `Pairs` the machine and its moves, and `Multipliers`
-//! what is returned and counted. In `proofs/`, `Crossing` has the crossing of two rows and `TrackMoves` the moves of a
-//! place; `TrackRuns` and `PairRuns` have where a word's track and the machine lead along a pair of words; `Multiplying`
-//! has the language and the counts, and `AllGenerators` the one exploration for all generators.
+//! In `specs/`, `Tracks` has where the track of a word stands, `Pairs` the machine and its moves,
+//! and `Multipliers` what is returned and counted. In `proofs/`, `Crossing` has the crossing of two
+//! rows and `TrackMoves` the moves of a place; `TrackRuns` and `PairRuns` have where a word's track
+//! and the machine lead along a pair of words; `Multiplying` has the language and the counts, and
+//! `AllGenerators` the one exploration for all generators.
 //!
 //! Below are `kb_diff`, with the differences and their machine, and `kb_fsa` and `kb_explore`. Automatic structures are
 //! made from the multipliers above.

@@ -20,7 +20,8 @@ InOrder depth = AllPairs (NotAfter depth)
 
 -- the left sides at whose depth this letter stands, or that have ended there where it is none
 abbrev pub with_letter : ℕ → Option ℕ → List Side → List Side
-with_letter depth letter = filter (λ side. option_eq nat_eq (slice_get side.letters.now depth) letter)
+with_letter depth letter =
+    filter (λ side. option_eq nat_eq (slice_get side.letters.now depth) letter)
 
 -- the overlap with a left side at this place
 abbrev pub at_place : ℕ → Side → Overlap
@@ -31,10 +32,12 @@ abbrev pub AreApart : List Side → Type 0
 AreApart = AllPairs (λ one other. one.rule ≢ other.rule)
 
 -- overlaps were added at the place with just those left sides that agree with the letters as far as both go
-pub record Adds (sides : List Side) (letters : List ℕ) (place : ℕ) (before after : List Overlap) : Type 0 where
+pub record Adds (sides : List Side) (letters : List ℕ) (place : ℕ)
+    (before after : List Overlap) : Type 0 where
   pub added : List Side
   pub is : after ≡ before ++ map (at_place place) added
-  pub exact : (side : Side) → Contains added side ↔ (Contains sides side × AgreeAsFar letters side.letters.now)
+  pub exact : (side : Side)
+      → Contains added side ↔ (Contains sides side × AgreeAsFar letters side.letters.now)
   pub apart : AreApart sides → AreApart added
 
 -- the word of these letters overlaps with this left side at the place
@@ -66,6 +69,7 @@ pub record IsListed (rules : List Pair) (count : ℕ) (sides : List Side) : Type
 -- the left sides of the rules, each of them once, in lexicographic order
 pub record AreSortedSides (rules : List Pair) (sides : List Side) : Type 0 where
   pub each : All (IsSideOf rules) sides
-  pub every : (index : ℕ) → index < length rules → (side : Side) × Contains sides side × (side.rule ≡ index)
+  pub every : (index : ℕ) → index < length rules
+      → (side : Side) × Contains sides side × (side.rule ≡ index)
   pub apart : AreApart sides
   pub in_order : InOrder 0 sides

@@ -11,8 +11,9 @@
 //!   that they are exactly the overlaps, strictly ascending by the rule's index and then by the place. A caller
 //!   leaves out a rule with itself at place 0.
 //! - `meets` tells whether two words overlap at a place.
-//! - `pair_at` builds the critical pair of two rules at a place, and `pair_into` puts it into words that a caller keeps
-//!   for many pairs. `overlaps_are_superpositions` says what that pair is: the superposition with one left side replaced.
+//! - `pair_at` builds the critical pair of two rules at a place, and `pair_into` puts it into words
+//!   that a caller keeps for many pairs. `overlaps_are_superpositions` says what that pair is: the
+//!   superposition with one left side replaced.
 //!
 //! # How all overlaps are found
 //!

@@ -75,7 +75,9 @@ fn add(word: &mut Word, letters: &[Letter]) -> Result<(), Memory>
 /// both left sides, by one replacement each.
 pub fn overlaps_are_superpositions()
     ensures by_the_first { (first second : Pair) (place : ℕ) → Overlaps first.0 second.0 place
-        → Replaces (λ pair. pair ≡ first) (superposition first.0 second.0 place) (critical_pair first second place).0 }
+        → Replaces (λ pair. pair ≡ first) (superposition first.0 second.0 place)
+        (critical_pair first second place).0 }
     ensures by_the_second { (first second : Pair) (place : ℕ) → Overlaps first.0 second.0 place
-        → Replaces (λ pair. pair ≡ second) (superposition first.0 second.0 place) (critical_pair first second place).1 }
+        → Replaces (λ pair. pair ≡ second) (superposition first.0 second.0 place)
+        (critical_pair first second place).1 }
 {}

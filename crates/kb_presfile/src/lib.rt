@@ -22,10 +22,11 @@
 //! [`a_text_says_one_presentation`] a text is read in one way at most. So, want of memory apart, a text is
 //! refused exactly where it has a fault.
 //!
-//! [`write`], of `kb_presprint`, returns the one printed text of a presentation with the rules of a list as its
-//! equations. Where the names are Names of generators, the rules are over the generators, and a file has room for them,
-//! it is read as that presentation ([`a_written_presentation_is_read_again`]). The names and weights of a presentation that
-//! was read are such ([`a_presentation_that_is_read_can_be_written`]).
+//! [`write`], of `kb_presprint`, returns the one printed text of a presentation with the rules of a
+//! list as its equations. Where the names are Names of generators, the rules are over the
+//! generators, and a file has room for them, it is read as that presentation
+//! ([`a_written_presentation_is_read_again`]). The names and weights of a presentation that was
+//! read are such ([`a_presentation_that_is_read_can_be_written`]).
 //!
 //! A text may have several faults. Which of them is named, and at which place, no clause says: whole runs show
 //! the order that `docs/formats.md` has. Each step of it is a function of its own, called in that order.

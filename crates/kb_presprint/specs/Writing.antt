@@ -14,4 +14,5 @@ inverse_text names (Some letter) = letter_name names letter
 -- the line of the weights, behind what stands before it, where the order goes by weight
 abbrev pub weight_line : WordOrder → List ℕ
 weight_line orders.ShortLex = []
-weight_line (orders.WtLex weights) = codes ",\n  weight := " ++ text_of_value 1 (weights_value weights)
+weight_line (orders.WtLex weights) =
+    codes ",\n  weight := " ++ text_of_value 1 (weights_value weights)

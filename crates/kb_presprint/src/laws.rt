@@ -21,7 +21,8 @@ pub fn a_written_presentation_is_a_text_of_its_tree()
     ensures shallow { (parts : PresentationParts) (rules : List Pair) (confluent : Bool)
         → text_nesting (tree_of parts rules confluent) ≤ deepest }
     ensures once { (parts : PresentationParts) (rules : List Pair) (confluent : Bool)
-        (name : List ℕ) → ¬ HasFieldTwice (record_value (tree_of parts rules confluent).fields) name }
+        (name : List ℕ)
+        → ¬ HasFieldTwice (record_value (tree_of parts rules confluent).fields) name }
 {
     a_printed_text_is_read_again();
 }

@@ -29,7 +29,8 @@ pub record IsOtherVersion (number : List ℕ) : Type 0 where
 
 -- the first line is `kblog` and the number of another version
 abbrev pub NamesOtherVersion : List ℕ → Type 0
-NamesOtherVersion bytes = (number : List ℕ) × IsFirstLine bytes (codes "kblog " ++ number) × IsOtherVersion number
+NamesOtherVersion bytes =
+    (number : List ℕ) × IsFirstLine bytes (codes "kblog " ++ number) × IsOtherVersion number
 
 -- the first line is neither a header nor one of another version
 pub record IsWrongHeader (bytes : List ℕ) : Type 0 where
@@ -37,10 +38,13 @@ pub record IsWrongHeader (bytes : List ℕ) : Type 0 where
   pub no_other : ¬ NamesOtherVersion bytes
 
 -- the first line of the rest is neither the printed line with number k nor that of a pair that waits
-pub record BeginsWrong (version : Version) (names : List (List ℕ)) (k : ℕ) (rest : List ℕ) : Type 0 where
+pub record BeginsWrong (version : Version) (names : List (List ℕ)) (k : ℕ)
+    (rest : List ℕ) : Type 0 where
   pub some : rest ≢ []
-  pub no_line : (line : Line) (more : List ℕ) → IsPrintableLine version names line → rest ≢ text_of_line version names k line ++ 10 ∷ more
-  pub no_open : (line : Line) (more : List ℕ) → IsPrintableLine version names line → rest ≢ text_of_open version names line ++ 10 ∷ more
+  pub no_line : (line : Line) (more : List ℕ) → IsPrintableLine version names line
+      → rest ≢ text_of_line version names k line ++ 10 ∷ more
+  pub no_open : (line : Line) (more : List ℕ) → IsPrintableLine version names line
+      → rest ≢ text_of_open version names line ++ 10 ∷ more
 
 -- something stands behind the line of a pair that waits
 pub record GoesOnPastOpen (version : Version) (names : List (List ℕ)) (rest : List ℕ) : Type 0 where
@@ -57,7 +61,8 @@ IsWrongBehind version names lines rest number =
     ⊎ (GoesOnPastOpen version names rest × (number ≡ length lines + 3))
 
 -- the first line behind the header that is not as it would be printed has this number in the file
-pub record IsWrongBody (version : Version) (names : List (List ℕ)) (body : List ℕ) (number : ℕ) : Type 0 where
+pub record IsWrongBody (version : Version) (names : List (List ℕ)) (body : List ℕ)
+    (number : ℕ) : Type 0 where
   pub lines : List Line
   pub rest : List ℕ
   pub printable : All (IsPrintableLine version names) lines
@@ -67,11 +72,13 @@ pub record IsWrongBody (version : Version) (names : List (List ℕ)) (body : Lis
 -- the bytes have a header, and behind it a first line that is wrong
 abbrev pub IsWrongBehindHeader : List (List ℕ) → List ℕ → ℕ → Type 0
 IsWrongBehindHeader names bytes number =
-    (version : Version) × (body : List ℕ) × (bytes ≡ header version ++ body) × IsWrongBody version names body number
+    (version : Version) × (body : List ℕ) × (bytes ≡ header version ++ body)
+    × IsWrongBody version names body number
 
 -- the first line that is not as it would be printed is that with this number
 abbrev pub IsWrongAt : List (List ℕ) → List ℕ → ℕ → Type 0
-IsWrongAt names bytes number = (IsWrongHeader bytes × (number ≡ 1)) ⊎ IsWrongBehindHeader names bytes number
+IsWrongAt names bytes number =
+    (IsWrongHeader bytes × (number ≡ 1)) ⊎ IsWrongBehindHeader names bytes number
 
 -- the first line has the fault that a refusal names
 abbrev pub HasHeaderFault : List ℕ → LogError → Type 0

@@ -17,10 +17,13 @@ Reads {T} text Fits bytes None = (value : T) → Fits value → bytes ≢ text v
 Reads text Fits bytes (Some value) = (bytes ≡ text value) × Fits value
 
 -- the values, one at least, whose texts with a byte between them the bytes are
-abbrev pub ReadsJoined : {T : Type 0} → ℕ → (T → List ℕ) → (T → Type 0) → List ℕ → Option (List T) → Type 0
+abbrev pub ReadsJoined : {T : Type 0} → ℕ → (T → List ℕ) → (T → Type 0) → List ℕ → Option (List T)
+    → Type 0
 ReadsJoined {T} byte text Fits bytes None =
-    (value : T) (values : List T) → All Fits (value ∷ values) → bytes ≢ join_with_byte byte (map text (value ∷ values))
-ReadsJoined byte text Fits bytes (Some values) = (bytes ≡ join_with_byte byte (map text values)) × All Fits values × (values ≢ [])
+    (value : T) (values : List T) → All Fits (value ∷ values)
+    → bytes ≢ join_with_byte byte (map text (value ∷ values))
+ReadsJoined byte text Fits bytes (Some values) =
+    (bytes ≡ join_with_byte byte (map text values)) × All Fits values × (values ≢ [])
 
 -- each byte is at least so large
 abbrev pub AllFrom : ℕ → List ℕ → Type 0
@@ -39,7 +42,8 @@ pub record CutAt (byte : ℕ) (bytes front back : List ℕ) : Type 0 where
 -- the overlap whose numbers the bytes are, with commas between them
 abbrev pub ReadsOverlap : List ℕ → Option Origin → Type 0
 ReadsOverlap bytes None =
-    (first second place : ℕ) → FitsOrigin (Overlap first second place) → 77 ∷ bytes ≢ text_of_origin (Overlap first second place)
+    (first second place : ℕ) → FitsOrigin (Overlap first second place)
+    → 77 ∷ bytes ≢ text_of_origin (Overlap first second place)
 ReadsOverlap bytes (Some origin) = (77 ∷ bytes ≡ text_of_origin origin) × FitsOrigin origin
 
 -- the texts that the fields are
@@ -68,7 +72,8 @@ HaveNoSteps Two first second = Unit {0}
 -- the parts of the bytes between blanks are the right side and, in version 2, the derivations behind colons
 abbrev pub IsListBehindSides : Version → List (List ℕ) → List ℕ → List ℕ → List ℕ → Type 0
 IsListBehindSides One list right first second = list ≡ right ∷ []
-IsListBehindSides Two list right first second = list ≡ right ∷ (58 ∷ []) ∷ first ∷ (58 ∷ []) ∷ second ∷ []
+IsListBehindSides Two list right first second =
+    list ≡ right ∷ (58 ∷ []) ∷ first ∷ (58 ∷ []) ∷ second ∷ []
 
 -- behind a colon and a blank stands the first part, up to a blank and the rest
 pub record IsCutBehindColon (bytes first rest : List ℕ) : Type 0 where
@@ -103,16 +108,20 @@ ReadsFields names texts None = (line : Line) → FitsLine names line → ¬ AreT
 ReadsFields names texts (Some line) = AreTextsOf names texts line × FitsLine names line
 
 -- the printable line that stands first in the bytes, with its newline, and what stands behind it
-pub record StandsFirst (version : Version) (names : List (List ℕ)) (text : Line → List ℕ) (bytes : List ℕ) (line : Line) (rest : List ℕ) : Type 0 where
+pub record StandsFirst (version : Version) (names : List (List ℕ)) (text : Line → List ℕ)
+    (bytes : List ℕ) (line : Line) (rest : List ℕ) : Type 0 where
   pub whole : bytes ≡ text line ++ 10 ∷ rest
   pub printable : IsPrintableLine version names line
 
 -- no printable line stands first in the bytes
 abbrev pub NoneStandsFirst : Version → List (List ℕ) → (Line → List ℕ) → List ℕ → Type 0
-NoneStandsFirst version names text bytes = (line : Line) (rest : List ℕ) → IsPrintableLine version names line → bytes ≢ text line ++ 10 ∷ rest
+NoneStandsFirst version names text bytes =
+    (line : Line) (rest : List ℕ) → IsPrintableLine version names line
+    → bytes ≢ text line ++ 10 ∷ rest
 
 -- the log has the version, and what stands behind the header is its text
-pub record IsLogOf (version : Version) (names : List (List ℕ)) (body : List ℕ) (log : Log) : Type 0 where
+pub record IsLogOf (version : Version) (names : List (List ℕ)) (body : List ℕ)
+    (log : Log) : Type 0 where
   pub same : log.version ≡ version
   pub whole : body ≡ text_of_body version names log.lines.items log.waiting
   pub printable : IsPrintable names log

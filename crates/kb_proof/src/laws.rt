@@ -13,7 +13,8 @@ ghost use Rattle.kb_proof.specs.declared.log.Log.{Log as SomeLog};
 /// Over names that differ two logs with one text are the same, if they can be read again. So what
 /// [`read_log`](crate::read_log) returns of a printed log is that log.
 pub fn a_text_is_of_one_log()
-    ensures { (names : List (List ℕ)) (one other : SomeLog) → AreReadableNames names → AreApart names
+    ensures { (names : List (List ℕ)) (one other : SomeLog) → AreReadableNames names
+        → AreApart names
         → IsPrintable names one → IsPrintable names other
         → text_of_log names one ≡ text_of_log names other → AreSameLogs one other }
 {}
@@ -22,5 +23,6 @@ pub fn a_text_is_of_one_log()
 /// only, and refuses bytes exactly where they have a fault.
 pub fn a_printed_log_has_no_fault()
     ensures { (names : List (List ℕ)) (log : SomeLog) (error : SomeError) → AreReadableNames names
-        → IsPrintable names log → HasLogFault names (text_of_log names log) error → error ≡ errors.Memory }
+        → IsPrintable names log → HasLogFault names (text_of_log names log) error
+        → error ≡ errors.Memory }
 {}

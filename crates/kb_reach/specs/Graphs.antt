@@ -24,27 +24,34 @@ end edges place = (get_or edges place (0, 0)).1
 pub record AreLinked (edges : List (ℕ × ℕ)) (done count : ℕ) (last earlier : List ℕ) : Type 0 where
   pub one_each : length last ≡ count
   pub all_done : length earlier ≡ done
-  pub last_is : (x place : ℕ) → get_or last x 0 ≡ suc place → (place < done) × (source edges place ≡ x)
-  pub none_later : (x place : ℕ) → x < count → get_or last x 0 ≤ place → place < done → source edges place ≢ x
+  pub last_is : (x place : ℕ) → get_or last x 0 ≡ suc place
+      → (place < done) × (source edges place ≡ x)
+  pub none_later : (x place : ℕ) → x < count → get_or last x 0 ≤ place → place < done
+      → source edges place ≢ x
   pub earlier_is : (place other : ℕ) → place < done → get_or earlier place 0 ≡ suc other
       → (other < place) × (source edges other ≡ source edges place)
-  pub none_between : (place other : ℕ) → place < done → get_or earlier place 0 ≤ other → other < place
+  pub none_between : (place other : ℕ) → place < done → get_or earlier place 0 ≤ other
+      → other < place
       → source edges other ≢ source edges place
 
 -- all edges are linked, for things below the count
 abbrev pub AreLinksOf : List (ℕ × ℕ) → ℕ → Links → Type 0
-AreLinksOf edges count links = AreLinked edges (length edges) count links.last.items links.earlier.items
+AreLinksOf edges count links =
+    AreLinked edges (length edges) count links.last.items links.earlier.items
 
 -- The marked things are reached. The edges from them end in marked things, but for those from what is pending and the
 -- first edges from one thing, up to the one of the number.
-pub record IsMarking (edges : List (ℕ × ℕ)) (seeds : List Bool) (from number : ℕ) (marks : List Bool) (pending : List ℕ) : Type 0 where
+pub record IsMarking (edges : List (ℕ × ℕ)) (seeds : List Bool) (from number : ℕ)
+    (marks : List Bool) (pending : List ℕ) : Type 0 where
   pub one_each : length marks ≡ length seeds
   pub sound : (x : ℕ) → IsMarked marks x → IsReached edges seeds x
   pub begun : (x : ℕ) → IsMarked seeds x → IsMarked marks x
   pub marked : All (IsMarked marks) pending
-  pub next : (place : ℕ) → number ≡ suc place → (place < length edges) × (source edges place ≡ from) × IsMarked marks from
+  pub next : (place : ℕ) → number ≡ suc place
+      → (place < length edges) × (source edges place ≡ from) × IsMarked marks from
   pub closed : (place : ℕ) → place < length edges → IsMarked marks (source edges place)
-      → ((place < number) × (source edges place ≡ from)) ⊎ (Contains pending (source edges place) ⊎ IsMarked marks (end edges place))
+      → ((place < number) × (source edges place ≡ from))
+      ⊎ (Contains pending (source edges place) ⊎ IsMarked marks (end edges place))
 
 -- the list has the marked things below the bound
 pub record IsListing (marks : List Bool) (bound : ℕ) (listed : List ℕ) : Type 0 where
@@ -58,4 +65,5 @@ weight marks pending = 2 * count_by not marks + length pending
 -- Along the links, from the last edge on, the edges from a thing are done down to the one of the number, if any.
 pub record IsWalk (edges : List (ℕ × ℕ)) (from number : ℕ) (Done : ℕ → Type 0) : Type 0 where
   pub next : (place : ℕ) → number ≡ suc place → (place < length edges) × (source edges place ≡ from)
-  pub done : (place : ℕ) → number ≤ place → place < length edges → source edges place ≡ from → Done place
+  pub done : (place : ℕ) → number ≤ place → place < length edges → source edges place ≡ from
+      → Done place

@@ -12,17 +12,20 @@ use Rattle.kb_record.specs.declared.error.WordError.TheVariants as word_errors
 -- no tree is the bytes' tree, or they are too deep
 abbrev pub HasTextFault : List ℕ → RecordError → Type 0
 HasTextFault bytes (record_errors.Syntax at) = (text : TextTree) → ¬ TextOf bytes text
-HasTextFault bytes (record_errors.TooDeep at) = IsTooDeep (λ tokens. (text : TextTree) × IsText tokens text) bytes
+HasTextFault bytes (record_errors.TooDeep at) =
+    IsTooDeep (λ tokens. (text : TextTree) × IsText tokens text) bytes
 HasTextFault bytes record_errors.Memory = Unit {0}
 
 -- the same of a word
 abbrev pub HasTreeFault : List ℕ → RecordError → Type 0
 HasTreeFault bytes (record_errors.Syntax at) = (factors : Factors) → ¬ WordOf bytes factors
-HasTreeFault bytes (record_errors.TooDeep at) = IsTooDeep (λ tokens. (factors : Factors) × IsWordText tokens factors) bytes
+HasTreeFault bytes (record_errors.TooDeep at) =
+    IsTooDeep (λ tokens. (factors : Factors) × IsWordText tokens factors) bytes
 HasTreeFault bytes record_errors.Memory = Unit {0}
 
 -- what the bytes mean over a presentation's names and inverses, or the fault of their word, where they are a word
-pub record Meaning (bytes : List ℕ) (names : List (List ℕ)) (inverses : List (Option ℕ)) (meaning : Result (List ℕ) WordFault) : Type 0 where
+pub record Meaning (bytes : List ℕ) (names : List (List ℕ)) (inverses : List (Option ℕ))
+    (meaning : Result (List ℕ) WordFault) : Type 0 where
   pub factors : Factors
   pub formed : WordOf bytes factors
   pub shallow : word_nesting factors ≤ deepest
@@ -30,11 +33,16 @@ pub record Meaning (bytes : List ℕ) (names : List (List ℕ)) (inverses : List
 
 -- the bytes have the fault of a tree, or their word has the fault that is named
 abbrev pub HasWordFault : List ℕ → List (List ℕ) → List (Option ℕ) → WordError → Type 0
-HasWordFault bytes names inverses (word_errors.Syntax at) = HasTreeFault bytes (record_errors.Syntax at)
-HasWordFault bytes names inverses (word_errors.TooDeep at) = HasTreeFault bytes (record_errors.TooDeep at)
-HasWordFault bytes names inverses (word_errors.UnknownGenerator name) = Meaning bytes names inverses (Err (unknown_generator name))
-HasWordFault bytes names inverses (word_errors.NoInverse name) = Meaning bytes names inverses (Err (no_inverse name))
-HasWordFault bytes names inverses word_errors.WordTooLong = Meaning bytes names inverses (Err too_long)
+HasWordFault bytes names inverses (word_errors.Syntax at) =
+    HasTreeFault bytes (record_errors.Syntax at)
+HasWordFault bytes names inverses (word_errors.TooDeep at) =
+    HasTreeFault bytes (record_errors.TooDeep at)
+HasWordFault bytes names inverses (word_errors.UnknownGenerator name) =
+    Meaning bytes names inverses (Err (unknown_generator name))
+HasWordFault bytes names inverses (word_errors.NoInverse name) =
+    Meaning bytes names inverses (Err (no_inverse name))
+HasWordFault bytes names inverses word_errors.WordTooLong =
+    Meaning bytes names inverses (Err too_long)
 HasWordFault bytes names inverses word_errors.Memory = HasTreeFault bytes record_errors.Memory
 
 -- evaluating a word's tree returns its meaning, its first fault, or want of memory

@@ -16,7 +16,8 @@ abbrev mutual
 
   pub factor_tokens : Factor → List Token
   factor_tokens (named text power) = name text ∷ power_tokens power
-  factor_tokens (grouped factors power) = open_round ∷ word_tokens factors ++ close_round ∷ power_tokens power
+  factor_tokens (grouped factors power) =
+      open_round ∷ word_tokens factors ++ close_round ∷ power_tokens power
 
   pub more_factors : Factors → List Token
   more_factors no_factors = []
@@ -41,18 +42,22 @@ abbrev mutual
   pub value_tokens : Value → List Token
   value_tokens (number_value z) = number z ∷ []
   value_tokens (string_value text) = string text ∷ []
-  value_tokens (record_value fields) = rec_word ∷ open_round ∷ field_tokens fields ++ close_round ∷ []
+  value_tokens (record_value fields) =
+      rec_word ∷ open_round ∷ field_tokens fields ++ close_round ∷ []
   value_tokens (list_value places) = open_square ∷ place_tokens places ++ close_square ∷ []
-  value_tokens (range_value from to) = open_square ∷ number from ∷ dots ∷ number to ∷ close_square ∷ []
+  value_tokens (range_value from to) =
+      open_square ∷ number from ∷ dots ∷ number to ∷ close_square ∷ []
   value_tokens (word_value factors) = word_tokens factors
 
   pub field_tokens : Fields → List Token
   field_tokens no_fields = []
-  field_tokens (field text value others) = name text ∷ assign ∷ value_tokens value ++ more_fields others
+  field_tokens (field text value others) =
+      name text ∷ assign ∷ value_tokens value ++ more_fields others
 
   pub more_fields : Fields → List Token
   more_fields no_fields = []
-  more_fields (field text value others) = comma ∷ name text ∷ assign ∷ value_tokens value ++ more_fields others
+  more_fields (field text value others) =
+      comma ∷ name text ∷ assign ∷ value_tokens value ++ more_fields others
 
   pub place_tokens : Places → List Token
   place_tokens no_places = []

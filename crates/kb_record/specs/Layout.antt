@@ -17,7 +17,8 @@ abbrev mutual
 
   pub factor_text : Factor → List ℕ
   factor_text (named text power) = text ++ power_text power
-  factor_text (grouped factors power) = codes "(" ++ word_text factors ++ codes ")" ++ power_text power
+  factor_text (grouped factors power) =
+      codes "(" ++ word_text factors ++ codes ")" ++ power_text power
 
   pub more_factors_text : Factors → List ℕ
   more_factors_text no_factors = []
@@ -30,16 +31,19 @@ abbrev mutual
   line_of (string_value text) = codes "\"" ++ text ++ codes "\""
   line_of (record_value fields) = codes "rec(" ++ line_of_fields fields ++ codes ")"
   line_of (list_value places) = codes "[" ++ line_of_places places ++ codes "]"
-  line_of (range_value from to) = codes "[" ++ signed_decimal from ++ codes ".." ++ signed_decimal to ++ codes "]"
+  line_of (range_value from to) =
+      codes "[" ++ signed_decimal from ++ codes ".." ++ signed_decimal to ++ codes "]"
   line_of (word_value factors) = word_text factors
 
   pub line_of_fields : Fields → List ℕ
   line_of_fields no_fields = []
-  line_of_fields (field text value others) = text ++ codes " := " ++ line_of value ++ line_of_more_fields others
+  line_of_fields (field text value others) =
+      text ++ codes " := " ++ line_of value ++ line_of_more_fields others
 
   pub line_of_more_fields : Fields → List ℕ
   line_of_more_fields no_fields = []
-  line_of_more_fields (field text value others) = codes "," ++ text ++ codes " := " ++ line_of value ++ line_of_more_fields others
+  line_of_more_fields (field text value others) =
+      codes "," ++ text ++ codes " := " ++ line_of value ++ line_of_more_fields others
 
   pub line_of_places : Places → List ℕ
   line_of_places no_places = []
@@ -48,7 +52,8 @@ abbrev mutual
 
   pub line_of_more_places : Places → List ℕ
   line_of_more_places no_places = []
-  line_of_more_places (place value others) = codes "," ++ line_of value ++ line_of_more_places others
+  line_of_more_places (place value others) =
+      codes "," ++ line_of value ++ line_of_more_places others
   line_of_more_places (empty_place others) = codes "," ++ line_of_more_places others
 
 -- each place holds a list
@@ -70,15 +75,19 @@ indent level = replicate (2 * level) 32
 abbrev pub lines_of_places : ℕ → Places → List ℕ
 lines_of_places level no_places = []
 lines_of_places level (place value no_places) = indent level ++ line_of value ++ codes "\n"
-lines_of_places level (place value others) = indent level ++ line_of value ++ codes ",\n" ++ lines_of_places level others
+lines_of_places level (place value others) =
+    indent level ++ line_of value ++ codes ",\n" ++ lines_of_places level others
 lines_of_places level (empty_place others) = lines_of_places level others
 
--- A value behind `:=` at a level: a record has a line for each of its fields, a list of lists one for each of its places.
+-- A value behind `:=` at a level: a record has a line for each of its fields, a list of lists one
+-- for each of its places.
 abbrev mutual
   pub text_of_value : ℕ → Value → List ℕ
-  text_of_value level (record_value fields) = codes "rec(\n" ++ text_of_fields (suc level) fields ++ indent level ++ codes ")"
+  text_of_value level (record_value fields) =
+      codes "rec(\n" ++ text_of_fields (suc level) fields ++ indent level ++ codes ")"
   text_of_value level (list_value places) =
-      if is_table places then codes "[\n" ++ lines_of_places (suc level) places ++ indent level ++ codes "]" else line_of (list_value places)
+      if is_table places then codes "[\n" ++ lines_of_places (suc level) places ++ indent level
+      ++ codes "]" else line_of (list_value places)
   text_of_value level (number_value z) = line_of (number_value z)
   text_of_value level (string_value text) = line_of (string_value text)
   text_of_value level (range_value from to) = line_of (range_value from to)
@@ -87,7 +96,8 @@ abbrev mutual
   pub text_of_fields : ℕ → Fields → List ℕ
   text_of_fields level no_fields = []
   text_of_fields level (field text value others) =
-      indent level ++ text ++ codes " := " ++ text_of_value level value ++ end_of_field others ++ text_of_fields level others
+      indent level ++ text ++ codes " := " ++ text_of_value level value ++ end_of_field others
+      ++ text_of_fields level others
 
   pub end_of_field : Fields → List ℕ
   end_of_field no_fields = codes "\n"
@@ -95,7 +105,8 @@ abbrev mutual
 
 -- NAME := rec( FIELDS ); with a newline behind it
 abbrev pub printed : TextTree → List ℕ
-printed text = text.title ++ codes " := " ++ text_of_value 0 (record_value text.fields) ++ codes ";\n"
+printed text =
+    text.title ++ codes " := " ++ text_of_value 0 (record_value text.fields) ++ codes ";\n"
 
 -- the number has at most 18 digits
 abbrev pub IsShortNumber : ℤ → Type 0
@@ -127,7 +138,8 @@ abbrev mutual
 
   pub AreSpelledFields : Fields → Type 0
   AreSpelledFields no_fields = Unit {0}
-  AreSpelledFields (field text value others) = IsName text × IsSpelledValue value × AreSpelledFields others
+  AreSpelledFields (field text value others) =
+      IsName text × IsSpelledValue value × AreSpelledFields others
 
   pub AreSpelledPlaces : Places → Type 0
   AreSpelledPlaces no_places = Unit {0}

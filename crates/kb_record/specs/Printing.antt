@@ -16,7 +16,8 @@ pieces text before between [] = []
 pieces text before between (x ∷ xs) = before ++ (text x ++ pieces text between between xs)
 
 -- Behind what stood there a whole text is printed up to the piece at a place: `ending` stands behind the pieces.
-pub record IsPrintedUpTo {A : Type 0} (text : A → List ℕ) (between ending : List ℕ) (xs : List A) (whole old : List ℕ) (index : ℕ) (before now : List ℕ) : Type 0 where
+pub record IsPrintedUpTo {A : Type 0} (text : A → List ℕ) (between ending : List ℕ) (xs : List A)
+    (whole old : List ℕ) (index : ℕ) (before now : List ℕ) : Type 0 where
   pub done : List ℕ
   pub so_far : now ≡ old ++ done
   pub to_come : whole ≡ done ++ (pieces text before between (drop index xs) ++ ending)
@@ -27,7 +28,8 @@ line_of_field f = f.0.now ++ codes " := " ++ line_of (value_view f.1)
 
 -- the same at a level, on a line of its own
 abbrev pub text_of_field : ℕ → Bor (List ℕ) × Value → List ℕ
-text_of_field level f = indent level ++ f.0.now ++ codes " := " ++ text_of_value level (value_view f.1)
+text_of_field level f =
+    indent level ++ f.0.now ++ codes " := " ++ text_of_value level (value_view f.1)
 
 -- what stands at a place on one line, or nothing
 abbrev pub line_at : Option ValueTree → List ℕ

@@ -87,7 +87,8 @@ joined item goes_on zero tokens = unexpected
 joined item goes_on (suc n) tokens =
     and_then (item tokens) (λ first rest.
     and_then (goes_on rest) (λ more others.
-    if more then reading_map (λ items. first ∷ items) (joined item goes_on n others) else read (first ∷ []) others))
+    if more then reading_map (λ items. first ∷ items) (joined item goes_on n others) else read
+    (first ∷ []) others))
 
 -- more items than tokens there can't be
 abbrev pub row : {A : Type 0} → Parse A → Parse Bool → Parse (List A)
@@ -119,8 +120,10 @@ abbrev pub read_power : Parse (Option ℤ)
 read_power tokens = power_behind tokens (behind Caret tokens)
 
 abbrev pub factor_behind : Parse Factors → List Token → Option (List Token) → Reading Factor
-factor_behind group tokens None = and_then (read_name tokens) (λ text rest. reading_map (named text) (read_power rest))
-factor_behind group tokens (Some inside) = and_then (group inside) (λ factors rest. reading_map (grouped factors) (read_power rest))
+factor_behind group tokens None =
+    and_then (read_name tokens) (λ text rest. reading_map (named text) (read_power rest))
+factor_behind group tokens (Some inside) =
+    and_then (group inside) (λ factors rest. reading_map (grouped factors) (read_power rest))
 
 abbrev pub factor_with : Parse Factors → Parse Factor
 factor_with group tokens = factor_behind group tokens (behind OpenRound tokens)
@@ -129,7 +132,8 @@ abbrev pub word_with : Parse Factors → Parse Factors
 word_with group tokens = reading_map factors_of (row (factor_with group) (passes Star) tokens)
 
 abbrev pub group_with : Parse Factors → Parse Factors
-group_with word tokens = and_then (word tokens) (λ factors rest. past (behind CloseRound rest) (read factors))
+group_with word tokens =
+    and_then (word tokens) (λ factors rest. past (behind CloseRound rest) (read factors))
 
 -- a word, with brackets in brackets no deeper than the number
 unfoldable pub read_word : ℕ → Parse Factors
@@ -153,10 +157,14 @@ ends_place (close_square ∷ tokens) = true
 ends_place _ = false
 
 abbrev pub place_with : Parse Value → Parse (Option Value)
-place_with value tokens = if ends_place tokens then read None tokens else reading_map Some (value tokens)
+place_with value tokens =
+    if ends_place tokens then read None tokens else reading_map Some (value tokens)
 
 abbrev pub field_with : Parse Value → Parse (List ℕ × Value)
-field_with value tokens = and_then (read_name tokens) (λ text rest. past (behind Assign rest) (λ others. reading_map (λ tree. (text, tree)) (value others)))
+field_with value tokens =
+    and_then (read_name tokens)
+    (λ text rest.
+    past (behind Assign rest) (λ others. reading_map (λ tree. (text, tree)) (value others)))
 
 abbrev pub begins_with_dots : List Token → Bool
 begins_with_dots (dots ∷ tokens) = true
@@ -168,17 +176,23 @@ begin_range (number z ∷ dots ∷ tokens) = Some (z, tokens)
 begin_range _ = None
 
 abbrev pub range_from : ℤ → Parse Value
-range_from from tokens = and_then (read_number tokens) (λ to rest. past (behind CloseSquare rest) (read (range_value from to)))
+range_from from tokens =
+    and_then (read_number tokens)
+    (λ to rest. past (behind CloseSquare rest) (read (range_value from to)))
 
-abbrev pub list_behind : Parse Value → List Token → Option (List Token) → Option (ℤ × List Token) → Reading Value
+abbrev pub list_behind : Parse Value → List Token → Option (List Token) → Option (ℤ × List Token)
+    → Reading Value
 list_behind value tokens (Some rest) range = read (list_value no_places) rest
 list_behind value tokens None (Some (from, rest)) = range_from from rest
-list_behind value tokens None None = reading_map (λ places. list_value (places_of places)) (row (place_with value) (passes_comma CloseSquare) tokens)
+list_behind value tokens None None =
+    reading_map (λ places. list_value (places_of places))
+    (row (place_with value) (passes_comma CloseSquare) tokens)
 
 abbrev pub list_with : Parse Value → Parse Value
 list_with value tokens = list_behind value tokens (behind CloseSquare tokens) (begin_range tokens)
 
-abbrev pub fields_behind : Parse Value → List Token → Option (List Token) → Reading (List (List ℕ × Value))
+abbrev pub fields_behind : Parse Value → List Token → Option (List Token)
+    → Reading (List (List ℕ × Value))
 fields_behind value tokens (Some rest) = read [] rest
 fields_behind value tokens None = row (field_with value) (passes_comma CloseRound) tokens
 
@@ -190,7 +204,9 @@ fields_from [] = no_fields
 fields_from (f ∷ fs) = field f.0 f.1 (fields_from fs)
 
 abbrev pub record_with : Parse (List (List ℕ × Value)) → Parse Value
-record_with fields tokens = past (behind OpenRound tokens) (λ rest. reading_map (λ found. record_value (fields_from found)) (fields rest))
+record_with fields tokens =
+    past (behind OpenRound tokens)
+    (λ rest. reading_map (λ found. record_value (fields_from found)) (fields rest))
 
 abbrev pub begins_word : List Token → Bool
 begins_word (name text ∷ tokens) = true
@@ -203,19 +219,23 @@ read_scalar (number z ∷ tokens) = read (number_value z) tokens
 read_scalar (string text ∷ tokens) = read (string_value text) tokens
 read_scalar _ = unexpected
 
-abbrev pub value_behind : Parse Value → Parse (List (List ℕ × Value)) → List Token → Option (List Token) → Option (List Token) → Reading Value
+abbrev pub value_behind : Parse Value → Parse (List (List ℕ × Value)) → List Token
+    → Option (List Token) → Option (List Token) → Reading Value
 value_behind list fields tokens (Some rest) opened = record_with fields rest
 value_behind list fields tokens None (Some rest) = list rest
 value_behind list fields tokens None None = read_scalar tokens
 
 abbrev pub value_with : Parse Factors → Parse Value → Parse (List (List ℕ × Value)) → Parse Value
 value_with word list fields tokens =
-    if begins_word tokens then reading_map word_value (word tokens) else value_behind list fields tokens (behind Rec tokens) (behind OpenSquare tokens)
+    if begins_word tokens then reading_map word_value (word tokens) else value_behind list fields
+    tokens (behind Rec tokens) (behind OpenSquare tokens)
 
 -- a value, with brackets in brackets no deeper than the number
 unfoldable pub read_value : ℕ → Parse Value
 read_value zero = value_with (read_word zero) too_deep too_deep
-read_value (suc depth) = value_with (read_word (suc depth)) (list_with (read_value depth)) (fields_with (read_value depth))
+read_value (suc depth) =
+    value_with (read_word (suc depth)) (list_with (read_value depth))
+    (fields_with (read_value depth))
 
 -- a list behind its open bracket
 abbrev pub read_list : ℕ → Parse Value
@@ -242,7 +262,8 @@ read_text depth tokens =
     and_then (read_name tokens) (λ title rest.
     past (behind Assign rest) (λ others.
     past (behind Rec others) (λ opening.
-    past (behind OpenRound opening) (λ inside. reading_map (λ fields. (title, fields)) (read_fields depth inside)))))
+    past (behind OpenRound opening)
+    (λ inside. reading_map (λ fields. (title, fields)) (read_fields depth inside)))))
 
 -- the tokens behind the semicolon that may come
 abbrev pub skip_semicolon : List Token → List Token
@@ -250,7 +271,8 @@ skip_semicolon tokens = unwrap_or (behind Semicolon tokens) tokens
 
 -- a text with its semicolon
 abbrev pub read_ended : ℕ → Parse (List ℕ × List (List ℕ × Value))
-read_ended depth tokens = and_then (read_text depth tokens) (λ text rest. read text (skip_semicolon rest))
+read_ended depth tokens =
+    and_then (read_text depth tokens) (λ text rest. read text (skip_semicolon rest))
 
 abbrev pub rec_view : RecType → List ℕ × List (List ℕ × Value)
 rec_view text = (text.name.now, map field_view text.fields.items)
@@ -262,7 +284,8 @@ FallsShort unexpected = Unit {0}
 FallsShort (too_deep rest) = ⊥
 
 -- what the code answers of all tokens, which are those of the whole text or not
-abbrev pub ReadsAll : {A B : Type 0} → Reading A → (B → A) → Bool → Result B Stop → List Token → Type 0
+abbrev pub ReadsAll : {A B : Type 0} → Reading A → (B → A) → Bool → Result B Stop → List Token
+    → Type 0
 ReadsAll reading view whole (Ok found) rest = (reading ≡ read (view found) []) × IsTrue whole
 ReadsAll reading view whole (Err (Unexpected expected)) rest = (whole ≡ false) ⊎ FallsShort reading
 ReadsAll reading view whole (Err TooDeep) rest = reading ≡ too_deep rest

@@ -67,7 +67,12 @@ value_view = fold-Value ValueTree value_step
 
 -- the tree of a text
 abbrev pub text_view : Rec → TextTree
-text_view text = record { title = text.name.now; fields = fields_of (map (λ (f : Bor (List ℕ) × Value). (f.0, value_view f.1)) text.fields.items) }
+text_view text =
+    record {
+      title = text.name.now;
+      fields =
+          fields_of (map (λ (f : Bor (List ℕ) × Value). (f.0, value_view f.1)) text.fields.items);
+    }
 
 -- the fields of a record as the code has them, as a tree
 abbrev pub fields_view : List (Bor (List ℕ) × Value) → Fields

@@ -41,9 +41,9 @@
 //!   into brackets alone, of which 64 may be open; what is joined by `*` or `,` is read in loops. Each
 //!   function is proved to compute a function on token lists of `specs/Reading.antt`, and what those say of the
 //!   grammar, `specs/Grammar.antt`, is proved in `proofs/`.
-//! - `longer` appends a place to a list that is read: a list of numbers, of lists of numbers or of lists of pairs stays in
-//!   arrays (`kb_ragged`) as long as its places allow, which takes a small part of the memory of a tree of values.
-//!   `listed` reads the places of a list in any form.
+//! - `longer` appends a place to a list that is read: a list of numbers, of lists of numbers or of
+//!   lists of pairs stays in arrays (`kb_ragged`) as long as its places allow, which takes a small
+//!   part of the memory of a tree of values. `listed` reads the places of a list in any form.
 //! - `meaning` evaluates the tree of a word.
 //! - `printing` goes down the tree of a record, and appends the pieces in order: `print_on_line` what stands on one
 //!   line, `print_value` what stands at a level. `flat` appends the lists that keep their numbers side by side.
@@ -63,11 +63,12 @@
 //!   items they are kept as.
 //! - `proofs/PrintedTokens.antt`, with `TokenTexts` and `Numerals`: the tokens of a printed text are those of its tree.
 //!   `SpelledTrees`: the trees of texts can be spelled.
-//! - `proofs/ReadRows.antt`, `PassedMarks`, `Depths`, `Views`: one step of the functions and of the trees. `Taken`: lists
-//!   that are gone through place by place.
+//! - `proofs/ReadRows.antt`, `PassedMarks`, `Depths`, `Views`: one step of the functions and of the
+//!   trees. `Taken`: lists that are gone through place by place.
 //!
-//! Below stand `kb_lexing`, `kb_ragged`, and `kb_word`, whose words and presentations are the answers. Above stand the crates
-//! that read files of presentations and of automata, and the lines of words of the command `wordreduce`.
+//! Below stand `kb_lexing`, `kb_ragged`, and `kb_word`, whose words and presentations are the
+//! answers. Above stand the crates that read files of presentations and of automata, and the lines
+//! of words of the command `wordreduce`.
 #![tactic(auto)]
 
 mod cursor;

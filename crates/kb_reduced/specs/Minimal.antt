@@ -18,18 +18,22 @@ pub record IsMinimal (rules : List Pair) (rule : Pair) : Type 0 where
 pub data AddsMinimal (rules : List Pair) (left : List ℕ) (before after : List Pair) : Type 0 where
   added : (right : List ℕ) → IsMinimal rules (left, right) → after ≡ before ++ (left, right) ∷ []
       → AddsMinimal rules left before after
-  left_out : (¬ PartsAreIrreducible (OneOf rules) left) → after ≡ before → AddsMinimal rules left before after
+  left_out : (¬ PartsAreIrreducible (OneOf rules) left) → after ≡ before
+      → AddsMinimal rules left before after
 
 -- the list has the minimal rules whose left sides are those of the first n rules
 pub record HasMinimal (rules : List Pair) (n : ℕ) (minimal : List Pair) : Type 0 where
   pub each : (rule : Pair) → OneOf minimal rule → IsMinimal rules rule
-  pub given : (rule : Pair) → OneOf minimal rule → (old_right : List ℕ) × OneOf rules (rule.0, old_right)
-  pub all : (index : ℕ) (old rule : Pair) → index < n → slice_get rules index ≡ Some old → old.0 ≡ rule.0
+  pub given : (rule : Pair) → OneOf minimal rule
+      → (old_right : List ℕ) × OneOf rules (rule.0, old_right)
+  pub all : (index : ℕ) (old rule : Pair) → index < n → slice_get rules index ≡ Some old
+      → old.0 ≡ rule.0
       → IsMinimal rules rule → OneOf minimal rule
 
 -- rules of one left side are one rule
 abbrev pub HaveOneRightSide : List Pair → Type 0
-HaveOneRightSide rules = (one other : Pair) → OneOf rules one → OneOf rules other → one.0 ≡ other.0 → one ≡ other
+HaveOneRightSide rules =
+    (one other : Pair) → OneOf rules one → OneOf rules other → one.0 ≡ other.0 → one ≡ other
 
 -- the same rules, each of them once, in the order of their left sides
 pub record IsSortedFrom (below : List ℕ → List ℕ → Type 0) (rules sorted : List Pair) : Type 0 where

@@ -4,13 +4,15 @@
 //! as a factor, and each right side is irreducible. It depends on the congruence and the order alone, so that it is
 //! what completion has to print, however it went.
 //!
-//! The public contract: `reduced_complete` makes it of any confluent rules, as `specs/Reduced.antt` defines it, without
-//! a word on those rules. The laws: it is the only one (`reduced_complete_systems_are_unique`), the same for all pairs
-//! that generate one congruence (`reduced_by_the_same_congruence`), and complete itself
-//! (`reduced_complete_systems_are_complete`). `rules_that_cover_are_confluent` says that confluent rules stay so with
-//! more rules of the same congruence, as a completion has them in its lines that are no longer live. The left sides of the
-//! reduced system have no other letters than the pairs (`reduced_left_sides_keep_the_letters`): a word with another
-//! letter is least as soon as what stands before the letter and what stands behind it are (`proofs/ForeignLetters.antt`).
+//! The public contract: `reduced_complete` makes it of any confluent rules, as `specs/Reduced.antt`
+//! defines it, without a word on those rules. The laws: it is the only one
+//! (`reduced_complete_systems_are_unique`), the same for all pairs that generate one congruence
+//! (`reduced_by_the_same_congruence`), and complete itself
+//! (`reduced_complete_systems_are_complete`). `rules_that_cover_are_confluent` says that confluent
+//! rules stay so with more rules of the same congruence, as a completion has them in its lines that
+//! are no longer live. The left sides of the reduced system have no other letters than the pairs
+//! (`reduced_left_sides_keep_the_letters`): a word with another letter is least as soon as what
+//! stands before the letter and what stands behind it are (`proofs/ForeignLetters.antt`).
 //!
 //! The rules of the reduced system are found by their left sides: those of the given rules that are irreducible
 //! without the first letter, and without the last. Their right sides are the normal forms. Sorted, each of them once,

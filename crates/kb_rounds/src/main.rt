@@ -1,9 +1,10 @@
 //! Makes the word acceptors and multipliers of groups by word differences, and compares and measures them.
 //!
-//! Each automaton is proved to accept exactly what the differences say. What no clause says is seen here: that the calls
-//! succeed where there are memory and room, how the automata are printed, and that the differences of a complete system's
-//! rules are enough for its acceptor, which is then that of the words that the rules leave. The program prints what it made
-//! and compared, and ends with status 1 where something differs. It compares groups of `data/`, each with a complete
+//! Each automaton is proved to accept exactly what the differences say. What no clause says is seen
+//! here: that the calls succeed where there are memory and room, how the automata are printed, and
+//! that the differences of a complete system's rules are enough for its acceptor, which is then
+//! that of the words that the rules leave. The program prints what it made and compared, and ends
+//! with status 1 where something differs. It compares groups of `data/`, each with a complete
 //! system of rules by the shortlex order, as `kb kbprog FILE` stores it in `FILE.kbprog`:
 //!
 //! - the infinite cyclic group and the free abelian group of rank 2,
@@ -22,8 +23,8 @@
 //! - `comparison` compares acceptors with those of rules, and `measured` has the run that is timed.
 //! - `texts` has words and automata as they are printed, and `figures` how large a round is.
 //!
-//! Below are `kb_presfile`, which reads files, `kb_diff`, `kb_acceptor` and `kb_multipliers`, which make the automata, and
-//! `kb_wa` with the acceptor of rules; nothing is above.
+//! Below are `kb_presfile`, which reads files, `kb_diff`, `kb_acceptor` and `kb_multipliers`, which
+//! make the automata, and `kb_wa` with the acceptor of rules; nothing is above.
 #![tactic(auto)]
 
 mod comparison;

@@ -6,7 +6,8 @@ use Rattle.kb_word.specs.Words.{Pair, OneOf, EndsWith}
 pub record IsFirstEnding (rules : List Pair) (w : List ℕ) (index : ℕ) (rule : Pair) : Type 0 where
   pub is_rule : slice_get rules index ≡ Some rule
   pub ends : EndsWith w rule.0
-  pub first : (earlier : ℕ) (other : Pair) → earlier < index → slice_get rules earlier ≡ Some other → ¬ EndsWith w other.0
+  pub first : (earlier : ℕ) (other : Pair) → earlier < index → slice_get rules earlier ≡ Some other
+      → ¬ EndsWith w other.0
 
 -- no rule's left side ends the word
 abbrev pub NoneEnds : List Pair → List ℕ → Type 0

@@ -7,8 +7,10 @@ use Rattle.kb_word.specs.Words.{Pair}
 
 -- the left sides are the same word, and so are the right sides
 abbrev pub same_sides : Pair → Pair → Bool
-same_sides = eq_of_both (on (λ (p : Pair). p.0) (pointwise nat_eq)) (on (λ (p : Pair). p.1) (pointwise nat_eq))
+same_sides = eq_of_both (on (λ (p : Pair). p.0) (pointwise nat_eq))
+    (on (λ (p : Pair). p.1) (pointwise nat_eq))
 
 pub same_sides_equiv : IsEquivalence same_sides
 same_sides_equiv =
-    and_equiv (on_equiv (λ (p : Pair). p.0) nat_list_eq_equiv) (on_equiv (λ (p : Pair). p.1) nat_list_eq_equiv)
+    and_equiv (on_equiv (λ (p : Pair). p.0) nat_list_eq_equiv)
+    (on_equiv (λ (p : Pair). p.1) nat_list_eq_equiv)

@@ -23,4 +23,5 @@ pub record IsFirstStep (rules : List Pair) (u : List ℕ) (step : Step) (v : Lis
 -- the steps, one after another, lead from x to y, each being one of those that are allowed
 abbrev pub Leads : {X Step : Type 0} → (X → Step → X → Type 0) → X → List Step → X → Type 0
 Leads allowed x [] y = x ≡ y
-Leads {X = X} allowed x (step ∷ rest) y = (next : X) × allowed x step next × Leads allowed next rest y
+Leads {X = X} allowed x (step ∷ rest) y =
+    (next : X) × allowed x step next × Leads allowed next rest y

@@ -17,7 +17,8 @@ pub fn normal_forms_are_unique()
 
 /// An irreducible word is its own normal form, and the only one.
 pub fn irreducible_words_are_normal()
-    ensures own { (rules : List Pair) (w : Letters) → IsIrreducible (OneOf rules) w → NormalForm rules w w }
+    ensures own { (rules : List Pair) (w : Letters) → IsIrreducible (OneOf rules) w
+        → NormalForm rules w w }
     ensures only { (rules : List Pair) (w m : Letters)
         → IsIrreducible (OneOf rules) w → NormalForm rules w m → m ≡ w }
 {}

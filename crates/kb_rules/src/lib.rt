@@ -8,13 +8,14 @@
 //! too, each by its place in the word and its rule's place in the list; that each replaces a left side by a right side
 //! is the law [`first_steps_are_steps`]. By [`Reducer::push`] and [`Reducer::remove`] the list grows and shrinks.
 //!
-//! [`Scan`] is the plain reducer: it reads the word from left to right and tries all rules after each letter. What is
-//! read is irreducible, so that the first left side that ends it is the first rewrite's. The reading goes from one first
-//! rewrite to the next, and ends since each gives a lesser word.
+//! [`Scan`] is the plain reducer: it reads the word from left to right and tries all rules after
+//! each letter. What is read is irreducible, so that the first left side that ends it is the first
+//! rewrite's. The reading goes from one first rewrite to the next, and ends since each gives a
+//! lesser word.
 //!
-//! The definitions are in `specs` (`Steps` has the steps, `OrderedRules` what a list and a reducer stand for); the
-//! lemmas are in `proofs`: `Unique` and `Exists` on normal forms, `Endings` on the left side that ends a word, `Tracing`
-//! on steps.
+//! The definitions are in `specs` (`Steps` has the steps, `OrderedRules` what a list and a reducer
+//! stand for); the lemmas are in `proofs`: `Unique` and `Exists` on normal forms, `Endings` on the
+//! left side that ends a word, `Tracing` on steps.
 //!
 //! Below is `kb_word`, with words, their orders and the definitions of rewriting; above are `kb_index`, with a reducer
 //! that looks left sides up, and the crates that test confluence and reduce words.

@@ -143,7 +143,8 @@ fn read_letter(
 
 /// The first rule in list order whose left side ends the word, after its place in the list.
 fn first_ending<'a>(list: &'a Rules, word: &Word) -> Option<(usize, &'a Rule)>
-    ensures some { IfSome result (λ found. IsFirstEnding list.now.rules word.now found.0 found.1.now) }
+    ensures some { IfSome result
+        (λ found. IsFirstEnding list.now.rules word.now found.0 found.1.now) }
     ensures none { IfNone result (NoneEnds list.now.rules word.now) }
 {
     for (index, rule) in list.as_slice().iter().enumerate() {

@@ -21,7 +21,8 @@ pub record GivesHalt (course : Course) (halt : Halt) : Type 0 where
 
 -- what `settle` answers
 abbrev pub SettleSays : Course → Course → Settled → Type 0
-SettleSays before after settled.Nothing = (before.state.pending ≡ []) × (after ≡ before) × (after.state.halt ≡ None)
+SettleSays before after settled.Nothing =
+    (before.state.pending ≡ []) × (after ≡ before) × (after.state.halt ≡ None)
 SettleSays before after settled.Done =
     (before.state.pending ≢ []) × (after.state.pending ≡ []) × (after.state.halt ≡ None)
 SettleSays before after (settled.Halted halt) = (before.state.pending ≢ []) × GivesHalt after halt

@@ -5,8 +5,9 @@ use Rattle.kb_settle.specs.Settling.{Settles, GivesHalt}
 use Rattle.kb_settle.specs.declared.settled.Settled.{Settled}
 use Rattle.kb_settle.specs.declared.settled.Settled.TheVariants as settled
 
--- A number that falls with each pair that is looked at, and rises by nothing that comes of it: a line that is made takes
--- two from the first part, and a line that is taken away moves from the live ones to the pending pairs.
+-- A number that falls with each pair that is looked at, and rises by nothing that comes of it: a
+-- line that is made takes two from the first part, and a line that is taken away moves from the
+-- live ones to the pending pairs.
 abbrev pub work : Course → ℕ
 work course = 2 * (course.problem.most_lines - length course.state.lines) + length course.state.live
     + length course.state.pending

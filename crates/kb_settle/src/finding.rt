@@ -7,9 +7,9 @@ use kb_rules::Reducer;
 use kb_word::{Memory, Word, factor_at};
 use std::alloc::Global;
 
-/// Finds the live lines that have a new line's left side as a factor. It keeps the signatures of all lines that it has met, so
-/// that few lines are read letter by letter. What it finds serves speed alone: a book takes away and replaces no line
-/// without a look of its own.
+/// Finds the live lines that have a new line's left side as a factor. It keeps the signatures of
+/// all lines that it has met, so that few lines are read letter by letter. What it finds serves
+/// speed alone: a book takes away and replaces no line without a look of its own.
 #[derive(Drop)]
 pub struct Finder {
     /// Of each line of the book so far.

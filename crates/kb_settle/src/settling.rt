@@ -14,9 +14,9 @@ use kb_rules::Reducer;
 use kb_word::Memory;
 use std::alloc::Global;
 
-/// Makes lines until nothing is pending or a limit is reached. After each line the other lines are taken away whose left
-/// sides have its left side as a factor, and those are replaced whose right sides it reduces. After want of memory the
-/// events that were made stand.
+/// Makes lines until nothing is pending or a limit is reached. After each line the other lines are
+/// taken away whose left sides have its left side as a factor, and those are replaced whose right
+/// sides it reduces. After want of memory the events that were made stand.
 pub fn settle<R: Reducer, W: Watch>(
     alloc: Global,
     book: &mut Book<R>,

@@ -2,8 +2,9 @@
 
 use kb_word::Word;
 
-/// The letters of a word and its pairs of neighbouring letters, each marked as one of 64 bits. A word has all bits of its
-/// factors, so that a word without one of them needs no closer look; a word with all of them may have the factor or not.
+/// The letters of a word and its pairs of neighbouring letters, each marked as one of 64 bits. A
+/// word has all bits of its factors, so that a word without one of them needs no closer look; a
+/// word with all of them may have the factor or not.
 #[derive(Clone, Copy, Debug, PartialEq, Eq)]
 pub(crate) struct Signature(u64);
 

@@ -9,8 +9,8 @@ use kb_rules::Reducer;
 use kb_word::Memory;
 use std::alloc::Global;
 
-/// Takes away each other line whose left side has that of line k as a factor, and replaces each line whose right side line k
-/// reduces; lines that come of that are not looked at again.
+/// Takes away each other line whose left side has that of line k as a factor, and replaces each
+/// line whose right side line k reduces; lines that come of that are not looked at again.
 pub(crate) fn simplify<R: Reducer>(
     alloc: Global,
     book: &mut Book<R>,

@@ -18,13 +18,19 @@ pub record IsApartAt (rules : List Pair) (index : ℕ) (one : Overlap) : Type 0 
 -- the overlap with the rule at the index, by the numbers of lines
 abbrev pub found_at : List ℕ → ℕ → Overlap → Found
 found_at numbers index one =
-    record { first = slice_index numbers index; second = slice_index numbers one.rule; place = one.place }
+    record {
+      first = slice_index numbers index;
+      second = slice_index numbers one.rule;
+      place =
+          one.place;
+    }
 
 -- the second list has, in order, what f makes of those of the first list of which P holds
 pub data Picks {X Y : Type 0} (P : X → Type 0) (f : X → Y) : List X → List Y → Type 0 where
   none_left : Picks P f [] []
   left_out : {x : X} {xs : List X} {ys : List Y} → ¬ P x → Picks P f xs ys → Picks P f (x ∷ xs) ys
-  picked : {x : X} {xs : List X} {ys : List Y} → P x → Picks P f xs ys → Picks P f (x ∷ xs) (f x ∷ ys)
+  picked : {x : X} {xs : List X} {ys : List Y} → P x → Picks P f xs ys
+      → Picks P f (x ∷ xs) (f x ∷ ys)
 
 -- the overlap is found where it is apart, and nothing otherwise
 abbrev pub SiftsAt : VersionParts → ℕ → Overlap → Option Found → Type 0

@@ -15,7 +15,8 @@ pub record VersionParts : Type 0 where
 
 -- the version that has the live lines of a state
 abbrev pub version_of : State → VersionParts
-version_of state = record { number = length state.versions; numbers = state.live; rules = live_rules state }
+version_of state =
+    record { number = length state.versions; numbers = state.live; rules = live_rules state }
 
 -- the version that was published last has the live lines
 pub record IsPublished (state : State) : Type 0 where
@@ -39,7 +40,8 @@ abbrev pub HasLine : VersionParts → ℕ → Type 0
 HasLine version k = (rule : Pair) × IsRuleOfLine version k rule
 
 -- an overlap of two of the version's lines; a line with itself at place 0 is none
-pub record OverlapOfLines (version : VersionParts) (i j place : ℕ) (first second : Pair) : Type 0 where
+pub record OverlapOfLines (version : VersionParts) (i j place : ℕ)
+    (first second : Pair) : Type 0 where
   pub is_first : IsRuleOfLine version i first
   pub is_second : IsRuleOfLine version j second
   pub overlaps : Overlaps first.0 second.0 place

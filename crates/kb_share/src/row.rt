@@ -12,8 +12,8 @@ use kb_overlap::Overlap;
 use kb_rules::{Reducer, Rule};
 use kb_word::Memory;
 
-/// Finds those overlaps that are apart, of all overlaps of the left side of the line at this index of the version. What the
-/// list held is gone.
+/// Finds those overlaps that are apart, of all overlaps of the left side of the line at this index
+/// of the version. What the list held is gone.
 pub fn apart_in_row<R: Reducer>(
     version: &Version<R>,
     index: usize,
@@ -24,7 +24,8 @@ pub fn apart_in_row<R: Reducer>(
 ) -> Result<(), Memory>
     requires first { slice_get version.now.rules index ≡ Some first.now }
     requires overlaps { AreOverlaps version.now.rules first.now.0 overlaps.now }
-    ensures { OnOk result (Picks (IsApartAt version.now.rules index) (found_at version.now.numbers index)
+    ensures { OnOk result
+        (Picks (IsApartAt version.now.rules index) (found_at version.now.numbers index)
         overlaps.now found.new.items) }
 {
     found.clear();

@@ -21,7 +21,8 @@ pub fn sift<R: Reducer>(
     place: u64,
 ) -> Result<Sift, Memory>
     requires { HasOverlap version.now i j place }
-    ensures { IfOk result (λ answer. (first second : Pair) → OverlapOfLines version.now i j place first second
+    ensures { IfOk result
+        (λ answer. (first second : Pair) → OverlapOfLines version.now i j place first second
         → SiftSays version.now.rules (critical_pair first second place) answer) }
 {
     // A use of the numbers brings that they ascend, so that a line has one rule.
@@ -57,7 +58,8 @@ impl Sifter {
         place: u64,
     ) -> Result<Sift, Memory>
         requires { Overlaps first.now.0 second.now.0 place }
-        ensures { IfOk result (SiftSays (R.rules reducer.now) (critical_pair first.now second.now place)) }
+        ensures { IfOk result
+            (SiftSays (R.rules reducer.now) (critical_pair first.now second.now place)) }
     {
         let (left, right) = (first.left(), first.right());
         pair_into(

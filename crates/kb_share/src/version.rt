@@ -32,7 +32,8 @@ impl<R: Reducer> Model for Version<R> {
       rules = version.rules.rules;
     } };
 
-    ghost invariant = { λ version. IsVersion version.numbers.items version.rules.rules (R.rules version.reducer) };
+    ghost invariant = { λ version. IsVersion version.numbers.items version.rules.rules
+        (R.rules version.reducer) };
 }
 
 impl<R: Reducer> Version<R> {

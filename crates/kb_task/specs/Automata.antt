@@ -13,7 +13,8 @@ use Rattle.kb_task.specs.declared.status.FileFault.{FileFault}
 use Rattle.kb_task.specs.declared.status.FileFault.TheVariants.{Missing, TooLong, Automaton as NoAutomaton, NotPlain, NotPairs, AlphabetsDiffer}
 
 -- the file of this name holds this automaton over letters with these names
-pub record HoldsAutomaton (files : Files) (name : List ℕ) (names : List (List ℕ)) (automaton : Automaton) : Type 0 where
+pub record HoldsAutomaton (files : Files) (name : List ℕ) (names : List (List ℕ))
+    (automaton : Automaton) : Type 0 where
   pub bytes : List ℕ
   pub held : IsHeld files name bytes
   pub says : AutomatonOf bytes names automaton
@@ -36,13 +37,15 @@ abbrev pub IsAutomatonFault : Kind → Files → List ℕ → FileFault → Type
 IsAutomatonFault kind files name Missing = IsNoText files name Missing
 IsAutomatonFault kind files name TooLong = IsNoText files name TooLong
 IsAutomatonFault kind files name (NoAutomaton fault) =
-    (bytes : List ℕ) × IsHeld files name bytes × HasFsaFault bytes fault × (fault ≢ fsa_errors.Memory)
+    (bytes : List ℕ) × IsHeld files name bytes × HasFsaFault bytes fault
+    × (fault ≢ fsa_errors.Memory)
 IsAutomatonFault kind files name NotPlain = (kind ≡ Words) × HoldsOtherKind kind files name
 IsAutomatonFault kind files name NotPairs = (kind ≡ Pairs) × HoldsOtherKind kind files name
 IsAutomatonFault kind files name _ = ⊥
 
 -- the file holds an automaton of the kind, over other letters or of the other kind than the first one
-pub record HoldsOtherAlphabet (kind : Kind) (names : List (List ℕ)) (alphabet : Alphabet) (files : Files)
+pub record HoldsOtherAlphabet (kind : Kind) (names : List (List ℕ))
+    (alphabet : Alphabet) (files : Files)
     (name : List ℕ) : Type 0 where
   pub others : List (List ℕ)
   pub automaton : Automaton
@@ -52,7 +55,8 @@ pub record HoldsOtherAlphabet (kind : Kind) (names : List (List ℕ)) (alphabet 
 
 -- why the file of this name holds no automaton of the kind over the alphabet of a first one
 abbrev pub IsSecondFault : Kind → List (List ℕ) → Alphabet → Files → List ℕ → FileFault → Type 0
-IsSecondFault kind names alphabet files name AlphabetsDiffer = HoldsOtherAlphabet kind names alphabet files name
+IsSecondFault kind names alphabet files name AlphabetsDiffer =
+    HoldsOtherAlphabet kind names alphabet files name
 IsSecondFault kind names alphabet files name fault = IsAutomatonFault kind files name fault
 
 -- no fault is a reason to refuse the file

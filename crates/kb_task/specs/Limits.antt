@@ -32,4 +32,6 @@ undecided_line limit = codes "undecided " ++ (limit_name limit ++ newline ∷ []
 -- the line of a limit that was reached at two words
 abbrev pub undecided_words_line : List (List ℕ) → Limit → List ℕ → List ℕ → List ℕ
 undecided_words_line names limit u v =
-    codes "undecided " ++ (limit_name limit ++ 32 ∷ (text_of_word names u ++ 32 ∷ (text_of_word names v ++ newline ∷ [])))
+    codes "undecided "
+    ++ (limit_name limit ++ 32
+    ∷ (text_of_word names u ++ 32 ∷ (text_of_word names v ++ newline ∷ [])))

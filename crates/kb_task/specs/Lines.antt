@@ -21,7 +21,8 @@ LimitIsPrinted limit before after result =
     ⊎ ((result ≡ Memory) × (after.written ≡ before.written))
 
 -- the line of the limit with these words was written, or a front of it; or memory ran out before
-abbrev pub WordsArePrinted : List (List ℕ) → Limit → List ℕ → List ℕ → SinkState → SinkState → Status → Type 0
+abbrev pub WordsArePrinted : List (List ℕ) → Limit → List ℕ → List ℕ → SinkState → SinkState
+    → Status → Type 0
 WordsArePrinted names limit u v before after result =
     LineIsWritten (undecided_words_line names limit u v) (Undecided limit) before after result
     ⊎ ((result ≡ Memory) × (after.written ≡ before.written))

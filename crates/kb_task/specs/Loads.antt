@@ -26,7 +26,8 @@ pub record IsHeld (files : Files) (name bytes : List ℕ) : Type 0 where
 -- there is no file of this name, or it is too long
 abbrev pub IsNoText : Files → List ℕ → FileFault → Type 0
 IsNoText files name Missing = files name ≡ None
-IsNoText files name TooLong = (bytes : List ℕ) × (files name ≡ Some bytes) × (most_file < length bytes)
+IsNoText files name TooLong =
+    (bytes : List ℕ) × (files name ≡ Some bytes) × (most_file < length bytes)
 IsNoText files name _ = ⊥
 
 -- the cause of a stop: a refusal has one of these faults, and a failure or want of memory none that is known
@@ -42,7 +43,8 @@ stopped_at name stops.Failed = Fault (Load name)
 stopped_at name stops.Memory = Memory
 
 -- the run ended at the load of the file of this name, where a refusal has one of these faults
-pub record EndsAtLoad (IsFault : FileFault → Type 0) (name : List ℕ) (status : Status) : Type 0 where
+pub record EndsAtLoad (IsFault : FileFault → Type 0) (name : List ℕ)
+    (status : Status) : Type 0 where
   pub stop : LoadStop
   pub is : status ≡ stopped_at name stop
   pub cause : IsCause IsFault stop

@@ -10,7 +10,8 @@ use Rattle.kb_task.specs.declared.status.FileFault.{FileFault}
 use Rattle.kb_task.specs.declared.status.FileFault.TheVariants.{Missing, TooLong, Log as NoLog}
 
 -- the file of this name holds this log, over letters with these names
-pub record HoldsLog (files : Files) (name : List ℕ) (names : List (List ℕ)) (log : Log) : Type 0 where
+pub record HoldsLog (files : Files) (name : List ℕ) (names : List (List ℕ))
+    (log : Log) : Type 0 where
   pub bytes : List ℕ
   pub held : IsHeld files name bytes
   pub says : bytes ≡ text_of_log names log
@@ -22,5 +23,6 @@ abbrev pub IsLogFault : List (List ℕ) → Files → List ℕ → FileFault →
 IsLogFault names files name Missing = IsNoText files name Missing
 IsLogFault names files name TooLong = IsNoText files name TooLong
 IsLogFault names files name (NoLog fault) =
-    (bytes : List ℕ) × IsHeld files name bytes × HasLogFault names bytes fault × (fault ≢ log_errors.Memory)
+    (bytes : List ℕ) × IsHeld files name bytes × HasLogFault names bytes fault
+    × (fault ≢ log_errors.Memory)
 IsLogFault names files name _ = ⊥

@@ -9,7 +9,8 @@ use Rattle.kb_task.specs.declared.status.FileFault.{FileFault}
 use Rattle.kb_task.specs.declared.status.FileFault.TheVariants.{Missing, TooLong, Presentation}
 
 -- the file of this name holds this presentation
-pub record HoldsPresentation (files : Files) (name : List ℕ) (parts : PresentationParts) : Type 0 where
+pub record HoldsPresentation (files : Files) (name : List ℕ)
+    (parts : PresentationParts) : Type 0 where
   pub bytes : List ℕ
   pub held : IsHeld files name bytes
   pub says : PresentationOf bytes parts
@@ -19,5 +20,6 @@ abbrev pub IsPresentationFault : Files → List ℕ → FileFault → Type 0
 IsPresentationFault files name Missing = IsNoText files name Missing
 IsPresentationFault files name TooLong = IsNoText files name TooLong
 IsPresentationFault files name (Presentation fault) =
-    (bytes : List ℕ) × IsHeld files name bytes × HasPresFault bytes fault × (fault ≢ pres_errors.Memory)
+    (bytes : List ℕ) × IsHeld files name bytes × HasPresFault bytes fault
+    × (fault ≢ pres_errors.Memory)
 IsPresentationFault files name _ = ⊥

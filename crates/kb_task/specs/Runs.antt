@@ -33,7 +33,8 @@ pub record IsRun (Means : Outside → Outside → Status → Type 0) (MayStore :
 
 -- two shelves hold the same under the names that are read
 abbrev pub ReadsSame : (List ℕ → Type 0) → Outside → Outside → Type 0
-ReadsSame IsRead one other = (name : List ℕ) → IsRead name → one.shelf.holds name ≡ other.shelf.holds name
+ReadsSame IsRead one other =
+    (name : List ℕ) → IsRead name → one.shelf.holds name ≡ other.shelf.holds name
 
 -- under the name both runs left the same, or neither changed what was there
 abbrev pub LeavesSame : Outside → Outside → Outside → Outside → List ℕ → Type 0
@@ -43,20 +44,27 @@ LeavesSame before after other_before other_after name =
     × (other_after.shelf.holds name ≡ other_before.shelf.holds name))
 
 -- two runs wrote the same bytes, and stored the same
-pub record HasSameEffect (MayStore : List ℕ → Type 0) (before after other_before other_after : Outside) : Type 0 where
+pub record HasSameEffect (MayStore : List ℕ → Type 0)
+    (before after other_before other_after : Outside) : Type 0 where
   pub bytes : List ℕ
   pub written : after.output.written ≡ before.output.written ++ bytes
   pub other_written : other_after.output.written ≡ other_before.output.written ++ bytes
-  pub stored : (name : List ℕ) → MayStore name → LeavesSame before after other_before other_after name
+  pub stored : (name : List ℕ) → MayStore name
+      → LeavesSame before after other_before other_after name
 
 -- Where nothing that the command reads is refused and no device failed, it has one of its answers.
-abbrev pub IsComplete : {Task : Type 0} → (Task → Outside → Outside → Status → Type 0) → (Task → Outside → Type 0)
+abbrev pub IsComplete : {Task : Type 0} → (Task → Outside → Outside → Status → Type 0)
+    → (Task → Outside → Type 0)
     → (Task → Status → Type 0) → Type 0
-IsComplete {Task} Means IsUnrefused Answers = (task : Task) (before after : Outside) (status : Status)
-    → Means task before after status → IsUnrefused task before → IsFaultless status → Answers task status
+IsComplete {Task} Means IsUnrefused Answers =
+    (task : Task) (before after : Outside) (status : Status)
+    → Means task before after status → IsUnrefused task before → IsFaultless status
+    → Answers task status
 
--- The files that are read settle the answer: two runs of one command with statuses that the files settle have one status.
-abbrev pub IsSettledByFiles : {Task : Type 0} → (Task → Outside → Outside → Status → Type 0) → (Task → List ℕ → Type 0)
+-- The files that are read settle the answer: two runs of one command with statuses that the files
+-- settle have one status.
+abbrev pub IsSettledByFiles : {Task : Type 0} → (Task → Outside → Outside → Status → Type 0)
+    → (Task → List ℕ → Type 0)
     → (Task → Status → Type 0) → Type 0
 IsSettledByFiles {Task} Means IsRead Settles =
     (task : Task) (before after other_before other_after : Outside) (status other : Status)
@@ -66,11 +74,14 @@ IsSettledByFiles {Task} Means IsRead Settles =
 
 -- What status 0 writes and stores is one function of the command without its options, of the files that are read and
 -- of the input.
-abbrev pub IsFunctionOfInputs : {Task : Type 0} → (Task → Outside → Outside → Status → Type 0) → (Task → Task → Type 0)
+abbrev pub IsFunctionOfInputs : {Task : Type 0} → (Task → Outside → Outside → Status → Type 0)
+    → (Task → Task → Type 0)
     → (Task → List ℕ → Type 0) → (Task → List ℕ → Type 0) → Type 0
 IsFunctionOfInputs {Task} Means DifferInOptions IsRead MayStore =
-    (task other_task : Task) (before after other_before other_after : Outside) (status other : Status)
-    → Means task before after status → Means other_task other_before other_after other → IsYes status → IsYes other
+    (task other_task : Task) (before after other_before other_after : Outside)
+    (status other : Status)
+    → Means task before after status → Means other_task other_before other_after other
+    → IsYes status → IsYes other
     → DifferInOptions task other_task → ReadsSame (IsRead task) before other_before
     → before.input.left ≡ other_before.input.left
     → HasSameEffect (MayStore task) before after other_before other_after

@@ -10,7 +10,8 @@ use Rattle.kb_task.specs.declared.status.Status.TheVariants.{Yes, Memory, Fault}
 use Rattle.kb_task.specs.declared.status.Which.TheVariants.{Store}
 
 -- the bytes are the text of the canonical automaton of the language of `made`
-pub record IsCanonicalText (names : List (List ℕ)) (made : Automaton) (bytes : List ℕ) : Type 0 where
+pub record IsCanonicalText (names : List (List ℕ)) (made : Automaton)
+    (bytes : List ℕ) : Type 0 where
   pub stored : Automaton
   pub automaton : IsAutomaton stored
   pub alphabet : stored.alphabet ≡ made.alphabet
@@ -22,6 +23,7 @@ pub record IsCanonicalText (names : List (List ℕ)) (made : Automaton) (bytes :
 abbrev pub StoreMeans : List (List ℕ) → Automaton → List ℕ → Outside → Outside → Status → Type 0
 StoreMeans names made out before after Yes =
     (bytes : List ℕ) × IsCanonicalText names made bytes × Stores out bytes before after
-StoreMeans names made out before after (Fault (Store name)) = (name ≡ out) × LeavesUnknown out before after
+StoreMeans names made out before after (Fault (Store name)) =
+    (name ≡ out) × LeavesUnknown out before after
 StoreMeans names made out before after Memory = IsUnchanged before after
 StoreMeans names made out before after _ = ⊥

@@ -27,7 +27,8 @@ names_of texts = map (λ text. text.name) texts
 -- each of the files holds its bytes, and every other name what it held
 pub record HoldsTexts (texts : List Text) (before after : ShelfState) : Type 0 where
   pub stored : (text : Text) → Contains texts text → after.holds text.name ≡ Some text.bytes
-  pub others : (name : List ℕ) → (¬ Contains (names_of texts) name) → after.holds name ≡ before.holds name
+  pub others : (name : List ℕ) → (¬ Contains (names_of texts) name)
+      → after.holds name ≡ before.holds name
 
 -- the file was stored, where the shelf tells its bytes, and every other name holds what it held
 pub record PutsText (text : Text) (before after : ShelfState) : Type 0 where
@@ -48,7 +49,8 @@ pub record StoresFirst (texts : List Text) (before after : Outside) : Type 0 whe
   pub whole : texts ≡ first ++ rest
   pub stores : StoresTexts first before after
 
--- the files before the one of this name were stored; under its own name anything may stand, and nothing was read or written
+-- the files before the one of this name were stored; under its own name anything may stand, and
+-- nothing was read or written
 pub record StopsAtText (texts : List Text) (name : List ℕ) (before after : Outside) : Type 0 where
   pub first : List Text
   pub text : Text
@@ -57,7 +59,8 @@ pub record StopsAtText (texts : List Text) (name : List ℕ) (before after : Out
   pub named : text.name ≡ name
   pub unread : IsUnread before after
   pub unwritten : IsUnwritten before after
-  pub stored : (one : Text) → Contains first one → one.name ≢ name → after.shelf.holds one.name ≡ Some one.bytes
+  pub stored : (one : Text) → Contains first one → one.name ≢ name
+      → after.shelf.holds one.name ≡ Some one.bytes
   pub others : (other : List ℕ) → other ≢ name → (¬ Contains (names_of first) other)
       → after.shelf.holds other ≡ before.shelf.holds other
 

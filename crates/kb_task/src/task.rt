@@ -4,9 +4,9 @@ ghost use Rattle.std.specs.Prelude.{ℕ, List};
 ghost use Rattle.kb_io.specs.Outside.{Outside};
 ghost use Rattle.kb_task.specs.Runs.{IsComplete, IsSettledByFiles, IsFunctionOfInputs};
 
-/// A command of the program with its arguments. It runs once, by a method `run` of its own, whose contract is that the run
-/// means what is stated here (`IsRun`). That method is none of the trait's, since the methods of a trait can't start
-/// threads that rest on a bound of theirs.
+/// A command of the program with its arguments. It runs once, by a method `run` of its own, whose
+/// contract is that the run means what is stated here (`IsRun`). That method is none of the
+/// trait's, since the methods of a trait can't start threads that rest on a bound of theirs.
 pub trait Task: Drop {
     ghost use Rattle.kb_task.specs.declared.status.Status.{Status};
 

@@ -51,10 +51,13 @@ abbrev pub IsNoOverlap : Course → Found → Type 0
 IsNoOverlap course one = ¬ HasOverlap course.state one.first one.second one.place
 
 -- what entering an overlap does to the completion and to the worker's token
-abbrev pub EnterSays : Course → Course → PassParts → PassParts → Found → Result (Unit {0}) ShareFault → Type 0
+abbrev pub EnterSays : Course → Course → PassParts → PassParts → Found
+    → Result (Unit {0}) ShareFault → Type 0
 EnterSays before after pass later one (Ok done) =
-    Takes (entry_of pass.worker one) before after × (later ≡ record pass { entered = pass.entered + 1 })
-EnterSays before after pass later one (Err faults.NotOverlap) = IsNoOverlap before one × (after ≡ before) × (later ≡ pass)
+    Takes (entry_of pass.worker one) before after
+    × (later ≡ record pass { entered = pass.entered + 1 })
+EnterSays before after pass later one (Err faults.NotOverlap) =
+    IsNoOverlap before one × (after ≡ before) × (later ≡ pass)
 EnterSays before after pass later one (Err faults.Memory) = (after ≡ before) × (later ≡ pass)
 
 -- a later stage, and no overlap was entered since
@@ -85,7 +88,8 @@ pub record SettlesAndPublishes (before after : Course) (version : VersionParts) 
 -- what a completion came to by itself
 abbrev pub AdvanceSays : {R : Type 0} → Course → Course → Advanced R → Type 0
 AdvanceSays before after (advanced.Settled version) = SettlesAndPublishes before after version
-AdvanceSays before after advanced.Nothing = (before.state.pending ≡ []) × (after ≡ before) × (after.state.halt ≡ None)
+AdvanceSays before after advanced.Nothing =
+    (before.state.pending ≡ []) × (after ≡ before) × (after.state.halt ≡ None)
 AdvanceSays before after advanced.Halted = (before.state.pending ≢ []) × (after.state.halt ≢ None)
 
 -- what a publisher has published then: one version more, with the number that is told, or none

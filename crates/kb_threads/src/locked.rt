@@ -34,7 +34,8 @@ impl<R: Reducer, S: Sharing> Model for Locked<R, S> {
 
     ghost Value = { LockedParts };
 
-    ghost view = { λ locked. record { course = locked.book.course; entered = locked.entered.total } };
+    ghost view = { λ locked.
+        record { course = locked.book.course; entered = locked.entered.total } };
 
     ghost invariant = { λ locked.
         IsStageOf S.given (record { course = locked.book.course; entered = locked.entered.total }) };

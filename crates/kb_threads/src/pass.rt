@@ -45,7 +45,8 @@ impl<S: Sharing> Pass<S> {
 
     /// Notes that the worker has entered one overlap more.
     pub(crate) fn note_entry(&mut self, entered: &mut Book<S>)
-        ensures pass { (self.new.worker ≡ self.old.worker) × (self.new.entered ≡ self.old.entered + 1) }
+        ensures pass { (self.new.worker ≡ self.old.worker)
+            × (self.new.entered ≡ self.old.entered + 1) }
         ensures total { entered.new.total ≡ entered.old.total + 1 }
     {
         entered.add(&mut self.share, 1);

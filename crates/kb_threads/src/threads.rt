@@ -108,7 +108,8 @@ fn crew_of<'j, R: Reducer, S: Sharing>(
     mut readers: Vec<VersionReader<RuledGlass<Version<R>>>>,
 ) -> Result<Vec<Worker<'j, R, S>>, Memory>
     requires seats { All (IsSeatOf jobs.now.draw) seats.items }
-    requires counts { (length seats.items ≡ length passes.items) × (length readers.items ≡ length passes.items) }
+    requires counts { (length seats.items ≡ length passes.items)
+        × (length readers.items ≡ length passes.items) }
     ensures { IfOk result (λ crew. length crew.items ≡ length passes.items) }
 {
     let mut crew = Vec::with_capacity(alloc, passes.len())?;

@@ -11,12 +11,14 @@ use Rattle.kb_index.specs.Edges.{word}
 -- the state, among so many, that stands for the word
 abbrev pub state_of : List Edge → ℕ → List ℕ → Option ℕ
 state_of edges zero w = None
-state_of edges (suc state) w = if pointwise nat_eq (word edges state) w then Some state else state_of edges state w
+state_of edges (suc state) w =
+    if pointwise nat_eq (word edges state) w then Some state else state_of edges state w
 
 -- the state that stands for the longest suffix of the word for which some state stands
 abbrev pub state_after : List Edge → List ℕ → ℕ
 state_after edges [] = 0
-state_after edges (x ∷ w) = unwrap_or (state_of edges (length edges + 1) (x ∷ w)) (state_after edges w)
+state_after edges (x ∷ w) =
+    unwrap_or (state_of edges (length edges + 1) (x ∷ w)) (state_after edges w)
 
 -- whether the state stands for a left side
 abbrev pub is_left_side : Automaton → ℕ → Bool
@@ -28,7 +30,8 @@ unless_left_side automaton state = if is_left_side automaton state then None els
 
 -- the number is that of a state, and the symbol one of n letters
 abbrev pub may_move : ℕ → Automaton → ℕ → ℕ → Bool
-may_move n automaton state symbol = nat_le state (length automaton.edges.items) && (nat_lt 0 symbol && nat_le symbol n)
+may_move n automaton state symbol =
+    nat_le state (length automaton.edges.items) && (nat_lt 0 symbol && nat_le symbol n)
 
 -- the automaton of left sides, which are words over n letters
 pub record LeftSides : Type 0 where
@@ -47,8 +50,10 @@ dictionary n automaton = record {
 }
 
 -- the moves by the letters below this one
-pub record AreMovesBefore (n : ℕ) (automaton : Automaton) (state letter : ℕ) (moves : List (ℕ × ℕ)) : Type 0 where
+pub record AreMovesBefore (n : ℕ) (automaton : Automaton) (state letter : ℕ)
+    (moves : List (ℕ × ℕ)) : Type 0 where
   pub within : letter ≤ n + 1
   pub ascends : Ascends moves
   pub letters : All (λ move. (0 < move.0) × (move.0 < letter)) moves
-  pub follow : (other : ℕ) → other < letter → lookup moves other ≡ (dictionary n automaton).follow state other
+  pub follow : (other : ℕ) → other < letter
+      → lookup moves other ≡ (dictionary n automaton).follow state other

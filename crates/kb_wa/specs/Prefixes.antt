@@ -11,7 +11,8 @@ AreLeftSidesOver n rules = (rule : Pair) → OneOf rules rule → IsOver n rule.
 -- No left side has the left side of another rule as a factor, or is the same word. The left sides of a reduced
 -- rewriting system are so. Sims, Computation with Finitely Presented Groups, chapter 2.
 abbrev pub AreLeftSidesApart : List Pair → Type 0
-AreLeftSidesApart rules = (i j : ℕ) (one other : Pair) → slice_get rules i ≡ Some one → slice_get rules j ≡ Some other
+AreLeftSidesApart rules =
+    (i j : ℕ) (one other : Pair) → slice_get rules i ≡ Some one → slice_get rules j ≡ Some other
     → IsFactor one.0 other.0 → i ≡ j
 
 -- a left side begins with the word, and has more letters

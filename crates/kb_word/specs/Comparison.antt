@@ -24,7 +24,8 @@ second_equal Greater s e = absurd (true≢false (sym e))
 -- equal letters are equal lists
 pub same_from_pointwise : (u v : List ℕ) → pointwise nat_eq u v ≡ true → u ≡ v
 same_from_pointwise u v e =
-    slice_cmp-IsAntisymmetric nat_cmp-IsAntisymmetric u v ((Equal-is (slice_cmp nat_cmp u v)).0 (sym (texts_ties u v) ∙ e))
+    slice_cmp-IsAntisymmetric nat_cmp-IsAntisymmetric u v
+    ((Equal-is (slice_cmp nat_cmp u v)).0 (sym (texts_ties u v) ∙ e))
 
 equal_from_same : (u v : List ℕ) → u ≡ v → is_eq (shortlex_cmp u v) ≡ true
 equal_from_same u v e =
@@ -32,7 +33,8 @@ equal_from_same u v e =
     subst P e (ap is_eq (tied_itself shortlex_cmp_total u))
 
 pub pointwise_from_same : (u v : List ℕ) → u ≡ v → pointwise nat_eq u v ≡ true
-pointwise_from_same u v e = let P : List ℕ → Type 0 = λ w. pointwise nat_eq u w ≡ true in subst P e (nat_list_eq_equiv.refl u)
+pointwise_from_same u v e = let P : List ℕ → Type 0 =
+    λ w. pointwise nat_eq u w ≡ true in subst P e (nat_list_eq_equiv.refl u)
 
 -- `==` answers true exactly where comparing answers `Equal`
 pub shortlex_ties : (u v : List ℕ) → pointwise nat_eq u v ≡ is_eq (shortlex_cmp u v)

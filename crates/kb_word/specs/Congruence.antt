@@ -27,6 +27,7 @@ pub record SameCongruence (pairs others : List Pair) : Type 0 where
   pub covers : (pair : Pair) → OneOf others pair → Congruent (OneOf pairs) pair.0 pair.1
 
 -- m is congruent to w, and no word that is congruent to w is below m
-pub record IsLeast (below : List ℕ → List ℕ → Type 0) (pairs : List Pair) (w m : List ℕ) : Type 0 where
+pub record IsLeast (below : List ℕ → List ℕ → Type 0) (pairs : List Pair)
+    (w m : List ℕ) : Type 0 where
   pub congruent : Congruent (OneOf pairs) w m
   pub least : (v : List ℕ) → Congruent (OneOf pairs) w v → ¬ below v m

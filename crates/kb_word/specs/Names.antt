@@ -8,4 +8,6 @@ name_of names (suc place) = slice_get names place
 
 -- no name stands at two places
 abbrev pub AreApart : List (List ℕ) → Type 0
-AreApart names = (place other : ℕ) (name : List ℕ) → slice_get names place ≡ Some name → slice_get names other ≡ Some name → place ≡ other
+AreApart names =
+    (place other : ℕ) (name : List ℕ) → slice_get names place ≡ Some name
+    → slice_get names other ≡ Some name → place ≡ other

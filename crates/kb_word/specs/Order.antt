@@ -12,7 +12,8 @@ pub record IsReductionOrder (below : List ℕ → List ℕ → Type 0) : Type 0 
   pub transitive : (u v w : List ℕ) → below u v → below v w → below u w
   pub total : (u v : List ℕ) → (u ≡ v) ⊎ (below u v ⊎ below v u)
   pub well_founded : (u : List ℕ) → Accessible below u
-  pub kept : (before after u v : List ℕ) → below u v → below (before ++ u ++ after) (before ++ v ++ after)
+  pub kept : (before after u v : List ℕ) → below u v
+      → below (before ++ u ++ after) (before ++ v ++ after)
 
 -- The word's number, where the words over letters below 2^16 are numbered 0, 1, 2, .. in shortlex order.
 -- Each letter is a digit, counted from 1 (the n-adic numerals of Smullyan, Theory of Formal Systems).

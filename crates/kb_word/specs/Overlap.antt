@@ -7,17 +7,22 @@ use Rattle.kb_word.specs.Rewriting.{NormalForm}
 -- Containment of m in l and equal words are overlaps too.
 pub record Overlaps (l m : List ℕ) (place : ℕ) : Type 0 where
   pub within : place < length l
-  pub agree : (k : ℕ) → place + k < length l → k < length m → slice_get l (place + k) ≡ slice_get m k
+  pub agree : (k : ℕ) → place + k < length l → k < length m
+      → slice_get l (place + k) ≡ slice_get m k
 
 -- the word in which both stand: l, lengthened by what m has past its end
 abbrev pub superposition : List ℕ → List ℕ → ℕ → List ℕ
 superposition l m place = l ++ drop (length l - place) m
 
--- The critical pair of two rules at a place: the superposition with the first rule applied, and with the
--- second one. Book, Otto, String-Rewriting Systems, 2.3; Holt, Eick, O'Brien, Handbook of Computational Group Theory, 12.2.
+-- The critical pair of two rules at a place: the superposition with the first rule applied, and
+-- with the second one. Book, Otto, String-Rewriting Systems, 2.3; Holt, Eick, O'Brien, Handbook of
+-- Computational Group Theory, 12.2.
 abbrev pub critical_pair : Pair → Pair → ℕ → Pair
-critical_pair first second place =
-    (first.1 ++ drop (length first.0 - place) second.0, take place first.0 ++ second.1 ++ drop (place + length second.0) first.0)
+critical_pair first second place = (
+  first.1 ++ drop (length first.0 - place) second.0,
+  take place first.0 ++ second.1
+      ++ drop (place + length second.0) first.0,
+)
 
 -- an overlap of two rules of a list, which stand at these indices; a rule with itself at place 0 is none
 pub record OverlapOf (rules : List Pair) (i j place : ℕ) (first second : Pair) : Type 0 where

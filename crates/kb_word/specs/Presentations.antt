@@ -13,4 +13,11 @@ pub record PresentationParts : Type 0 where
 
 -- the parts of a presentation of the code
 abbrev pub parts_of : Presentation → PresentationParts
-parts_of presentation = record { order = presentation.order; names = presentation.names; inverses = presentation.inv; equations = presentation.eqs }
+parts_of presentation =
+    record {
+      order = presentation.order;
+      names = presentation.names;
+      inverses =
+          presentation.inv;
+      equations = presentation.eqs;
+    }

@@ -6,7 +6,8 @@ use Rattle.kb_word.specs.Congruence.{Replaces}
 
 -- no left side of an allowed pair is a factor of w
 abbrev pub IsIrreducible : (Pair → Type 0) → List ℕ → Type 0
-IsIrreducible allowed w = (before : List ℕ) (pair : Pair) (after : List ℕ) → allowed pair → w ≢ before ++ pair.0 ++ after
+IsIrreducible allowed w =
+    (before : List ℕ) (pair : Pair) (after : List ℕ) → allowed pair → w ≢ before ++ pair.0 ++ after
 
 -- replacements of left sides by right sides lead from w to v
 abbrev pub ReducesTo : (Pair → Type 0) → List ℕ → List ℕ → Type 0
@@ -26,8 +27,10 @@ pub record FirstRewrite (rules : List Pair) (u v : List ℕ) : Type 0 where
   pub is_rule : slice_get rules index ≡ Some rule
   pub from : u ≡ before ++ rule.0 ++ after
   pub to : v ≡ before ++ rule.1 ++ after
-  pub shortest : (prefix rest : List ℕ) → before ++ rule.0 ≡ prefix ++ rest → rest ≢ [] → IsIrreducible (OneOf rules) prefix
-  pub first : (earlier : ℕ) (other : Pair) → earlier < index → slice_get rules earlier ≡ Some other → ¬ EndsWith (before ++ rule.0) other.0
+  pub shortest : (prefix rest : List ℕ) → before ++ rule.0 ≡ prefix ++ rest → rest ≢ []
+      → IsIrreducible (OneOf rules) prefix
+  pub first : (earlier : ℕ) (other : Pair) → earlier < index → slice_get rules earlier ≡ Some other
+      → ¬ EndsWith (before ++ rule.0) other.0
 
 -- The normal form of w: first rewrites lead from w to m, and m is irreducible.
 -- Sims, Computation with Finitely Presented Groups, 2.4, where this is rewriting from the left.

@@ -8,7 +8,8 @@ use Rattle.kb_word.specs.Words.{Less, shorter, earlier, IsEarlier}
 use Rattle.kb_word.specs.Order.{Accessible, accessible, IsReductionOrder, rank}
 
 -- induction on a number that may use each smaller one
-strong_below : (P : ℕ → Type 0) → ((n : ℕ) → ((m : ℕ) → m < n → P m) → P n) → (n m : ℕ) → m < n → P m
+strong_below : (P : ℕ → Type 0) → ((n : ℕ) → ((m : ℕ) → m < n → P m) → P n) → (n m : ℕ) → m < n
+    → P m
 strong_below P step zero m h = absurd (let no : ⊥ = omega arith in no)
 strong_below P step (suc n) m h =
     step m (λ k less. strong_below P step n k (omega arith))
@@ -28,7 +29,8 @@ IsEarlier-transitive (x ∷ u) (y ∷ v) [] g h = absurd h
 IsEarlier-transitive (x ∷ u) (y ∷ v) (z ∷ w) (inl g) (inl h) = inl (omega arith)
 IsEarlier-transitive (x ∷ u) (y ∷ v) (z ∷ w) (inl g) (inr h) = let e = h.0 in inl (omega arith)
 IsEarlier-transitive (x ∷ u) (y ∷ v) (z ∷ w) (inr g) (inl h) = let e = g.0 in inl (omega arith)
-IsEarlier-transitive (x ∷ u) (y ∷ v) (z ∷ w) (inr g) (inr h) = inr (g.0 ∙ h.0, IsEarlier-transitive u v w g.1 h.1)
+IsEarlier-transitive (x ∷ u) (y ∷ v) (z ∷ w) (inr g) (inr h) =
+    inr (g.0 ∙ h.0, IsEarlier-transitive u v w g.1 h.1)
 
 -- of two numbers one is less, or they are equal
 pub compare_cases : (x y : ℕ) → (x < y) ⊎ ((x ≡ y) ⊎ (y < x))
@@ -50,7 +52,8 @@ lex_total : (u v : List ℕ) → length u ≡ length v → (u ≡ v) ⊎ (IsEarl
 lex_total [] [] e = inl refl
 lex_total [] (y ∷ v) e = absurd (let no : ⊥ = omega arith in no)
 lex_total (x ∷ u) [] e = absurd (let no : ⊥ = omega arith in no)
-lex_total (x ∷ u) (y ∷ v) e = lex_total-more x y u v (compare_cases x y) (lex_total u v (omega arith))
+lex_total (x ∷ u) (y ∷ v) e =
+    lex_total-more x y u v (compare_cases x y) (lex_total u v (omega arith))
 
 pub IsEarlier-append : (u v after : List ℕ) → IsEarlier u v → IsEarlier (u ++ after) (v ++ after)
 IsEarlier-append [] v after h = absurd h
@@ -84,7 +87,8 @@ lex_induction zero P step [] e = step [] e (λ v _ h. none_earlier P v h)
 lex_induction zero P step (x ∷ u) e = absurd (let no : ⊥ = omega arith in no)
 lex_induction (suc n) P step [] e = absurd (let no : ⊥ = omega arith in no)
 lex_induction (suc n) P step (x ∷ u) e =
-    let inner : (z : ℕ) → ((y : ℕ) → y < z → (v : List ℕ) → length v ≡ n → P (y ∷ v)) → (v : List ℕ) → length v ≡ n → P (z ∷ v)
+    let inner : (z : ℕ) → ((y : ℕ) → y < z → (v : List ℕ) → length v ≡ n → P (y ∷ v)) → (v : List ℕ)
+    → length v ≡ n → P (z ∷ v)
     = λ z before. lex_induction n (λ v. P (z ∷ v))
     (λ v l same. step (z ∷ v) (omega arith) (first_letter n P z v before same))
     in strong_induction (λ z. (v : List ℕ) → length v ≡ n → P (z ∷ v)) inner x u (omega arith)
@@ -99,11 +103,13 @@ below_word u short same v (earlier e h) = same v e h
 well_founded-length : (n : ℕ) → ((m : ℕ) → m < n → (v : List ℕ) → length v ≡ m → Accessible Less v)
     → (u : List ℕ) → length u ≡ n → Accessible Less u
 well_founded-length n short = lex_induction n (Accessible Less)
-    (λ u l same. accessible (below_word u (λ v h. short (length v) (omega arith) v refl) (λ v e h. same v (e ∙ l) h)))
+    (λ u l same. accessible
+    (below_word u (λ v h. short (length v) (omega arith) v refl) (λ v e h. same v (e ∙ l) h)))
 
 pub shortlex_well_founded : (u : List ℕ) → Accessible Less u
 shortlex_well_founded u =
-    strong_induction (λ n. (v : List ℕ) → length v ≡ n → Accessible Less v) well_founded-length (length u) u refl
+    strong_induction (λ n. (v : List ℕ) → length v ≡ n → Accessible Less v) well_founded-length
+    (length u) u refl
 
 pub shortlex_irreflexive : (u : List ℕ) → ¬ Less u u
 shortlex_irreflexive u (shorter h) = omega arith
@@ -113,9 +119,11 @@ pub shortlex_transitive : (u v w : List ℕ) → Less u v → Less v w → Less 
 shortlex_transitive u v w (shorter g) (shorter h) = shorter (omega arith)
 shortlex_transitive u v w (shorter g) (earlier e h) = shorter (omega arith)
 shortlex_transitive u v w (earlier e g) (shorter h) = shorter (omega arith)
-shortlex_transitive u v w (earlier d g) (earlier e h) = earlier (d ∙ e) (IsEarlier-transitive u v w g h)
+shortlex_transitive u v w (earlier d g) (earlier e h) =
+    earlier (d ∙ e) (IsEarlier-transitive u v w g h)
 
-total_cases : (u v : List ℕ) → (length u < length v) ⊎ ((length u ≡ length v) ⊎ (length v < length u))
+total_cases : (u v : List ℕ)
+    → (length u < length v) ⊎ ((length u ≡ length v) ⊎ (length v < length u))
     → (u ≡ v) ⊎ (Less u v ⊎ Less v u)
 total_cases u v (inl h) = inr (inl (shorter h))
 total_cases u v (inr (inr h)) = inr (inr (shorter h))
@@ -127,10 +135,12 @@ total_cases u v (inr (inl e)) = elim (lex_total u v e) [
 pub shortlex_total : (u v : List ℕ) → (u ≡ v) ⊎ (Less u v ⊎ Less v u)
 shortlex_total u v = total_cases u v (compare_cases (length u) (length v))
 
-pub length-between : (before w after : List ℕ) → length (before ++ w ++ after) ≡ length before + length w + length after
+pub length-between : (before w after : List ℕ)
+    → length (before ++ w ++ after) ≡ length before + length w + length after
 length-between before w after = simp length-append
 
-pub shortlex_kept : (before after u v : List ℕ) → Less u v → Less (before ++ u ++ after) (before ++ v ++ after)
+pub shortlex_kept : (before after u v : List ℕ) → Less u v
+    → Less (before ++ u ++ after) (before ++ v ++ after)
 shortlex_kept before after u v (shorter h) =
     let left = length-between before u after in
     let right = length-between before v after in
@@ -138,7 +148,8 @@ shortlex_kept before after u v (shorter h) =
 shortlex_kept before after u v (earlier e h) =
     let left = length-between before u after in
     let right = length-between before v after in
-    earlier (omega arith) (IsEarlier-append (before ++ u) (before ++ v) after (IsEarlier-behind before u v h))
+    earlier (omega arith)
+    (IsEarlier-append (before ++ u) (before ++ v) after (IsEarlier-behind before u v h))
 
 -- shortlex is a reduction order, on the words over all numbers
 pub shortlex_order : IsReductionOrder Less
@@ -180,7 +191,8 @@ rank_high [] h = omega arith
 rank_high (x ∷ w) h =
     let first = digit_high x ((2 ^ 16) ^ length w) (rank w) (lowest (length w)) (2 ^ 16)
     (All-head IsLetter x w h) (rank_high w (All-tail IsLetter x w h)) in
-    let power : (2 ^ 16) ^ suc (length w) ≡ (2 ^ 16) ^ length w * 2 ^ 16 = pow-suc (2 ^ 16) (length w) in
+    let power : (2 ^ 16) ^ suc (length w) ≡ (2 ^ 16) ^ length w * 2 ^ 16 =
+    pow-suc (2 ^ 16) (length w) in
     omega arith
 
 lowest_kept : (n m : ℕ) → n ≤ m → lowest n ≤ lowest m
@@ -191,7 +203,8 @@ lowest_kept n (suc m) h = elim (cases_lt m n) [
   | inr le ↦ (let more = lowest_kept n m le in omega arith)
 ]
 
-rank_earlier : (u v : List ℕ) → All (λ x. x < 2 ^ 16) u → length u ≡ length v → IsEarlier u v → rank u < rank v
+rank_earlier : (u v : List ℕ) → All (λ x. x < 2 ^ 16) u → length u ≡ length v → IsEarlier u v
+    → rank u < rank v
 unfolding lowest
 rank_earlier [] v g e h = absurd h
 rank_earlier (x ∷ u) [] g e h = absurd h
@@ -200,17 +213,20 @@ rank_earlier (x ∷ u) (y ∷ v) g e (inl h) =
     let power = ap (λ n. (2 ^ 16) ^ n) same in
     let lengths = ap lowest same in
     let lows = rank_low v in
-    let result = digit_less x y ((2 ^ 16) ^ length u) (rank u) (rank v) (lowest (length u)) h (rank_high u (All-tail IsLetter x u g)) (omega arith) in
+    let result = digit_less x y ((2 ^ 16) ^ length u) (rank u) (rank v) (lowest (length u)) h
+    (rank_high u (All-tail IsLetter x u g)) (omega arith) in
     let P : ℕ → Type 0 = λ p. (x + 1) * (2 ^ 16) ^ length u + rank u < (y + 1) * p + rank v in
     subst P power result
 rank_earlier (x ∷ u) (y ∷ v) g e (inr h) =
     let same : length u ≡ length v = omega arith in
-    let first : (x + 1) * (2 ^ 16) ^ length u ≡ (y + 1) * (2 ^ 16) ^ length v = cc (ap (λ n. (2 ^ 16) ^ n) same, h.0) in
+    let first : (x + 1) * (2 ^ 16) ^ length u ≡ (y + 1) * (2 ^ 16) ^ length v =
+    cc (ap (λ n. (2 ^ 16) ^ n) same, h.0) in
     let rest = rank_earlier u v (All-tail IsLetter x u g) same h.1 in
     omega arith
 
 -- rank falls along shortlex, where the letters are below 2^16
-pub rank_falls : (u v : List ℕ) → All (λ x. x < 2 ^ 16) u → All (λ x. x < 2 ^ 16) v → Less u v → rank u < rank v
+pub rank_falls : (u v : List ℕ) → All (λ x. x < 2 ^ 16) u → All (λ x. x < 2 ^ 16) v → Less u v
+    → rank u < rank v
 rank_falls u v g h (shorter less) =
     let high = rank_high u g in
     let between = lowest_kept (suc (length u)) (length v) (omega arith) in

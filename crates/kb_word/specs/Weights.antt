@@ -25,4 +25,5 @@ word_weight weights = sum_by (letter_weight weights)
 -- Sims, Computation with Finitely Presented Groups, 2.1, has such orders among the reduction orders.
 pub data LessByWeight (weights u v : List ℕ) : Type 0 where
   lighter : word_weight weights u < word_weight weights v → LessByWeight weights u v
-  as_heavy : word_weight weights u ≡ word_weight weights v → IsEarlier u v → LessByWeight weights u v
+  as_heavy : word_weight weights u ≡ word_weight weights v → IsEarlier u v
+      → LessByWeight weights u v

@@ -19,7 +19,8 @@ abbrev pub spread : WordOrder → List ℕ → List ℕ
 spread ShortLex w = w
 spread (WtLex weights) w = repeated weights w
 
-pub spread-less : (order : WordOrder) (u v : List ℕ) → Below order u v → Less (spread order u) (spread order v)
+pub spread-less : (order : WordOrder) (u v : List ℕ) → Below order u v
+    → Less (spread order u) (spread order v)
 spread-less ShortLex u v less = less
 spread-less (WtLex weights) u v less = repeated-less weights u v less
 
@@ -28,7 +29,8 @@ pub spread-long : (order : WordOrder) (w : List ℕ) → length w ≤ length (sp
 spread-long ShortLex w = omega arith
 spread-long (WtLex weights) w = repeated-long weights w
 
-spread-letters : (order : WordOrder) (w : List ℕ) → All (λ x. x < 2 ^ 16) w → All (λ x. x < 2 ^ 16) (spread order w)
+spread-letters : (order : WordOrder) (w : List ℕ) → All (λ x. x < 2 ^ 16) w
+    → All (λ x. x < 2 ^ 16) (spread order w)
 spread-letters ShortLex w letters = letters
 spread-letters (WtLex weights) w letters = All-repeated (λ x. x < 2 ^ 16) weights w letters
 
@@ -37,7 +39,9 @@ abbrev pub order_rank : WordOrder → List ℕ → ℕ
 order_rank order w = rank (spread order w)
 
 -- it falls along the order, where the letters are below 2^16
-pub order_rank_falls : (order : WordOrder) (u v : List ℕ) → All (λ x. x < 2 ^ 16) u → All (λ x. x < 2 ^ 16) v
+pub order_rank_falls : (order : WordOrder) (u v : List ℕ) → All (λ x. x < 2 ^ 16) u
+    → All (λ x. x < 2 ^ 16) v
     → Below order u v → order_rank order u < order_rank order v
 order_rank_falls order u v g h less =
-    rank_falls (spread order u) (spread order v) (spread-letters order u g) (spread-letters order v h) (spread-less order u v less)
+    rank_falls (spread order u) (spread order v) (spread-letters order u g)
+    (spread-letters order v h) (spread-less order u v less)

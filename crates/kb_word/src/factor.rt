@@ -9,7 +9,8 @@ use crate::word::Word;
 /// Answers `None` exactly where it is no factor.
 pub fn factor_at(word: &Word, factor: &Word) -> Option<usize>
     ensures found { IfSome result (λ place. StandsAt word.now factor.now place) }
-    ensures first { IfSome result (λ place. (earlier : ℕ) → earlier < place → ¬ StandsAt word.now factor.now earlier) }
+    ensures first { IfSome result
+        (λ place. (earlier : ℕ) → earlier < place → ¬ StandsAt word.now factor.now earlier) }
     ensures none { IfNone result (¬ IsFactor word.now factor.now) }
 {
     let (letters, sought) = (word.letters(), factor.letters());

@@ -93,7 +93,9 @@ impl Names {
     /// The letter with this name, and `None` exactly where there is none.
     pub fn number_of(&self, name: &str) -> Option<Letter>
         ensures found { IfSome result (λ letter. name_of self.now letter ≡ Some name.now) }
-        ensures first { IfSome result (λ letter. (earlier : ℕ) → earlier < letter → name_of self.now earlier ≢ Some name.now) }
+        ensures first { IfSome result
+            (λ letter. (earlier : ℕ) → earlier < letter
+            → name_of self.now earlier ≢ Some name.now) }
         ensures none { IfNone result (¬ Contains self.now name.now) }
     {
         let place = self.names.get_index_of(name)?;

@@ -71,5 +71,6 @@ pub fn shortlex_is_a_reduction_order()
 
 /// The rank of words over letters below 2^16 falls along the shortlex order, so it can measure descents.
 pub fn rank_falls_along_shortlex()
-    ensures { (u v : List ℕ) → All (λ x. x < 2 ^ 16) u → All (λ x. x < 2 ^ 16) v → Less u v → rank u < rank v }
+    ensures { (u v : List ℕ) → All (λ x. x < 2 ^ 16) u → All (λ x. x < 2 ^ 16) v → Less u v
+        → rank u < rank v }
 {}

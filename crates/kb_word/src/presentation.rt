@@ -97,7 +97,8 @@ impl Presentation {
     /// The defining relations: the equations in order, and then `x*y = IdWord` for each letter x with an
     /// inverse y, in the order of the letters.
     pub fn relations(&self, alloc: Global) -> Result<Vec<(Word, Word)>, Memory>
-        ensures { IfOk result (λ relations. relations.items ≡ relations_of self.now.inv self.now.eqs) }
+        ensures { IfOk result
+            (λ relations. relations.items ≡ relations_of self.now.inv self.now.eqs) }
     {
         let mut relations = copy_pairs(alloc, self.eqs.as_slice())?;
         for (place, inverse) in self.inv.as_slice().iter().enumerate() {
@@ -122,5 +123,6 @@ fn inverse_relation(alloc: Global, letter: Letter, inverse: Letter) -> Result<(W
 
 /// A word has no inverse exactly where one of its letters has none.
 pub fn none_where_a_letter_has_no_inverse()
-    ensures { (inverses : List (Option ℕ)) (w : List ℕ) → IsNone (inverse_word inverses w) ↔ Any (λ x. inverse_letter inverses x ≡ None) w }
+    ensures { (inverses : List (Option ℕ)) (w : List ℕ)
+        → IsNone (inverse_word inverses w) ↔ Any (λ x. inverse_letter inverses x ≡ None) w }
 {}

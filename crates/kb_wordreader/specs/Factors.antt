@@ -23,7 +23,8 @@ pub record NameFront (names : List (List ℕ)) (text rest letters : List ℕ) : 
 pub record PowerFront (names : List (List ℕ)) (inverses : List (Option ℕ))
     (text rest base letters : List ℕ) : Type 0 where
   pub power : Option ℤ
-  pub onward : (tokens : List Token) → TokensOf rest tokens → TokensOf text (power_tokens power ++ tokens)
+  pub onward : (tokens : List Token) → TokensOf rest tokens
+      → TokensOf text (power_tokens power ++ tokens)
   pub means : power_meaning names inverses power base ≡ Ok letters
 
 -- a factor stands in front, up to its power
@@ -32,7 +33,8 @@ pub record BaseFront (names : List (List ℕ)) (inverses : List (Option ℕ)) (d
   pub tree : Option ℤ → Factor
   pub formed : (power : Option ℤ) → IsFactorTree (tree power)
   pub shallow : (power : Option ℤ) → factor_nesting (tree power) ≤ depth
-  pub onward : (power : Option ℤ) (tokens : List Token) → TokensOf rest (power_tokens power ++ tokens)
+  pub onward : (power : Option ℤ) (tokens : List Token)
+      → TokensOf rest (power_tokens power ++ tokens)
       → TokensOf text (factor_tokens (tree power) ++ tokens)
   pub means : (power : Option ℤ)
       → factor_meaning names inverses (tree power) ≡ power_meaning names inverses power letters
@@ -43,7 +45,8 @@ pub record FactorFront (names : List (List ℕ)) (inverses : List (Option ℕ)) 
   pub tree : Factor
   pub formed : IsFactorTree tree
   pub shallow : factor_nesting tree ≤ depth
-  pub onward : (tokens : List Token) → TokensOf rest tokens → TokensOf text (factor_tokens tree ++ tokens)
+  pub onward : (tokens : List Token) → TokensOf rest tokens
+      → TokensOf text (factor_tokens tree ++ tokens)
   pub means : factor_meaning names inverses tree ≡ Ok letters
 
 -- factors joined by `*` stand in front
@@ -52,7 +55,8 @@ pub record FactorsFront (names : List (List ℕ)) (inverses : List (Option ℕ))
   pub tree : Factors
   pub formed : IsWord tree
   pub shallow : word_nesting tree ≤ depth
-  pub onward : (tokens : List Token) → TokensOf rest tokens → TokensOf text (word_tokens tree ++ tokens)
+  pub onward : (tokens : List Token) → TokensOf rest tokens
+      → TokensOf text (word_tokens tree ++ tokens)
   pub means : product_meaning names inverses [] tree ≡ Ok letters
 
 -- factors joined by `*` and a closing bracket stand in front
@@ -61,5 +65,6 @@ pub record GroupFront (names : List (List ℕ)) (inverses : List (Option ℕ)) (
   pub tree : Factors
   pub formed : IsWord tree
   pub shallow : word_nesting tree < depth
-  pub onward : (tokens : List Token) → TokensOf rest tokens → TokensOf text (word_tokens tree ++ close_round ∷ tokens)
+  pub onward : (tokens : List Token) → TokensOf rest tokens
+      → TokensOf text (word_tokens tree ++ close_round ∷ tokens)
   pub means : product_meaning names inverses [] tree ≡ Ok letters

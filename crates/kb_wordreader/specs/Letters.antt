@@ -8,4 +8,5 @@ letter_of names text = letter_from 1 names text
 
 -- at the place of each ASCII byte stands the letter whose name is that byte alone
 abbrev pub AreByteLetters : List (List ℕ) → List (Option ℕ) → Type 0
-AreByteLetters names letters = (byte : ℕ) → byte < 128 → slice_get letters byte ≡ Some (letter_of names (byte ∷ []))
+AreByteLetters names letters =
+    (byte : ℕ) → byte < 128 → slice_get letters byte ≡ Some (letter_of names (byte ∷ []))

@@ -22,7 +22,8 @@ abbrev pub times_name : List (List ℕ) → List ℕ → List ℕ → Result (Li
 times_name names so_far text = and_then (name_meaning names text) (product so_far)
 
 -- a name was taken: the word goes on with it where there was no fault, and the first fault stays
-abbrev pub Takes : List (List ℕ) → List ℕ → List ℕ → Option WordError → List ℕ → Option WordError → Type 0
+abbrev pub Takes : List (List ℕ) → List ℕ → List ℕ → Option WordError → List ℕ → Option WordError
+    → Type 0
 Takes names so_far text None w None = times_name names so_far text ≡ Ok w
 Takes names so_far text None w (Some fault) = Evaluates (times_name names so_far text) (Err fault)
 Takes names so_far text (Some fault) w next = next ≡ Some fault
@@ -41,8 +42,11 @@ SoFar names inverses w others whole None = whole ≡ product_meaning names inver
 SoFar names inverses w others whole (Some fault) = Evaluates whole (Err fault)
 
 -- names, each with `*` behind it, were read of the bytes
-pub record Passed (names : List (List ℕ)) (bytes rest w : List ℕ) (fault : Option WordError) : Type 0 where
+pub record Passed (names : List (List ℕ)) (bytes rest w : List ℕ)
+    (fault : Option WordError) : Type 0 where
   pub texts : List (List ℕ)
-  pub onward : (tokens : List Token) → TokensOf rest tokens → TokensOf bytes (starred texts ++ tokens)
+  pub onward : (tokens : List Token) → TokensOf rest tokens
+      → TokensOf bytes (starred texts ++ tokens)
   pub means : (inverses : List (Option ℕ)) (others : Factors)
-      → SoFar names inverses w others (product_meaning names inverses [] (before texts others)) fault
+      → SoFar names inverses w others
+      (product_meaning names inverses [] (before texts others)) fault

@@ -38,4 +38,5 @@ pub record OrientedAreNotConfluent (parts : PresentationParts) (u v : List ℕ) 
 
 -- the line that shows it
 abbrev pub no_line : List (List ℕ) → List ℕ → List ℕ → List ℕ
-no_line names u v = codes "no confluent " ++ (text_of_word names u ++ 32 ∷ (text_of_word names v ++ newline ∷ []))
+no_line names u v =
+    codes "no confluent " ++ (text_of_word names u ++ 32 ∷ (text_of_word names v ++ newline ∷ []))

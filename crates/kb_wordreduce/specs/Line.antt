@@ -9,7 +9,8 @@ command_names = codes "wordreduce" ∷ []
 
 -- `wordreduce FILE`
 abbrev pub wordreduce_app : App
-wordreduce_app = with_rule (with_rule (new_app (codes "wordreduce")) (needed_rule (codes "file"))) workers_rule
+wordreduce_app =
+    with_rule (with_rule (new_app (codes "wordreduce")) (needed_rule (codes "file"))) workers_rule
 
 -- a program with the command added
 abbrev pub with_wordreduce : App → App
@@ -22,7 +23,8 @@ pub record GivesWordReduce (rows : List Row) (given : Given) : Type 0 where
 
 -- the subcommand that was entered is the command
 abbrev pub IsWordReduce : Entered → Given → Type 0
-IsWordReduce entered given = IsEntered entered (codes "wordreduce") (λ rows. GivesWordReduce rows given)
+IsWordReduce entered given =
+    IsEntered entered (codes "wordreduce") (λ rows. GivesWordReduce rows given)
 
 -- what is read of the argument and the option: the command, or none where they give none
 abbrev pub GivenAs : List Row → Option Given → Type 0

@@ -6,7 +6,8 @@ use Rattle.kb_word.specs.Relations.{IsOrientation, Orients, none_left, equal_sid
 
 module _ {below : List ℕ → List ℕ → Type 0} (order : IsReductionOrder below) where
   -- one orientation at most
-  pub one_orientation : (pair one other : Pair) → IsOrientation below pair one → IsOrientation below pair other
+  pub one_orientation : (pair one other : Pair) → IsOrientation below pair one
+      → IsOrientation below pair other
       → one ≡ other
   one_orientation pair one other a b = elim a.1 [
     | inl as_is ↦ elim b.1 [
@@ -36,8 +37,10 @@ module _ {below : List ℕ → List ℕ → Type 0} (order : IsReductionOrder be
   abbrev pub Inverted : List Pair → List Pair → List Pair → Type 0
   Inverted standing [] rules = rules ≡ []
   Inverted standing (pair ∷ rest) rules = ((pair.0 ≡ pair.1) × Orients below standing rest rules)
-      ⊎ (((rule : Pair) × IsOrientation below pair rule × OneOf standing rule × Orients below standing rest rules)
-      ⊎ ((rule : Pair) × (more : List Pair) × IsOrientation below pair rule × (¬ OneOf standing rule)
+      ⊎ (((rule : Pair) × IsOrientation below pair rule × OneOf standing rule
+      × Orients below standing rest rules)
+      ⊎ ((rule : Pair) × (more : List Pair) × IsOrientation below pair rule
+      × (¬ OneOf standing rule)
       × Orients below (standing ++ rule ∷ []) rest more × (rules ≡ rule ∷ more)))
 
   inverted : {standing relations rules : List Pair} → Orients below standing relations rules
@@ -45,21 +48,25 @@ module _ {below : List ℕ → List ℕ → Type 0} (order : IsReductionOrder be
   inverted none_left = refl
   inverted (equal_sides h) = inl (refl, h)
   inverted (repeated {rule = rule} is stands h) = inr (inl (rule, is, stands, h))
-  inverted (added {rules = rules} {rule = rule} is fresh h) = inr (inr (rule, rules, is, fresh, h, refl))
+  inverted (added {rules = rules} {rule = rule} is fresh h) =
+      inr (inr (rule, rules, is, fresh, h, refl))
 
   not_equal : (pair rule : Pair) → pair.0 ≡ pair.1 → ¬ IsOrientation below pair rule
   not_equal pair rule same is =
-      equal_not_oriented pair.0 rule (subst (λ r. IsOrientation below (pair.0, r) rule) (sym same) is)
+      equal_not_oriented pair.0 rule
+      (subst (λ r. IsOrientation below (pair.0, r) rule) (sym same) is)
 
   -- relations are oriented in one way
-  pub one_orienting : (standing relations one other : List Pair) → Orients below standing relations one
+  pub one_orienting : (standing relations one other : List Pair)
+      → Orients below standing relations one
       → Orients below standing relations other → one ≡ other
   one_orienting standing [] one other a b = inverted a ∙ sym (inverted b)
   one_orienting standing (pair ∷ rest) one other a b =
       by_cases (λ s u v g h. one_orienting s rest u v g h) (inverted a) (inverted b)
     where
       by_cases : ((s u v : List Pair) → Orients below s rest u → Orients below s rest v → u ≡ v)
-          → Inverted standing (pair ∷ rest) one → Inverted standing (pair ∷ rest) other → one ≡ other
+          → Inverted standing (pair ∷ rest) one → Inverted standing (pair ∷ rest) other
+          → one ≡ other
       by_cases again (inl g) (inl h) = again standing one other g.1 h.1
       by_cases again (inl g) (inr (inl h)) = absurd (not_equal pair h.0 g.0 h.1)
       by_cases again (inl g) (inr (inr h)) = absurd (not_equal pair h.0 g.0 h.2)

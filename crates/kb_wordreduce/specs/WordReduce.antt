@@ -27,7 +27,8 @@ streams_of moment = streams moment.input moment.output
 -- the oriented relations are confluent, and the answers to the word lines stopped so
 abbrev pub LinesStop : PresentationParts → Outside → Outside → Stop → Type 0
 LinesStop parts before after stop =
-    OrientedAreConfluent parts × Stops parts (IsLeastIn parts) (streams_of before) (streams_of after) stop
+    OrientedAreConfluent parts
+    × Stops parts (IsLeastIn parts) (streams_of before) (streams_of after) stop
 
 -- a front of the line that a no writes was written
 pub record FrontOfNo (parts : PresentationParts) (before after : Outside) : Type 0 where
@@ -39,20 +40,25 @@ pub record FrontOfNo (parts : PresentationParts) (before after : Outside) : Type
 -- What each status means once the file has been read as this presentation.
 abbrev pub AnswersMean : PresentationParts → Outside → Outside → Status → Type 0
 AnswersMean parts before after Yes =
-    OrientedAreConfluent parts × AllAnswered parts (IsLeastIn parts) (streams_of before) (streams_of after)
+    OrientedAreConfluent parts
+    × AllAnswered parts (IsLeastIn parts) (streams_of before) (streams_of after)
 AnswersMean parts before after (No (NotConfluent u v)) =
     OrientedAreNotConfluent parts u v × Writes (no_line parts.names u v) before after
-AnswersMean parts before after (Refused (Line number fault)) = LinesStop parts before after (stops.Refused number fault)
+AnswersMean parts before after (Refused (Line number fault)) =
+    LinesStop parts before after (stops.Refused number fault)
 AnswersMean parts before after (Refused InputTooLong) = LinesStop parts before after stops.TooLong
 AnswersMean parts before after (Fault Input) = LinesStop parts before after stops.Input
-AnswersMean parts before after (Fault Output) = FrontOfNo parts before after ⊎ LinesStop parts before after stops.Output
-AnswersMean parts before after Memory = IsUnchanged before after ⊎ LinesStop parts before after stops.Memory
+AnswersMean parts before after (Fault Output) =
+    FrontOfNo parts before after ⊎ LinesStop parts before after stops.Output
+AnswersMean parts before after Memory =
+    IsUnchanged before after ⊎ LinesStop parts before after stops.Memory
 AnswersMean parts before after _ = ⊥
 
 -- What each status means: the run ended at the load of the file, or the file holds a presentation.
 abbrev pub WordReduceMeans : Given → Outside → Outside → Status → Type 0
 WordReduceMeans given before after status =
-    (EndsAtLoad (IsPresentationFault before.shelf.holds given.file) given.file status × IsUnchanged before after)
+    (EndsAtLoad (IsPresentationFault before.shelf.holds given.file) given.file status
+    × IsUnchanged before after)
     ⊎ ((parts : PresentationParts) × HoldsPresentation before.shelf.holds given.file parts
     × AnswersMean parts before after status)
 

@@ -19,7 +19,8 @@ impl Model for FailingCalls {
 
     ghost Value = { Calls };
 
-    ghost view = { λ it. record { failing = it.numbers.items; made = it.made; faults = it.failed } };
+    ghost view = { λ it.
+        record { failing = it.numbers.items; made = it.made; faults = it.failed } };
 
     ghost invariant = { λ it. it.failed ≤ it.made };
 }
