@@ -15,7 +15,7 @@ use Rattle.kb_task.specs.declared.status.Status.{Status}
 use Rattle.kb_task.specs.declared.status.Status.TheVariants.{Yes}
 use Rattle.kb_task.proofs.LoadEnds.{same_bytes, one_tree}
 use Rattle.kb_completed.specs.Completed.{IsCompletion, below}
-use Rattle.kb_completion.specs.SortedLaws.{sorted_same}
+use Rattle.kb_reduced.proofs.Sorted.{sorted_same}
 
 -- a run that answered yes answered
 pub yes-conclusive : (status : Status) → IsYes status → IsConclusive status

@@ -1,7 +1,7 @@
 mod Factors
 mod Joining
 mod Least
-mod Sorted
+pub mod Sorted
 mod Complete
 mod Covering
 mod Found
