@@ -3,14 +3,17 @@
 //! That a call succeeds where there is memory is stated by no contract, since want of memory is an
 //! answer that is free. Calls that the program makes are shown by the worked cases (`kb_cases`);
 //! the others are called here. `words` has words, presentations and reducers, `records` printed
-//! records, `automata` automata and the time that the canonical form of many states takes, and
-//! `outside` the adapters over real files and streams.
+//! records, `automata` automata and the time that the canonical form of many states takes,
+//! `exploration` the least text that a machine accepts, and `outside` the adapters over real files
+//! and streams.
 //!
 //! Below are the libraries that are tested; nothing is above.
 #![tactic(auto)]
 
 #[cfg(test)]
 mod automata;
+#[cfg(test)]
+mod exploration;
 #[cfg(test)]
 mod outside;
 #[cfg(test)]

@@ -71,19 +71,34 @@ MoreThan-numbered {Same} {m} Numbers number same more =
     ]) in
     omega arith
 
+-- texts that lead to states of a list don't lead to more states than the list has
+pub no_more_among : {S : Type 0} {Counts : List ℕ → Type 0} (machine : Machine S) (states : List S) (m : ℕ) → length states ≤ m
+    → ((text : List ℕ) → Counts text
+    → (place : ℕ) × ((state : S) × ((leads machine text ≡ Some state) × (slice_get states place ≡ Some state))))
+    → ¬ MoreThan Counts (λ text other. leads machine text ≡ leads machine other) m
+no_more_among {S} machine states m le listed =
+    MoreThan-numbered (λ text place. (state : S) × ((leads machine text ≡ Some state) × (slice_get states place ≡ Some state)))
+    (λ text counts.
+    let at = listed text counts in
+    let within = slice_get_within states at.0 at.1.0 at.1.1.1 in
+    (at.0, (omega arith, at.1)))
+    (λ text other place one two. one.1.0 ∙ sym one.1.1 ∙ two.1.1 ∙ sym two.1.0)
+
+-- a text that leads somewhere leads to a state
+pub some_state : {S : Type 0} (machine : Machine S) (text : List ℕ) → IsSome (leads machine text)
+    → (state : S) × (leads machine text ≡ Some state)
+some_state {S} machine text some = by (leads machine text) refl some
+  where
+    by : (o : Option S) → leads machine text ≡ o → IsSome o → (state : S) × (leads machine text ≡ Some state)
+    by None e is = absurd (let no : ⊥ = cc in no)
+    by (Some state) e is = (state, e)
+
 -- a machine whose texts lead to states of a list doesn't have more states than the list
 pub no_more_states : {S : Type 0} (machine : Machine S) (states : List S) (m : ℕ) → length states ≤ m
     → ((text : List ℕ) (state : S) → leads machine text ≡ Some state → (place : ℕ) × (slice_get states place ≡ Some state))
     → ¬ HasMoreStates machine m
-no_more_states {S} machine states m le listed =
-    MoreThan-numbered (λ text place. (state : S) × ((leads machine text ≡ Some state) × (slice_get states place ≡ Some state)))
-    (λ text some. some_state text (leads machine text) refl some)
-    (λ text other place one two. one.1.0 ∙ sym one.1.1 ∙ two.1.1 ∙ sym two.1.0)
-  where
-    some_state : (text : List ℕ) (o : Option S) → leads machine text ≡ o → IsSome o
-        → (place : ℕ) × ((place < m) × ((state : S) × ((leads machine text ≡ Some state) × (slice_get states place ≡ Some state))))
-    some_state text None e some = absurd (let no : ⊥ = cc in no)
-    some_state text (Some state) e some =
-        let at = listed text state e in
-        let within = slice_get_within states at.0 state at.1 in
-        (at.0, (omega arith, (state, (e, at.1))))
+no_more_states machine states m le listed =
+    no_more_among machine states m le (λ text some.
+    let is = some_state machine text some in
+    let at = listed text is.0 is.1 in
+    (at.0, (is.0, (is.1, at.1))))

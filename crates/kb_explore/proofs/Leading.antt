@@ -1,7 +1,9 @@
 -- Words that lead to different states.
 use Rattle.std.proofs.Common.{◌≡◌, ℕ, ◌<◌, List, [], ◌∷◌, ◌++◌, length, get_or, slice_get, is_some, Option, Some, None, refl, sym, ap, ◌∙◌, inl, inr, arith, length-append}
-use Rattle.std.proofs.lemmas.Option.{same_Some, get_or_from_slice_get, slice_get_within}
-use Rattle.kb_explore.specs.Machine.{Machine, lead, leads, HasMoreStates}
+use Rattle.std.proofs.lemmas.Option.{same_Some, get_or_from_slice_get, slice_get_within, slice_get-get_or}
+use Rattle.kb_word.specs.Words.{Less}
+use Rattle.kb_explore.specs.Machine.{Machine, MachineAccepts, lead, leads, HasMoreStates}
+use Rattle.kb_explore.specs.FirstAccepted.{HasMoreStatesBefore}
 use Rattle.kb_explore.specs.Progress.{AreDistinct, LeadTo}
 use Rattle.kb_explore.proofs.Lists.{item_within, item_cases}
 
@@ -66,4 +68,18 @@ module _ {S : Type 0} {machine : Machine S} {words : List (List ℕ)} {states : 
             let alike : two.0 ≡ one.0 = same_Some two.0 one.0 (sym two.1.1 ∙ sym same ∙ one.1.1) in
             let place : i ≡ j = distinct i j one.0 one.1.0 (two.1.0 ∙ ap (λ x. Some x) alike) in
             omega arith;
+      }
+
+  -- and where no text before one of the words is accepted, they do so up to the first accepted text
+  pub has_more_states_before : (m : ℕ) → AreDistinct states → m < length states
+      → ((place : ℕ) (word other : List ℕ) → slice_get words place ≡ Some word → Less other word → ¬ MachineAccepts machine other)
+      → HasMoreStatesBefore machine m
+  unfolding has_more_states
+  has_more_states_before m distinct more first =
+      let all = has_more_states m distinct more in record {
+        texts = words;
+        many = all.many;
+        count = λ place d within.
+            (all.count place d within, λ other. first place (get_or words place d) other (slice_get-get_or words place d within));
+        differ = all.differ;
       }

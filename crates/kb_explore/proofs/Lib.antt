@@ -10,3 +10,5 @@ mod Traces
 mod Starting
 mod Finishing
 mod OtherAnswers
+mod Reached
+mod Searches

@@ -4,10 +4,11 @@ use Rattle.std.specs.List.{All, AllZip}
 use Rattle.std.specs.Option.{unwrap_or}
 use Rattle.std.proofs.lemmas.Bool.{cases_eq}
 use Rattle.std.proofs.lemmas.List.{get_or-take, get_or_default, map-id}
+use Rattle.std.proofs.lemmas.List.Elements.{All-cons, All-weaker}
 use Rattle.std.proofs.lemmas.Option.{none-some, same_Some}
 use Rattle.kb_word.specs.Words.{Less}
-use Rattle.kb_fsa.specs.Table.{Moves, IsRow, lookup, target}
-use Rattle.kb_fsa.proofs.Lookups.{lookup_here, lookup_there, lookup_at}
+use Rattle.kb_fsa.specs.Table.{Moves, IsRow, Ascends, lookup, target}
+use Rattle.kb_fsa.proofs.Lookups.{lookup_here, lookup_there, lookup_at, lookup_below, Ascends-head, Ascends-tail}
 use Rattle.kb_explore.specs.Machine.{Machine, AreMovesOf}
 use Rattle.kb_explore.specs.Exploration.{numbered}
 use Rattle.kb_explore.specs.Progress.{IsNumbered}
@@ -36,6 +37,22 @@ module _ {S : Type 0} {machine : Machine S} {k : ℕ} {state : S} {moves : List 
       let right = ap (λ (move : ℕ × S). move.0) default in
       omega arith
 
+-- what stands before an entry is found among those before it
+lookup_before : {X : Type 0} (entries : List (ℕ × X)) (place x : ℕ) (y : X) (d : ℕ × X) → Ascends entries → place < length entries
+    → x < (get_or entries place d).0 → lookup entries x ≡ Some y → lookup (take place entries) x ≡ Some y
+lookup_before [] place x y d ascends within less found = absurd (none-some y found)
+lookup_before {X} (entry ∷ rest) zero x y d ascends within less found =
+    let above = All-weaker (λ (later : ℕ × X). entry.0 < later.0) (λ later. x < later.0) (λ later behind. omega arith) rest
+    (Ascends-head entry rest ascends) in
+    absurd (none-some y (sym (lookup_below (entry ∷ rest) x (All-cons (λ (e : ℕ × X). x < e.0) entry rest less above)) ∙ found))
+lookup_before (entry ∷ rest) (suc place) x y d ascends within less found =
+    elim (cases_eq entry.0 x) [
+      | inl same ↦ lookup_here entry (take place rest) x same ∙ sym (lookup_here entry rest x same) ∙ found
+      | inr differ ↦
+          lookup_there entry (take place rest) x differ
+          ∙ lookup_before rest place x y d (Ascends-tail entry rest ascends) (omega arith) less (sym (lookup_there entry rest x differ) ∙ found)
+    ]
+
 -- the moves are those of the state that was read at its place
 
 module _ {S : Type 0} {machine : Machine S} {k : ℕ} (states : List S) (place : ℕ) (state read : S) (moves passed : List (ℕ × S))
@@ -43,12 +60,26 @@ module _ {S : Type 0} {machine : Machine S} {k : ℕ} (states : List S) (place :
   moves_at : AreMovesOf machine k state moves
   moves_at = let P : S → Type 0 = λ s. AreMovesOf machine k s moves in subst P (same_Some read state (sym there ∙ at)) are_moves
 
+  -- those by lesser symbols are passed before the next of them
+  passed_before : (symbol : ℕ) (target : S) → map (λ move. move) passed ≡ take (length passed) moves
+      → (length passed < length moves) × ((symbol, target) ≡ get_or moves (length passed) (symbol, target))
+      → (x : ℕ) (next : S) → x < symbol → machine.follow state x ≡ Some next → lookup passed x ≡ Some next
+  passed_before symbol target front turn x next less on =
+      let number = ap (λ (move : ℕ × S). move.0) turn.1 in
+      let own = moves_at in
+      ap (λ xs. lookup xs x) (sym (map-id passed) ∙ front)
+      ∙ lookup_before moves (length passed) x next (symbol, target) own.ascends turn.0 (omega arith) (own.follow x ∙ on)
+
   -- the next of them
   pub next_move : (symbol : ℕ) (target : S) → map (λ move. move) passed ≡ take (length passed) moves
       → (length passed < length moves) × ((symbol, target) ≡ get_or moves (length passed) (symbol, target))
       → (machine.follow state symbol ≡ Some target) × All (λ move. move.0 < symbol) passed
-  next_move symbol target front turn =
-      (follows_here moves_at passed symbol target turn.0 turn.1, above_passed moves_at passed symbol target turn.0 turn.1 front)
+      × ((x : ℕ) (next : S) → x < symbol → machine.follow state x ≡ Some next → lookup passed x ≡ Some next)
+  next_move symbol target front turn = (
+    follows_here moves_at passed symbol target turn.0 turn.1,
+    above_passed moves_at passed symbol target turn.0 turn.1 front,
+    passed_before symbol target front turn,
+  )
 
   -- all of them
   pub all_moves : map (λ move. move) passed ≡ moves → AreMovesOf machine k state passed

@@ -3,10 +3,11 @@ use Rattle.std.proofs.Common.{◌≡◌, ℕ, zero, suc, ◌<◌, List, [], ◌�
 use Rattle.std.proofs.lemmas.Option.{none-some, same_Some}
 use Rattle.kb_word.specs.Words.{Less}
 use Rattle.kb_explore.specs.Machine.{Machine, lead, leads, HasMoreStates}
+use Rattle.kb_explore.specs.FirstAccepted.{HasMoreStatesBefore}
 use Rattle.kb_explore.specs.Exploration.{numbered, IsTraced, at_start}
 use Rattle.kb_explore.specs.Progress.{Numbers, known, added, IsOneTooMany, LeadTo, Progress}
-use Rattle.kb_explore.proofs.Continuations.{empty_before}
-use Rattle.kb_explore.proofs.Leading.{has_more_states}
+use Rattle.kb_explore.proofs.Continuations.{empty_before, nothing_before_empty}
+use Rattle.kb_explore.proofs.Leading.{has_more_states, has_more_states_before}
 
 -- nothing is seen where the machine has no start
 pub Progress-none : {S : Type 0} (machine : Machine S) (k : ℕ) → machine.start ≡ None → Progress machine k [] [] []
@@ -100,3 +101,9 @@ module _ {S : Type 0} (machine : Machine S) (k : ℕ) (state : S) (start : machi
   -- and is too many where none is allowed
   pub too_many_at_start : (limit : ℕ) → IsOneTooMany limit [] state → HasMoreStates machine limit
   too_many_at_start limit more = has_more_states starts limit more.distinct more.more
+
+  pub too_many_before : (limit : ℕ) → IsOneTooMany limit [] state → HasMoreStatesBefore machine limit
+  too_many_before limit more =
+      has_more_states_before starts limit more.distinct more.more
+      (λ place word other at less _. (
+      let P : List ℕ → Type 0 = λ u. Less other u in nothing_before_empty other (subst P (only_item [] place word at).1 less)))

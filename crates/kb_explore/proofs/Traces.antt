@@ -11,6 +11,21 @@ traced_origin : {origins : List (ℕ × ℕ)} {state : ℕ} {text : List ℕ} �
 traced_origin (at_start e) = ((0, 0), e)
 traced_origin (along {parent} {symbol} e rest) = ((suc parent, symbol), e)
 
+-- one text is traced to a state
+pub traced_once : {origins : List (ℕ × ℕ)} {state : ℕ} {text other : List ℕ} → IsTraced origins state text → IsTraced origins state other
+    → text ≡ other
+traced_once (at_start one) (at_start two) = refl
+traced_once (at_start one) (along {parent = parent} {symbol = symbol} two rest) =
+    absurd (let e = ap (λ (p : ℕ × ℕ). p.0) (same_Some _ _ (sym one ∙ two)) in let no : ⊥ = omega arith in no)
+traced_once (along {parent = parent} {symbol = symbol} one rest) (at_start two) =
+    absurd (let e = ap (λ (p : ℕ × ℕ). p.0) (same_Some _ _ (sym one ∙ two)) in let no : ⊥ = omega arith in no)
+traced_once {origins} (along {parent = parent} {symbol = symbol} {text = text} one rest) (along {parent = other} {symbol = letter} {text = word} two more) =
+    let e = same_Some _ _ (sym one ∙ two) in
+    let numbers = ap (λ (p : ℕ × ℕ). p.0) e in
+    let parents : parent ≡ other = omega arith in
+    let P : ℕ → Type 0 = λ p. IsTraced origins (suc p) word in
+    ap (λ t. t ++ symbol ∷ []) (traced_once rest (subst P (sym parents) more)) ∙ ap (λ x. word ++ x ∷ []) (ap (λ (p : ℕ × ℕ). p.1) e)
+
 pub traced_positive : {origins : List (ℕ × ℕ)} {state : ℕ} {text : List ℕ} → IsTraced origins state text → 0 < state
 traced_positive {origins} {state} traced = let origin = traced_origin traced in number_positive origins state origin.0 origin.1
 

@@ -1,4 +1,6 @@
 pub mod Machine
 pub mod Exploration
+pub mod FirstAccepted
 pub mod Progress
+pub mod Search
 pub mod Tracing

@@ -1,6 +1,7 @@
 //! The states that are seen so far.
 
 ghost use Rattle.std.specs.Prelude.{◌≡◌, ◌≤◌, ℕ, Err, [], IfOk, OnOk};
+ghost use Rattle.kb_explore.specs.FirstAccepted.{HasMoreStatesBefore};
 ghost use Rattle.kb_explore.specs.Machine.{HasMoreStates};
 ghost use Rattle.kb_explore.specs.Progress.{AreDistinct, HasNumber, IsOneTooMany, IsUnderWay, seen_count};
 ghost use Rattle.kb_explore.specs.declared.det.Det.TheVariants.{TooManyStates};
@@ -27,6 +28,8 @@ pub fn start<M: Machine>(alloc: Global, machine: &M, limit: u32) -> Result<Seen<
     ensures room { IfOk result (λ seen. seen_count seen ≤ limit) }
     ensures many { (most : ℕ) → result ≡ Err (TooManyStates most)
         → (most ≡ limit) × HasMoreStates (M.machine machine.now) limit }
+    ensures before { (most : ℕ) → result ≡ Err (TooManyStates most)
+        → HasMoreStatesBefore (M.machine machine.now) limit }
 {
     let mut seen = Seen {
         states: IndexSet::new(alloc),

@@ -2,7 +2,7 @@ use Rattle.std.proofs.Common.{◌≡◌, ℕ, List, [], Err, sym, ap, subst, ◌
 use Rattle.std.proofs.lemmas.Result.{err_from_is_err_and}
 use Rattle.kb_explore.specs.declared.det.Det.TheVariants.{TooManyStates}
 use Rattle.kb_explore.specs.Progress.{Numbers, IsOneTooMany}
-use Rattle.kb_explore.proofs.Starting.{Progress-none, Progress-started, too_many_at_start}
+use Rattle.kb_explore.proofs.Starting.{Progress-none, Progress-started, too_many_at_start, too_many_before}
 use Rattle.kb_explore.proofs.seen.start.Goals as goal
 
 pub returns-in_default-clause-progress : goal.returns-in_default-clause-progress
@@ -20,6 +20,15 @@ returns-in_err-number-clause-many g c most e =
       too_many_at_start (g.M.Machine.machine c.args.machine.now) (g.M.Machine.symbols c.args.machine.now) c.in-Some.state
           (sym c.in_ok-state.ensures ∙ c.in-Some.is) c.args.limit (subst P c.new.ensures.empty answer.1),
     )
+
+pub returns-in_err-number-clause-before : goal.returns-in_err-number-clause-before
+returns-in_err-number-clause-before g c most e =
+    let exit = err_from_is_err_and c.from_residual-in_err-number.result c.from_residual-in_err-number.ensures.1 in
+    let same : c.in_err-number.field-0.0 ≡ TooManyStates most = cc (exit.1, exit.2, e) in
+    let answer = c.in_err-number.ensures.many most (ap (λ det. Err det) same) in
+    let P : List g.row.M-State.Denot → Type 0 = λ xs. IsOneTooMany c.args.limit xs c.in-Some.state in
+    too_many_before (g.M.Machine.machine c.args.machine.now) (g.M.Machine.symbols c.args.machine.now) c.in-Some.state
+    (sym c.in_ok-state.ensures ∙ c.in-Some.is) c.args.limit (subst P c.new.ensures.empty answer.1)
 
 pub returns-clause-progress : goal.returns-clause-progress
 returns-clause-progress g c =
