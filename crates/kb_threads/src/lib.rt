@@ -20,7 +20,8 @@
 //! holds a part.
 //!
 //! A worker draws jobs from one counter (`kb_draw`), looks at the version that was published last
-//! without the lock (`kb_publish`), sifts by it, and takes the lock only to enter what is apart.
+//! without the lock (`kb_publish`), sifts by it, and takes the lock only to enter what is apart,
+//! which it keeps while the lock is held by another, to the end of its look at most.
 //! The caller's own thread is a worker too, and lets the book advance between its jobs, where
 //! enough is pending. Nothing is said of who does which job, or in which order: which overlaps are
 //! entered is left open, and the check for confluence in the end finds what was left out.

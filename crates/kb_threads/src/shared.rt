@@ -1,6 +1,6 @@
 //! A completion that workers share.
 
-ghost use Rattle.std.specs.Prelude.{◌≡◌, ◌+◌, ◌≤◌, ◌<◌, [], ◌∷◌, ◌++◌, length, All, IfOk, IfErr, OnOk, OnErr};
+ghost use Rattle.std.specs.Prelude.{◌≡◌, ◌+◌, ◌≤◌, ◌<◌, [], ◌∷◌, ◌++◌, length, All, IfOk, IfErr, OnOk, OnErr, IfSome, IfNone};
 ghost use Rattle.kb_settle.specs.Later.{IsLater, entries};
 ghost use Rattle.kb_threads.specs.Shared.{IsNoOverlap, PublishesBy, entered_by};
 ghost use Rattle.kb_threads.specs.declared.answers.ShareFault.TheVariants.{NotOverlap};
@@ -57,6 +57,26 @@ impl<R: Reducer, S: Sharing> Shared<R, S> {
         ensures no_overlap { IfErr result (λ fault. fault ≡ NotOverlap → IsNoOverlap S.given one.now) }
     {
         self.locked.lock(rt).enter(pass, one)
+    }
+
+    /// Enters an overlap of two lines for a worker where the lock is free; `None` where it isn't.
+    pub(crate) fn enter_if_free(
+        &self,
+        pass: &mut Pass<S>,
+        one: &Found,
+    ) -> Option<Result<(), ShareFault>>
+        ensures worker { pass.new.worker ≡ pass.old.worker }
+        ensures ok { IfSome result
+            (λ done. OnOk done (pass.new.entered ≡ pass.old.entered + 1)) }
+        ensures err { IfSome result (λ done. OnErr done (pass.new.entered ≡ pass.old.entered)) }
+        ensures waits { IfNone result (pass.new.entered ≡ pass.old.entered) }
+        ensures no_overlap { IfSome result (λ done. IfErr done (λ fault.
+            fault ≡ NotOverlap → IsNoOverlap S.given one.now)) }
+    {
+        match self.locked.try_lock() {
+            Some(mut locked) => Some(locked.enter(pass, one)),
+            None => None,
+        }
     }
 
     /// Whether enough is pending for the book to advance now.

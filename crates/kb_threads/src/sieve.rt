@@ -1,6 +1,6 @@
 //! What a worker sifts with.
 
-ghost use Rattle.std.specs.Prelude.{◌≡◌, IfOk};
+ghost use Rattle.std.specs.Prelude.{◌≡◌, ◌<◌, length, drop, IsSome, IfOk};
 
 use crate::jobs::JobSeat;
 use kb_overlap::{LeftSides, Overlap};
@@ -8,14 +8,16 @@ use kb_rules::Reducer;
 use kb_share::{Found, Sifter, Version, apart_in_row};
 use kb_word::Memory;
 use std::alloc::Global;
+use std::collections::VecDeque;
 
-/// Memory that a worker keeps from one job to the next.
+/// What a worker keeps from one job to the next: memory, and what it has found and not entered yet.
 #[derive(Drop)]
 pub(crate) struct Sieve {
     alloc: Global,
     sifter: Sifter,
     overlaps: Vec<Overlap>,
-    found: Vec<Found>,
+    apart: Vec<Found>,
+    found: VecDeque<Found>,
 }
 
 impl Sieve {
@@ -25,7 +27,8 @@ impl Sieve {
             alloc,
             sifter: Sifter::new(alloc),
             overlaps: Vec::new(alloc),
-            found: Vec::new(alloc),
+            apart: Vec::new(alloc),
+            found: VecDeque::new(alloc),
         }
     }
 
@@ -39,31 +42,51 @@ impl Sieve {
         LeftSides::of(self.alloc, version.rules().as_slice())
     }
 
-    /// Finds what is apart of the overlaps in which this line begins first, if the version has it.
-    /// The second line is one of the pass's lines too: newer ones wait for the next pass.
+    /// Finds what is apart of the overlaps in which this line begins first, if the version has it,
+    /// and keeps it behind what was found before. The second line is one of the pass's lines too:
+    /// newer ones wait for the next pass.
     pub(crate) fn sift<R: Reducer>(
         &mut self,
         version: &Version<R>,
         left_sides: &LeftSides<'_>,
         line: u32,
         seat: &JobSeat<'_>,
-    ) -> Result<&[Found], Memory>
+    ) -> Result<(), Memory>
         requires { left_sides.now ≡ version.now.rules }
     {
         let Sieve {
             alloc: _,
             sifter,
             overlaps,
+            apart,
             found,
         } = self;
-        found.clear();
         let Ok(index) = version.numbers().binary_search(&line) else {
-            return Ok(&*found);
+            return Ok(());
         };
         let first = &version.rules().as_slice()[index];
         left_sides.overlaps(first.left(), overlaps)?;
-        apart_in_row(version, index, first, overlaps, sifter, found)?;
-        found.retain(|one| seat.has(one.second));
-        Ok(&*found)
+        apart.clear();
+        apart_in_row(version, index, first, overlaps, sifter, apart)?;
+        for one in apart.as_slice() {
+            if seat.has(one.second) {
+                found.push_back(*one)?;
+            }
+        }
+        Ok(())
+    }
+
+    /// The first of what was found and isn't entered yet.
+    pub(crate) fn first_found(&self) -> Option<Found>
+        ensures { IsSome result → 0 < length self.now.found.items }
+    {
+        self.found.front().copied()
+    }
+
+    /// Lets that one go.
+    pub(crate) fn remove_first(&mut self)
+        ensures { self.new.found.items ≡ drop 1 self.old.found.items }
+    {
+        self.found.pop_front();
     }
 }

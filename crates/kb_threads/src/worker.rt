@@ -9,7 +9,7 @@ use crate::sieve::Sieve;
 use kb_io::{Gate, Point};
 use kb_publish::{Publisher, RuledGlass, VersionReader};
 use kb_rules::Reducer;
-use kb_share::{Found, Version};
+use kb_share::Version;
 use kb_word::Memory;
 use std::alloc::Global;
 use std::sync::Wait;
@@ -129,8 +129,9 @@ impl<'j, R: Reducer, S: Sharing> Worker<'j, R, S> {
     }
 }
 
-/// Draws some jobs and does them by this version. What a job finds is entered before the next is
-/// drawn. So a look may wait for the lock, but nobody who holds the lock waits for a look to end.
+/// Draws some jobs and does them by this version. What they find is entered once the lock is free,
+/// and at the latest after the last of them, so a worker goes on while the book is settled. Its look
+/// may wait for the lock, but nobody who holds the lock waits for a look to end.
 fn do_jobs<R: Reducer, S: Sharing, G: Gate, T: Wait>(
     rt: &T,
     shared: &Shared<R, S>,
@@ -141,32 +142,54 @@ fn do_jobs<R: Reducer, S: Sharing, G: Gate, T: Wait>(
     sieve: &mut Sieve,
 ) -> Result<Left, Memory> {
     let left_sides = sieve.sorted(version)?;
+    let mut left = Left::Some;
     for _ in 0..MOST_JOBS {
         gate.at(pass.worker(), Point::Draw);
         let Some(line) = seat.next() else {
-            return Ok(Left::None);
+            left = Left::None;
+            break;
         };
         gate.at(pass.worker(), Point::Sift);
-        let found = sieve.sift(version, &left_sides, line, seat)?;
-        enter_all(rt, shared, gate, pass, found)?;
+        sieve.sift(version, &left_sides, line, seat)?;
+        enter_if_free(shared, gate, pass, sieve)?;
     }
-    Ok(Left::Some)
+    enter_all(rt, shared, gate, pass, sieve)?;
+    Ok(left)
 }
 
-/// Enters overlaps, one after another. What is no overlap of the book's lines is left out, though
-/// versions have none such.
+/// Enters what was found, one after another, while the lock is free.
+fn enter_if_free<R: Reducer, S: Sharing, G: Gate>(
+    shared: &Shared<R, S>,
+    gate: &G,
+    pass: &mut Pass<S>,
+    sieve: &mut Sieve,
+) -> Result<(), Memory> {
+    while let Some(one) = sieve.first_found() {
+        gate.at(pass.worker(), Point::Enter);
+        match shared.enter_if_free(pass, &one) {
+            Some(Err(ShareFault::Memory)) => return Err(Memory),
+            // What is no overlap of the book's lines is left out, though versions have none such.
+            Some(_) => sieve.remove_first(),
+            None => return Ok(()),
+        }
+    }
+    Ok(())
+}
+
+/// Enters what was found, one after another, and waits for the lock.
 fn enter_all<R: Reducer, S: Sharing, G: Gate, T: Wait>(
     rt: &T,
     shared: &Shared<R, S>,
     gate: &G,
     pass: &mut Pass<S>,
-    found: &[Found],
+    sieve: &mut Sieve,
 ) -> Result<(), Memory> {
-    for one in found {
+    while let Some(one) = sieve.first_found() {
         gate.at(pass.worker(), Point::Enter);
-        if shared.enter(rt, pass, one) == Err(ShareFault::Memory) {
+        if shared.enter(rt, pass, &one) == Err(ShareFault::Memory) {
             return Err(Memory);
         }
+        sieve.remove_first();
     }
     Ok(())
 }
