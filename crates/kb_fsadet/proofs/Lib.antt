@@ -2,6 +2,7 @@ pub mod Sets
 pub mod Members
 pub mod Targets
 pub mod Groups
+pub mod Marking
 pub mod ExactSets
 pub mod Determinised
 pub mod Avoided

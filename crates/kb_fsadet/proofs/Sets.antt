@@ -33,7 +33,7 @@ All-from_contains P xs each k d within = each (get_or xs k d) (Contains-get_or x
 
 -- ---- ascending lists
 
-IsAscending-nil : IsAscending []
+pub IsAscending-nil : IsAscending []
 IsAscending-nil i j d low high = absurd (let no : ⊥ = omega arith in no)
 
 pub IsAscending-tail : (x : ℕ) (xs : List ℕ) → IsAscending (x ∷ xs) → IsAscending xs

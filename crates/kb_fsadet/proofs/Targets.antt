@@ -11,7 +11,7 @@ use Rattle.kb_fsa.specs.Language.{symbols}
 use Rattle.kb_explore.specs.Machine.{AreMovesOf}
 use Rattle.kb_fsadet.specs.Nondeterministic.{Nondeterministic, IsNondeterministic, IsOneOf, moves_from}
 use Rattle.kb_fsadet.specs.SubsetConstruction.{set_of, some_set, targets_by, moves_of_each, subsets, AreGroups}
-use Rattle.kb_fsadet.proofs.Sets.{Contains-none, Contains-here, Contains-there, Contains-cons_cases, same_set}
+use Rattle.kb_fsadet.proofs.Sets.{Contains-none, Contains-here, Contains-there, Contains-cons_cases, All-from_contains, same_set}
 
 -- ---- where moves by a symbol lead
 
@@ -133,24 +133,38 @@ move_is_known automaton (suc place) move is at =
           absurd (Contains-none move (subst Q (get_or_past automaton.rows place [] past) at))
     ]
 
--- the groups of the sorted moves are the moves of the machine
-pub moves_from_groups : (automaton : Nondeterministic) (states : List ℕ) (sorted : Moves) (groups : List (ℕ × List ℕ))
-    → IsNondeterministic automaton → IsPermutation (moves_of_each automaton states) sorted → AreGroups sorted groups
-    → AreMovesOf (subsets automaton) (symbols automaton.alphabet) states groups
-moves_from_groups automaton states sorted groups is permuted grouped = record {
+-- and so of all moves of states
+pub moves_are_known : (automaton : Nondeterministic) (states : List ℕ) → IsNondeterministic automaton
+    → All (λ move. IsOneOf (symbols automaton.alphabet) move.0 × IsOneOf (length automaton.rows) move.1) (moves_of_each automaton states)
+moves_are_known automaton states is =
+    All-from_contains (λ (m : ℕ × ℕ). IsOneOf (symbols automaton.alphabet) m.0 × IsOneOf (length automaton.rows) m.1)
+    (moves_of_each automaton states) (λ move at.
+    let from = Contains-moves_of_each automaton states move at in move_is_known automaton from.0 move is from.1.1)
+
+-- the groups of the sorted moves are those of the moves
+pub groups_from_sorted : (moves sorted : Moves) (groups : List (ℕ × List ℕ)) → IsPermutation moves sorted → AreGroups sorted groups
+    → AreGroups moves groups
+groups_from_sorted moves sorted groups permuted grouped = record {
   ascends = grouped.ascends;
   symbols = λ k d h.
       let move = grouped.symbols k d h in
-      let from = Contains-moves_of_each automaton states ((get_or groups k d).0, move.0)
-      (Contains-permutation sorted (moves_of_each automaton states) ((get_or groups k d).0, move.0)
-      (IsPermutation-sym (moves_of_each automaton states) sorted permuted) move.1) in
-      (move_is_known automaton from.0 ((get_or groups k d).0, move.0) is from.1.1).0;
-  follow = λ symbol. grouped.each symbol ∙ same_some_set (targets_by sorted symbol) (targets_by (moves_of_each automaton states) symbol) (λ z. (
-    λ at. (Contains-targets_by (moves_of_each automaton states) symbol z).1
-        (Contains-permutation sorted (moves_of_each automaton states) (symbol, z)
-        (IsPermutation-sym (moves_of_each automaton states) sorted permuted) ((Contains-targets_by sorted symbol z).0 at)),
+      (move.0, Contains-permutation sorted moves ((get_or groups k d).0, move.0) (IsPermutation-sym moves sorted permuted) move.1);
+  each = λ symbol. grouped.each symbol ∙ same_some_set (targets_by sorted symbol) (targets_by moves symbol) (λ z. (
+    λ at. (Contains-targets_by moves symbol z).1
+        (Contains-permutation sorted moves (symbol, z) (IsPermutation-sym moves sorted permuted) ((Contains-targets_by sorted symbol z).0 at)),
     λ at. (Contains-targets_by sorted symbol z).1
-        (Contains-permutation (moves_of_each automaton states) sorted (symbol, z) permuted
-        ((Contains-targets_by (moves_of_each automaton states) symbol z).0 at)),
+        (Contains-permutation moves sorted (symbol, z) permuted ((Contains-targets_by moves symbol z).0 at)),
   ));
+}
+
+-- the groups of the states' moves are the moves of the machine
+pub moves_from_groups : (automaton : Nondeterministic) (states : List ℕ) (groups : List (ℕ × List ℕ)) → IsNondeterministic automaton
+    → AreGroups (moves_of_each automaton states) groups → AreMovesOf (subsets automaton) (symbols automaton.alphabet) states groups
+moves_from_groups automaton states groups is grouped = record {
+  ascends = grouped.ascends;
+  symbols = λ k d h.
+      let move = grouped.symbols k d h in
+      let from = Contains-moves_of_each automaton states ((get_or groups k d).0, move.0) move.1 in
+      (move_is_known automaton from.0 ((get_or groups k d).0, move.0) is from.1.1).0;
+  follow = grouped.each;
 }

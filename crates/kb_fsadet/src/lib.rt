@@ -7,14 +7,17 @@
 //! states, to which texts lead, than the limit; `avoiding` counts those of its own texts.
 //!
 //! The subset construction is a machine that `kb_explore` explores. A set of states is kept as the ascending list
-//! of their numbers, and its moves (transitions) are those of its states, sorted.
+//! of their numbers, and its moves (transitions) are those of its states in groups, one for each symbol. Where the
+//! moves by a symbol are many beside the states, each is a mark in a row of its symbol, and the marks of a row are a
+//! set in order (`marks`). Otherwise the moves are sorted by symbols, and each group by targets (`subset`).
 //!
 //! `kb_fsa`, `kb_reach` and `kb_explore` are below; the rational operations and the programs are above.
 //!
 //! # Where the proofs are
 //!
 //! - `Sets` and `Members`: sets of numbers as ascending lists, and what is a member.
-//! - `Targets` and `Groups`: where moves by a symbol lead, and moves in groups by symbols.
+//! - `Targets` and `Groups`: where moves by a symbol lead, and sorted moves in groups by symbols.
+//! - `Marking`: moves as marks, and the groups of what is marked.
 //! - `ExactSets`: machines that go to the set of what a text has, and what is then true of their exploration.
 //! - `Determinised`: the subset construction goes to exactly the sets of states to which texts lead.
 //! - `Avoided`: without the sets that accept, to those of texts of which no prefix is accepted.
@@ -25,6 +28,7 @@
 mod avoidance;
 mod determined;
 mod first_words;
+mod marks;
 mod nfa;
 mod projection;
 mod state_set;

@@ -6,7 +6,7 @@ ghost use Rattle.std.specs.Cmp.Lexicographic.{pointwise, nat_list_eq_equiv};
 ghost use Rattle.std.specs.Hash as fed;
 ghost use Rattle.std.specs.Cmp.Rules.{hashing};
 ghost use Rattle.std.proofs.Common.{rules};
-ghost use Rattle.kb_fsadet.specs.SubsetConstruction.{is_member, set_of};
+ghost use Rattle.kb_fsadet.specs.SubsetConstruction.{IsAscending, is_member, set_of};
 
 use std::hash::{Hash, Hasher};
 use std::marker::Model;
@@ -36,6 +36,14 @@ impl StateSet {
         members.sort_unstable();
         members.dedup();
         members.shrink_to_fit();
+        StateSet { members }
+    }
+
+    /// The set of these states, which ascend.
+    pub(crate) fn ascending(members: Vec<u32>) -> StateSet
+        requires { IsAscending members.items }
+        ensures { result ≡ members.items }
+    {
         StateSet { members }
     }
 

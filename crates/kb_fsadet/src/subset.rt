@@ -6,6 +6,7 @@ ghost use Rattle.kb_word.specs.Comparison.{same_from_pointwise};
 ghost use Rattle.kb_fsa.specs.Language.{symbols as symbols_of};
 ghost use Rattle.kb_fsadet.specs.SubsetConstruction.{AreGroups, subsets};
 
+use crate::marks;
 use crate::nfa::Nfa;
 use crate::state_set::StateSet;
 use kb_explore::Machine;
@@ -35,9 +36,15 @@ impl Machine for Subsets<'_> {
     }
 
     fn moves(&self, alloc: Global, state: &StateSet) -> Result<Vec<(u32, StateSet)>, Memory> {
-        let mut moves = self.nfa.moves_of_each(alloc, state.as_slice())?;
-        moves.sort_unstable_by_key(|entry| entry.0);
-        grouped(alloc, moves.as_slice())
+        let moves = self.nfa.moves_of_each(alloc, state.as_slice())?;
+        let symbols = self.nfa.alphabet().symbols();
+        let states = self.nfa.rows().len();
+        // Marks are faster where the moves by a symbol are many beside the states.
+        if moves.len() / (states / 16 + 16) < symbols as usize {
+            grouped_by_sort(alloc, moves)
+        } else {
+            marks::grouped(alloc, moves.as_slice(), symbols, states)
+        }
     }
 
     fn accepts(&self, state: &StateSet) -> bool {
@@ -48,6 +55,17 @@ impl Machine for Subsets<'_> {
     }
 
     ghost same_state = { same_from_pointwise };
+}
+
+/// The moves, which may be in any order, in groups, one for each symbol, by ascending symbols.
+fn grouped_by_sort(
+    alloc: Global,
+    mut moves: Vec<(u32, u32)>,
+) -> Result<Vec<(u32, StateSet)>, Memory>
+    ensures { IfOk result (λ groups. AreGroups moves.items groups.items) }
+{
+    moves.sort_unstable_by_key(|entry| entry.0);
+    grouped(alloc, moves.as_slice())
 }
 
 /// The moves in groups, one for each symbol, by ascending symbols.
