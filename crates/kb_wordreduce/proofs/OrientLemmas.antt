@@ -1,10 +1,16 @@
 -- Orienting relations one after another.
-use Rattle.std.proofs.Common.{◌≡◌, ℕ, zero, suc, inl, inr, List, [], ◌∷◌, ◌++◌, refl, sym, subst, length, Some, append_assoc, arith}
+use Rattle.std.proofs.Common.{◌≡◌, ◌∙◌, ℕ, zero, suc, inl, inr, Bool, true, false, true≢false, if◌then◌else◌, nat_eq, List, [], ◌∷◌, ◌++◌, refl, sym, ap, subst, length, Some, append_assoc, arith}
+use Rattle.std.specs.Cmp.Lexicographic.{pointwise}
+use Rattle.std.specs.List.{list_any}
+use Rattle.std.proofs.lemmas.Bool.{and_parts}
+use Rattle.std.proofs.lemmas.Map.Views.{list_any-from_Contains, Contains-from_any}
+use Rattle.std.proofs.lemmas.Option.{slice_get_read, slice_get_within, get_or_from_slice_get}
+use Rattle.indexmap.specs.IndexSet.{insert_key}
+use Rattle.kb_word.specs.Comparison.{same_from_pointwise}
+use Rattle.kb_rules.specs.Sides.{same_sides, same_sides_equiv}
 use Rattle.kb_word.proofs.PathLemmas.{congruent_reflexive, congruent_symmetric, congruent_sides, congruent_implied}
 use Rattle.std.proofs.lemmas.List.{append-nil}
 use Rattle.kb_word.specs.Words.{Pair, OneOf}
-use Rattle.kb_word.specs.WordOrders.{Below}
-use Rattle.kb_word.specs.declared.word_order.WordOrder.{WordOrder}
 use Rattle.kb_word.specs.Congruence.{Congruent, SameCongruence}
 use Rattle.kb_word.specs.Rewriting.{AreDecreasing}
 use Rattle.kb_word.specs.Relations.{IsOrientation, Orients, AreOriented, none_left, equal_sides, repeated, added}
@@ -24,13 +30,6 @@ pub oriented_more : {below : List ℕ → List ℕ → Type 0} (relations old mo
     → Orients below old (relation ∷ []) more → new ≡ old ++ more → AreOriented below (relations ++ relation ∷ []) new
 oriented_more {below} relations old more new relation so_far one is = subst (AreOriented below (relations ++ relation ∷ [])) (sym is) (Orients-append so_far one)
 
--- one relation more, by the order that the list holds
-pub oriented_more_along : (own order : WordOrder) (relations old more new : List Pair) (relation : Pair) → own ≡ order
-    → AreOriented (Below order) relations old → Orients (Below own) old (relation ∷ []) more → new ≡ old ++ more
-    → AreOriented (Below order) (relations ++ relation ∷ []) new
-oriented_more_along own order relations old more new relation same so_far one is =
-    oriented_more relations old more new relation so_far (subst (λ (o : WordOrder). Orients (Below o) old (relation ∷ []) more) same one) is
-
 -- what one relation adds
 pub adds_nothing : {below : List ℕ → List ℕ → Type 0} (old : List Pair) (left right : List ℕ) → left ≡ right → Orients below old ((left, right) ∷ []) []
 adds_nothing {below} old left right same = subst (λ r. Orients below old ((left, r) ∷ []) []) same (equal_sides none_left)
@@ -40,6 +39,41 @@ adds_no_repeat old relation rule is stands = repeated is stands none_left
 
 pub adds_rule : {below : List ℕ → List ℕ → Type 0} (old : List Pair) (relation rule : Pair) → IsOrientation below relation rule → ¬ OneOf old rule → Orients below old (relation ∷ []) (rule ∷ [])
 adds_rule old relation rule is fresh = added is fresh none_left
+
+-- rules whose sides are the same are equal
+same_rule : (one other : Pair) → same_sides one other ≡ true → one ≡ other
+same_rule one other e =
+    let parts = and_parts (pointwise nat_eq one.0 other.0) (pointwise nat_eq one.1 other.1) e in
+    let left : one.0 ≡ other.0 = same_from_pointwise one.0 other.0 parts.0 in
+    let right : one.1 ≡ other.1 = same_from_pointwise one.1 other.1 parts.1 in
+    λ j. (left j, right j)
+
+-- a rule is one of the keys exactly where the look-up finds it
+found_is_one : (keys : List Pair) (rule : Pair) → list_any (same_sides rule) keys ≡ true → OneOf keys rule
+found_is_one keys rule found =
+    let has = Contains-from_any same_rule rule keys found in
+    (has.0, slice_get_read keys (length keys) has.0 rule refl has.1 (sym has.2))
+
+one_is_found : (keys : List Pair) (rule : Pair) → OneOf keys rule → list_any (same_sides rule) keys ≡ true
+one_is_found keys rule one = list_any-from_Contains same_sides_equiv rule keys
+    (one.0, slice_get_within keys one.0 rule one.1, get_or_from_slice_get keys one.0 rule rule one.1)
+
+-- what the insertion of a relation's rule adds
+pub key_adds : {below : List ℕ → List ℕ → Type 0} (old new : List Pair) (relation rule : Pair) → IsOrientation below relation rule → new ≡ insert_key same_sides old rule
+    → (added : List Pair) × Orients below old (relation ∷ []) added × (new ≡ old ++ added)
+key_adds {below} old new relation rule is keys = by (list_any (same_sides rule) old) refl
+  where
+    by : (b : Bool) → list_any (same_sides rule) old ≡ b → (added : List Pair) × Orients below old (relation ∷ []) added × (new ≡ old ++ added)
+    by true found = (
+      [],
+      adds_no_repeat old relation rule is (found_is_one old rule found),
+      keys ∙ ap (λ b. if b then old else old ++ rule ∷ []) found ∙ sym (append-nil old),
+    )
+    by false missed = (
+      rule ∷ [],
+      adds_rule old relation rule is (λ one. true≢false (sym (one_is_found old rule one) ∙ missed)),
+      keys ∙ ap (λ b. if b then old else old ++ rule ∷ []) missed,
+    )
 
 module _ {X : Type 0} where
   pub nothing_left : (xs : List X) → length xs ≡ 0 → xs ≡ []
@@ -58,16 +92,17 @@ oriented_decrease {below} (added {rule = first} is fresh h) rule (zero, at) =
     subst (λ (p : Pair). below p.1 p.0) same is.0
 oriented_decrease (added is fresh h) rule (suc index, at) = oriented_decrease h rule (index, at)
 
+-- a rule stands at its place in a list
+pub one_of_middle : (xs : List Pair) (x : Pair) (ys : List Pair) → OneOf (xs ++ x ∷ ys) x
+one_of_middle [] x ys = (zero, refl)
+one_of_middle (y ∷ xs) x ys = let one = one_of_middle xs x ys in (suc one.0, one.1)
+
 -- ---- the congruence
 
 one_of_front : (xs ys : List Pair) (pair : Pair) → OneOf xs pair → OneOf (xs ++ ys) pair
 one_of_front [] ys pair (index, at) = absurd (not_both _ pair at refl)
 one_of_front (x ∷ xs) ys pair (zero, at) = (zero, at)
 one_of_front (x ∷ xs) ys pair (suc index, at) = let one = one_of_front xs ys pair (index, at) in (suc one.0, one.1)
-
-one_of_middle : (xs : List Pair) (x : Pair) (ys : List Pair) → OneOf (xs ++ x ∷ ys) x
-one_of_middle [] x ys = (zero, refl)
-one_of_middle (y ∷ xs) x ys = let one = one_of_middle xs x ys in (suc one.0, one.1)
 
 -- a rule and the pair that it orients are congruent by each other
 oriented_congruent : (below : List ℕ → List ℕ → Type 0) {allowed : Pair → Type 0} (pair rule : Pair) → IsOrientation below pair rule → Congruent allowed pair.0 pair.1 → Congruent allowed rule.0 rule.1

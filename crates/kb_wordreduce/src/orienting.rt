@@ -8,6 +8,8 @@ ghost use Rattle.kb_word.specs.Congruence.{SameCongruence};
 ghost use Rattle.kb_word.specs.Rewriting.{AreDecreasing};
 ghost use Rattle.kb_word.specs.Relations.{relations_of, IsOrientation, Orients, AreOriented};
 
+use crate::rule_key::RuleKey;
+use indexmap::IndexSet;
 use kb_rules::{Rule, Rules};
 use kb_word::{Memory, Order, Presentation, Word, WordOrder};
 use std::alloc::Global;
@@ -19,27 +21,52 @@ pub fn oriented(alloc: Global, presentation: &Presentation) -> Result<Rules, Mem
         (relations_of presentation.now.inv presentation.now.eqs) rules.rules) }
     ensures order { IfOk result (λ rules. rules.order ≡ presentation.now.order) }
 {
-    let mut rules = Rules::new(alloc, presentation.order.copy(alloc)?);
-    for (left, right) in presentation.relations(alloc)? {
-        add_relation(&mut rules, left, right)?;
-    }
-    Ok(rules)
+    let keys = oriented_keys(alloc, presentation)?;
+    let order = presentation.order.copy(alloc)?;
+    oriented_rules_decrease();
+    rules_of(alloc, order, keys)
 }
 
-/// Adds the rule that a relation gives, unless it is there.
-fn add_relation(rules: &mut Rules, left: Word, right: Word) -> Result<(), Memory>
-    ensures adds { OnOk result ((added : List Pair)
-        × Orients (Below rules.old.order) rules.old.rules ((left, right) ∷ []) added
-        × (rules.new.rules ≡ rules.old.rules ++ added)) }
-    ensures order { rules.new.order ≡ rules.old.order }
+/// The rules that the relations give, each once, in order.
+fn oriented_keys(alloc: Global, presentation: &Presentation) -> Result<IndexSet<RuleKey>, Memory>
+    ensures { IfOk result (λ keys. AreOriented (Below presentation.now.order)
+        (relations_of presentation.now.inv presentation.now.eqs) keys.keys) }
 {
-    if let Some(rule) = orientation(rules.order(), left, right) {
-        let stands = rules.contains(&rule);
-        if !stands {
-            rules.push(rule)?;
-        }
+    let mut keys = IndexSet::new(alloc);
+    for (left, right) in presentation.relations(alloc)? {
+        insert_relation(&presentation.order, &mut keys, left, right)?;
+    }
+    Ok(keys)
+}
+
+/// Adds the rule that a relation gives by an order, unless it is there.
+fn insert_relation(
+    order: &WordOrder,
+    keys: &mut IndexSet<RuleKey>,
+    left: Word,
+    right: Word,
+) -> Result<(), Memory>
+    ensures { OnOk result ((added : List Pair)
+        × Orients (Below order.now) keys.old.keys ((left, right) ∷ []) added
+        × (keys.new.keys ≡ keys.old.keys ++ added)) }
+{
+    if let Some(rule) = orientation(order, left, right) {
+        keys.insert(RuleKey::new(rule))?;
     }
     Ok(())
+}
+
+/// The rules of a set, in the order in which they were inserted.
+fn rules_of(alloc: Global, order: WordOrder, keys: IndexSet<RuleKey>) -> Result<Rules, Memory>
+    requires { AreDecreasing (Below order) keys.keys }
+    ensures order { IfOk result (λ rules. rules.order ≡ order) }
+    ensures rules { IfOk result (λ rules. rules.rules ≡ keys.keys) }
+{
+    let mut rules = Rules::new(alloc, order);
+    for key in keys {
+        rules.push(key.into_rule())?;
+    }
+    Ok(rules)
 }
 
 /// The rule that a relation gives by an order, and none exactly where its sides are equal.
