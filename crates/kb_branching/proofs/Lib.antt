@@ -1,0 +1,4 @@
+mod Inserting
+mod Steps
+mod Whole
+mod Counting

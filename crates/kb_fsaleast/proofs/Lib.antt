@@ -1,0 +1,5 @@
+mod Texts
+mod Marks
+mod Members
+mod Steps
+mod Accepted

@@ -1,0 +1,3 @@
+pub mod LeastText
+pub mod Marks
+pub mod Classes
