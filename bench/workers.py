@@ -40,6 +40,7 @@ def runs():
     """What is run: a name, the command and the presentation."""
     yield "check of 3,200 rules: free abelian group of rank 40", "wordreduce", data.free_abelian(40)
     yield "check of 7,200 rules: free abelian group of rank 60", "wordreduce", data.free_abelian(60)
+    yield "check of 12,800 rules: free abelian group of rank 80", "wordreduce", data.free_abelian(80)
     yield "completion: free abelian group of rank 30", "kbprog", free_abelian(30)
     yield "completion: Burnside group B(2,4)", "kbprog", burnside()
     for prime in (11, 13, 17):
