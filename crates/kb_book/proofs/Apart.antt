@@ -5,17 +5,17 @@ use Rattle.kb_word.specs.Words.{Pair}
 use Rattle.kb_word.specs.Overlap.{critical_pair}
 use Rattle.kb_word.specs.Rewriting.{NormalForm}
 use Rattle.kb_rules.proofs.Unique.{normal_form_unique}
-use Rattle.kb_log.specs.Lines.{numbered, rule_of, rules_of, IsPairOf}
-use Rattle.kb_log.specs.declared.origin.Origin.{Origin}
-use Rattle.kb_log.specs.declared.origin.Origin.TheVariants.{Relation, Overlap, Killed, Shortened}
-use Rattle.kb_log.specs.declared.line.LogStep.{LogStep}
-use Rattle.kb_log.specs.Derivations.{Derives, DerivesBoth}
+use Rattle.kb_machine.specs.Lines.{numbered, rule_of, rules_of, IsPairOf}
+use Rattle.kb_machine.specs.declared.origin.Origin.{Origin}
+use Rattle.kb_machine.specs.declared.origin.Origin.TheVariants.{Relation, Overlap, Killed, Shortened}
+use Rattle.kb_machine.specs.declared.line.LogStep.{LogStep}
+use Rattle.kb_machine.specs.Derivations.{Derives, DerivesBoth}
 use Rattle.kb_machine.specs.States.{relations, live_rules}
 use Rattle.kb_machine.specs.Machine.{IsLive}
 use Rattle.kb_machine.specs.Course.{Course}
 use Rattle.kb_book.specs.Answers.{PendingNormalForms, AreNormalForms}
 use Rattle.kb_book.specs.Normal.{HasPair, HaveNormalForms, HaveDifferentForms, IsNext, IsNextLine, log_step}
-use Rattle.kb_log.specs.declared.line.Line.{Line}
+use Rattle.kb_machine.specs.declared.line.Line.{Line}
 use Rattle.kb_rules.specs.declared.trace.Step.{Step}
 use Rattle.kb_rules.specs.Steps.{IsFirstStep, IsStep, Leads}
 use Rattle.kb_rules.proofs.Tracing.{leads_implied, first_step_is_step}

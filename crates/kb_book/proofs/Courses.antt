@@ -14,10 +14,10 @@ use Rattle.kb_word.specs.Rewriting.{AreDecreasing}
 use Rattle.kb_rules.specs.Steps.{Leads}
 use Rattle.kb_rules.proofs.Reducts.{replaced_below, IsAtMost}
 use Rattle.kb_rules.proofs.Listed.{AreDecreasing-push}
-use Rattle.kb_log.specs.declared.line.Line.{Line}
-use Rattle.kb_log.specs.declared.line.LogStep.{LogStep}
-use Rattle.kb_log.specs.Lines.{numbered, rule_of, rules_of}
-use Rattle.kb_log.specs.Derivations.{IsStepBy, Derives}
+use Rattle.kb_machine.specs.declared.line.Line.{Line}
+use Rattle.kb_machine.specs.declared.line.LogStep.{LogStep}
+use Rattle.kb_machine.specs.Lines.{numbered, rule_of, rules_of}
+use Rattle.kb_machine.specs.Derivations.{IsStepBy, Derives}
 use Rattle.kb_machine.specs.States.{Problem, State, relations, below, start, live_rules, relation_origins}
 use Rattle.kb_machine.specs.Machine.{Step, Run, Shortens, Kills}
 use Rattle.kb_machine.specs.Course.{Course, IsCourse, Takes}
@@ -26,8 +26,8 @@ use Rattle.kb_machine.specs.declared.event.Event.TheVariants.{Entered, Dropped, 
 use Rattle.kb_book.specs.Books.{IsBook}
 use Rattle.kb_book.specs.Normal.{HasPair}
 use Rattle.kb_word.specs.Overlap.{critical_pair}
-use Rattle.kb_log.specs.declared.origin.Origin.{Origin}
-use Rattle.kb_log.specs.declared.origin.Origin.TheVariants as origins
+use Rattle.kb_machine.specs.declared.origin.Origin.{Origin}
+use Rattle.kb_machine.specs.declared.origin.Origin.TheVariants as origins
 use Rattle.kb_book.proofs.Origins.{pair_more, relation_has_pair}
 use Rattle.kb_book.proofs.Lists.{remove_seam, only, All-one, All-remove, rules_of-push, numbered_one}
 

@@ -11,10 +11,10 @@ use Rattle.kb_word.specs.Rewriting.{IsIrreducible, ReducesTo}
 use Rattle.kb_word.proofs.PathLemmas.{path_implied, Replaces-implied}
 use Rattle.kb_rules.specs.declared.trace.Step.{Step}
 use Rattle.kb_rules.specs.Steps.{IsStep, Leads}
-use Rattle.kb_log.specs.declared.line.Line.{Line}
-use Rattle.kb_log.specs.declared.line.LogStep.{LogStep}
-use Rattle.kb_log.specs.Lines.{numbered, rule_of, rules_of}
-use Rattle.kb_log.specs.Derivations.{IsStepBy, Derives}
+use Rattle.kb_machine.specs.declared.line.Line.{Line}
+use Rattle.kb_machine.specs.declared.line.LogStep.{LogStep}
+use Rattle.kb_machine.specs.Lines.{numbered, rule_of, rules_of}
+use Rattle.kb_machine.specs.Derivations.{IsStepBy, Derives}
 use Rattle.kb_machine.specs.States.{State, rule_numbered, live_rules, IsLiveRule}
 use Rattle.kb_machine.specs.Machine.{IsLive}
 use Rattle.kb_book.specs.Normal.{log_step}

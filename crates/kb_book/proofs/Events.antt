@@ -3,9 +3,9 @@ use Rattle.std.proofs.Common.{◌≡◌, ◌≢◌, ℕ, zero, suc, ◌<◌, ◌
 use Rattle.std.proofs.lemmas.List.{map-append, length-map}
 use Rattle.kb_word.specs.Words.{Pair, OneOf}
 use Rattle.kb_rules.proofs.Reducts.{normal_form_reduct}
-use Rattle.kb_log.specs.declared.line.Line.{Line}
-use Rattle.kb_log.specs.declared.origin.Origin.{Origin}
-use Rattle.kb_log.specs.Lines.{numbered, rule_of, rules_of}
+use Rattle.kb_machine.specs.declared.line.Line.{Line}
+use Rattle.kb_machine.specs.declared.origin.Origin.{Origin}
+use Rattle.kb_machine.specs.Lines.{numbered, rule_of, rules_of}
 use Rattle.kb_machine.specs.States.{State, rule_numbered, live_rules, relations}
 use Rattle.kb_machine.specs.Machine.{Drops, Makes, Halts}
 use Rattle.kb_machine.specs.Course.{Course, Takes}

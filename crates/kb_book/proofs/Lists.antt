@@ -5,8 +5,8 @@ use Rattle.std.proofs.lemmas.List.Elements.{All-append, All-take, All-drop}
 use Rattle.std.specs.List.{remove, Contains}
 use Rattle.std.specs.Option.{option_map}
 use Rattle.kb_word.specs.Words.{Pair, OneOf}
-use Rattle.kb_log.specs.declared.line.Line.{Line}
-use Rattle.kb_log.specs.Lines.{numbered, rule_of, rules_of}
+use Rattle.kb_machine.specs.declared.line.Line.{Line}
+use Rattle.kb_machine.specs.Lines.{numbered, rule_of, rules_of}
 
 -- an element between two lists, taken out
 pub remove_seam : {X : Type 0} (earlier : List X) (x : X) (later : List X)

@@ -2,12 +2,12 @@
 use Rattle.std.proofs.Common.{◌≡◌, ℕ, zero, suc, ◌<◌, ◌+◌, List, [], ◌∷◌, ◌++◌, length, take, get_or, Some, slice_get, refl, sym, ap, ◌∙◌, subst, arith}
 use Rattle.std.specs.List.{Contains}
 use Rattle.std.proofs.lemmas.Option.{slice_get-get_or}
-use Rattle.kb_log.specs.Lines.{IsPairOf, numbered, IsCriticalPair}
+use Rattle.kb_machine.specs.Lines.{IsPairOf, numbered, IsCriticalPair}
 use Rattle.kb_book.specs.Normal.{HasPair}
 use Rattle.kb_book.proofs.Lists.{numbered-more}
 use Rattle.kb_word.specs.Words.{Pair}
-use Rattle.kb_log.specs.declared.origin.Origin.{Origin}
-use Rattle.kb_log.specs.declared.origin.Origin.TheVariants.{Relation, Overlap, Killed, Shortened}
+use Rattle.kb_machine.specs.declared.origin.Origin.{Origin}
+use Rattle.kb_machine.specs.declared.origin.Origin.TheVariants.{Relation, Overlap, Killed, Shortened}
 use Rattle.kb_machine.specs.States.{relation_origins}
 
 origins_suc : (k : ℕ) (pairs : List Pair) (i : ℕ) → i < length pairs

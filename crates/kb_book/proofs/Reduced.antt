@@ -9,11 +9,11 @@ use Rattle.kb_word.specs.Rewriting.{AreDecreasing, IsIrreducible, NormalForm}
 use Rattle.kb_rules.specs.declared.trace.Step.{Step}
 use Rattle.kb_rules.specs.Steps.{IsFirstStep, IsStep, Leads}
 use Rattle.kb_rules.proofs.Tracing.{leads_implied, first_step_is_step}
-use Rattle.kb_log.specs.declared.line.Line.{Line}
-use Rattle.kb_log.specs.declared.line.LogStep.{LogStep}
-use Rattle.kb_log.specs.declared.origin.Origin.TheVariants.{Shortened}
-use Rattle.kb_log.specs.Lines.{numbered, rule_of, rules_of}
-use Rattle.kb_log.specs.Derivations.{Derives}
+use Rattle.kb_machine.specs.declared.line.Line.{Line}
+use Rattle.kb_machine.specs.declared.line.LogStep.{LogStep}
+use Rattle.kb_machine.specs.declared.origin.Origin.TheVariants.{Shortened}
+use Rattle.kb_machine.specs.Lines.{numbered, rule_of, rules_of}
+use Rattle.kb_machine.specs.Derivations.{Derives}
 use Rattle.kb_machine.specs.States.{below, rule_numbered, live_rules}
 use Rattle.kb_machine.specs.Machine.{IsLive}
 use Rattle.kb_machine.specs.declared.halt.Halt.{Halt}

@@ -4,8 +4,8 @@ use Rattle.std.specs.List.{remove}
 use Rattle.kb_word.specs.Words.{Pair}
 use Rattle.kb_word.specs.WordOrders.{Below}
 use Rattle.kb_word.specs.WordOrderLaws.{word_orders}
-use Rattle.kb_log.specs.declared.line.Line.{Line}
-use Rattle.kb_log.specs.Lines.{numbered, rule_of, rules_of}
+use Rattle.kb_machine.specs.declared.line.Line.{Line}
+use Rattle.kb_machine.specs.Lines.{numbered, rule_of, rules_of}
 use Rattle.kb_machine.specs.States.{below, rule_numbered}
 use Rattle.kb_machine.specs.Course.{Course, IsCourse}
 use Rattle.kb_machine.specs.declared.event.Event.{Event}

@@ -13,10 +13,10 @@ use Rattle.kb_word.specs.Rewriting.{AreDecreasing, IsIrreducible}
 use Rattle.kb_rules.specs.declared.trace.Step.{Step}
 use Rattle.kb_rules.specs.Steps.{IsStep, Leads}
 use Rattle.kb_rules.proofs.Reducts.{replaced_below}
-use Rattle.kb_log.specs.declared.line.Line.{Line}
-use Rattle.kb_log.specs.declared.line.LogStep.{LogStep}
-use Rattle.kb_log.specs.Lines.{numbered, rules_of}
-use Rattle.kb_log.specs.Derivations.{IsStepBy, Derives}
+use Rattle.kb_machine.specs.declared.line.Line.{Line}
+use Rattle.kb_machine.specs.declared.line.LogStep.{LogStep}
+use Rattle.kb_machine.specs.Lines.{numbered, rules_of}
+use Rattle.kb_machine.specs.Derivations.{IsStepBy, Derives}
 use Rattle.kb_machine.specs.States.{State, rule_numbered, live_rules}
 use Rattle.kb_book.specs.Answers.{CanBeShortened, IsOtherLiveRule}
 use Rattle.kb_book.specs.Normal.{log_step}

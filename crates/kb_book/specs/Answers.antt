@@ -3,9 +3,9 @@ use Rattle.std.specs.Prelude.{◌≡◌, ◌≢◌, ℕ, ◌≤◌, ◌⊎◌, L
 use Rattle.kb_word.specs.Words.{Pair, IsFactor}
 use Rattle.kb_word.specs.Rewriting.{IsIrreducible, NormalForm}
 use Rattle.kb_word.specs.declared.memory.Memory.{Memory}
-use Rattle.kb_log.specs.Lines.{numbered, rules_of, IsPairOf, OverlapOfNumbers}
-use Rattle.kb_log.specs.declared.origin.Origin.{Origin}
-use Rattle.kb_log.specs.declared.line.LogStep.{LogStep}
+use Rattle.kb_machine.specs.Lines.{numbered, rules_of, IsPairOf, OverlapOfNumbers}
+use Rattle.kb_machine.specs.declared.origin.Origin.{Origin}
+use Rattle.kb_machine.specs.declared.line.LogStep.{LogStep}
 use Rattle.kb_machine.specs.States.{Problem, State, relations, live_rules}
 use Rattle.kb_machine.specs.Machine.{IsLive}
 use Rattle.kb_machine.specs.Course.{Course, Takes}

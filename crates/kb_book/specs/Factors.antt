@@ -2,7 +2,7 @@
 use Rattle.std.specs.Prelude.{◌≡◌, ◌≢◌, ℕ, List, Some, slice_get}
 use Rattle.std.specs.List.{Contains}
 use Rattle.kb_word.specs.Words.{Pair, IsFactor}
-use Rattle.kb_log.specs.Lines.{numbered}
+use Rattle.kb_machine.specs.Lines.{numbered}
 
 -- the left side of the rule with this number is a factor of the word
 abbrev pub IsLeftFactor : List Pair → ℕ → List ℕ → Type 0

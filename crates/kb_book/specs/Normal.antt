@@ -3,10 +3,10 @@ use Rattle.std.specs.Prelude.{◌≡◌, ◌≢◌, ℕ, List, ◌∷◌, length
 use Rattle.kb_word.specs.Words.{Pair}
 use Rattle.kb_word.specs.Rewriting.{NormalForm}
 use Rattle.kb_rules.specs.declared.trace.Step.{Step}
-use Rattle.kb_log.specs.Lines.{IsPairOf, rules_of}
-use Rattle.kb_log.specs.declared.line.Line.{Line}
-use Rattle.kb_log.specs.declared.line.LogStep.{LogStep}
-use Rattle.kb_log.specs.declared.origin.Origin.{Origin}
+use Rattle.kb_machine.specs.Lines.{IsPairOf, rules_of}
+use Rattle.kb_machine.specs.declared.line.Line.{Line}
+use Rattle.kb_machine.specs.declared.line.LogStep.{LogStep}
+use Rattle.kb_machine.specs.declared.origin.Origin.{Origin}
 use Rattle.kb_machine.specs.States.{relations, live_rules}
 use Rattle.kb_machine.specs.Machine.{LeadsApart, IsAtLimit}
 use Rattle.kb_machine.specs.declared.halt.Halt.{Halt}

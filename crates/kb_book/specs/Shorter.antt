@@ -2,10 +2,10 @@
 use Rattle.std.specs.Prelude.{◌≡◌, ◌≢◌, ℕ, ◌<◌, [], length, None, Some, slice_get}
 use Rattle.kb_word.specs.Words.{Pair}
 use Rattle.kb_word.specs.Rewriting.{NormalForm}
-use Rattle.kb_log.specs.Lines.{numbered, rules_of}
-use Rattle.kb_log.specs.Derivations.{Derives}
-use Rattle.kb_log.specs.declared.line.Line.{Line}
-use Rattle.kb_log.specs.declared.origin.Origin.TheVariants.{Shortened}
+use Rattle.kb_machine.specs.Lines.{numbered, rules_of}
+use Rattle.kb_machine.specs.Derivations.{Derives}
+use Rattle.kb_machine.specs.declared.line.Line.{Line}
+use Rattle.kb_machine.specs.declared.origin.Origin.TheVariants.{Shortened}
 use Rattle.kb_machine.specs.States.{live_rules}
 use Rattle.kb_machine.specs.Machine.{IsLive}
 use Rattle.kb_machine.specs.Course.{Course}

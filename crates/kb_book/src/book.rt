@@ -9,8 +9,7 @@ ghost use Rattle.kb_machine.specs.States.{start, live_rules};
 
 use crate::answers::Shorten;
 use crate::limits::Limits;
-use kb_log::{Line, Origin};
-use kb_machine::{Event, Halt};
+use kb_machine::{Event, Halt, Line, Origin};
 use kb_ragged::Ragged;
 use kb_rules::{Reducer, Workspace};
 use kb_word::{Memory, Presentation, Word};

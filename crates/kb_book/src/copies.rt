@@ -3,8 +3,7 @@
 ghost use Rattle.std.specs.Prelude.{IfOk};
 ghost use Rattle.kb_book.specs.Answers.{IsByRules, IsByLength, IsCopyOf};
 
-use kb_log::LogStep;
-use kb_machine::Halt;
+use kb_machine::{Halt, LogStep};
 use kb_word::{Memory, Word};
 use std::alloc::Global;
 

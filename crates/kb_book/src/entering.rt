@@ -2,15 +2,14 @@
 
 ghost use Rattle.std.specs.Prelude.{◌≡◌, ◌≢◌, ◌↔◌, ◌+◌, ◌≤◌, ◌<◌, Err, IsTrue, OnOk};
 ghost use Rattle.kb_word.specs.Words.{Pair};
-ghost use Rattle.kb_log.specs.Lines.{rules_of, OverlapOfNumbers};
+ghost use Rattle.kb_machine.specs.Lines.{rules_of, OverlapOfNumbers};
 ghost use Rattle.kb_book.specs.Answers.{EnterSays};
 
 use crate::answers::EnterFault;
 use crate::book::Book;
 use crate::numbers::line_at;
 use crate::room::{add, append, make_room};
-use kb_log::{Line, Origin};
-use kb_machine::Event;
+use kb_machine::{Event, Line, Origin};
 use kb_overlap::meets;
 use kb_rules::Reducer;
 use kb_word::Memory;

@@ -2,7 +2,7 @@
 
 ghost use Rattle.std.specs.Prelude.{◌≡◌, ◌↔◌, ◌<◌, ℕ, IsTrue, IfSome, IfNone, Some, slice_get};
 ghost use Rattle.std.specs.List.{AllPairs, Contains};
-ghost use Rattle.kb_log.specs.Lines.{rules_of};
+ghost use Rattle.kb_machine.specs.Lines.{rules_of};
 ghost use Rattle.kb_book.specs.Answers.{KillSays};
 ghost use Rattle.kb_book.specs.Factors.{IsLeftFactor, HasOtherFactor, IsReplaceable};
 
@@ -10,8 +10,7 @@ use crate::answers::Kill;
 use crate::book::Book;
 use crate::numbers::{line_at, place_of};
 use crate::room::{add, append, make_room};
-use kb_log::{Line, Origin};
-use kb_machine::Event;
+use kb_machine::{Event, Line, Origin};
 use kb_rules::Reducer;
 use kb_word::{Memory, Word, factor_at};
 

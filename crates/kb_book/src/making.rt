@@ -1,7 +1,7 @@
 //! Lines are made of pending pairs.
 
 ghost use Rattle.std.specs.Prelude.{◌≡◌, ◌<◌, ◌≤◌, List, [], ◌∷◌, IfOk, IfSome, IfNone, length};
-ghost use Rattle.kb_log.specs.declared.origin.Origin.{Origin};
+ghost use Rattle.kb_machine.specs.declared.origin.Origin.{Origin};
 ghost use Rattle.kb_machine.specs.declared.halt.Halt.TheVariants as halts;
 ghost use Rattle.kb_book.specs.Answers.{MakeSays};
 ghost use Rattle.kb_book.specs.Normal.{IsNext, IsNextLine, HaveDifferentForms, HaveOneForm, IsLimitOf};
@@ -12,8 +12,7 @@ use crate::copies::copy_halt;
 use crate::pairs::{put_pair, reduce_pair};
 use crate::room::add;
 use crate::steps::{log_steps, ordered};
-use kb_log::{Line, Origin};
-use kb_machine::{Event, Halt};
+use kb_machine::{Event, Halt, Line, Origin};
 use kb_rules::{Reducer, Rule};
 use kb_word::Memory;
 use std::alloc::Global;

@@ -3,9 +3,9 @@
 ghost use Rattle.std.specs.Prelude.{◌≡◌, ◌<◌, Some, None, IfSome, IfNone, slice_get};
 ghost use Rattle.std.specs.List.{AllPairs, Contains};
 ghost use Rattle.kb_word.specs.Words.{Pair};
-ghost use Rattle.kb_log.specs.Lines.{numbered, rule_of, rules_of};
+ghost use Rattle.kb_machine.specs.Lines.{numbered, rule_of, rules_of};
 
-use kb_log::Line;
+use kb_machine::Line;
 
 /// The line with this number, if there is one.
 pub(crate) fn line_at(lines: &[Line], k: u32) -> Option<&Line>

@@ -2,11 +2,11 @@
 
 ghost use Rattle.std.specs.Prelude.{◌≡◌, Some, OnOk};
 ghost use Rattle.kb_word.specs.Words.{Pair};
-ghost use Rattle.kb_log.specs.Lines.{numbered, rules_of, IsPairOf, IsCriticalPair};
+ghost use Rattle.kb_machine.specs.Lines.{numbered, rules_of, IsPairOf, IsCriticalPair};
 ghost use Rattle.kb_book.specs.Normal.{HasPair, HaveNormalForms};
 
 use crate::numbers::line_of;
-use kb_log::{Line, Origin};
+use kb_machine::{Line, Origin};
 use kb_overlap::pair_into;
 use kb_rules::{Reducer, Workspace};
 use kb_word::{Memory, Word};

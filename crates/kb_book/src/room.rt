@@ -3,8 +3,7 @@
 ghost use Rattle.std.specs.Prelude.{◌≡◌, ◌+◌, ◌-◌, ◌≤◌, ◌<◌, [], ◌∷◌, ◌++◌, min, OnOk, OnErr, vec_len, vec_capacity};
 ghost use Rattle.std.specs.VecDeque.{deque_len, deque_capacity};
 
-use kb_log::Origin;
-use kb_machine::Event;
+use kb_machine::{Event, Origin};
 use kb_word::Memory;
 use std::collections::VecDeque;
 

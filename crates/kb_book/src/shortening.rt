@@ -1,7 +1,7 @@
 //! Lines whose right side the other live rules reduce are replaced.
 
 ghost use Rattle.std.specs.Prelude.{◌≡◌, ◌<◌, [], IfOk, All, length, map};
-ghost use Rattle.kb_log.specs.declared.origin.Origin.TheVariants as origins;
+ghost use Rattle.kb_machine.specs.declared.origin.Origin.TheVariants as origins;
 ghost use Rattle.kb_book.specs.Answers.{ShortenSays};
 ghost use Rattle.kb_book.specs.Normal.{log_step};
 ghost use Rattle.kb_book.specs.Shorter.{IsShorter};
@@ -11,8 +11,7 @@ use crate::book::Book;
 use crate::numbers::{line_of, place_of};
 use crate::room::add;
 use crate::steps::log_steps;
-use kb_log::{Line, Origin};
-use kb_machine::Event;
+use kb_machine::{Event, Line, Origin};
 use kb_rules::{Reducer, Rule, Trace};
 use kb_word::Memory;
 use std::alloc::Global;

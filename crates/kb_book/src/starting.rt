@@ -6,7 +6,7 @@ ghost use Rattle.kb_machine.specs.States.{relation_origins, start};
 
 use crate::book::Book;
 use crate::limits::Limits;
-use kb_log::Origin;
+use kb_machine::Origin;
 use kb_ragged::Ragged;
 use kb_rules::{Reducer, Rules, Workspace};
 use kb_word::{Memory, Presentation, Word};

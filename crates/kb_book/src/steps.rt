@@ -4,7 +4,7 @@ ghost use Rattle.std.specs.Prelude.{◌≡◌, ◌≢◌, ◌⊎◌, ◌<◌, If
 ghost use Rattle.kb_word.specs.WordOrders.{Below};
 ghost use Rattle.kb_book.specs.Normal.{log_step};
 
-use kb_log::LogStep;
+use kb_machine::LogStep;
 use kb_rules::Step;
 use kb_word::{Memory, Order, Word, WordOrder};
 use std::alloc::Global;

@@ -11,10 +11,10 @@ use Rattle.kb_word.specs.WordOrders.{Below}
 use Rattle.kb_word.proofs.PathLemmas.{congruent_implied, congruent_covered, SameCongruence-then, SameCongruence-back}
 use Rattle.kb_rules.specs.OrderedRules.{OrderedRules}
 use Rattle.kb_rules.proofs.Unique.{normal_form_unique}
-use Rattle.kb_log.specs.Lines.{numbered, rules_of, IsPairOf}
-use Rattle.kb_log.specs.declared.origin.Origin.{Origin}
-use Rattle.kb_log.specs.declared.origin.Origin.TheVariants as origins
-use Rattle.kb_log.proofs.Logs.{justified_rules, justified_decreases}
+use Rattle.kb_machine.specs.Lines.{numbered, rules_of, IsPairOf}
+use Rattle.kb_machine.specs.declared.origin.Origin.{Origin}
+use Rattle.kb_machine.specs.declared.origin.Origin.TheVariants as origins
+use Rattle.kb_machine.proofs.Logs.{justified_rules, justified_decreases}
 use Rattle.kb_machine.specs.States.{Problem, State, relations, live_rules, rule_numbered, IsLiveRule, IsPendingPair}
 use Rattle.kb_machine.specs.Course.{Course, Takes, IsSound}
 use Rattle.kb_machine.specs.declared.event.Event.TheVariants.{Entered}

@@ -3,7 +3,7 @@ use Rattle.std.specs.Prelude.{◌≡◌, ◌<◌, [], length, None}
 use Rattle.kb_word.specs.Congruence.{SameCongruence}
 use Rattle.kb_word.specs.Overlap.{IsConfluent}
 use Rattle.kb_rules.specs.OrderedRules.{OrderedRules}
-use Rattle.kb_log.specs.Lines.{rules_of}
+use Rattle.kb_machine.specs.Lines.{rules_of}
 use Rattle.kb_machine.specs.States.{Problem, relations, below}
 use Rattle.kb_machine.specs.Course.{Course}
 use Rattle.kb_share.specs.Versions.{IsPublished}

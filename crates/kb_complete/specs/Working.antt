@@ -2,9 +2,9 @@
 use Rattle.std.specs.Prelude.{◌≡◌, ℕ, ◌<◌, List, [], ◌∷◌, length, Some, None}
 use Rattle.kb_word.specs.Words.{Pair}
 use Rattle.kb_word.specs.Overlap.{IsUnresolved, critical_pair}
-use Rattle.kb_log.specs.Lines.{numbered, rules_of}
-use Rattle.kb_log.specs.declared.origin.Origin.{Origin}
-use Rattle.kb_log.specs.declared.origin.Origin.TheVariants as origins
+use Rattle.kb_machine.specs.Lines.{numbered, rules_of}
+use Rattle.kb_machine.specs.declared.origin.Origin.{Origin}
+use Rattle.kb_machine.specs.declared.origin.Origin.TheVariants as origins
 use Rattle.kb_machine.specs.States.{live_rules}
 use Rattle.kb_machine.specs.Course.{Course}
 use Rattle.kb_share.specs.Versions.{IsPublished}

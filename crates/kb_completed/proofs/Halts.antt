@@ -7,9 +7,9 @@ use Rattle.std.proofs.lemmas.Option.{slice_get-map, slice_get_read}
 use Rattle.kb_word.specs.Words.{Pair, OneOf}
 use Rattle.kb_word.specs.Presentations.{PresentationParts}
 use Rattle.kb_word.specs.declared.memory.Memory.{Memory}
-use Rattle.kb_log.specs.Justified.{IsJustified}
-use Rattle.kb_log.specs.declared.line.Line.{Line}
-use Rattle.kb_log.specs.declared.origin.Origin.{Origin}
+use Rattle.kb_machine.specs.Justified.{IsJustified}
+use Rattle.kb_machine.specs.declared.line.Line.{Line}
+use Rattle.kb_machine.specs.declared.origin.Origin.{Origin}
 use Rattle.kb_machine.specs.States.{Problem, State, live_rules, rule_numbered}
 use Rattle.kb_machine.specs.Course.{AreApart, Waits, HaltSays, IsSound, waiting_line}
 use Rattle.kb_machine.specs.declared.halt.Halt.{Halt}

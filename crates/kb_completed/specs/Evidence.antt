@@ -5,9 +5,9 @@ use Rattle.kb_word.specs.Words.{Pair, OneOf, IsFactor}
 use Rattle.kb_word.specs.Congruence.{Congruent}
 use Rattle.kb_word.specs.Rewriting.{IsIrreducible}
 use Rattle.kb_word.specs.Presentations.{PresentationParts}
-use Rattle.kb_log.specs.Lines.{rules_of}
-use Rattle.kb_log.specs.Justified.{IsJustified}
-use Rattle.kb_log.specs.declared.line.Line.{Line}
+use Rattle.kb_machine.specs.Lines.{rules_of}
+use Rattle.kb_machine.specs.Justified.{IsJustified}
+use Rattle.kb_machine.specs.declared.line.Line.{Line}
 use Rattle.kb_machine.specs.States.{rule_numbered}
 use Rattle.kb_reduced.specs.Reduced.{IsReducedComplete}
 use Rattle.kb_wa.specs.Prefixes.{CountedPrefixes}

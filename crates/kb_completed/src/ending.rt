@@ -12,7 +12,7 @@ use kb_complete::{Outcome, complete_watched};
 use kb_fsa::Fsa;
 use kb_index::Index;
 use kb_io::Gate;
-use kb_log::Line;
+use kb_machine::Line;
 use kb_rules::Rules;
 use kb_settle::Watch;
 use kb_threads::Workers;

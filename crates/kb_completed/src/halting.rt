@@ -2,7 +2,7 @@
 
 ghost use Rattle.std.specs.Prelude.{◌≡◌, List, ◌∷◌, Some, IfOk};
 ghost use Rattle.kb_word.specs.Presentations.{PresentationParts};
-ghost use Rattle.kb_log.specs.declared.origin.Origin.{Origin as PairOrigin};
+ghost use Rattle.kb_machine.specs.declared.origin.Origin.{Origin as PairOrigin};
 ghost use Rattle.kb_machine.specs.declared.halt.Halt.{Halt as Reason};
 ghost use Rattle.kb_machine.specs.Course.{waiting_line as line_of};
 ghost use Rattle.kb_completed.specs.Evidence.{Limits};
@@ -11,8 +11,7 @@ ghost use Rattle.kb_completed.specs.Ended.{EndsAs};
 
 use crate::ending::{Ending, Reached};
 use kb_book::Book;
-use kb_log::{Line, Origin};
-use kb_machine::Halt;
+use kb_machine::{Halt, Line, Origin};
 use kb_rules::Reducer;
 use kb_settle::book_is_sound;
 use kb_share::live_rules;

@@ -6,7 +6,7 @@ use Rattle.kb_io.specs.Outside.{outside}
 use Rattle.kb_io.specs.States.{ShelfState, SourceState, SinkState, SinkGoesOn}
 use Rattle.kb_word.specs.Words.{Pair}
 use Rattle.kb_fsa.specs.Language.{Automaton}
-use Rattle.kb_log.specs.declared.line.Line.{Line}
+use Rattle.kb_machine.specs.declared.line.Line.{Line}
 use Rattle.kb_task.specs.Lines.{LineIsWritten}
 use Rattle.kb_task.specs.Runs.{FaultIsCounted, IsRun}
 use Rattle.kb_task.specs.Statuses.{IsFaultless}

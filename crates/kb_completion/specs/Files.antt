@@ -2,7 +2,7 @@
 use Rattle.std.specs.Prelude.{◌≡◌, ℕ, List, [], ◌∷◌, ◌++◌, codes, Bool, true, false, Option, Some, None}
 use Rattle.kb_word.specs.Words.{Pair}
 use Rattle.kb_word.specs.Presentations.{PresentationParts}
-use Rattle.kb_log.specs.declared.line.Line.{Line}
+use Rattle.kb_machine.specs.declared.line.Line.{Line}
 use Rattle.kb_fsa.specs.Language.{Automaton}
 use Rattle.kb_fsafile.specs.Printed.{text_of_automaton}
 use Rattle.kb_presprint.specs.Printed.{text_of_presentation}

@@ -4,7 +4,7 @@ use Rattle.std.proofs.lemmas.Bool.{cases_order}
 use Rattle.std.proofs.lemmas.Slice.Zip.{AllZip-long}
 use Rattle.kb_io.specs.Bytes.{newline}
 use Rattle.kb_word.specs.Names.{AreApart}
-use Rattle.kb_log.specs.declared.line.Line.{Line}
+use Rattle.kb_machine.specs.declared.line.Line.{Line}
 use Rattle.kb_fields.specs.Generators.{AreGeneratorNames}
 use Rattle.kb_proof.specs.Printed.{text_of_log, text_of_origin}
 use Rattle.kb_proof.specs.Same.{AreSameLines, WaitSame}

@@ -3,7 +3,7 @@ use Rattle.std.specs.Prelude.{◌≡◌, ℕ, ◌⊎◌, List, [], ◌∷◌, �
 use Rattle.kb_io.specs.Bytes.{newline}
 use Rattle.kb_io.specs.Outside.{Outside, IsUnchanged}
 use Rattle.kb_word.specs.Presentations.{PresentationParts}
-use Rattle.kb_log.specs.declared.line.Line.{Line}
+use Rattle.kb_machine.specs.declared.line.Line.{Line}
 use Rattle.kb_proof.specs.Printed.{text_of_origin}
 use Rattle.kb_proof.specs.declared.log.Log.{Log}
 use Rattle.kb_proof.specs.declared.log.Version.{Version}

@@ -3,7 +3,7 @@ use Rattle.std.specs.Prelude.{◌≡◌, ℕ, ◌⊎◌, List, [], ◌∷◌, �
 use Rattle.kb_io.specs.Bytes.{newline}
 use Rattle.kb_io.specs.Outside.{Outside, IsUnchanged}
 use Rattle.kb_word.specs.Words.{Pair}
-use Rattle.kb_log.specs.declared.line.Line.{Line}
+use Rattle.kb_machine.specs.declared.line.Line.{Line}
 use Rattle.kb_fsa.specs.Language.{Automaton}
 use Rattle.kb_task.specs.Effects.{Writes, WritesFront}
 use Rattle.kb_task.specs.Limits.{undecided_line, undecided_words_line}

@@ -12,7 +12,7 @@ ghost use Rattle.kb_completion.specs.Files.{evidence_texts, halted_texts, too_la
 use crate::file_names::{log_file, rules_file};
 use crate::files::both;
 use kb_completed::Reached;
-use kb_log::Line;
+use kb_machine::Line;
 use kb_presprint::write as write_presentation;
 use kb_proof::{Log, Version, print_log};
 use kb_rules::Rules;

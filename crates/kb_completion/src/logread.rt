@@ -9,7 +9,7 @@ ghost use Rattle.kb_completion.specs.Logread.{LogMeans, StoresNothing, logread_l
 use crate::file_names::log_file;
 use crate::printing::{append, append_number};
 use kb_io::{Shelf, Sink, Source};
-use kb_log::Line;
+use kb_machine::Line;
 use kb_proof::{Log, Version, print_origin};
 use kb_task::{Status, Task, load_log, load_presentation, print_line};
 use kb_word::{Memory, OwnedText};

@@ -13,7 +13,7 @@ use crate::printing::{append, append_number};
 use kb_book::Limits;
 use kb_completed::{Ending, Reached, complete_presentation};
 use kb_io::{Gate, Shelf, Sink, Source};
-use kb_log::Line;
+use kb_machine::Line;
 use kb_proof::{Log, Version, print_log};
 use kb_settle::Silent;
 use kb_task::{

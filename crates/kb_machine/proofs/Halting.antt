@@ -1,11 +1,11 @@
 -- The completion halts at a limit: the first pending pair waits.
 use Rattle.std.proofs.Common.{◌≡◌, List, [], ◌∷◌, ◌++◌, length, Some, refl, sym, subst}
-use Rattle.kb_log.specs.declared.line.Line.{Line}
-use Rattle.kb_log.specs.declared.origin.Origin.{Origin}
-use Rattle.kb_log.proofs.Numbers.{slice_get_last}
-use Rattle.kb_log.proofs.Logs.{justified_congruent}
-use Rattle.kb_log.proofs.Appending.{justified_push}
-use Rattle.kb_log.specs.Justified.{IsJustified}
+use Rattle.kb_machine.specs.declared.line.Line.{Line}
+use Rattle.kb_machine.specs.declared.origin.Origin.{Origin}
+use Rattle.kb_machine.proofs.Numbers.{slice_get_last}
+use Rattle.kb_machine.proofs.Logs.{justified_congruent}
+use Rattle.kb_machine.proofs.Appending.{justified_push}
+use Rattle.kb_machine.specs.Justified.{IsJustified}
 use Rattle.kb_machine.specs.States.{Problem, State, relations, below}
 use Rattle.kb_machine.specs.Machine.{LeadsApart, IsAtLimit, Halts}
 use Rattle.kb_machine.specs.Course.{Waits, AreApart as WordsApart, HaltSays, waiting_line}

@@ -5,11 +5,11 @@ use Rattle.std.specs.List.{AllPairs, Contains}
 use Rattle.kb_word.specs.Words.{Pair, OneOf, IsFactor}
 use Rattle.kb_word.specs.Congruence.{Congruent}
 use Rattle.kb_word.proofs.PathLemmas.{congruent_sides, congruent_covered}
-use Rattle.kb_log.specs.Lines.{rules_of, replaced}
-use Rattle.kb_log.specs.Justified.{HasAnotherFactor, IsJustified}
-use Rattle.kb_log.specs.declared.line.Line.{Line}
-use Rattle.kb_log.specs.declared.origin.Origin.{Origin}
-use Rattle.kb_log.specs.declared.origin.Origin.TheVariants.{Relation, Overlap, Killed, Shortened}
+use Rattle.kb_machine.specs.Lines.{rules_of, replaced}
+use Rattle.kb_machine.specs.Justified.{HasAnotherFactor, IsJustified}
+use Rattle.kb_machine.specs.declared.line.Line.{Line}
+use Rattle.kb_machine.specs.declared.origin.Origin.{Origin}
+use Rattle.kb_machine.specs.declared.origin.Origin.TheVariants.{Relation, Overlap, Killed, Shortened}
 use Rattle.kb_machine.specs.States.{Problem, State, relations, below, IsLiveRule, IsPendingPair}
 use Rattle.kb_machine.specs.Course.{HaltSays}
 

@@ -3,9 +3,9 @@ use Rattle.std.proofs.Common.{◌≡◌, ℕ, List, [], ◌∷◌, ◌++◌, Som
 use Rattle.std.specs.List.{Contains}
 use Rattle.std.proofs.lemmas.List.Elements.{Contains-append_left, Contains-push}
 use Rattle.kb_word.specs.Words.{Pair, OneOf, IsFactor}
-use Rattle.kb_log.specs.Lines.{numbered, rules_of, replaced}
-use Rattle.kb_log.specs.declared.origin.Origin.{Origin}
-use Rattle.kb_log.specs.declared.origin.Origin.TheVariants as names
+use Rattle.kb_machine.specs.Lines.{numbered, rules_of, replaced}
+use Rattle.kb_machine.specs.declared.origin.Origin.{Origin}
+use Rattle.kb_machine.specs.declared.origin.Origin.TheVariants as names
 use Rattle.kb_machine.specs.States.{Problem, State, IsLiveRule}
 use Rattle.kb_machine.specs.Machine.{Kills}
 use Rattle.kb_machine.proofs.Words.{factor_transitive}

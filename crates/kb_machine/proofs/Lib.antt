@@ -1,3 +1,7 @@
+pub mod Numbers
+pub mod Consequences
+pub mod Logs
+pub mod Appending
 pub mod Lists
 pub mod Words
 pub mod Invariant

@@ -3,12 +3,12 @@ use Rattle.std.proofs.Common.{◌≡◌, ℕ, ◌+◌, ◌<◌, ◌≤◌, List,
 use Rattle.std.specs.List.{AllPairs, Contains}
 use Rattle.std.proofs.lemmas.List.Elements.{All-contains, All-weaker, All-push, Contains-append_left, Contains-push, Contains-push_cases}
 use Rattle.kb_word.specs.Words.{Pair, OneOf}
-use Rattle.kb_log.specs.Lines.{rule_of, rules_of, replaced}
-use Rattle.kb_log.specs.declared.line.Line.{Line}
-use Rattle.kb_log.specs.declared.origin.Origin.{Origin}
-use Rattle.kb_log.proofs.Numbers.{extends_push, numbered_last, pair_extends}
-use Rattle.kb_log.proofs.Consequences.{deriving_congruent}
-use Rattle.kb_log.proofs.Appending.{justified_push}
+use Rattle.kb_machine.specs.Lines.{rule_of, rules_of, replaced}
+use Rattle.kb_machine.specs.declared.line.Line.{Line}
+use Rattle.kb_machine.specs.declared.origin.Origin.{Origin}
+use Rattle.kb_machine.proofs.Numbers.{extends_push, numbered_last, pair_extends}
+use Rattle.kb_machine.proofs.Consequences.{deriving_congruent}
+use Rattle.kb_machine.proofs.Appending.{justified_push}
 use Rattle.kb_machine.specs.States.{Problem, State, relations, IsLiveRule}
 use Rattle.kb_machine.specs.Machine.{IsLive, Makes}
 use Rattle.kb_machine.specs.Course.{HaltSays}

@@ -4,15 +4,15 @@ use Rattle.std.specs.Prelude.{slice_get, map}
 use Rattle.std.specs.List.{AllPairs, Contains}
 use Rattle.kb_word.specs.Words.{Pair, OneOf}
 use Rattle.kb_word.specs.Rewriting.{IsIrreducible}
-use Rattle.kb_log.specs.Lines.{rule_of, rules_of, IsPairOf}
-use Rattle.kb_log.specs.Derivations.{Any}
-use Rattle.kb_log.specs.Justified.{ComesFromPair, FollowsBy}
-use Rattle.kb_log.specs.declared.line.Line.{Line}
-use Rattle.kb_log.specs.declared.origin.Origin.{Origin}
-use Rattle.kb_log.specs.declared.origin.Origin.TheVariants.{Relation, Overlap, Killed, Shortened}
-use Rattle.kb_log.proofs.Numbers.{rules_push_cases}
-use Rattle.kb_log.proofs.Consequences.{derives_both_implied}
-use Rattle.kb_log.proofs.Appending.{MayCome}
+use Rattle.kb_machine.specs.Lines.{rule_of, rules_of, IsPairOf}
+use Rattle.kb_machine.specs.Derivations.{Any}
+use Rattle.kb_machine.specs.Justified.{ComesFromPair, FollowsBy}
+use Rattle.kb_machine.specs.declared.line.Line.{Line}
+use Rattle.kb_machine.specs.declared.origin.Origin.{Origin}
+use Rattle.kb_machine.specs.declared.origin.Origin.TheVariants.{Relation, Overlap, Killed, Shortened}
+use Rattle.kb_machine.proofs.Numbers.{rules_push_cases}
+use Rattle.kb_machine.proofs.Consequences.{derives_both_implied}
+use Rattle.kb_machine.proofs.Appending.{MayCome}
 use Rattle.kb_machine.specs.States.{Problem, State, relations, below, IsLiveRule}
 use Rattle.kb_machine.specs.Machine.{IsLive, LeadsApart}
 use Rattle.kb_machine.proofs.Lists.{contains_head, pairs_before}

@@ -6,11 +6,11 @@ use Rattle.std.proofs.lemmas.List.{map-append}
 use Rattle.std.proofs.lemmas.List.Elements.{Contains-push_cases}
 use Rattle.std.proofs.lemmas.Option.{IfSome_then}
 use Rattle.kb_word.specs.Words.{Pair}
-use Rattle.kb_log.specs.Lines.{rules_of, IsPairOf}
-use Rattle.kb_log.specs.declared.line.Line.{Line}
-use Rattle.kb_log.specs.declared.origin.Origin.{Origin}
-use Rattle.kb_log.specs.declared.origin.Origin.TheVariants.{Relation, Overlap, Killed, Shortened}
-use Rattle.kb_log.proofs.Numbers.{Extends, another_factor_extends, pair_same}
+use Rattle.kb_machine.specs.Lines.{rules_of, IsPairOf}
+use Rattle.kb_machine.specs.declared.line.Line.{Line}
+use Rattle.kb_machine.specs.declared.origin.Origin.{Origin}
+use Rattle.kb_machine.specs.declared.origin.Origin.TheVariants.{Relation, Overlap, Killed, Shortened}
+use Rattle.kb_machine.proofs.Numbers.{Extends, another_factor_extends, pair_same}
 use Rattle.kb_machine.specs.States.{Problem, State, relations, IsPendingPair}
 use Rattle.kb_machine.specs.Course.{Waits, HaltSays}
 use Rattle.kb_machine.specs.declared.halt.Halt.{Halt}

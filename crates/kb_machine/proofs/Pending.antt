@@ -8,10 +8,10 @@ use Rattle.kb_word.specs.Words.{Pair}
 use Rattle.kb_word.proofs.PathLemmas.{congruent_covered, congruent_transitive, congruent_symmetric, congruent_by_reduction}
 use Rattle.kb_word.specs.Congruence.{Congruent}
 use Rattle.kb_word.specs.Rewriting.{ReducesTo}
-use Rattle.kb_log.specs.Lines.{rules_of, replaced}
-use Rattle.kb_log.specs.declared.line.Line.{Line}
-use Rattle.kb_log.specs.declared.origin.Origin.{Origin}
-use Rattle.kb_log.specs.declared.origin.Origin.TheVariants as names
+use Rattle.kb_machine.specs.Lines.{rules_of, replaced}
+use Rattle.kb_machine.specs.declared.line.Line.{Line}
+use Rattle.kb_machine.specs.declared.origin.Origin.{Origin}
+use Rattle.kb_machine.specs.declared.origin.Origin.TheVariants as names
 use Rattle.kb_machine.specs.States.{Problem, State, IsLiveRule}
 use Rattle.kb_machine.specs.Machine.{Enters, Drops}
 use Rattle.kb_machine.specs.Course.{HaltSays}

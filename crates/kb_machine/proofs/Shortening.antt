@@ -8,16 +8,16 @@ use Rattle.kb_word.specs.WordOrderLaws.{word_orders}
 use Rattle.kb_word.specs.Congruence.{Congruent}
 use Rattle.kb_word.proofs.PathLemmas.{path_equal, congruent_symmetric, congruent_transitive}
 use Rattle.kb_rules.proofs.Reducts.{IsAtMost, reduct_at_most}
-use Rattle.kb_log.specs.Lines.{numbered, rule_of, rules_of, replaced}
-use Rattle.kb_log.specs.Derivations.{Any}
-use Rattle.kb_log.specs.Justified.{FollowsBy, ShortensRule}
-use Rattle.kb_log.specs.declared.line.Line.{Line}
-use Rattle.kb_log.specs.declared.origin.Origin.{Origin}
-use Rattle.kb_log.specs.declared.origin.Origin.TheVariants as names
-use Rattle.kb_log.proofs.Numbers.{numbered_one, extends_push, numbered_last, pair_extends}
-use Rattle.kb_log.proofs.Consequences.{IsAllowedRule, derivation_reduces, derivation_congruent, derives_implied}
-use Rattle.kb_log.proofs.Logs.{justified_decreases}
-use Rattle.kb_log.proofs.Appending.{MayCome, justified_push}
+use Rattle.kb_machine.specs.Lines.{numbered, rule_of, rules_of, replaced}
+use Rattle.kb_machine.specs.Derivations.{Any}
+use Rattle.kb_machine.specs.Justified.{FollowsBy, ShortensRule}
+use Rattle.kb_machine.specs.declared.line.Line.{Line}
+use Rattle.kb_machine.specs.declared.origin.Origin.{Origin}
+use Rattle.kb_machine.specs.declared.origin.Origin.TheVariants as names
+use Rattle.kb_machine.proofs.Numbers.{numbered_one, extends_push, numbered_last, pair_extends}
+use Rattle.kb_machine.proofs.Consequences.{IsAllowedRule, derivation_reduces, derivation_congruent, derives_implied}
+use Rattle.kb_machine.proofs.Logs.{justified_decreases}
+use Rattle.kb_machine.proofs.Appending.{MayCome, justified_push}
 use Rattle.kb_machine.specs.States.{Problem, State, relations, below, IsLiveRule}
 use Rattle.kb_machine.specs.Machine.{IsLive, Shortens}
 use Rattle.kb_machine.specs.Course.{HaltSays}

@@ -5,11 +5,11 @@ use Rattle.std.proofs.lemmas.Option.{slice_get-map}
 use Rattle.kb_word.specs.Words.{Pair, OneOf, IsFactor}
 use Rattle.kb_word.specs.Congruence.{Congruent}
 use Rattle.kb_word.proofs.PathLemmas.{congruent_sides}
-use Rattle.kb_log.specs.Lines.{rule_of, rules_of}
-use Rattle.kb_log.specs.declared.line.Line.{Line}
-use Rattle.kb_log.proofs.Numbers.{numbered_one}
-use Rattle.kb_log.proofs.Consequences.{pair_congruent}
-use Rattle.kb_log.proofs.Logs.{justified_rules}
+use Rattle.kb_machine.specs.Lines.{rule_of, rules_of}
+use Rattle.kb_machine.specs.declared.line.Line.{Line}
+use Rattle.kb_machine.proofs.Numbers.{numbered_one}
+use Rattle.kb_machine.proofs.Consequences.{pair_congruent}
+use Rattle.kb_machine.proofs.Logs.{justified_rules}
 use Rattle.kb_machine.specs.States.{Problem, State, relations, rule_numbered, IsLiveRule, IsPendingPair}
 use Rattle.kb_machine.specs.Machine.{IsLive}
 use Rattle.kb_machine.specs.Course.{IsSound}

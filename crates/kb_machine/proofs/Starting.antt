@@ -5,9 +5,9 @@ use Rattle.std.specs.List.{AllPairs, Contains}
 use Rattle.std.proofs.lemmas.List.Kept.{AllPairs-cons}
 use Rattle.kb_word.specs.Words.{Pair}
 use Rattle.kb_word.proofs.PathLemmas.{congruent_sides}
-use Rattle.kb_log.specs.Lines.{replaced}
-use Rattle.kb_log.specs.declared.origin.Origin.{Origin}
-use Rattle.kb_log.specs.declared.origin.Origin.TheVariants.{Relation}
+use Rattle.kb_machine.specs.Lines.{replaced}
+use Rattle.kb_machine.specs.declared.origin.Origin.{Origin}
+use Rattle.kb_machine.specs.declared.origin.Origin.TheVariants.{Relation}
 use Rattle.kb_machine.specs.States.{Problem, relations, relation_origins, start}
 use Rattle.kb_machine.proofs.Lists.{contains_head, contains_tail, contains_cons_cases, all_contained}
 use Rattle.kb_machine.proofs.Invariant.{AreApart, MayBePending, Invariant}

@@ -3,10 +3,10 @@ use Rattle.std.proofs.Common.{◌≡◌, ◌≢◌, ◌⊎◌, ℕ, ◌<◌, ◌
 use Rattle.std.specs.List.{AllPairs, Contains}
 use Rattle.std.proofs.lemmas.List.Elements.{All-contains}
 use Rattle.kb_word.specs.Words.{Pair}
-use Rattle.kb_log.specs.Lines.{numbered, rules_of, replaced}
-use Rattle.kb_log.specs.declared.origin.Origin.{Origin}
-use Rattle.kb_log.specs.declared.origin.Origin.TheVariants.{Relation}
-use Rattle.kb_log.proofs.Numbers.{numbered_same}
+use Rattle.kb_machine.specs.Lines.{numbered, rules_of, replaced}
+use Rattle.kb_machine.specs.declared.origin.Origin.{Origin}
+use Rattle.kb_machine.specs.declared.origin.Origin.TheVariants.{Relation}
+use Rattle.kb_machine.proofs.Numbers.{numbered_same}
 use Rattle.kb_machine.specs.States.{Problem, State, IsLiveRule}
 use Rattle.kb_machine.proofs.Lists.{contains_middle, contains_around, contains_middle_cases, pairs_around, all_contained, ascending_once}
 use Rattle.kb_machine.proofs.Invariant.{AreApart, origins, IsGone, Invariant}

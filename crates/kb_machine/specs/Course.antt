@@ -4,12 +4,12 @@ use Rattle.std.specs.List.{AllPairs}
 use Rattle.kb_word.specs.Words.{Pair, OneOf, IsFactor}
 use Rattle.kb_word.specs.Congruence.{Congruent}
 use Rattle.kb_word.specs.Rewriting.{IsIrreducible}
-use Rattle.kb_log.specs.Lines.{rules_of}
-use Rattle.kb_log.specs.Justified.{IsJustified}
-use Rattle.kb_log.specs.declared.line.Line.{Line}
+use Rattle.kb_machine.specs.Lines.{rules_of}
+use Rattle.kb_machine.specs.Justified.{IsJustified}
+use Rattle.kb_machine.specs.declared.line.Line.{Line}
 use Rattle.kb_machine.specs.States.{Problem, State, relations, below, rule_numbered, IsLiveRule, IsPendingPair}
 use Rattle.kb_machine.specs.Machine.{Run, Step, IsLive}
-use Rattle.kb_log.specs.declared.origin.Origin.{Origin}
+use Rattle.kb_machine.specs.declared.origin.Origin.{Origin}
 use Rattle.kb_machine.specs.declared.event.Event.{Event}
 use Rattle.kb_machine.specs.declared.halt.Halt.{Halt}
 use Rattle.kb_machine.specs.declared.halt.Halt.TheVariants.{Rules, Length}

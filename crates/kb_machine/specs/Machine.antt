@@ -8,12 +8,12 @@ use Rattle.std.specs.List.{Contains}
 use Rattle.kb_word.specs.Words.{Pair, IsFactor}
 use Rattle.kb_word.specs.Rewriting.{IsIrreducible, ReducesTo}
 use Rattle.kb_rules.specs.Steps.{Leads}
-use Rattle.kb_log.specs.Lines.{numbered, rules_of, IsPairOf, OverlapOfNumbers}
-use Rattle.kb_log.specs.Derivations.{Derives, DerivesBoth}
-use Rattle.kb_log.specs.declared.line.Line.{Line}
-use Rattle.kb_log.specs.declared.line.LogStep.{LogStep}
-use Rattle.kb_log.specs.declared.origin.Origin.{Origin}
-use Rattle.kb_log.specs.declared.origin.Origin.TheVariants as origins
+use Rattle.kb_machine.specs.Lines.{numbered, rules_of, IsPairOf, OverlapOfNumbers}
+use Rattle.kb_machine.specs.Derivations.{Derives, DerivesBoth}
+use Rattle.kb_machine.specs.declared.line.Line.{Line}
+use Rattle.kb_machine.specs.declared.line.LogStep.{LogStep}
+use Rattle.kb_machine.specs.declared.origin.Origin.{Origin}
+use Rattle.kb_machine.specs.declared.origin.Origin.TheVariants as origins
 use Rattle.kb_machine.specs.States.{Problem, State, relations, below, start, IsLiveRule}
 use Rattle.kb_machine.specs.declared.event.Event.{Event}
 use Rattle.kb_machine.specs.declared.event.Event.TheVariants.{Entered, Dropped, Made, Halted, Killed, Shortened, Published}

@@ -5,10 +5,10 @@ use Rattle.kb_word.specs.Words.{Pair}
 use Rattle.kb_word.specs.WordOrders.{Below}
 use Rattle.kb_word.specs.Presentations.{PresentationParts}
 use Rattle.kb_word.specs.Relations.{relations_of}
-use Rattle.kb_log.specs.Lines.{numbered, rules_of, IsPairOf}
-use Rattle.kb_log.specs.declared.line.Line.{Line}
-use Rattle.kb_log.specs.declared.origin.Origin.{Origin}
-use Rattle.kb_log.specs.declared.origin.Origin.TheVariants.{Relation}
+use Rattle.kb_machine.specs.Lines.{numbered, rules_of, IsPairOf}
+use Rattle.kb_machine.specs.declared.line.Line.{Line}
+use Rattle.kb_machine.specs.declared.origin.Origin.{Origin}
+use Rattle.kb_machine.specs.declared.origin.Origin.TheVariants.{Relation}
 use Rattle.kb_machine.specs.declared.halt.Halt.{Halt}
 
 -- a presentation, and the limits within which it is to be completed

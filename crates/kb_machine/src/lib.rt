@@ -1,4 +1,19 @@
-//! The completion machine: what a completion may do in each state, and what holds whatever it does.
+//! The completion machine and its log: what a completion may do in each state, what it leaves in its
+//! log, and what holds whatever it does.
+//!
+//! # The log
+//!
+//! A line is a rule with its origin, which names a pair of words (the sides of a defining relation,
+//! the critical pair of two lines, the sides of a line that was replaced), and with derivations:
+//! the steps, each by a line before it, that lead from the words of the pair to its sides. So each
+//! line can be checked by whoever reads the log, without repeating the completion.
+//!
+//! What a log has to say is `IsJustified` of `specs/Justified.antt`: each line follows from the
+//! relations and the lines before it. By the law [`justified_lines_are_congruent`] the sides of
+//! each line are then congruent by the relations. `specs/Lines.antt` has the numbers of lines and
+//! their rules, `specs/Derivations.antt` the steps by lines.
+//!
+//! # The machine
 //!
 //! A completion has a state: its lines, which of them are live, the pairs that are still to be
 //! looked at, the versions that were published, and a halt. An event changes it, as
@@ -13,13 +28,19 @@
 //! `proofs/Invariant.antt` has what each event keeps, from which soundness follows; there is a file
 //! of lemmas for each event or two.
 //!
-//! Below is `kb_log`, with the lines and what justifies them; above is `kb_book`, whose calls are the events.
+//! Below are `kb_word`, `kb_rules` and `kb_overlap`.
 #![tactic(auto)]
 
 mod event;
 mod halt;
 mod laws;
+mod line;
+mod log_law;
+mod origin;
 
 pub use event::Event;
 pub use halt::Halt;
 pub use laws::courses_are_sound;
+pub use line::{Line, LogStep};
+pub use log_law::justified_lines_are_congruent;
+pub use origin::Origin;

@@ -4,7 +4,7 @@ use Rattle.std.specs.Prelude.{All, IfSome, Option, None, Some, codes}
 use Rattle.std.proofs.lemmas.List.{append_cancel_left}
 use Rattle.std.proofs.lemmas.List.Elements.{All-from_recursion, All-head, All-tail}
 use Rattle.std.specs.List.{AllByRecursion}
-use Rattle.kb_log.specs.declared.line.Line.{Line}
+use Rattle.kb_machine.specs.declared.line.Line.{Line}
 use Rattle.kb_proof.specs.Faults.{BeginsWrong, GoesOnPastOpen, HasLogFault, IsFirstLine, IsOtherVersion, IsWrongBehind, IsWrongBody, NamesOtherVersion}
 use Rattle.kb_proof.specs.Printable.{AreReadableNames, IsPrintable, IsPrintableLine}
 use Rattle.kb_proof.specs.Printed.{header, text_of_body, text_of_line, text_of_lines, text_of_log, text_of_open, text_of_waiting}

@@ -2,7 +2,7 @@
 use Rattle.std.proofs.Common.{◌≡◌, ◌≢◌, ◌∙◌, ℕ, List, [], ◌∷◌, ◌++◌, refl, sym, ap, subst, arith}
 use Rattle.std.specs.Prelude.{codes, Option, Some, None}
 use Rattle.std.specs.List.{AllByRecursion, join_with_byte}
-use Rattle.kb_log.specs.declared.line.Line.{Line}
+use Rattle.kb_machine.specs.declared.line.Line.{Line}
 use Rattle.kb_proof.specs.Printed.{FieldTexts, field_texts, listed, text_of_fields, text_of_steps}
 use Rattle.kb_proof.specs.Printable.{AreReadableNames, FitsLine, IsPrintableLine, IsShortening}
 use Rattle.kb_proof.specs.Reading.{AllFrom, AreBehindSides, AreFields, AreTextsOf, HaveNoBlanks, HaveNoSteps, Reads, ReadsFields, parts}

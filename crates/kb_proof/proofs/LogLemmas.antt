@@ -1,7 +1,7 @@
 -- Lines of logs, and logs.
 use Rattle.std.proofs.Common.{◌≡◌, ◌≢◌, ◌∙◌, ℕ, ◌+◌, ◌^◌, ◌<◌, List, [], ◌∷◌, ◌++◌, length, inl, inr, refl, sym, ap, subst, append_assoc, arith}
 use Rattle.std.specs.Prelude.{All, Option, Some, None, IfSome, IfErr, Result, Ok, Err}
-use Rattle.kb_log.specs.declared.line.Line.{Line}
+use Rattle.kb_machine.specs.declared.line.Line.{Line}
 use Rattle.kb_proof.specs.Faults.{HasBodyFault, HasHeaderFault, HasLogFault, IsWrongBody}
 use Rattle.kb_proof.specs.Printable.{IsPrintableLine}
 use Rattle.kb_proof.specs.Printed.{header, text_of_body, text_of_line, text_of_lines, text_of_log, text_of_open, text_of_waiting}

@@ -10,10 +10,10 @@ use Rattle.kb_lexing.specs.Spelling.{IsDigit}
 use Rattle.kb_word.specs.Names.{AreApart}
 use Rattle.kb_word.specs.Printed.{letter_name, text_of_word}
 use Rattle.kb_word.specs.Relations.{IsOver}
-use Rattle.kb_log.specs.declared.line.Line.{Line}
-use Rattle.kb_log.specs.declared.line.LogStep.{LogStep}
-use Rattle.kb_log.specs.declared.origin.Origin.{Origin}
-use Rattle.kb_log.specs.declared.origin.Origin.TheVariants.{Relation, Overlap, Killed, Shortened}
+use Rattle.kb_machine.specs.declared.line.Line.{Line}
+use Rattle.kb_machine.specs.declared.line.LogStep.{LogStep}
+use Rattle.kb_machine.specs.declared.origin.Origin.{Origin}
+use Rattle.kb_machine.specs.declared.origin.Origin.TheVariants.{Relation, Overlap, Killed, Shortened}
 use Rattle.kb_proof.specs.Printed.{field_texts, header, text_of_body, text_of_fields, text_of_line, text_of_lines, text_of_log, text_of_open, text_of_origin, text_of_step, text_of_steps, text_of_waiting}
 use Rattle.kb_proof.specs.Printable.{AreReadableNames, FitsOrigin, FitsStep, IsPrintable, IsPrintableLine}
 use Rattle.kb_proof.specs.Reading.{AllFrom, parts}

@@ -12,9 +12,9 @@ use Rattle.kb_lexing.specs.Spelling.{IsDigit, IsName, IsNameByte, GoesOnAsName, 
 use Rattle.kb_word.specs.Names.{name_of}
 use Rattle.kb_word.specs.Printed.{letter_name, text_of_word}
 use Rattle.kb_word.specs.Relations.{IsOver}
-use Rattle.kb_log.specs.declared.line.LogStep.{LogStep}
-use Rattle.kb_log.specs.declared.origin.Origin.{Origin}
-use Rattle.kb_log.specs.declared.origin.Origin.TheVariants.{Relation, Overlap, Killed, Shortened}
+use Rattle.kb_machine.specs.declared.line.LogStep.{LogStep}
+use Rattle.kb_machine.specs.declared.origin.Origin.{Origin}
+use Rattle.kb_machine.specs.declared.origin.Origin.TheVariants.{Relation, Overlap, Killed, Shortened}
 use Rattle.kb_proof.specs.Printed.{text_of_origin, text_of_step, text_of_steps}
 use Rattle.kb_proof.specs.Printable.{AreReadableNames, FitsOrigin, FitsStep, IsShortening}
 use Rattle.kb_proof.specs.Reading.{AllFrom, Reads, ReadsJoined, ReadsOverlap, parts}

@@ -2,7 +2,7 @@
 use Rattle.std.specs.Prelude.{◌≡◌, ◌≢◌, ℕ, ◌+◌, ◌<◌, ◌≤◌, ◌⊎◌, ℤ, pos, List, [], ◌∷◌, ◌++◌, length, All, codes}
 use Rattle.std.specs.List.{AllByRecursion}
 use Rattle.kb_lexing.specs.Spelling.{IsDigit, IsNumber}
-use Rattle.kb_log.specs.declared.line.Line.{Line}
+use Rattle.kb_machine.specs.declared.line.Line.{Line}
 use Rattle.kb_proof.specs.Printed.{text_of_line, text_of_open, text_of_lines, header}
 use Rattle.kb_proof.specs.Printable.{IsPrintableLine}
 use Rattle.kb_proof.specs.declared.log.Version.{Version}

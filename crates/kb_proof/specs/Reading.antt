@@ -1,9 +1,9 @@
 -- What it means to read the text of a value exactly.
 use Rattle.std.specs.Prelude.{◌≡◌, ◌≢◌, ℕ, ◌≤◌, ◌==◌, List, [], ◌∷◌, ◌++◌, map, All, Option, None, Some}
 use Rattle.std.specs.List.{AllByRecursion, join_with_byte, slice_split}
-use Rattle.kb_log.specs.declared.origin.Origin.{Origin}
-use Rattle.kb_log.specs.declared.origin.Origin.TheVariants.{Overlap}
-use Rattle.kb_log.specs.declared.line.Line.{Line}
+use Rattle.kb_machine.specs.declared.origin.Origin.{Origin}
+use Rattle.kb_machine.specs.declared.origin.Origin.TheVariants.{Overlap}
+use Rattle.kb_machine.specs.declared.line.Line.{Line}
 use Rattle.kb_proof.specs.Printed.{FieldTexts, field_texts, listed, text_of_origin, text_of_body}
 use Rattle.kb_proof.specs.Printable.{FitsOrigin, FitsLine, IsPrintable, IsPrintableLine}
 use Rattle.kb_proof.specs.declared.fields.Fields.{Fields}

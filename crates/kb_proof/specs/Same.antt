@@ -1,7 +1,7 @@
 -- Logs that say the same.
 use Rattle.std.specs.Prelude.{◌≡◌, Option, None, Some}
 use Rattle.std.specs.List.{AllZip}
-use Rattle.kb_log.specs.declared.line.Line.{Line}
+use Rattle.kb_machine.specs.declared.line.Line.{Line}
 use Rattle.kb_proof.specs.declared.log.Log.{Log}
 
 -- the lines have the same origin, sides and derivations

@@ -12,7 +12,7 @@ use crate::numbers::is_text_of;
 use crate::origin::read_origin;
 use crate::steps::read_steps;
 use crate::words::read_word;
-use kb_log::{Line, Origin};
+use kb_machine::{Line, Origin};
 use kb_word::{Memory, Names};
 use std::alloc::Global;
 

@@ -1,6 +1,6 @@
 //! Logs.
 
-use kb_log::Line;
+use kb_machine::Line;
 
 /// Which form the text of a log has.
 #[derive(Clone, Copy, Debug, PartialEq, Eq)]

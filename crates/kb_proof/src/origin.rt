@@ -6,7 +6,7 @@ ghost use Rattle.kb_proof.specs.Reading.{Reads, ReadsOverlap};
 
 use crate::cut::cut_at;
 use crate::numbers::{read_u32, read_u64};
-use kb_log::Origin;
+use kb_machine::Origin;
 
 /// The origin whose text the bytes are.
 pub(crate) fn read_origin(bytes: &[u8]) -> Option<Origin>

@@ -1,13 +1,13 @@
 //! From logs to bytes.
 
 ghost use Rattle.std.specs.Prelude.{◌≡◌, ◌++◌, ◌∷◌, IfOk, OnOk, decimal};
-ghost use Rattle.kb_log.specs.declared.origin.Origin.TheVariants.{Overlap};
+ghost use Rattle.kb_machine.specs.declared.origin.Origin.TheVariants.{Overlap};
 ghost use Rattle.kb_proof.specs.declared.log.Version.TheVariants.{One};
 ghost use Rattle.kb_proof.specs.Printed.{derivations_text, header, text_of_fields, text_of_lines, text_of_log, text_of_origin, text_of_step, text_of_steps, text_of_waiting};
 
 use crate::log::{Log, Version};
 use itoa::Buffer;
-use kb_log::{Line, LogStep, Origin};
+use kb_machine::{Line, LogStep, Origin};
 use kb_word::{Memory, Names, Presentation, print_word};
 use std::alloc::Global;
 

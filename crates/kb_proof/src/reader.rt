@@ -10,7 +10,7 @@ use crate::error::LogError;
 use crate::header::read_header;
 use crate::line::{read_line, read_open};
 use crate::log::{Log, Version};
-use kb_log::Line;
+use kb_machine::Line;
 use kb_word::{Names, Presentation};
 use std::alloc::Global;
 

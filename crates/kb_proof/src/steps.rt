@@ -1,14 +1,14 @@
 //! Derivations as they are printed.
 
 ghost use Rattle.std.specs.Prelude.{◌≡◌, ◌≢◌, All, IfOk, IfSome, IfNone, List, None, Some};
-ghost use Rattle.kb_log.specs.declared.line.LogStep.{LogStep as Step};
+ghost use Rattle.kb_machine.specs.declared.line.LogStep.{LogStep as Step};
 ghost use Rattle.kb_proof.specs.Printable.{FitsStep};
 ghost use Rattle.kb_proof.specs.Printed.{text_of_step, text_of_steps};
 ghost use Rattle.kb_proof.specs.Reading.{Reads, ReadsJoined};
 
 use crate::cut::cut_at;
 use crate::numbers::{read_u32, read_u64};
-use kb_log::LogStep;
+use kb_machine::LogStep;
 use kb_word::Memory;
 use std::alloc::Global;
 

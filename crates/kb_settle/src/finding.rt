@@ -2,7 +2,7 @@
 
 use crate::signature::Signature;
 use kb_book::Book;
-use kb_log::Line;
+use kb_machine::Line;
 use kb_rules::Reducer;
 use kb_word::{Memory, Word, factor_at};
 use std::alloc::Global;

@@ -9,8 +9,8 @@ use Rattle.kb_word.specs.Words.{Pair, OneOf}
 use Rattle.kb_word.specs.Rewriting.{AreDecreasing}
 use Rattle.kb_word.specs.WordOrders.{Below}
 use Rattle.kb_word.specs.declared.word_order.WordOrder.{WordOrder}
-use Rattle.kb_log.specs.Lines.{numbered, rule_of, rules_of}
-use Rattle.kb_log.specs.declared.line.Line.{Line}
+use Rattle.kb_machine.specs.Lines.{numbered, rule_of, rules_of}
+use Rattle.kb_machine.specs.declared.line.Line.{Line}
 use Rattle.kb_machine.specs.States.{Problem, State, below, rule_numbered, live_rules, IsLiveRule}
 use Rattle.kb_machine.specs.Course.{IsSound}
 

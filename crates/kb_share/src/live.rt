@@ -4,7 +4,7 @@ ghost use Rattle.std.specs.Prelude.{◌≡◌, ◌<◌, ◌≤◌, All, IfOk, le
 ghost use Rattle.kb_machine.specs.States.{live_rules as rules_that_live, rule_numbered};
 
 use kb_book::Book;
-use kb_log::Line;
+use kb_machine::Line;
 use kb_rules::{Reducer, Rule, Rules};
 use kb_settle::book_is_sound;
 use kb_word::Memory;

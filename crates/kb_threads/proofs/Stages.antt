@@ -3,8 +3,8 @@ use Rattle.std.proofs.Common.{◌≡◌, ℕ, ◌+◌, List, [], ◌∷◌, ◌+
 use Rattle.std.proofs.lemmas.List.{append-nil}
 use Rattle.std.specs.Prelude.{Some, Result, Ok, Err, IfErr}
 use Rattle.kb_word.specs.Words.{Pair}
-use Rattle.kb_log.specs.Lines.{rules_of, numbered, rule_of}
-use Rattle.kb_log.specs.declared.line.Line.{Line}
+use Rattle.kb_machine.specs.Lines.{rules_of, numbered, rule_of}
+use Rattle.kb_machine.specs.declared.line.Line.{Line}
 use Rattle.kb_machine.specs.States.{State}
 use Rattle.kb_machine.specs.Course.{Course, Takes}
 use Rattle.kb_machine.specs.declared.event.Event.{Event}

@@ -1,5 +1,5 @@
 use Rattle.std.proofs.Common.{◌≢◌, ℕ}
-use Rattle.kb_log.specs.Lines.{rules_of}
+use Rattle.kb_machine.specs.Lines.{rules_of}
 use Rattle.kb_book.specs.Factors.{IsLeftFactor}
 use Rattle.kb_book.proofs.Searching.{NoneSoFar}
 use Rattle.kb_book.proofs.killing.has_other_factor.Given as goal

@@ -2,8 +2,8 @@ use Rattle.std.proofs.Common.{◌≡◌, Some, None, IfSome, IfNone, ℕ, suc, �
 use Rattle.std.specs.Option.{MatchOption}
 use Rattle.std.specs.List.{HoldsAt}
 use Rattle.std.proofs.lemmas.Option.{slice_get_read}
-use Rattle.kb_log.specs.declared.line.Line.{Line}
-use Rattle.kb_log.specs.Lines.{numbered, rule_of, rules_of}
+use Rattle.kb_machine.specs.declared.line.Line.{Line}
+use Rattle.kb_machine.specs.Lines.{numbered, rule_of, rules_of}
 use Rattle.kb_book.proofs.Lists.{rule_numbered_some, rule_numbered_none}
 use Rattle.kb_book.proofs.numbers.line_at.Goals as goal
 

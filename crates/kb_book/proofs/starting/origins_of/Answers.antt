@@ -1,6 +1,6 @@
 use Rattle.std.proofs.Common.{◌≡◌, ◌+◌, ◌<◌, [], ◌∷◌, ◌++◌, List, length, ap, sym, ◌∙◌, arith, rules}
-use Rattle.kb_log.specs.declared.origin.Origin.{Origin}
-use Rattle.kb_log.specs.declared.origin.Origin.TheVariants.{Relation}
+use Rattle.kb_machine.specs.declared.origin.Origin.{Origin}
+use Rattle.kb_machine.specs.declared.origin.Origin.TheVariants.{Relation}
 use Rattle.kb_book.proofs.Origins.{origins_more}
 use Rattle.kb_book.proofs.starting.origins_of.Goals as goal
 

@@ -1,5 +1,5 @@
 use Rattle.std.proofs.Common.{◌<◌, List, length, subst}
-use Rattle.kb_log.specs.declared.line.Line.{Line}
+use Rattle.kb_machine.specs.declared.line.Line.{Line}
 use Rattle.kb_settle.proofs.Halting.{none_is, some_is}
 use Rattle.kb_complete.proofs.growing.advance.Goals as goal
 use Rattle.kb_settle.specs.Settling.{GivesHalt}

@@ -1,7 +1,7 @@
 use Rattle.std.proofs.Common.{◌≡◌, ◌++◌, ◌∷◌, [], ℕ, List, arith}
 use Rattle.std.specs.Prelude.{codes}
 use Rattle.std.specs.List.{join_with_byte}
-use Rattle.kb_log.specs.declared.line.Line.{Line}
+use Rattle.kb_machine.specs.declared.line.Line.{Line}
 use Rattle.kb_proof.specs.Printable.{AreReadableNames, IsPrintableLine}
 use Rattle.kb_proof.specs.Printed.{field_texts, listed, text_of_fields}
 use Rattle.kb_proof.specs.declared.log.Version.{Version}

@@ -1,7 +1,7 @@
 use Rattle.std.proofs.Common.{◌≡◌, ◌∷◌, ◌++◌, take}
 use Rattle.std.specs.Prelude.{map}
 use Rattle.std.specs.List.{join_with_byte}
-use Rattle.kb_log.specs.declared.line.LogStep.{LogStep}
+use Rattle.kb_machine.specs.declared.line.LogStep.{LogStep}
 use Rattle.kb_proof.specs.Printed.{text_of_step}
 use Rattle.kb_proof.proofs.printing.print_steps.Given as goal
 

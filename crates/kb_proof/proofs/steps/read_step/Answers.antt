@@ -1,5 +1,5 @@
 use Rattle.std.proofs.Common.{rules, ◌≡◌, ◌∙◌, [], ◌∷◌, decimal, ap}
-use Rattle.kb_log.specs.declared.line.LogStep.{LogStep}
+use Rattle.kb_machine.specs.declared.line.LogStep.{LogStep}
 use Rattle.kb_proof.specs.Printable.{FitsStep}
 use Rattle.kb_proof.specs.Printed.{text_of_step}
 use Rattle.kb_proof.specs.Reading.{parts}

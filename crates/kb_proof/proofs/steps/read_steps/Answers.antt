@@ -1,6 +1,6 @@
 use Rattle.std.proofs.Common.{rules, ◌≢◌, ◌∷◌, [], List, ℕ, Some}
 use Rattle.std.specs.Prelude.{None, IfNone, Option, IfOk, Result, Ok, Err, All}
-use Rattle.kb_log.specs.declared.line.LogStep.{LogStep}
+use Rattle.kb_machine.specs.declared.line.LogStep.{LogStep}
 use Rattle.kb_proof.specs.Printable.{FitsStep}
 use Rattle.kb_proof.specs.Printed.{text_of_step, text_of_steps}
 use Rattle.kb_proof.specs.Reading.{ReadsJoined}

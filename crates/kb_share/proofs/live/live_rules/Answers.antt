@@ -1,6 +1,6 @@
 use Rattle.std.proofs.Common.{List, ap, ◌∙◌, map, ℕ}
 use Rattle.kb_word.specs.Presentations.{PresentationParts}
-use Rattle.kb_log.specs.declared.line.Line.{Line}
+use Rattle.kb_machine.specs.declared.line.Line.{Line}
 use Rattle.kb_machine.specs.States.{rule_numbered}
 use Rattle.kb_share.proofs.LiveRules.{copies_decrease}
 use Rattle.kb_share.proofs.live.live_rules.Goals as goal

@@ -1,10 +1,10 @@
 use Rattle.std.proofs.Common.{◌≡◌, ℕ, List, [], ◌∷◌, ◌++◌, refl, ap, ◌∙◌, true, rules}
 use Rattle.kb_word.specs.Words.{Pair}
-use Rattle.kb_log.specs.Lines.{rules_of, OverlapOfNumbers}
+use Rattle.kb_machine.specs.Lines.{rules_of, OverlapOfNumbers}
 use Rattle.kb_machine.specs.declared.event.Event.{Event}
 use Rattle.kb_machine.specs.declared.event.Event.TheVariants.{Entered}
-use Rattle.kb_log.specs.declared.origin.Origin.{Origin}
-use Rattle.kb_log.specs.declared.origin.Origin.TheVariants.{Overlap}
+use Rattle.kb_machine.specs.declared.origin.Origin.{Origin}
+use Rattle.kb_machine.specs.declared.origin.Origin.TheVariants.{Overlap}
 use Rattle.kb_book.proofs.Courses.{book_after}
 use Rattle.kb_book.proofs.book.Book.enter.Goals as goal
 

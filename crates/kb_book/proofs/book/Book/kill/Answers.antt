@@ -1,10 +1,10 @@
 use Rattle.std.proofs.Common.{◌≡◌, ◌<◌, ℕ, List, [], ◌∷◌, ◌++◌, length, refl, sym, ap, ◌∙◌, subst, arith}
 use Rattle.std.specs.List.{AllPairs}
 use Rattle.std.proofs.lemmas.Option.{slice_get_within}
-use Rattle.kb_log.specs.Lines.{rules_of}
-use Rattle.kb_log.specs.declared.line.Line.{Line}
-use Rattle.kb_log.specs.declared.origin.Origin.{Origin}
-use Rattle.kb_log.specs.declared.origin.Origin.TheVariants as origins
+use Rattle.kb_machine.specs.Lines.{rules_of}
+use Rattle.kb_machine.specs.declared.line.Line.{Line}
+use Rattle.kb_machine.specs.declared.origin.Origin.{Origin}
+use Rattle.kb_machine.specs.declared.origin.Origin.TheVariants as origins
 use Rattle.kb_machine.specs.States.{rule_numbered}
 use Rattle.kb_machine.specs.Course.{Course, Takes}
 use Rattle.kb_machine.specs.declared.event.Event.{Event}

@@ -1,6 +1,6 @@
 use Rattle.std.proofs.Common.{◌≡◌, ◌≢◌, ◌<◌, ℕ, List, map, refl, sym, ap, ◌∙◌, subst}
-use Rattle.kb_log.specs.declared.line.Line.{Line}
-use Rattle.kb_log.specs.Lines.{rules_of, IsPairOf}
+use Rattle.kb_machine.specs.declared.line.Line.{Line}
+use Rattle.kb_machine.specs.Lines.{rules_of, IsPairOf}
 use Rattle.kb_word.specs.Words.{Pair}
 use Rattle.kb_machine.specs.States.{relations, live_rules}
 use Rattle.kb_book.specs.Books.{BookParts}

@@ -1,7 +1,7 @@
 use Rattle.std.proofs.Common.{◌≡◌, ◌≢◌, ◌<◌, ℕ, List, length, refl, sym, subst, arith, inl, inr}
 use Rattle.std.specs.List.{AllPairs}
 use Rattle.std.proofs.lemmas.Bool.{eqb-true, eqb-false}
-use Rattle.kb_log.specs.Lines.{rule_of}
+use Rattle.kb_machine.specs.Lines.{rule_of}
 use Rattle.kb_machine.specs.States.{rule_numbered}
 use Rattle.kb_book.specs.Books.{BookParts}
 use Rattle.kb_book.specs.Answers.{CanBeShortened, HasNoRoom}

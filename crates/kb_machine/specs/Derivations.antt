@@ -2,8 +2,8 @@
 use Rattle.std.specs.Prelude.{◌≡◌, ℕ, ◌⊎◌, List, ◌++◌, length, Some}
 use Rattle.kb_word.specs.Words.{Pair}
 use Rattle.kb_rules.specs.Steps.{Leads}
-use Rattle.kb_log.specs.Lines.{numbered}
-use Rattle.kb_log.specs.declared.line.LogStep.{LogStep}
+use Rattle.kb_machine.specs.Lines.{numbered}
+use Rattle.kb_machine.specs.declared.line.LogStep.{LogStep}
 
 -- The step leads from u to v by a rule whose number is allowed: at its place in u stands the left
 -- side of that rule, and in v the right side.

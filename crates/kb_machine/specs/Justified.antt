@@ -2,11 +2,11 @@
 use Rattle.std.specs.Prelude.{◌≡◌, ◌≢◌, ℕ, List, [], Some, slice_get, take}
 use Rattle.kb_word.specs.Words.{Pair, OneOf, IsFactor}
 use Rattle.kb_word.specs.Rewriting.{IsIrreducible}
-use Rattle.kb_log.specs.Lines.{numbered, rules_of, IsPairOf, replaced}
-use Rattle.kb_log.specs.Derivations.{Any, Derives, DerivesBoth}
-use Rattle.kb_log.specs.declared.line.Line.{Line}
-use Rattle.kb_log.specs.declared.origin.Origin.{Origin}
-use Rattle.kb_log.specs.declared.origin.Origin.TheVariants.{Relation, Overlap, Killed, Shortened}
+use Rattle.kb_machine.specs.Lines.{numbered, rules_of, IsPairOf, replaced}
+use Rattle.kb_machine.specs.Derivations.{Any, Derives, DerivesBoth}
+use Rattle.kb_machine.specs.declared.line.Line.{Line}
+use Rattle.kb_machine.specs.declared.origin.Origin.{Origin}
+use Rattle.kb_machine.specs.declared.origin.Origin.TheVariants.{Relation, Overlap, Killed, Shortened}
 
 -- the sides of the line come by its derivations from the pair of its origin, and no rule before it reduces the left one
 pub record ComesFromPair (relations earlier : List Pair) (line : Line) : Type 0 where

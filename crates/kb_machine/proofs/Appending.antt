@@ -3,11 +3,11 @@ use Rattle.std.proofs.Common.{◌≡◌, ◌≢◌, ℕ, List, [], ◌∷◌, �
 use Rattle.std.specs.Prelude.{slice_get}
 use Rattle.std.proofs.lemmas.Option.{slice_get_within}
 use Rattle.kb_word.specs.Words.{Pair}
-use Rattle.kb_log.specs.Lines.{rules_of, replaced}
-use Rattle.kb_log.specs.Justified.{FollowsBy, IsJustified}
-use Rattle.kb_log.specs.declared.line.Line.{Line}
-use Rattle.kb_log.specs.declared.origin.Origin.TheVariants.{Relation}
-use Rattle.kb_log.proofs.Numbers.{slice_get_push_cases, take_rules, take_rules_all}
+use Rattle.kb_machine.specs.Lines.{rules_of, replaced}
+use Rattle.kb_machine.specs.Justified.{FollowsBy, IsJustified}
+use Rattle.kb_machine.specs.declared.line.Line.{Line}
+use Rattle.kb_machine.specs.declared.origin.Origin.TheVariants.{Relation}
+use Rattle.kb_machine.proofs.Numbers.{slice_get_push_cases, take_rules, take_rules_all}
 
 -- The line may come next: it follows from the lines and decreases, and none of them uses its relation or replaces the
 -- line that it replaces.

@@ -5,8 +5,8 @@ ghost use Rattle.kb_word.specs.Words.{Pair, OneOf};
 ghost use Rattle.kb_word.specs.WordOrders.{Below};
 ghost use Rattle.kb_word.specs.declared.word_order.WordOrder.{WordOrder};
 ghost use Rattle.kb_word.specs.Congruence.{Congruent};
-ghost use Rattle.kb_log.specs.Justified.{IsJustified};
-ghost use Rattle.kb_log.specs.declared.line.Line.{Line};
+ghost use Rattle.kb_machine.specs.Justified.{IsJustified};
+ghost use Rattle.kb_machine.specs.declared.line.Line.{Line};
 
 /// The sides of each line of a justified log are congruent by the relations.
 pub fn justified_lines_are_congruent()

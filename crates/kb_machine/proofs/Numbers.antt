@@ -4,11 +4,11 @@ use Rattle.std.specs.Prelude.{slice_get}
 use Rattle.std.proofs.lemmas.List.{map-append, length-map, take-append-le}
 use Rattle.std.proofs.lemmas.Grind.{common_steps}
 use Rattle.kb_word.specs.Words.{Pair, OneOf}
-use Rattle.kb_log.specs.Lines.{numbered, rule_of, rules_of, IsPairOf}
-use Rattle.kb_log.specs.Justified.{HasAnotherFactor}
-use Rattle.kb_log.specs.declared.line.Line.{Line}
-use Rattle.kb_log.specs.declared.origin.Origin.{Origin}
-use Rattle.kb_log.specs.declared.origin.Origin.TheVariants.{Relation, Overlap, Killed, Shortened}
+use Rattle.kb_machine.specs.Lines.{numbered, rule_of, rules_of, IsPairOf}
+use Rattle.kb_machine.specs.Justified.{HasAnotherFactor}
+use Rattle.kb_machine.specs.declared.line.Line.{Line}
+use Rattle.kb_machine.specs.declared.origin.Origin.{Origin}
+use Rattle.kb_machine.specs.declared.origin.Origin.TheVariants.{Relation, Overlap, Killed, Shortened}
 
 -- what has a number is one of the list
 pub numbered_one : (rules : List Pair) (k : ℕ) (rule : Pair) → numbered rules k ≡ Some rule → OneOf rules rule

@@ -4,10 +4,10 @@ use Rattle.std.specs.Prelude.{slice_get}
 use Rattle.kb_word.specs.Words.{Pair, OneOf}
 use Rattle.kb_word.specs.Congruence.{Congruent}
 use Rattle.kb_word.proofs.PathLemmas.{congruent_sides}
-use Rattle.kb_log.specs.Lines.{rule_of, rules_of}
-use Rattle.kb_log.specs.Justified.{IsJustified}
-use Rattle.kb_log.specs.declared.line.Line.{Line}
-use Rattle.kb_log.proofs.Consequences.{follows_congruent}
+use Rattle.kb_machine.specs.Lines.{rule_of, rules_of}
+use Rattle.kb_machine.specs.Justified.{IsJustified}
+use Rattle.kb_machine.specs.declared.line.Line.{Line}
+use Rattle.kb_machine.proofs.Consequences.{follows_congruent}
 
 -- what stands among the first of a list stands in the list, before their end
 slice_get_take : {X : Type 0} (xs : List X) (count index : ℕ) (x : X) → slice_get (take count xs) index ≡ Some x

@@ -6,14 +6,14 @@ use Rattle.kb_word.specs.Congruence.{Replaces, Congruent}
 use Rattle.kb_word.specs.Rewriting.{ReducesTo}
 use Rattle.kb_word.proofs.PathLemmas.{path_equal, path_step, congruent_by_replacement, congruent_by_reduction, congruent_symmetric, congruent_transitive, congruent_covered}
 use Rattle.kb_overlap.proofs.Superposed.{replaced-by-first, replaced-by-second}
-use Rattle.kb_log.specs.Lines.{numbered, IsCriticalPair, IsPairOf}
-use Rattle.kb_log.specs.Derivations.{IsStepBy, Derives, DerivesBoth, Any}
-use Rattle.kb_log.specs.Justified.{ComesFromPair, ShortensRule, FollowsBy}
-use Rattle.kb_log.specs.declared.line.Line.{Line}
-use Rattle.kb_log.specs.declared.line.LogStep.{LogStep}
-use Rattle.kb_log.specs.declared.origin.Origin.{Origin}
-use Rattle.kb_log.specs.declared.origin.Origin.TheVariants.{Relation, Overlap, Killed, Shortened}
-use Rattle.kb_log.proofs.Numbers.{numbered_one}
+use Rattle.kb_machine.specs.Lines.{numbered, IsCriticalPair, IsPairOf}
+use Rattle.kb_machine.specs.Derivations.{IsStepBy, Derives, DerivesBoth, Any}
+use Rattle.kb_machine.specs.Justified.{ComesFromPair, ShortensRule, FollowsBy}
+use Rattle.kb_machine.specs.declared.line.Line.{Line}
+use Rattle.kb_machine.specs.declared.line.LogStep.{LogStep}
+use Rattle.kb_machine.specs.declared.origin.Origin.{Origin}
+use Rattle.kb_machine.specs.declared.origin.Origin.TheVariants.{Relation, Overlap, Killed, Shortened}
+use Rattle.kb_machine.proofs.Numbers.{numbered_one}
 
 -- the rule has an allowed number
 abbrev pub IsAllowedRule : (ℕ → Type 0) → List Pair → Pair → Type 0

@@ -1,4 +1,0 @@
-pub mod Numbers
-pub mod Consequences
-pub mod Logs
-pub mod Appending
