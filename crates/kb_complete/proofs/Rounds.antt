@@ -13,9 +13,9 @@ use Rattle.kb_complete.specs.declared.growing.Round.{Round}
 use Rattle.kb_complete.specs.declared.growing.Round.TheVariants as rounds
 use Rattle.kb_complete.specs.declared.answers.Grown.{Grown}
 use Rattle.kb_complete.specs.declared.answers.Grown.TheVariants as grown
-use Rattle.kb_settle.proofs.Stages.{later_then}
-use Rattle.kb_settle.specs.Later.{IsLater}
-use Rattle.kb_settle.specs.Settling.{GivesHalt}
+use Rattle.kb_share.proofs.Stages.{later_then}
+use Rattle.kb_share.specs.Later.{IsLater}
+use Rattle.kb_share.specs.Settling.{GivesHalt}
 
 -- later by an event that makes no line
 pub later_same : (before after : Course) → after.problem ≡ before.problem → after.state.lines ≡ before.state.lines → IsLater before after

@@ -12,8 +12,8 @@ use Rattle.kb_complete.specs.declared.answers.Grown.{Grown}
 use Rattle.kb_complete.specs.declared.answers.Grown.TheVariants as grown
 use Rattle.kb_complete.specs.declared.answers.Outcome.{Outcome}
 use Rattle.kb_complete.specs.declared.answers.Outcome.TheVariants as outcomes
-use Rattle.kb_settle.specs.Later.{IsLater}
-use Rattle.kb_settle.specs.Settling.{GivesHalt}
+use Rattle.kb_share.specs.Later.{IsLater}
+use Rattle.kb_share.specs.Settling.{GivesHalt}
 
 -- a later stage with a line more, at which nothing is pending and the live lines are published
 pub record Grows (before after : Course) : Type 0 where

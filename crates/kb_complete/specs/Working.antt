@@ -11,8 +11,8 @@ use Rattle.kb_share.specs.Versions.{IsPublished}
 use Rattle.kb_complete.specs.declared.answers.Grown.TheVariants as grown
 use Rattle.kb_complete.specs.declared.growing.Round.{Round}
 use Rattle.kb_complete.specs.declared.growing.Round.TheVariants as rounds
-use Rattle.kb_settle.specs.Later.{IsLater}
-use Rattle.kb_settle.specs.Settling.{GivesHalt}
+use Rattle.kb_share.specs.Later.{IsLater}
+use Rattle.kb_share.specs.Settling.{GivesHalt}
 
 -- nothing is pending, and the live lines are published
 pub record IsSettled (course : Course) : Type 0 where

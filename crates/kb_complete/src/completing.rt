@@ -10,7 +10,7 @@ use crate::growing::grow;
 use kb_book::{Book, Limits};
 use kb_io::Gate;
 use kb_rules::Reducer;
-use kb_settle::{Silent, Watch, book_is_sound};
+use kb_share::{Silent, Watch, book_is_sound};
 use kb_threads::Workers;
 use kb_word::{Memory, Presentation};
 use std::alloc::Global;

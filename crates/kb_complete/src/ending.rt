@@ -7,8 +7,8 @@ ghost use Rattle.kb_machine.specs.Course.{Takes};
 ghost use Rattle.kb_machine.specs.declared.event.Event.TheVariants.{Entered};
 ghost use Rattle.kb_complete.specs.Completing.{GrowSays};
 ghost use Rattle.kb_complete.specs.Working.{FirstIsApart, IsSettled, IsUnjoined};
-ghost use Rattle.kb_settle.specs.Later.{IsLater};
-ghost use Rattle.kb_settle.specs.Settling.{GivesHalt};
+ghost use Rattle.kb_share.specs.Later.{IsLater};
+ghost use Rattle.kb_share.specs.Settling.{GivesHalt};
 
 use crate::answers::Grown;
 use crate::publishing::settle_and_publish;
@@ -19,8 +19,7 @@ use kb_reduced::{
     reduced_by_the_same_congruence, reduced_complete, rules_that_cover_are_confluent,
 };
 use kb_rules::{Reducer, Rules};
-use kb_settle::{Finder, Watch, book_is_sound, line_made};
-use kb_share::live_rules;
+use kb_share::{Finder, Watch, book_is_sound, line_made, live_rules};
 use kb_word::Memory;
 use std::alloc::Global;
 use std::sync::Wait;

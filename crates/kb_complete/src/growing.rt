@@ -10,7 +10,7 @@ use crate::publishing::settle_and_publish;
 use kb_book::Book;
 use kb_io::Gate;
 use kb_rules::Reducer;
-use kb_settle::Watch;
+use kb_share::Watch;
 use kb_threads::Workers;
 use kb_word::Memory;
 use std::alloc::Global;

@@ -16,7 +16,7 @@
 //!
 //! Knuth, Bendix, Simple Word Problems in Universal Algebras; Holt, Eick, O'Brien, Handbook of
 //! Computational Group Theory, 12.2. The book is settled: lines are made until nothing is pending
-//! (`kb_settle`). Then a pass of the workers enters the overlaps that are apart (`kb_share`), and
+//! (`kb_share`). Then a pass of the workers enters the overlaps that are apart (`kb_share`), and
 //! may settle the book meanwhile. A pass in and after which no line is made is followed by the
 //! confluence check of the live rules; what it finds is entered as any overlap (`growing`). The
 //! check has as many workers.
@@ -25,7 +25,7 @@
 //! relations, whatever events led there (`kb_machine::courses_are_sound`), and where they are
 //! confluent besides, `kb_reduced` makes the reduced complete system of them.
 //!
-//! Below are `kb_book`, `kb_settle`, `kb_share`, `kb_confluence` and `kb_reduced`; above are the
+//! Below are `kb_book`, `kb_share`, `kb_share`, `kb_confluence` and `kb_reduced`; above are the
 //! commands that complete.
 #![tactic(auto)]
 

@@ -2,13 +2,13 @@
 
 ghost use Rattle.std.specs.Prelude.{◌≡◌, IfOk, IfNone, IfSome, OnOk, Some};
 ghost use Rattle.kb_complete.specs.Working.{IsSettled};
-ghost use Rattle.kb_settle.specs.Later.{IsLater};
-ghost use Rattle.kb_settle.specs.Settling.{GivesHalt};
+ghost use Rattle.kb_share.specs.Later.{IsLater};
+ghost use Rattle.kb_share.specs.Settling.{GivesHalt};
 
 use kb_book::Book;
 use kb_machine::Halt;
 use kb_rules::Reducer;
-use kb_settle::{Watch, settle};
+use kb_share::{Watch, settle};
 use kb_word::Memory;
 use std::alloc::Global;
 

@@ -15,7 +15,7 @@ use kb_fsa::Fsa;
 use kb_fsamin::canonical;
 use kb_reduced::{reduced_complete_systems_are_complete, reduced_left_sides_keep_the_letters};
 use kb_rules::{Reducer, Rules};
-use kb_settle::book_is_sound;
+use kb_share::book_is_sound;
 use kb_wa::acceptor_of_rules;
 use kb_word::{Memory, Presentation};
 use std::alloc::Global;

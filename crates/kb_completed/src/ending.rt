@@ -14,7 +14,7 @@ use kb_index::Index;
 use kb_io::Gate;
 use kb_machine::Line;
 use kb_rules::Rules;
-use kb_settle::Watch;
+use kb_share::Watch;
 use kb_threads::Workers;
 use kb_word::{Memory, Presentation};
 use std::alloc::Global;

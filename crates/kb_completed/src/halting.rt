@@ -13,8 +13,7 @@ use crate::ending::{Ending, Reached};
 use kb_book::Book;
 use kb_machine::{Halt, Line, Origin};
 use kb_rules::Reducer;
-use kb_settle::book_is_sound;
-use kb_share::live_rules;
+use kb_share::{book_is_sound, live_rules};
 use kb_word::Memory;
 use std::alloc::Global;
 

@@ -4,7 +4,7 @@ use itoa::Buffer;
 use kb_book::Book;
 use kb_io::{Failed, Sink, write_all};
 use kb_rules::Reducer;
-use kb_settle::Watch;
+use kb_share::Watch;
 
 /// The number of lines of a log at which progress is first told.
 const FIRST: usize = 1000;

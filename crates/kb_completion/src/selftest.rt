@@ -15,7 +15,7 @@ use kb_completed::{Ending, Reached, complete_presentation};
 use kb_io::{Gate, Shelf, Sink, Source};
 use kb_machine::Line;
 use kb_proof::{Log, Version, print_log};
-use kb_settle::Silent;
+use kb_share::Silent;
 use kb_task::{
     Construction, Limit, Status, Task, print_line, undecided_line, undecided_words_line,
 };

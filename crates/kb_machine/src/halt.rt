@@ -1,6 +1,6 @@
 //! Why a completion halts.
 
-use crate::LogStep;
+use crate::line::LogStep;
 use kb_word::Word;
 
 /// A limit that was reached, with the normal forms `u` and `v` of the pair that waits, `u` the

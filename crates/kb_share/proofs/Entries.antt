@@ -5,7 +5,7 @@ use Rattle.kb_machine.specs.declared.origin.Origin.{Origin}
 use Rattle.kb_machine.specs.States.{Problem, State}
 use Rattle.kb_machine.specs.Course.{Course, Takes}
 use Rattle.kb_machine.specs.declared.event.Event.{Event}
-use Rattle.kb_settle.specs.Later.{IsLater}
+use Rattle.kb_share.specs.Later.{IsLater}
 use Rattle.kb_share.specs.declared.found.Found.{Found}
 use Rattle.kb_share.specs.Passes.{entered, entry_of, origin_of, EntersAllApart}
 

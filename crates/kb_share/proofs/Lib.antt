@@ -1,3 +1,5 @@
+pub mod Stages
+pub mod Halting
 pub mod LiveRules
 mod LinesOfVersions
 mod Sifted

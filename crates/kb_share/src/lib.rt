@@ -1,10 +1,26 @@
-//! Versions of a book, and the workers that look for overlaps by them.
+//! What a completion does with its book: settling, and passes over versions of it.
 //!
-//! A completion goes by passes. In a pass each overlap of two live lines is sifted: where the words
-//! of its critical pair have different normal forms by the live rules, the overlap is entered into
-//! the book, and is pending from then on.
+//! A completion goes by passes. A book is settled: lines are made of its pending pairs until there
+//! is none. Then each overlap of two live lines is sifted: where the words of its critical pair have
+//! different normal forms by the live rules, the overlap is entered into the book, and is pending
+//! from then on.
 //!
-//! # The public contract
+//! # Settling
+//!
+//! - [`settle`] makes lines of the pending pairs until nothing is pending, or a limit is reached
+//!   (`Settles` and `SettleSays` of `specs/Settling.antt`). The book keeps its problem and its
+//!   lines, and nothing is published or entered meanwhile.
+//! - [`line_made`] is what follows on each line that is made: other lines are simplified by it. [`Finder`] finds them.
+//! - A [`Watch`] sees the book after each line that is made of a pending pair, to show progress.
+//! - [`book_is_sound`] brings what holds of every book.
+//!
+//! After a line is made of a pending pair, each other line whose left side has the new one as a
+//! factor is taken away, and each line whose right side it reduces is replaced (Holt, Eick, O'Brien,
+//! Handbook of Computational Group Theory, 12.2). Most lines that a new one doesn't concern are told
+//! by their `signature`s, without a look at their words. That settling ends rests on the limit of
+//! lines (`work` of `specs/Work.antt` falls).
+//!
+//! # Sifting
 //!
 //! - A [`Version`] is what a worker sifts by: the live lines of a book when they were published, and a reducer by their
 //!   rules. [`Version::of`] copies it from the book.
@@ -15,28 +31,39 @@
 //!   order of their lines and places (`EntersAllApart` of `specs/Passes.antt`).
 //!
 //! All that a completion rests on is that a pass keeps the book's problem and its lines (`IsLater`
-//! of `kb_settle`). Which overlaps a pass enters, and in which order, matters for speed alone,
+//! of `specs/Later.antt`). Which overlaps a pass enters, and in which order, matters for speed alone,
 //! since an overlap that was left out is found by the confluence check in the end.
 //!
 //! `specs/Versions.antt` has the versions, and `specs/Passes.antt` what a worker enters.
 //!
-//! Below are `kb_overlap`, which finds all overlaps of a left side with others, `kb_book` and `kb_settle`; above are
-//! `kb_threads`, where many workers make a pass, and `kb_complete`, which goes by passes until nothing is apart.
+//! Below are `kb_overlap`, which finds all overlaps of a left side with others, and `kb_book`.
 #![tactic(auto)]
 
 mod answer;
 mod entering;
+mod finding;
 mod found;
 mod live;
 mod one_by_one;
 mod row;
+mod settled;
+mod settling;
 mod sifting;
+mod signature;
+mod simplifying;
+mod sound;
 mod version;
+mod watch;
 
 pub use answer::Sift;
+pub use finding::Finder;
 pub use found::Found;
 pub use live::live_rules;
 pub use one_by_one::OneByOne;
 pub use row::apart_in_row;
+pub use settled::Settled;
+pub use settling::{line_made, settle};
 pub use sifting::{Sifter, sift};
+pub use sound::book_is_sound;
 pub use version::Version;
+pub use watch::{Silent, Watch};

@@ -6,7 +6,7 @@ ghost use Rattle.kb_machine.specs.States.{live_rules as rules_that_live, rule_nu
 use kb_book::Book;
 use kb_machine::Line;
 use kb_rules::{Reducer, Rule, Rules};
-use kb_settle::book_is_sound;
+use crate::sound::book_is_sound;
 use kb_word::Memory;
 use std::alloc::Global;
 

@@ -1,7 +1,7 @@
 //! Passes by one worker.
 
 ghost use Rattle.std.specs.Prelude.{◌≡◌, ◌≤◌, IfOk, OnOk};
-ghost use Rattle.kb_settle.specs.Later.{IsLater};
+ghost use Rattle.kb_share.specs.Later.{IsLater};
 ghost use Rattle.kb_share.specs.Versions.{IsPublished, version_of};
 ghost use Rattle.kb_share.specs.Passes.{EntersAllApart};
 

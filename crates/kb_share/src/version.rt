@@ -7,7 +7,7 @@ ghost use Rattle.kb_share.specs.Versions.{HasLine, IsPublished, IsRuleOfLine, ve
 use crate::live::live_rules;
 use kb_book::Book;
 use kb_rules::{Reducer, Rule, Rules};
-use kb_settle::book_is_sound;
+use crate::sound::book_is_sound;
 use kb_word::Memory;
 use std::alloc::Global;
 use std::marker::Model;

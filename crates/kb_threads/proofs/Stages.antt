@@ -10,8 +10,8 @@ use Rattle.kb_machine.specs.Course.{Course, Takes}
 use Rattle.kb_machine.specs.declared.event.Event.{Event}
 use Rattle.kb_machine.specs.declared.event.Event.TheVariants.{Published}
 use Rattle.kb_book.proofs.Lists.{numbered-more}
-use Rattle.kb_settle.specs.Later.{IsLater, entries}
-use Rattle.kb_settle.proofs.Stages.{later_itself, later_then, entries-append}
+use Rattle.kb_share.specs.Later.{IsLater, entries}
+use Rattle.kb_share.proofs.Stages.{later_itself, later_then, entries-append}
 use Rattle.kb_share.specs.Passes.{entry_of}
 use Rattle.kb_share.specs.Versions.{IsPublished}
 use Rattle.kb_share.specs.declared.found.Found.{Found}

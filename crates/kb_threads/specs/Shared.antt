@@ -5,8 +5,8 @@ use Rattle.kb_draw.specs.Totals.{total}
 use Rattle.kb_machine.specs.Course.{Course, Takes}
 use Rattle.kb_machine.specs.declared.event.Event.TheVariants.{Published}
 use Rattle.kb_book.specs.Answers.{HasOverlap}
-use Rattle.kb_settle.specs.Later.{IsLater, entries}
-use Rattle.kb_settle.specs.Settling.{Settles}
+use Rattle.kb_share.specs.Later.{IsLater, entries}
+use Rattle.kb_share.specs.Settling.{Settles}
 use Rattle.kb_share.specs.Passes.{entry_of}
 use Rattle.kb_share.specs.Versions.{VersionParts, version_of}
 use Rattle.kb_share.specs.declared.found.Found.{Found}

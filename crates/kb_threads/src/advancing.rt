@@ -5,8 +5,7 @@ ghost use Rattle.kb_threads.specs.Shared.{AdvanceSays, GoesOn, PublishesAs};
 
 use kb_book::Book;
 use kb_rules::Reducer;
-use kb_settle::{Settled, Silent, settle};
-use kb_share::Version;
+use kb_share::{Settled, Silent, Version, settle};
 use kb_word::Memory;
 use std::alloc::Global;
 

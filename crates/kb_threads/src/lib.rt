@@ -26,7 +26,7 @@
 //! enough is pending. Nothing is said of who does which job, or in which order: which overlaps are
 //! entered is left open, and the check for confluence in the end finds what was left out.
 //!
-//! Below are `kb_book`, `kb_settle`, `kb_share`, `kb_publish` and `kb_draw`; above are the commands
+//! Below are `kb_book`, `kb_share`, `kb_share`, `kb_publish` and `kb_draw`; above are the commands
 //! that complete.
 #![tactic(auto)]
 

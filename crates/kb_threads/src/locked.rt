@@ -1,7 +1,7 @@
 //! What lies under the lock.
 
 ghost use Rattle.std.specs.Prelude.{◌≡◌, ◌+◌, IfOk, IfErr};
-ghost use Rattle.kb_settle.specs.Later.{IsLater, entries};
+ghost use Rattle.kb_share.specs.Later.{IsLater, entries};
 ghost use Rattle.kb_threads.specs.Shared.{EnterSays, Advances, AdvanceSays, IsNoOverlap};
 ghost use Rattle.kb_threads.specs.declared.answers.ShareFault.TheVariants.{NotOverlap};
 

@@ -1,7 +1,7 @@
 //! A completion that workers share.
 
 ghost use Rattle.std.specs.Prelude.{◌≡◌, ◌+◌, ◌≤◌, ◌<◌, [], ◌∷◌, ◌++◌, length, All, IfOk, IfErr, OnOk, OnErr, IfSome, IfNone};
-ghost use Rattle.kb_settle.specs.Later.{IsLater, entries};
+ghost use Rattle.kb_share.specs.Later.{IsLater, entries};
 ghost use Rattle.kb_threads.specs.Shared.{IsNoOverlap, PublishesBy, entered_by};
 ghost use Rattle.kb_threads.specs.declared.answers.ShareFault.TheVariants.{NotOverlap};
 

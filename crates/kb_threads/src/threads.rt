@@ -1,7 +1,7 @@
 //! The pool of workers that are threads.
 
 ghost use Rattle.std.specs.Prelude.{◌≡◌, ◌≤◌, ◌<◌, [], ◌∷◌, ◌++◌, length, All, IfOk};
-ghost use Rattle.kb_settle.specs.Later.{IsLater};
+ghost use Rattle.kb_share.specs.Later.{IsLater};
 ghost use Rattle.kb_share.specs.Versions.{IsPublished};
 ghost use Rattle.kb_draw.specs.Seats.{IsSeatOf};
 

@@ -1,7 +1,7 @@
 //! As many workers as a command asks for.
 
 ghost use Rattle.std.specs.Prelude.{◌≡◌, ◌≤◌, IfOk};
-ghost use Rattle.kb_settle.specs.Later.{IsLater};
+ghost use Rattle.kb_share.specs.Later.{IsLater};
 ghost use Rattle.kb_share.specs.Versions.{IsPublished};
 ghost use Rattle.kb_threads.specs.Crews.{number_of};
 

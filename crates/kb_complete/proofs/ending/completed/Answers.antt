@@ -1,4 +1,4 @@
-use Rattle.kb_settle.proofs.Stages.{later_itself}
+use Rattle.kb_share.proofs.Stages.{later_itself}
 use Rattle.kb_complete.proofs.LastLines.{is_completed}
 use Rattle.kb_complete.proofs.ending.completed.Goals as goal
 

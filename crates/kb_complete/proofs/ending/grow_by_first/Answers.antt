@@ -1,8 +1,8 @@
-use Rattle.kb_settle.proofs.Halting.{none_is, some_is}
-use Rattle.kb_settle.proofs.Stages.{later_then}
+use Rattle.kb_share.proofs.Halting.{none_is, some_is}
+use Rattle.kb_share.proofs.Stages.{later_then}
 use Rattle.kb_complete.proofs.Rounds.{grows_by_line}
 use Rattle.kb_complete.proofs.ending.grow_by_first.Goals as goal
-use Rattle.kb_settle.specs.Settling.{GivesHalt}
+use Rattle.kb_share.specs.Settling.{GivesHalt}
 
 pub returns-in-Some : goal.returns-in-Some
 returns-in-Some g c = (

@@ -1,5 +1,5 @@
 use Rattle.kb_book.specs.declared.answers.Make.TheVariants as makes
-use Rattle.kb_settle.proofs.Stages.{make_settles, make_said, later_then, made_more, halt_given}
+use Rattle.kb_share.proofs.Stages.{make_settles, make_said, later_then, made_more, halt_given}
 use Rattle.kb_complete.proofs.LastLines.{apart_stays, apart_pending}
 use Rattle.kb_complete.proofs.ending.make_line.Goals as goal
 

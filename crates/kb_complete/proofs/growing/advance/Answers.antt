@@ -1,8 +1,8 @@
 use Rattle.std.proofs.Common.{◌<◌, List, length, subst}
 use Rattle.kb_machine.specs.declared.line.Line.{Line}
-use Rattle.kb_settle.proofs.Halting.{none_is, some_is}
+use Rattle.kb_share.proofs.Halting.{none_is, some_is}
 use Rattle.kb_complete.proofs.growing.advance.Goals as goal
-use Rattle.kb_settle.specs.Settling.{GivesHalt}
+use Rattle.kb_share.specs.Settling.{GivesHalt}
 
 pub returns-in-Some : goal.returns-in-Some
 returns-in-Some g c = (

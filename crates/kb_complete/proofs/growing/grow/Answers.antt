@@ -1,5 +1,5 @@
 use Rattle.std.proofs.Common.{sym, ap, length}
-use Rattle.kb_settle.proofs.Stages.{later_itself}
+use Rattle.kb_share.proofs.Stages.{later_itself}
 use Rattle.kb_complete.proofs.Rounds.{round_over, round_open, grow_later}
 use Rattle.kb_complete.proofs.growing.grow.Goals as goal
 

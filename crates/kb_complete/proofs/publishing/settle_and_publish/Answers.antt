@@ -1,6 +1,6 @@
 use Rattle.std.proofs.Common.{◌∙◌, sym}
-use Rattle.kb_settle.proofs.Stages.{later_then}
-use Rattle.kb_settle.proofs.Halting.{settled_idle, settled_runs, settled_halted}
+use Rattle.kb_share.proofs.Stages.{later_then}
+use Rattle.kb_share.proofs.Halting.{settled_idle, settled_runs, settled_halted}
 use Rattle.kb_complete.proofs.Rounds.{published_later, published_settled}
 use Rattle.kb_complete.proofs.publishing.settle_and_publish.Goals as goal
 

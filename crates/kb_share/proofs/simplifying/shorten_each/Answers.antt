@@ -1,5 +1,5 @@
-use Rattle.kb_settle.proofs.Stages.{goes_on_itself, goes_on_then, shorten_goes_on}
-use Rattle.kb_settle.proofs.simplifying.shorten_each.Goals as goal
+use Rattle.kb_share.proofs.Stages.{goes_on_itself, goes_on_then, shorten_goes_on}
+use Rattle.kb_share.proofs.simplifying.shorten_each.Goals as goal
 
 pub loop-line-init : goal.loop-line-init
 loop-line-init g c = goes_on_itself c.args.book.now.course

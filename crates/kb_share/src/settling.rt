@@ -1,8 +1,8 @@
 //! Lines are made until nothing is pending.
 
 ghost use Rattle.std.specs.Prelude.{◌≡◌, ◌≢◌, ◌↔◌, ◌<◌, [], IsTrue, IfOk, IfNone, IfSome, None};
-ghost use Rattle.kb_settle.specs.Settling.{Settles, SettleSays};
-ghost use Rattle.kb_settle.specs.Work.{EndsAt, GoesOn, work};
+ghost use Rattle.kb_share.specs.Settling.{Settles, SettleSays};
+ghost use Rattle.kb_share.specs.Work.{EndsAt, GoesOn, work};
 
 use crate::finding::Finder;
 use crate::settled::Settled;

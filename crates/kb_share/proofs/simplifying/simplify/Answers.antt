@@ -1,5 +1,5 @@
-use Rattle.kb_settle.proofs.Stages.{goes_on_itself, goes_on_then}
-use Rattle.kb_settle.proofs.simplifying.simplify.Goals as goal
+use Rattle.kb_share.proofs.Stages.{goes_on_itself, goes_on_then}
+use Rattle.kb_share.proofs.simplifying.simplify.Goals as goal
 
 pub returns-in_err-find_longer : goal.returns-in_err-find_longer
 returns-in_err-find_longer g c = goes_on_itself c.args.book.now.course

@@ -1,7 +1,7 @@
 use Rattle.std.proofs.Common.{◌≡◌, refl, []}
-use Rattle.kb_settle.proofs.Stages.{settles_itself}
-use Rattle.kb_settle.proofs.Halting.{idle_runs}
-use Rattle.kb_settle.proofs.settling.settle.Goals as goal
+use Rattle.kb_share.proofs.Stages.{settles_itself}
+use Rattle.kb_share.proofs.Halting.{idle_runs}
+use Rattle.kb_share.proofs.settling.settle.Goals as goal
 
 pub returns-then-is_idle-clause-settles : goal.returns-then-is_idle-clause-settles
 returns-then-is_idle-clause-settles g c = settles_itself c.args.book.now.course

@@ -1,6 +1,6 @@
-use Rattle.kb_settle.proofs.settling.make_all.Given as goal
-use Rattle.kb_settle.specs.Settling.{Settles}
-use Rattle.kb_settle.specs.Work.{work}
+use Rattle.kb_share.proofs.settling.make_all.Given as goal
+use Rattle.kb_share.specs.Settling.{Settles}
+use Rattle.kb_share.specs.Work.{work}
 
 abbrev pub invariant-making : goal.invariant-making
 invariant-making g l = Settles l.fn.book.course l.book.course

@@ -1,9 +1,9 @@
 -- The work that is left while a book is settled.
 use Rattle.std.specs.Prelude.{◌≡◌, ℕ, ◌+◌, ◌-◌, ◌*◌, ◌≤◌, [], length, None}
 use Rattle.kb_machine.specs.Course.{Course}
-use Rattle.kb_settle.specs.Settling.{Settles, GivesHalt}
-use Rattle.kb_settle.specs.declared.settled.Settled.{Settled}
-use Rattle.kb_settle.specs.declared.settled.Settled.TheVariants as settled
+use Rattle.kb_share.specs.Settling.{Settles, GivesHalt}
+use Rattle.kb_share.specs.declared.settled.Settled.{Settled}
+use Rattle.kb_share.specs.declared.settled.Settled.TheVariants as settled
 
 -- A number that falls with each pair that is looked at, and rises by nothing that comes of it: a
 -- line that is made takes two from the first part, and a line that is taken away moves from the

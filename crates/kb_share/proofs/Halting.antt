@@ -4,10 +4,10 @@ use Rattle.kb_machine.specs.States.{Problem, State}
 use Rattle.kb_machine.specs.Course.{Course, IsSound, HaltSays, Waits}
 use Rattle.kb_machine.specs.declared.halt.Halt.{Halt}
 use Rattle.kb_machine.specs.declared.halt.Halt.TheVariants as halts
-use Rattle.kb_settle.specs.declared.settled.Settled.{Settled}
-use Rattle.kb_settle.specs.declared.settled.Settled.TheVariants as settled
-use Rattle.kb_settle.specs.Settling.{SettleSays, GivesHalt, halt_in}
-use Rattle.kb_settle.specs.Work.{EndsAt}
+use Rattle.kb_share.specs.declared.settled.Settled.{Settled}
+use Rattle.kb_share.specs.declared.settled.Settled.TheVariants as settled
+use Rattle.kb_share.specs.Settling.{SettleSays, GivesHalt, halt_in}
+use Rattle.kb_share.specs.Work.{EndsAt}
 
 some_none : {X : Type 0} {x : X} → Some x ≡ None → ⊥
 some_none e = cc

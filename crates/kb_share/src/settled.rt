@@ -1,7 +1,7 @@
 //! What settling answers.
 
 ghost use Rattle.std.specs.Prelude.{◌≡◌};
-ghost use Rattle.kb_settle.specs.Settling.{halt_in};
+ghost use Rattle.kb_share.specs.Settling.{halt_in};
 
 use kb_machine::Halt;
 

@@ -1,8 +1,8 @@
 use Rattle.kb_book.specs.declared.answers.Make.TheVariants as makes
-use Rattle.kb_settle.proofs.Stages.{make_settles, make_said, settles_then, made_then_falls, dropped_falls, halt_given}
-use Rattle.kb_settle.proofs.Halting.{idle_ends, if_none, if_some}
-use Rattle.kb_settle.proofs.settling.make_next.Goals as goal
-use Rattle.kb_settle.specs.Work.{EndsAt}
+use Rattle.kb_share.proofs.Stages.{make_settles, make_said, settles_then, made_then_falls, dropped_falls, halt_given}
+use Rattle.kb_share.proofs.Halting.{idle_ends, if_none, if_some}
+use Rattle.kb_share.proofs.settling.make_next.Goals as goal
+use Rattle.kb_share.specs.Work.{EndsAt}
 
 pub returns-in_err-k-clause-settles : goal.returns-in_err-k-clause-settles
 returns-in_err-k-clause-settles g c =

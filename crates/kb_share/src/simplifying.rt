@@ -1,7 +1,7 @@
 //! What a new line does to the others.
 
 ghost use Rattle.std.specs.Prelude.{◌≡◌};
-ghost use Rattle.kb_settle.specs.Work.{GoesOn};
+ghost use Rattle.kb_share.specs.Work.{GoesOn};
 
 use crate::finding::Finder;
 use kb_book::Book;

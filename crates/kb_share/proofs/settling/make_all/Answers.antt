@@ -1,7 +1,7 @@
-use Rattle.kb_settle.proofs.Stages.{settles_itself, settles_then}
-use Rattle.kb_settle.proofs.Halting.{ends_settled, none_is, some_is}
-use Rattle.kb_settle.proofs.settling.make_all.Goals as goal
-use Rattle.kb_settle.specs.Work.{EndsAt}
+use Rattle.kb_share.proofs.Stages.{settles_itself, settles_then}
+use Rattle.kb_share.proofs.Halting.{ends_settled, none_is, some_is}
+use Rattle.kb_share.proofs.settling.make_all.Goals as goal
+use Rattle.kb_share.specs.Work.{EndsAt}
 
 pub making-init : goal.making-init
 making-init g c = settles_itself c.args.book.now.course

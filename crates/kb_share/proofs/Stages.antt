@@ -16,9 +16,9 @@ use Rattle.kb_book.specs.declared.answers.Kill.TheVariants as kills
 use Rattle.kb_book.specs.declared.answers.Shorten.{Shorten}
 use Rattle.kb_book.specs.declared.answers.Shorten.TheVariants as shortens
 use Rattle.kb_machine.specs.declared.event.Event.{Event}
-use Rattle.kb_settle.specs.Later.{IsLater, entries}
-use Rattle.kb_settle.specs.Settling.{Settles, GivesHalt}
-use Rattle.kb_settle.specs.Work.{GoesOn, work}
+use Rattle.kb_share.specs.Later.{IsLater, entries}
+use Rattle.kb_share.specs.Settling.{Settles, GivesHalt}
+use Rattle.kb_share.specs.Work.{GoesOn, work}
 
 pub later_itself : (course : Course) → IsLater course course
 later_itself course = record { problem = refl; made = []; lines = sym (append-nil course.state.lines) }

@@ -3,9 +3,9 @@ use Rattle.std.specs.Prelude.{◌≡◌, ◌≢◌, [], Option, Some, None}
 use Rattle.kb_machine.specs.Course.{Course}
 use Rattle.kb_machine.specs.declared.halt.Halt.{Halt}
 use Rattle.kb_book.specs.Answers.{IsCopyOf}
-use Rattle.kb_settle.specs.Later.{IsLater, entries}
-use Rattle.kb_settle.specs.declared.settled.Settled.{Settled}
-use Rattle.kb_settle.specs.declared.settled.Settled.TheVariants as settled
+use Rattle.kb_share.specs.Later.{IsLater, entries}
+use Rattle.kb_share.specs.declared.settled.Settled.{Settled}
+use Rattle.kb_share.specs.declared.settled.Settled.TheVariants as settled
 
 -- a later stage at which no further version is published and no further overlap is entered
 pub record Settles (before after : Course) : Type 0 where

@@ -1,3 +1,0 @@
-pub mod Later
-pub mod Settling
-pub mod Work
