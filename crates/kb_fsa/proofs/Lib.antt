@@ -4,3 +4,6 @@ pub mod PairSymbolLaws
 pub mod Paddings
 pub mod Unpadding
 pub mod PaddedRuns
+pub mod LinkLemmas
+pub mod Reaching
+pub mod MoveLemmas

@@ -5,3 +5,5 @@ pub mod Language
 pub mod EndedWords
 pub mod Canonical
 pub mod Counted
+pub mod Graphs
+pub mod Moves

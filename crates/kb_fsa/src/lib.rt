@@ -7,25 +7,34 @@
 //!
 //! `PairSymbols` numbers the symbols of pairs, and `Ended` follows which word of a pair has ended.
 //!
+//! A table is also a graph. `reached` marks exactly the things to which a path of edges leads from a seed;
+//! `reversed` has all moves of a table, each backwards; and `live` marks exactly the states from which some text
+//! is accepted. `link` finds the edges from each thing, for programs that go over them. Each takes every edge once,
+//! so that the time grows with the edges; no clause says so.
+//!
 //! # Where the definitions are
 //!
 //! In `specs/`: tables and right languages in `Table`, the symbols of pairs in `PairSymbols`, pairs as texts in
 //! `Padding`, which word has ended in `EndedWords`, languages in `Language`, canonical automata in `Canonical`,
-//! and the counted states of each construction in `Counted`.
+//! and the counted states of each construction in `Counted`; edges and what they lead to in `Graphs`, and the moves
+//! of a table as edges in `Moves`.
 //!
 //! # Where the proofs are
 //!
 //! In `proofs/`, for the crates above too: `Lookups` of rows and of the states to which texts lead, `PairSymbolLaws`
 //! of the numbers of pairs, `Paddings` and `Unpadding` of the texts of pairs and of their words, `PaddedRuns` of
-//! which word has ended along a text.
+//! which word has ended along a text; `LinkLemmas`, `Reaching` and `MoveLemmas` of edges and of what they lead to.
 //!
-//! `kb_word` is below; the operations on automata, their files and the commands are above.
+//! Below is `kb_word`.
 #![tactic(auto)]
 
 mod alphabet;
 mod ended;
 mod fsa;
+mod links;
+mod moves;
 mod pair_symbols;
+mod reach;
 mod row;
 mod symbols;
 mod table;
@@ -34,7 +43,10 @@ mod texts;
 pub use alphabet::Alphabet;
 pub use ended::Ended;
 pub use fsa::Fsa;
+pub use links::{Links, link};
+pub use moves::{Backward, live, reversed};
 pub use pair_symbols::PairSymbols;
+pub use reach::reached;
 pub use row::{Row, split_at_symbol};
 pub use symbols::Symbols;
 pub use table::Table;

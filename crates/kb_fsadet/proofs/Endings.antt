@@ -10,7 +10,7 @@ use Rattle.kb_fsa.specs.PairSymbols.{pair_symbol}
 use Rattle.kb_fsa.specs.Padding.{padded}
 use Rattle.kb_fsa.proofs.PairSymbolLaws.{first_letter-pair_symbol, with_second, letter_beside_padding}
 use Rattle.kb_fsa.proofs.Lookups.{All-moves_of, IsRow-moves_of, after_none, entry_from_lookup, lookup_from_entry, lookup_from_target, target_some}
-use Rattle.kb_reach.specs.Graphs.{IsMarked, IsReached, at_seed, along}
+use Rattle.kb_fsa.specs.Graphs.{IsMarked, IsReached, at_seed, along}
 use Rattle.kb_fsadet.specs.FirstWords.{tail_edges, EndsFrom, AreEnds}
 use Rattle.kb_fsadet.proofs.Sets.{All-from_contains, Contains-none}
 use Rattle.kb_fsadet.proofs.FirstWordLemmas.{IsTail-from_edge, edge_from_tail}

@@ -8,8 +8,7 @@ ghost use Rattle.kb_fsa.specs.declared.alphabet.Alphabet.TheVariants.{Pair};
 ghost use Rattle.kb_fsadet.specs.FirstWords.{by_first, tail_edge, tail_edges, where_some, AreEnds, IsFirstWords};
 
 use crate::nfa::{Branches, Nfa};
-use kb_fsa::{Alphabet, Fsa, PairSymbols, Row, Table};
-use kb_reach::reached;
+use kb_fsa::{Alphabet, Fsa, PairSymbols, Row, Table, reached};
 use kb_word::Memory;
 use std::alloc::Global;
 

@@ -8,9 +8,9 @@ use Rattle.std.proofs.lemmas.List.Kept.{AllPairs-filter}
 use Rattle.kb_fsa.specs.Table.{Moves, lookup, target, IsRow, Table, IsTable, HasSymbols, moves_of, is_accepting, step, after, state_after, AcceptsFrom, IsLive}
 use Rattle.kb_fsa.specs.Padding.{IsPadded}
 use Rattle.kb_fsa.proofs.Lookups.{lookup_here, lookup_there, entry_from_lookup, lookup_from_target, target_none, after-append, after_none, accepting_positive, All-moves_of, IsRow-moves_of}
-use Rattle.kb_reach.specs.Graphs.{source, end, IsMarked}
-use Rattle.kb_reach.specs.Moves.{AreBackward}
-use Rattle.kb_reach.proofs.MoveLemmas.{edge_from_step}
+use Rattle.kb_fsa.specs.Graphs.{source, end, IsMarked}
+use Rattle.kb_fsa.specs.Moves.{AreBackward}
+use Rattle.kb_fsa.proofs.MoveLemmas.{edge_from_step}
 use Rattle.kb_fsafile.specs.Misplaced.{IsMisplaced, IsDropped, IsWithoutMisplaced}
 use Rattle.kb_fsafile.specs.Cleaning.{AreReachMarks, is_misplaced, IsAccepted, is_dropped, kept_rows}
 use Rattle.kb_fsafile.proofs.PaddedTexts.{IsSymbol, IsInPlace, in_place_from_padded, padded_from_in_place}

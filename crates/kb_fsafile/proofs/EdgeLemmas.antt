@@ -4,8 +4,8 @@ use Rattle.std.proofs.lemmas.Bool.{cases_eq, cases_lt}
 use Rattle.std.proofs.lemmas.List.{length-map, length-replicate, get_or-replicate, get_or_past, get_or-map, get_or_default}
 use Rattle.std.proofs.lemmas.List.Elements.{All-same, All-map, Contains-push, Contains-push_cases, Contains-append_left}
 use Rattle.kb_fsa.specs.Table.{Table}
-use Rattle.kb_reach.specs.Graphs.{source, end, IsReached, at_seed, along}
-use Rattle.kb_reach.specs.Moves.{AreBackward}
+use Rattle.kb_fsa.specs.Graphs.{source, end, IsReached, at_seed, along}
+use Rattle.kb_fsa.specs.Moves.{AreBackward}
 use Rattle.kb_fsafile.specs.Cleaning.{turned, HaveSameEdges, AreForward}
 
 -- ---- the same edges

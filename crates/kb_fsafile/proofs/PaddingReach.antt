@@ -7,10 +7,10 @@ use Rattle.std.proofs.lemmas.List.Quantifiers.{Any-push}
 use Rattle.kb_fsa.specs.PairSymbols.{first_letter, second_letter}
 use Rattle.kb_fsa.specs.Table.{Table, IsTable, step, after, state_after}
 use Rattle.kb_fsa.proofs.Lookups.{after-append, after_none}
-use Rattle.kb_reach.specs.Graphs.{source, end, IsMarked, IsReached, at_seed, along}
-use Rattle.kb_reach.specs.Moves.{AreBackward}
-use Rattle.kb_reach.proofs.MoveLemmas.{edge_from_step}
-use Rattle.kb_reach.proofs.Reaching.{marked_set, marked_kept, marked_before}
+use Rattle.kb_fsa.specs.Graphs.{source, end, IsMarked, IsReached, at_seed, along}
+use Rattle.kb_fsa.specs.Moves.{AreBackward}
+use Rattle.kb_fsa.proofs.MoveLemmas.{edge_from_step}
+use Rattle.kb_fsa.proofs.Reaching.{marked_set, marked_kept, marked_before}
 use Rattle.kb_fsafile.specs.Misplaced.{IsMisplaced}
 use Rattle.kb_fsafile.specs.Cleaning.{turned, Pads, pads, AreMet, AreReachMarks, IsPaddedMove, ArePaddedTargets, is_out_of_place, is_misplaced}
 use Rattle.kb_fsafile.specs.declared.misplaced.Track.{Track}

@@ -3,7 +3,7 @@ use Rattle.std.specs.Prelude.{◌≡◌, ◌≢◌, ◌↔◌, ℕ, suc, ◌+◌
 use Rattle.std.specs.List.{filter}
 use Rattle.kb_fsa.specs.PairSymbols.{pads_first, pads_second}
 use Rattle.kb_fsa.specs.Table.{Moves, Table, state_after}
-use Rattle.kb_reach.specs.Graphs.{IsMarked, source, end}
+use Rattle.kb_fsa.specs.Graphs.{IsMarked, source, end}
 use Rattle.kb_fsafile.specs.Misplaced.{PadsFirst, PadsSecond}
 use Rattle.kb_fsafile.specs.declared.misplaced.Track.{Track}
 use Rattle.kb_fsafile.specs.declared.misplaced.Track.TheVariants.{First, Second}

@@ -50,7 +50,7 @@
 //! of reading, `WrittenAutomata` that of writing, and `EdgeLemmas`, `PaddedTexts`, `PaddingReach` and `Cleanings` the
 //! moves that are dropped.
 //!
-//! `kb_record` (trees), `kb_fields` (fields), `kb_fsaprint` (the printed text), `kb_fsa` (automata) and `kb_reach`
+//! `kb_record` (trees), `kb_fields` (fields), `kb_fsaprint` (the printed text), `kb_fsa` (automata) and `kb_fsa`
 //! (what moves lead to) are below; the commands that load and store automata are above.
 #![tactic(auto)]
 

@@ -5,14 +5,13 @@ ghost use Rattle.std.specs.List.{filter};
 ghost use Rattle.kb_fsa.specs.declared.alphabet.Alphabet.TheVariants.{Pair};
 ghost use Rattle.kb_fsa.specs.Table.{HasSymbols, state_after, AcceptsFrom};
 ghost use Rattle.kb_fsa.specs.Padding.{IsPadded};
-ghost use Rattle.kb_reach.specs.Graphs.{IsMarked, IsReached};
-ghost use Rattle.kb_reach.specs.Moves.{AreBackward};
+ghost use Rattle.kb_fsa.specs.Graphs.{IsMarked, IsReached};
+ghost use Rattle.kb_fsa.specs.Moves.{AreBackward};
 ghost use Rattle.kb_fsafile.specs.Misplaced.{IsCleaned, IsPaddingFault};
 ghost use Rattle.kb_fsafile.specs.Cleaning.{turned, HaveSameEdges, pads, AreReachMarks, ArePaddedTargets, is_misplaced, is_dropped, IsAccepted, kept_rows};
 
 use crate::error::FsaError;
-use kb_fsa::{PairSymbols, Row, Table};
-use kb_reach::{Backward, reached, reversed};
+use kb_fsa::{Backward, PairSymbols, Row, Table, reached, reversed};
 use kb_word::Memory;
 use std::alloc::Global;
 

@@ -6,7 +6,7 @@ use Rattle.std.proofs.lemmas.List.{length_push, get_or_past, get_or-replicate, l
 use Rattle.std.proofs.lemmas.List.Elements.{Contains-append_left, Contains-push, Contains-push_cases}
 use Rattle.std.proofs.lemmas.List.Sums.{sum_by-set}
 use Rattle.kb_fsadet.proofs.Sets.{Contains-none}
-use Rattle.kb_reach.proofs.Reaching.{marked_set, marked_kept, marked_before}
+use Rattle.kb_fsa.proofs.Reaching.{marked_set, marked_kept, marked_before}
 use Rattle.kb_fsaleast.specs.Marks.{is_marked, AreUnseen}
 
 -- a state that is marked is

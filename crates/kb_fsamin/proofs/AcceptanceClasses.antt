@@ -5,10 +5,10 @@ use Rattle.std.proofs.lemmas.List.{length-replicate, length_push, get_or_push, g
 use Rattle.kb_fsa.specs.Table.{Table, IsTable, is_accepting, IsLive, AreEquivalent}
 use Rattle.kb_fsa.specs.Canonical.{IsState}
 use Rattle.kb_fsamin.specs.Classes.{representative, AreRepresentatives}
-use Rattle.kb_reach.specs.Graphs.{IsMarked}
+use Rattle.kb_fsa.specs.Graphs.{IsMarked}
 use Rattle.kb_fsamin.specs.Rounds.{class_of, IsClassing, IsStable}
 use Rattle.kb_fsamin.specs.Firsts.{acceptance, AreByAcceptance, AreFirsts}
-use Rattle.kb_reach.proofs.LinkLemmas.{zeros}
+use Rattle.kb_fsa.proofs.LinkLemmas.{zeros}
 
 -- ---- classes by acceptance
 

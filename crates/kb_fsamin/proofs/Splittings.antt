@@ -6,15 +6,15 @@ use Rattle.std.proofs.lemmas.List.Elements.{All-contains, Contains-get_or}
 use Rattle.kb_fsa.specs.Table.{Table, step, AcceptsFrom, AreEquivalent}
 use Rattle.kb_fsa.specs.Canonical.{IsState}
 use Rattle.kb_fsa.proofs.Lookups.{step_within}
-use Rattle.kb_reach.specs.Graphs.{source}
-use Rattle.kb_reach.specs.Moves.{AreBackward}
+use Rattle.kb_fsa.specs.Graphs.{source}
+use Rattle.kb_fsa.specs.Moves.{AreBackward}
 use Rattle.kb_fsamin.specs.Rounds.{class_of, IsClassing}
 use Rattle.kb_fsamin.specs.Partitions.{part_of, first_of, AreGathered, AreGroups, AreMembers, IsPartition, IsSplitBy}
 use Rattle.kb_fsamin.specs.declared.partition.Groups.{Groups}
 use Rattle.kb_fsamin.specs.declared.partition.Partition.{Partition}
 use Rattle.kb_fsamin.specs.Splitting.{AreEntering, IsLeaving, AreLeaving, IsSplitting, AreClassesOfBlocks, targets}
 use Rattle.kb_fsamin.proofs.SplitSteps.{first_there}
-use Rattle.kb_reach.proofs.MoveLemmas.{edge_from_step}
+use Rattle.kb_fsa.proofs.MoveLemmas.{edge_from_step}
 use Rattle.kb_fsamin.proofs.Classings.{rejects_none}
 
 module _ (table : Table) (edges : List (ℕ × ℕ)) (symbols start blocks cords : List ℕ)

@@ -1,8 +1,8 @@
 -- Blocks of states and cords of moves, which split each other.
 use Rattle.std.specs.Prelude.{◌≡◌, ◌≢◌, ℕ, suc, ◌<◌, ◌≤◌, List, length, get_or, map, All, Contains}
 use Rattle.kb_fsa.specs.Table.{Table, AreEquivalent}
-use Rattle.kb_reach.specs.Graphs.{source, end}
-use Rattle.kb_reach.specs.Moves.{AreBackward}
+use Rattle.kb_fsa.specs.Graphs.{source, end}
+use Rattle.kb_fsa.specs.Moves.{AreBackward}
 use Rattle.kb_fsamin.specs.Rounds.{class_of, IsClassing}
 use Rattle.kb_fsamin.specs.Partitions.{part_of, first_of, IsPartition}
 use Rattle.kb_fsamin.specs.declared.partition.Partition.{Partition}

@@ -16,14 +16,13 @@ ghost use Rattle.std.specs.Prelude.{◌≡◌, ◌↔◌, ◌+◌, ◌<◌, ◌�
 ghost use Rattle.kb_fsa.specs.Table.{IsLive};
 ghost use Rattle.kb_fsamin.specs.Classes.{AreRepresentatives};
 ghost use Rattle.kb_fsamin.specs.Firsts.{acceptance};
-ghost use Rattle.kb_reach.specs.Graphs.{IsMarked};
+ghost use Rattle.kb_fsa.specs.Graphs.{IsMarked};
 ghost use Rattle.kb_fsamin.specs.Rounds.{IsClassing, IsStable, class_of};
 
 use crate::rounds::refine_until_stable;
 use crate::splitting::split_by_splitters;
 use crate::stability::is_stable;
-use kb_fsa::Table;
-use kb_reach::{live, reversed};
+use kb_fsa::{Table, live, reversed};
 use kb_word::Memory;
 use std::alloc::Global;
 

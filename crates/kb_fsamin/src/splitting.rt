@@ -7,14 +7,14 @@
 
 ghost use Rattle.std.specs.Prelude.{◌≡◌, ◌<◌, ◌≤◌, ◌^◌, ℕ, suc, ◌+◌, List, length, get_or, All, IfOk, OnOk};
 ghost use Rattle.kb_fsa.specs.Table.{Table};
-ghost use Rattle.kb_reach.specs.Moves.{IsBackwardOf};
+ghost use Rattle.kb_fsa.specs.Moves.{IsBackwardOf};
 ghost use Rattle.kb_fsamin.specs.Partitions.{AreGroups, AreWithin, IsPartition, part_of};
 ghost use Rattle.kb_fsamin.specs.Rounds.{IsClassing};
 ghost use Rattle.kb_fsamin.specs.Splitting.{AreEntering, AreClassesOfBlocks, AreLeaving, ArePaired, KeepsSplitting, targets};
 
 use crate::partition::{Groups, Partition};
 use indexmap::IndexSet;
-use kb_reach::Backward;
+use kb_fsa::Backward;
 use kb_word::Memory;
 use std::alloc::Global;
 

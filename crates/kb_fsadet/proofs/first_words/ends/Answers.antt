@@ -1,7 +1,7 @@
 use Rattle.std.proofs.Common.{◌≡◌, ◌↔◌, ℕ, ◌<◌, Bool, false, List, ◌∷◌, length, suc, drop, sym, ap, ◌∙◌, subst, arith, rules}
 use Rattle.std.specs.List.{All}
 use Rattle.std.proofs.lemmas.List.{take_all, length-drop}
-use Rattle.kb_reach.specs.Graphs.{IsMarked, IsReached}
+use Rattle.kb_fsa.specs.Graphs.{IsMarked, IsReached}
 use Rattle.kb_fsadet.specs.FirstWords.{tail_edges, AreEnds}
 use Rattle.kb_fsadet.proofs.Endings.{edges_within, are_ends}
 use Rattle.kb_fsadet.proofs.first_words.ends.Goals as goal

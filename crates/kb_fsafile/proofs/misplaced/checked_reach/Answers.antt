@@ -1,9 +1,9 @@
 use Rattle.std.proofs.Common.{◌≡◌, ◌↔◌, ◌+◌, ℕ, suc, false, Bool, List, ◌∷◌, length, refl, sym, ap, ◌∙◌, subst}
 use Rattle.std.proofs.lemmas.Bool.{false≢true}
 use Rattle.kb_fsa.specs.Table.{Table, IsTable, IsLive}
-use Rattle.kb_reach.specs.Graphs.{IsMarked, IsReached}
-use Rattle.kb_reach.specs.Moves.{AreBackward}
-use Rattle.kb_reach.proofs.MoveLemmas.{live_is_reached}
+use Rattle.kb_fsa.specs.Graphs.{IsMarked, IsReached}
+use Rattle.kb_fsa.specs.Moves.{AreBackward}
+use Rattle.kb_fsa.proofs.MoveLemmas.{live_is_reached}
 use Rattle.kb_fsafile.specs.Cleaning.{turned, HaveSameEdges}
 use Rattle.kb_fsafile.proofs.Cleanings.{unpadded_text, padded_where_accepted}
 use Rattle.kb_fsafile.proofs.EdgeLemmas.{turned_same, reached_same, forward_within}

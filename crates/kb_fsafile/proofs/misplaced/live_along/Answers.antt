@@ -1,6 +1,6 @@
 use Rattle.std.proofs.Common.{◌≡◌, ◌↔◌, ℕ, false, Bool, List, ◌+◌, ◌∷◌, ◌++◌, length, ap, ◌∙◌, subst, arith}
 use Rattle.std.proofs.lemmas.Result.{IfOk-weaker}
-use Rattle.kb_reach.specs.Graphs.{IsMarked, IsReached}
+use Rattle.kb_fsa.specs.Graphs.{IsMarked, IsReached}
 use Rattle.kb_fsafile.specs.Cleaning.{turned}
 use Rattle.kb_fsafile.proofs.EdgeLemmas.{turned_within_count}
 use Rattle.kb_fsafile.proofs.misplaced.live_along.Goals as goal

@@ -1,6 +1,6 @@
 use Rattle.std.proofs.Common.{◌≡◌, ◌↔◌, ℕ, ◌+◌, true, false, Bool, List, length, set, replicate, sym, ap, ◌∙◌, subst, length-set}
 use Rattle.std.proofs.lemmas.List.{length-replicate}
-use Rattle.kb_reach.specs.Graphs.{IsMarked, IsReached}
+use Rattle.kb_fsa.specs.Graphs.{IsMarked, IsReached}
 use Rattle.kb_fsafile.specs.Cleaning.{turned, HaveSameEdges, AreMet, ArePaddedTargets}
 use Rattle.kb_fsafile.specs.declared.misplaced.Track.{Track}
 use Rattle.kb_fsafile.specs.declared.misplaced.Track.TheVariants.{First, Second}

@@ -2,7 +2,7 @@ use Rattle.std.proofs.Common.{◌≡◌, ◌≢◌, ◌*◌, ◌+◌, ◌-◌, �
 use Rattle.std.proofs.lemmas.Bool.{false≢true}
 use Rattle.kb_fsa.specs.Table.{Moves, Table, IsTable, HasSymbols, IsLive, state_after}
 use Rattle.kb_fsa.specs.Padding.{IsPadded}
-use Rattle.kb_reach.specs.Graphs.{IsMarked}
+use Rattle.kb_fsa.specs.Graphs.{IsMarked}
 use Rattle.kb_fsafile.specs.Misplaced.{IsWithoutMisplaced}
 use Rattle.kb_fsafile.specs.Cleaning.{is_dropped, kept_rows}
 use Rattle.kb_fsafile.proofs.Cleanings.{unpadded_text, padded_where_accepted, IsTable-without, without_misplaced_moves, texts_without, symbols_without}

@@ -5,7 +5,7 @@ use Rattle.kb_fsa.specs.Table.{moves_of}
 use Rattle.kb_fsamin.specs.contracts.rounds.SignaturePartialEq.TheImpl.{eq-value}
 use Rattle.kb_fsamin.specs.Rounds.{sight, sight_of, class_row, Inserted}
 use Rattle.kb_fsamin.proofs.Signatures.{pair_is, signatures_decide}
-use Rattle.kb_reach.proofs.MoveLemmas.{row_at}
+use Rattle.kb_fsa.proofs.MoveLemmas.{row_at}
 use Rattle.kb_fsamin.proofs.RoundSteps.{round_none, round_dead, round_live, round_all, round_same, Inserted-map}
 use Rattle.kb_fsamin.proofs.rounds.round.Goals as goal
 use Rattle.kb_fsamin.proofs.rounds.round.Goals.{then-class-eq0+in_ok-push, else-class-eq0+in_ok-signature+in_ok-number+in_ok-push-2}

@@ -1,7 +1,7 @@
 use Rattle.std.proofs.Common.{◌≡◌, ◌<◌, ◌+◌, ◌∷◌, ◌++◌, [], ◌⊎◌, ℕ, length, get_or, take, Contains, sym, ap, ◌∙◌, subst, inl, inr, arith}
 use Rattle.std.proofs.lemmas.List.{take_more, take_all}
 use Rattle.std.proofs.lemmas.List.Elements.{Contains-push, Contains-append_left, Contains-push_cases}
-use Rattle.kb_reach.specs.Graphs.{source, end}
+use Rattle.kb_fsa.specs.Graphs.{source, end}
 use Rattle.kb_fsamin.specs.Rounds.{class_of}
 use Rattle.kb_fsamin.specs.Partitions.{AreMembers}
 use Rattle.kb_fsamin.proofs.splitting.leaving.Goals as goal

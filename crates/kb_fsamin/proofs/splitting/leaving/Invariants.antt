@@ -1,5 +1,5 @@
 use Rattle.std.proofs.Common.{◌≢◌, ℕ, take, Contains}
-use Rattle.kb_reach.specs.Graphs.{source, end}
+use Rattle.kb_fsa.specs.Graphs.{source, end}
 use Rattle.kb_fsamin.specs.Rounds.{class_of}
 use Rattle.kb_fsamin.specs.Splitting.{IsLeaving}
 use Rattle.kb_fsamin.proofs.splitting.leaving.Given as goal

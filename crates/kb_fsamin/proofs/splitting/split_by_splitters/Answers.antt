@@ -1,7 +1,7 @@
 use Rattle.std.proofs.Common.{◌≡◌, ℕ, List, suc, length, get_or, sym, ap, ◌∙◌, subst, arith}
 use Rattle.std.proofs.lemmas.Result.{IfOk-weaker}
 use Rattle.kb_fsa.specs.Table.{Table}
-use Rattle.kb_reach.specs.Moves.{AreBackward}
+use Rattle.kb_fsa.specs.Moves.{AreBackward}
 use Rattle.kb_fsamin.specs.Rounds.{IsClassing}
 use Rattle.kb_fsamin.specs.Splitting.{AreClassesOfBlocks, IsSplitting}
 use Rattle.kb_fsamin.proofs.Classings.{one_class}

@@ -1,6 +1,6 @@
 use Rattle.std.proofs.Common.{◌≤◌}
-use Rattle.kb_reach.specs.Graphs.{IsMarking, weight}
-use Rattle.kb_reach.proofs.reach.reached.Given as goal
+use Rattle.kb_fsa.specs.Graphs.{IsMarking, weight}
+use Rattle.kb_fsa.proofs.reach.reached.Given as goal
 
 -- each edge is done that leads from a marked thing which isn't pending
 abbrev pub invariant-loop-from : goal.invariant-loop-from

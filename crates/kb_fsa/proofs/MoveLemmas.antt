@@ -6,8 +6,8 @@ use Rattle.std.proofs.lemmas.List.Elements.{All-nil}
 use Rattle.kb_fsa.specs.Table.{Table, IsTable, moves_of, is_accepting, step, after, AcceptsFrom, IsLive}
 use Rattle.kb_fsa.specs.Canonical.{IsState}
 use Rattle.kb_fsa.proofs.Lookups.{lookup_at, target_some, IsRow-moves_of, All-moves_of, entry_from_lookup, lookup_from_target, after_none, step_past}
-use Rattle.kb_reach.specs.Graphs.{end, IsMarked, IsReached, at_seed, along}
-use Rattle.kb_reach.specs.Moves.{IsBackward, HasEdge, AreBackward}
+use Rattle.kb_fsa.specs.Graphs.{end, IsMarked, IsReached, at_seed, along}
+use Rattle.kb_fsa.specs.Moves.{IsBackward, HasEdge, AreBackward}
 
 -- what the edges before it say stays with one more
 kept : (edges : List (ℕ × ℕ)) (edge : ℕ × ℕ) (place : ℕ) → place < length edges

@@ -2,8 +2,8 @@
 use Rattle.std.specs.Prelude.{◌≡◌, ℕ, suc, ◌<◌, List, length, get_or}
 use Rattle.kb_fsa.specs.Table.{Table, step, moves_of}
 use Rattle.kb_fsa.specs.Canonical.{IsState}
-use Rattle.kb_reach.specs.Graphs.{source, end}
-use Rattle.kb_reach.specs.declared.moves.Backward.{Backward}
+use Rattle.kb_fsa.specs.Graphs.{source, end}
+use Rattle.kb_fsa.specs.declared.moves.Backward.{Backward}
 
 -- an edge leads backwards along a move by the symbol
 pub record IsBackward (table : Table) (edges : List (ℕ × ℕ)) (symbols : List ℕ)

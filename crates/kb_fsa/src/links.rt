@@ -1,7 +1,7 @@
 //! The edges of a graph, found by the things that they lead from.
 
 ghost use Rattle.std.specs.Prelude.{◌<◌, All, IfOk};
-ghost use Rattle.kb_reach.specs.Graphs.{AreLinksOf};
+ghost use Rattle.kb_fsa.specs.Graphs.{AreLinksOf};
 
 use kb_word::Memory;
 use std::alloc::Global;

@@ -1,8 +1,8 @@
 use Rattle.std.proofs.Common.{◌≡◌, ap, ◌∙◌, ◌∷◌, [], ◌++◌, get_or, set, subst, ℕ, sym, arith, ◌+◌, ◌<◌, refl}
 use Rattle.std.proofs.lemmas.List.{get_or_read}
-use Rattle.kb_reach.specs.Graphs.{AreLinked, source}
-use Rattle.kb_reach.proofs.LinkLemmas.{linked_none, linked_more, linked_same}
-use Rattle.kb_reach.proofs.links.link.Goals as goal
+use Rattle.kb_fsa.specs.Graphs.{AreLinked, source}
+use Rattle.kb_fsa.proofs.LinkLemmas.{linked_none, linked_more, linked_same}
+use Rattle.kb_fsa.proofs.links.link.Goals as goal
 
 pub loop-edge-init : goal.loop-edge-init
 loop-edge-init c =

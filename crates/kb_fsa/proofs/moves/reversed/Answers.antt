@@ -2,8 +2,8 @@ use Rattle.std.proofs.Common.{◌≡◌, ◌<◌, ℕ, ◌+◌, suc, [], ◌∷�
 use Rattle.std.proofs.lemmas.List.{get_or_read}
 use Rattle.kb_fsa.specs.Table.{moves_of}
 use Rattle.kb_fsa.specs.Canonical.{IsState}
-use Rattle.kb_reach.proofs.MoveLemmas.{backward_move, backward_row, backward_same, row_at}
-use Rattle.kb_reach.proofs.moves.reversed.Goals as goal
+use Rattle.kb_fsa.proofs.MoveLemmas.{backward_move, backward_row, backward_same, row_at}
+use Rattle.kb_fsa.proofs.moves.reversed.Goals as goal
 
 pub loop-symbol-preserved : goal.loop-symbol-preserved
 loop-symbol-preserved c =

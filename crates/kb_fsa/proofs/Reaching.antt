@@ -4,7 +4,7 @@ use Rattle.std.proofs.lemmas.Bool.{cases_eq, cases_lt, true≢false}
 use Rattle.std.proofs.lemmas.List.{length_push, get_or_past, get_or_default}
 use Rattle.std.proofs.lemmas.List.Elements.{All-push, All-weaker, All-contains, Contains-push_cases, Contains-append_left, Contains-push}
 use Rattle.std.proofs.lemmas.List.Sums.{sum_by-set}
-use Rattle.kb_reach.specs.Graphs.{source, end, IsMarked, IsReached, at_seed, along, AreLinked, IsMarking, IsListing, weight}
+use Rattle.kb_fsa.specs.Graphs.{source, end, IsMarked, IsReached, at_seed, along, AreLinked, IsMarking, IsListing, weight}
 
 -- what is marked has a mark
 pub marked_within : (marks : List Bool) (x : ℕ) → IsMarked marks x → x < length marks

@@ -1,6 +1,6 @@
 use Rattle.std.proofs.Common.{◌≡◌, suc}
-use Rattle.kb_reach.specs.Moves.{AreBackward}
-use Rattle.kb_reach.proofs.moves.reversed.Given as goal
+use Rattle.kb_fsa.specs.Moves.{AreBackward}
+use Rattle.kb_fsa.proofs.moves.reversed.Given as goal
 
 -- the moves of the states before the row are taken
 abbrev pub invariant-loop-row : goal.invariant-loop-row

@@ -1,7 +1,7 @@
 //! What the edges of a graph lead to.
 
 ghost use Rattle.std.specs.Prelude.{◌≡◌, ◌↔◌, ◌<◌, ◌≤◌, ◌^◌, ℕ, length, All, IfOk};
-ghost use Rattle.kb_reach.specs.Graphs.{IsMarked, IsReached, IsListing};
+ghost use Rattle.kb_fsa.specs.Graphs.{IsMarked, IsReached, IsListing};
 
 use crate::links::link;
 use kb_word::Memory;

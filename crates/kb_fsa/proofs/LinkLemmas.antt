@@ -2,7 +2,7 @@
 use Rattle.std.proofs.Common.{◌≡◌, ◌≢◌, ℕ, zero, suc, ◌+◌, ◌<◌, ◌≤◌, List, [], ◌∷◌, ◌++◌, get_or, set, replicate, refl, sym, ap, ◌∙◌, subst, inl, inr, arith, length-set, get_or-set_same, get_or-set_other}
 use Rattle.std.proofs.lemmas.Bool.{cases_eq, cases_lt}
 use Rattle.std.proofs.lemmas.List.{length-replicate, length_push, get_or_push, get_or_append_left, get_or-replicate, get_or_past}
-use Rattle.kb_reach.specs.Graphs.{source, AreLinked}
+use Rattle.kb_fsa.specs.Graphs.{source, AreLinked}
 
 -- an element of a list of zeros, or what is past its end, is 0
 pub zeros : (count x : ℕ) → get_or (replicate count zero) x zero ≡ zero

@@ -1,6 +1,6 @@
 -- Graphs, given by their edges, and what the edges lead to.
 use Rattle.std.specs.Prelude.{◌≡◌, ◌≢◌, ◌⊎◌, ℕ, suc, ◌+◌, ◌*◌, ◌<◌, ◌≤◌, Bool, true, false, not, List, length, get_or, All, Contains, count_by}
-use Rattle.kb_reach.specs.declared.links.Links.{Links}
+use Rattle.kb_fsa.specs.declared.links.Links.{Links}
 
 -- the thing is marked
 abbrev pub IsMarked : List Bool → ℕ → Type 0

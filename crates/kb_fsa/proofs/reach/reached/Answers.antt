@@ -1,10 +1,10 @@
 use Rattle.std.proofs.Common.{◌≡◌, ◌<◌, ◌-◌, suc, true, false, [], ◌∷◌, ◌++◌, length, get_or, set, arith, refl, sym, ap, ◌∙◌}
 use Rattle.std.proofs.lemmas.List.{get_or_read}
-use Rattle.kb_reach.specs.Graphs.{end, weight, IsMarking}
-use Rattle.kb_reach.proofs.LinkLemmas.{earlier_below}
-use Rattle.kb_reach.proofs.Reaching.{marking_start, marking_pop, marking_skip, marking_more, marking_end, marking_same, weight_more, marked_set, marked_last, numbered}
-use Rattle.kb_reach.proofs.reach.reached.Goals as goal
-use Rattle.kb_reach.proofs.reach.reached.Goals.{then-not-index+in_ok-push, else-not-index}
+use Rattle.kb_fsa.specs.Graphs.{end, weight, IsMarking}
+use Rattle.kb_fsa.proofs.LinkLemmas.{earlier_below}
+use Rattle.kb_fsa.proofs.Reaching.{marking_start, marking_pop, marking_skip, marking_more, marking_end, marking_same, weight_more, marked_set, marked_last, numbered}
+use Rattle.kb_fsa.proofs.reach.reached.Goals as goal
+use Rattle.kb_fsa.proofs.reach.reached.Goals.{then-not-index+in_ok-push, else-not-index}
 
 pub loop-from-init : goal.loop-from-init
 loop-from-init c =

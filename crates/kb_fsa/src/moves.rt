@@ -2,11 +2,11 @@
 
 ghost use Rattle.std.specs.Prelude.{◌≡◌, ◌↔◌, ◌+◌, ℕ, length, IfOk};
 ghost use Rattle.kb_fsa.specs.Table.{IsLive};
-ghost use Rattle.kb_reach.specs.Graphs.{IsMarked};
-ghost use Rattle.kb_reach.specs.Moves.{IsBackwardOf};
+ghost use Rattle.kb_fsa.specs.Graphs.{IsMarked};
+ghost use Rattle.kb_fsa.specs.Moves.{IsBackwardOf};
 
 use crate::reach::reached;
-use kb_fsa::Table;
+use crate::table::Table;
 use kb_word::Memory;
 use std::alloc::Global;
 

@@ -1,9 +1,9 @@
 use Rattle.std.proofs.Common.{◌≡◌, ◌↔◌, ℕ, false, Bool, List, ◌∷◌, ◌++◌, ap, ◌∙◌, subst}
 use Rattle.std.proofs.lemmas.Result.{IfOk-weaker}
 use Rattle.kb_fsa.specs.Table.{IsLive}
-use Rattle.kb_reach.specs.Graphs.{IsMarked, IsReached}
-use Rattle.kb_reach.proofs.MoveLemmas.{live_is_reached}
-use Rattle.kb_reach.proofs.moves.live.Goals as goal
+use Rattle.kb_fsa.specs.Graphs.{IsMarked, IsReached}
+use Rattle.kb_fsa.proofs.MoveLemmas.{live_is_reached}
+use Rattle.kb_fsa.proofs.moves.live.Goals as goal
 
 pub returns-clause-live : goal.returns-clause-live
 returns-clause-live c =
