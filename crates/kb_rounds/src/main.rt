@@ -23,7 +23,7 @@
 //! - `comparison` compares acceptors with those of rules, and `measured` has the run that is timed.
 //! - `texts` has words and automata as they are printed, and `figures` how large a round is.
 //!
-//! Below are `kb_presfile`, which reads files, `kb_diff`, `kb_acceptor` and `kb_multipliers`, which
+//! Below are `kb_presfile`, which reads files, `kb_diff`, `kb_diffwa` and `kb_diffwa`, which
 //! make the automata, and `kb_wa` with the acceptor of rules; nothing is above.
 #![tactic(auto)]
 

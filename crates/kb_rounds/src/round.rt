@@ -7,12 +7,11 @@ ghost use Rattle.kb_diff.specs.Groups.{group_of};
 
 use crate::system::System;
 use anyhow::ensure;
-use kb_acceptor::{Det, acceptor};
+use kb_diffwa::{Det, acceptor, multipliers};
 use kb_diff::Differences;
 use kb_fsa::Fsa;
 use kb_fsamin::canonical;
 use kb_index::Index;
-use kb_multipliers::multipliers;
 use std::alloc::Global;
 
 /// So many differences are kept at most.

@@ -1,0 +1,12 @@
+pub mod Crossing
+pub mod TrackMoves
+pub mod TrackRuns
+pub mod PairRuns
+pub mod Multiplying
+pub mod AllGenerators
+pub mod RivalMoveLemmas
+pub mod RivalStates
+pub mod ComparisonRuns
+pub mod RivalRuns
+pub mod RivalWords
+pub mod Acceptance

@@ -1,0 +1,6 @@
+pub mod Tracks
+pub mod Pairs
+pub mod Multipliers
+pub mod Comparing
+pub mod Rivals
+pub mod RivalMoves

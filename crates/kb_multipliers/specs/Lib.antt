@@ -1,3 +1,0 @@
-pub mod Tracks
-pub mod Pairs
-pub mod Multipliers
