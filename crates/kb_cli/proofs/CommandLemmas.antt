@@ -5,18 +5,18 @@ use Rattle.kb_task.specs.Statuses.{IsConclusive, IsYes}
 use Rattle.kb_task.specs.declared.status.Status.{Status}
 use Rattle.kb_task.specs.declared.status.Status.TheVariants.{Yes, Memory}
 use Rattle.kb_task.proofs.ArgumentLemmas.{own_name}
-use Rattle.kb_wordreduce.specs.Given.{Given}
-use Rattle.kb_wordreduce.specs.Line.{IsWordReduce}
-use Rattle.kb_wordreduce.proofs.LineLemmas.{one_wordreduce}
-use Rattle.kb_automata.specs.Line.{IsAutomataTask, GivesTask, name_text, name_of_task}
-use Rattle.kb_automata.specs.declared.task.AutomataTask.{AutomataTask}
-use Rattle.kb_automata.specs.declared.task.AutomataTask.TheVariants as tasks
-use Rattle.kb_automata.proofs.LineLemmas.{one_automata_task}
-use Rattle.kb_automata.proofs.NameLemmas.{begins_otherwise}
-use Rattle.kb_completion.specs.Line.{IsCompletionTask, GivesTask as GivesCompletion, name_text as completion_text, name_of_task as completion_name}
-use Rattle.kb_completion.specs.declared.task.CompletionTask.{CompletionTask}
-use Rattle.kb_completion.specs.declared.task.CompletionTask.TheVariants as completions
-use Rattle.kb_completion.proofs.LineLemmas.{one_completion_task}
+use Rattle.kb_cmd_words.specs.Given.{Given}
+use Rattle.kb_cmd_words.specs.Line.{IsWordReduce}
+use Rattle.kb_cmd_words.proofs.LineLemmas.{one_wordreduce}
+use Rattle.kb_cmd_automata.specs.Line.{IsAutomataTask, GivesTask, name_text, name_of_task}
+use Rattle.kb_cmd_automata.specs.declared.task.AutomataTask.{AutomataTask}
+use Rattle.kb_cmd_automata.specs.declared.task.AutomataTask.TheVariants as tasks
+use Rattle.kb_cmd_automata.proofs.LineLemmas.{one_automata_task}
+use Rattle.kb_cmd_automata.proofs.NameLemmas.{begins_otherwise}
+use Rattle.kb_cmd_completion.specs.Line.{IsCompletionTask, GivesTask as GivesCompletion, name_text as completion_text, name_of_task as completion_name}
+use Rattle.kb_cmd_completion.specs.declared.task.CompletionTask.{CompletionTask}
+use Rattle.kb_cmd_completion.specs.declared.task.CompletionTask.TheVariants as completions
+use Rattle.kb_cmd_completion.proofs.LineLemmas.{one_completion_task}
 use Rattle.kb_cli.proofs.NameLemmas.{not_wordreduce, not_automata}
 use Rattle.kb_cli.specs.CommandLine.{IsCommand}
 use Rattle.kb_cli.specs.Commands.{command_answers, command_settles}

@@ -1,12 +1,12 @@
 -- The names of the commands of completion are apart from those of other families.
 use Rattle.std.proofs.Common.{◌≡◌, ◌≢◌, ◌∙◌, ℕ, sym, ap, arith, slice_index, refl, codes}
 use Rattle.clap.specs.Words.{Text}
-use Rattle.kb_automata.specs.Line.{name_text as automata_text, name_of_task as automata_name}
-use Rattle.kb_automata.specs.declared.task.AutomataTask.{AutomataTask}
-use Rattle.kb_automata.proofs.NameLemmas.{names_begin_with_f}
-use Rattle.kb_completion.specs.Line.{name_text, name_of_task}
-use Rattle.kb_completion.specs.declared.task.CompletionTask.{CompletionTask}
-use Rattle.kb_completion.specs.declared.task.CompletionTask.TheVariants.{Kbprog, Logread, SelfTest}
+use Rattle.kb_cmd_automata.specs.Line.{name_text as automata_text, name_of_task as automata_name}
+use Rattle.kb_cmd_automata.specs.declared.task.AutomataTask.{AutomataTask}
+use Rattle.kb_cmd_automata.proofs.NameLemmas.{names_begin_with_f}
+use Rattle.kb_cmd_completion.specs.Line.{name_text, name_of_task}
+use Rattle.kb_cmd_completion.specs.declared.task.CompletionTask.{CompletionTask}
+use Rattle.kb_cmd_completion.specs.declared.task.CompletionTask.TheVariants.{Kbprog, Logread, SelfTest}
 
 first_byte : Text → ℕ
 first_byte text = slice_index text 0

@@ -4,9 +4,9 @@ use Rattle.kb_io.specs.Outside.{Outside}
 use Rattle.kb_task.specs.Runs.{ReadsSame, HasSameEffect}
 use Rattle.kb_task.specs.Statuses.{IsYes, IsFaultless}
 use Rattle.kb_task.specs.declared.status.Status.{Status}
-use Rattle.kb_wordreduce.specs.WordReduceLaws.{wordreduce_complete, wordreduce_settled, wordreduce_one_function}
-use Rattle.kb_automata.specs.TaskLaws.{automata_complete, automata_settled, automata_one_function}
-use Rattle.kb_completion.specs.TaskLaws.{completion_complete, completion_settled, completion_one_function}
+use Rattle.kb_cmd_words.specs.WordReduceLaws.{wordreduce_complete, wordreduce_settled, wordreduce_one_function}
+use Rattle.kb_cmd_automata.specs.TaskLaws.{automata_complete, automata_settled, automata_one_function}
+use Rattle.kb_cmd_completion.specs.TaskLaws.{completion_complete, completion_settled, completion_one_function}
 use Rattle.kb_cli.specs.Commands.{CommandMeans, command_may_store, command_reads, command_is_unrefused, command_answers, command_settles, CommandsDifferInOptions}
 use Rattle.kb_cli.specs.declared.command.Command.{Command}
 use Rattle.kb_cli.specs.declared.command.Command.TheVariants.{WordReduce, Automata, Completion}

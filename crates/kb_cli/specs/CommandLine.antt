@@ -4,9 +4,9 @@ use Rattle.clap.specs.Words.{App, Text, IsAmong, fault_of, new_app, subcommand_o
 use Rattle.clap.specs.declared.error.kind.ErrorKind.{ErrorKind}
 use Rattle.clap.specs.declared.error.kind.ErrorKind.TheVariants.{ValueValidation}
 use Rattle.kb_task.specs.Arguments.{Entered}
-use Rattle.kb_wordreduce.specs.Line.{with_wordreduce, IsWordReduce}
-use Rattle.kb_automata.specs.Line.{with_automata, IsAutomataTask}
-use Rattle.kb_completion.specs.Line.{with_completions, IsCompletionTask}
+use Rattle.kb_cmd_words.specs.Line.{with_wordreduce, IsWordReduce}
+use Rattle.kb_cmd_automata.specs.Line.{with_automata, IsAutomataTask}
+use Rattle.kb_cmd_completion.specs.Line.{with_completions, IsCompletionTask}
 use Rattle.kb_cli.specs.declared.arguments.UsageError.{UsageError}
 use Rattle.kb_cli.specs.declared.arguments.UsageError.TheVariants.{Usage, Memory}
 use Rattle.kb_cli.specs.declared.command.Command.{Command}

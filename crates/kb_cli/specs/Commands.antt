@@ -3,9 +3,9 @@ use Rattle.std.specs.Prelude.{ℕ, List}
 use Rattle.kb_io.specs.Outside.{Outside}
 use Rattle.kb_task.specs.declared.status.Status.{Status}
 use Rattle.kb_task.specs.Statuses.{AnswersYesOrNo, IsConclusive}
-use Rattle.kb_wordreduce.specs.WordReduce.{WordReduceMeans, wordreduce_may_store, wordreduce_reads, wordreduce_is_unrefused, WordReducesDifferInOptions}
-use Rattle.kb_automata.specs.Tasks.{AutomataMeans, automata_may_store, automata_reads, automata_is_unrefused, automata_answers, AutomataDifferInOptions}
-use Rattle.kb_completion.specs.Tasks.{CompletionMeans, completion_may_store, completion_reads, completion_is_unrefused, completion_answers, completion_settles, CompletionsDifferInOptions}
+use Rattle.kb_cmd_words.specs.WordReduce.{WordReduceMeans, wordreduce_may_store, wordreduce_reads, wordreduce_is_unrefused, WordReducesDifferInOptions}
+use Rattle.kb_cmd_automata.specs.Tasks.{AutomataMeans, automata_may_store, automata_reads, automata_is_unrefused, automata_answers, AutomataDifferInOptions}
+use Rattle.kb_cmd_completion.specs.Tasks.{CompletionMeans, completion_may_store, completion_reads, completion_is_unrefused, completion_answers, completion_settles, CompletionsDifferInOptions}
 use Rattle.kb_cli.specs.declared.command.Command.{Command}
 use Rattle.kb_cli.specs.declared.command.Command.TheVariants.{WordReduce, Automata, Completion}
 

@@ -70,13 +70,13 @@ pub fn read_arguments(alloc: Global, arguments: &[String]) -> Result<Command, Us
 fn entered_command(alloc: Global, matches: &ArgMatches<'_>) -> Result<Option<Command>, Memory>
     ensures { IfOk result (ReadsAs IsCommand (subcommand_rows_of matches.now)) }
 {
-    if let Some(task) = kb_wordreduce::entered_command(alloc, matches)? {
+    if let Some(task) = kb_cmd_words::entered_command(alloc, matches)? {
         return Ok(Some(Command::WordReduce(task)));
     }
-    if let Some(task) = kb_automata::entered_command(alloc, matches)? {
+    if let Some(task) = kb_cmd_automata::entered_command(alloc, matches)? {
         return Ok(Some(Command::Automata(task)));
     }
-    if let Some(task) = kb_completion::entered_command(alloc, matches)? {
+    if let Some(task) = kb_cmd_completion::entered_command(alloc, matches)? {
         return Ok(Some(Command::Completion(task)));
     }
     Ok(None)

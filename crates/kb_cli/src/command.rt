@@ -1,10 +1,10 @@
 //! The commands of the program, a variant for each family.
 
-use kb_automata::AutomataTask;
-use kb_completion::CompletionTask;
+use kb_cmd_automata::AutomataTask;
+use kb_cmd_completion::CompletionTask;
 use kb_io::{Gate, Shelf, Sink, Source};
 use kb_task::{Status, Task};
-use kb_wordreduce::WordReduce;
+use kb_cmd_words::WordReduce;
 use std::alloc::Global;
 use std::sync::Wait;
 use std::thread::Threads;

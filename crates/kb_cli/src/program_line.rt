@@ -19,9 +19,9 @@ pub(crate) fn program_line<'a>(alloc: Global) -> Result<clap::Command<'a>, Alloc
         .bin_name("kb")?
         .subcommand_required(true)
         .arg_required_else_help(true);
-    let program = kb_wordreduce::add_commands(alloc, program)?;
-    let program = kb_automata::add_commands(alloc, program)?;
-    kb_completion::add_commands(alloc, program)
+    let program = kb_cmd_words::add_commands(alloc, program)?;
+    let program = kb_cmd_automata::add_commands(alloc, program)?;
+    kb_cmd_completion::add_commands(alloc, program)
 }
 
 /// The command of this name, as its usage calls it; the program where there is none.
@@ -30,13 +30,13 @@ pub(crate) fn command_line_of<'a>(
     name: &str,
 ) -> Result<clap::Command<'a>, AllocError> {
     let called = format!(in alloc; "kb {name}")?;
-    if let Some(command) = kb_wordreduce::command_named(alloc, name)? {
+    if let Some(command) = kb_cmd_words::command_named(alloc, name)? {
         return command.bin_name(called.as_str());
     }
-    if let Some(command) = kb_automata::command_named(alloc, name)? {
+    if let Some(command) = kb_cmd_automata::command_named(alloc, name)? {
         return command.bin_name(called.as_str());
     }
-    if let Some(command) = kb_completion::command_named(alloc, name)? {
+    if let Some(command) = kb_cmd_completion::command_named(alloc, name)? {
         return command.bin_name(called.as_str());
     }
     program_line(alloc)

@@ -1,0 +1,213 @@
+-- The command that is read of a subcommand's arguments and options.
+use Rattle.std.proofs.Common.{◌≡◌, ◌≢◌, ◌∙◌, ℕ, Option, Some, None, List, ◌∷◌, sym, ap, refl, subst, codes, lit<, if◌then◌else◌, suc, ◌+◌, ◌<◌, ◌≤◌, get_or, drop, false, arith}
+use Rattle.std.proofs.Math.Seq.{drop-cons}
+use Rattle.std.proofs.lemmas.List.{drop_all}
+use Rattle.std.specs.Str.{bytes_eq}
+use Rattle.std.specs.List.{Contains}
+use Rattle.clap.specs.Words.{AddsSubcommand, App, Row, Text, app_of, with_subcommand}
+use Rattle.clap.specs.declared.builder.command.Command.{Command}
+use Rattle.clap.specs.declared.builder.command.Command.TheViews.{out-Command}
+use Rattle.kb_task.specs.Arguments.{Entered, GivesNumber, GivesStates, ReadsAs}
+use Rattle.kb_task.proofs.ArgumentLemmas.{added, text_given-at, number_given-at, own_name, own_rows}
+use Rattle.kb_cmd_automata.specs.Line.{name_text, command_app, with_commands, all_names, command_names, name_of_task, GivesTask, GivesCombine, GivesTransform, GivesMinimise, GivesCompare, GivesEnumerate, IsAutomataTask, IsRead}
+use Rattle.kb_cmd_automata.specs.declared.combine.Combination.{Combination}
+use Rattle.kb_cmd_automata.specs.declared.combine.Combination.TheVariants.{And, Or, Concat}
+use Rattle.kb_cmd_automata.specs.declared.combine.Combine.{Combine}
+use Rattle.kb_cmd_automata.specs.declared.compare.Compare.{Compare}
+use Rattle.kb_cmd_automata.specs.declared.enumerate.Enumerate.{Enumerate}
+use Rattle.kb_cmd_automata.specs.declared.line.name.Name.{Name}
+use Rattle.kb_cmd_automata.specs.declared.line.name.Name.TheVariants as names
+use Rattle.kb_cmd_automata.specs.declared.minimise.Minimise.{Minimise}
+use Rattle.kb_cmd_automata.specs.declared.task.AutomataTask.{AutomataTask}
+use Rattle.kb_cmd_automata.specs.declared.task.AutomataTask.TheVariants as tasks
+use Rattle.kb_cmd_automata.specs.declared.transform.Transform.{Transform}
+use Rattle.kb_cmd_automata.specs.declared.transform.Transformation.{Transformation}
+use Rattle.kb_cmd_automata.specs.declared.transform.Transformation.TheVariants.{Not, Exists, Star, Reverse}
+
+-- ---- names
+
+-- the command of a name
+named : Text → Name
+named name =
+    if bytes_eq name (codes "fsaand") then names.Combine And
+    else (if bytes_eq name (codes "fsaor") then names.Combine Or
+    else (if bytes_eq name (codes "fsaconcat") then names.Combine Concat
+    else (if bytes_eq name (codes "fsanot") then names.Transform Not
+    else (if bytes_eq name (codes "fsaexists") then names.Transform Exists
+    else (if bytes_eq name (codes "fsastar") then names.Transform Star
+    else (if bytes_eq name (codes "fsareverse") then names.Transform Reverse
+    else (if bytes_eq name (codes "fsamin") then names.Minimise
+    else (if bytes_eq name (codes "fsalequal") then names.Compare
+    else names.Enumerate))))))))
+
+named_by_name : (name : Name) → named (name_text name) ≡ name
+unfolding named
+named_by_name (names.Combine And) = refl
+named_by_name (names.Combine Or) = refl
+named_by_name (names.Combine Concat) = refl
+named_by_name (names.Transform Not) = refl
+named_by_name (names.Transform Exists) = refl
+named_by_name (names.Transform Star) = refl
+named_by_name (names.Transform Reverse) = refl
+named_by_name names.Minimise = refl
+named_by_name names.Compare = refl
+named_by_name names.Enumerate = refl
+
+-- two commands have two names
+pub one_name : (name other : Name) → name_text name ≡ name_text other → name ≡ other
+one_name name other is = sym (named_by_name name) ∙ ap named is ∙ named_by_name other
+
+-- ---- one subcommand is one command at most
+
+same_combine : (rows : List Row) (task other : Combine) → task.operation ≡ other.operation → GivesCombine rows task → GivesCombine rows other → task ≡ other
+same_combine rows task other same a b =
+    let ones : task.one ≡ other.one = text_given-at rows (codes "first") task.one a.one ∙ sym (text_given-at rows (codes "first") other.one b.one) in
+    let twos : task.two ≡ other.two = text_given-at rows (codes "second") task.two a.two ∙ sym (text_given-at rows (codes "second") other.two b.two) in
+    let outs : task.out ≡ other.out = text_given-at rows (codes "out") task.out a.out ∙ sym (text_given-at rows (codes "out") other.out b.out) in
+    let mosts : task.max_states ≡ other.max_states =
+    number_given-at rows (codes "max-states") 1 4000000 task.max_states a.max_states
+    ∙ sym (number_given-at rows (codes "max-states") 1 4000000 other.max_states b.max_states) in
+    λ i. record { operation = same i; one = ones i; two = twos i; out = outs i; max_states = mosts i }
+
+same_transform : (rows : List Row) (task other : Transform) → task.operation ≡ other.operation → GivesTransform rows task → GivesTransform rows other → task ≡ other
+same_transform rows task other same a b =
+    let files : task.file ≡ other.file = text_given-at rows (codes "first") task.file a.file ∙ sym (text_given-at rows (codes "first") other.file b.file) in
+    let outs : task.out ≡ other.out = text_given-at rows (codes "out") task.out a.out ∙ sym (text_given-at rows (codes "out") other.out b.out) in
+    let mosts : task.max_states ≡ other.max_states =
+    number_given-at rows (codes "max-states") 1 4000000 task.max_states a.max_states
+    ∙ sym (number_given-at rows (codes "max-states") 1 4000000 other.max_states b.max_states) in
+    λ i. record { operation = same i; file = files i; out = outs i; max_states = mosts i }
+
+same_minimise : (rows : List Row) (task other : Minimise) → GivesMinimise rows task → GivesMinimise rows other → task ≡ other
+same_minimise rows task other a b =
+    let files : task.file ≡ other.file = text_given-at rows (codes "first") task.file a.file ∙ sym (text_given-at rows (codes "first") other.file b.file) in
+    let outs : task.out ≡ other.out = text_given-at rows (codes "out") task.out a.out ∙ sym (text_given-at rows (codes "out") other.out b.out) in
+    λ i. record { file = files i; out = outs i }
+
+same_compare : (rows : List Row) (task other : Compare) → GivesCompare rows task → GivesCompare rows other → task ≡ other
+same_compare rows task other a b =
+    let ones : task.one ≡ other.one = text_given-at rows (codes "first") task.one a.one ∙ sym (text_given-at rows (codes "first") other.one b.one) in
+    let twos : task.two ≡ other.two = text_given-at rows (codes "second") task.two a.two ∙ sym (text_given-at rows (codes "second") other.two b.two) in
+    let mosts : task.max_states ≡ other.max_states =
+    number_given-at rows (codes "max-states") 1 4000000 task.max_states a.max_states
+    ∙ sym (number_given-at rows (codes "max-states") 1 4000000 other.max_states b.max_states) in
+    λ i. record { one = ones i; two = twos i; max_states = mosts i }
+
+same_enumerate : (rows : List Row) (task other : Enumerate) → GivesEnumerate rows task → GivesEnumerate rows other → task ≡ other
+same_enumerate rows task other a b =
+    let leasts : task.min ≡ other.min =
+    number_given-at rows (codes "min") 0 65535 task.min a.min ∙ sym (number_given-at rows (codes "min") 0 65535 other.min b.min) in
+    let mosts : task.max ≡ other.max =
+    number_given-at rows (codes "max") 0 65535 task.max a.max ∙ sym (number_given-at rows (codes "max") 0 65535 other.max b.max) in
+    let files : task.file ≡ other.file = text_given-at rows (codes "first") task.file a.file ∙ sym (text_given-at rows (codes "first") other.file b.file) in
+    λ i. record { min = leasts i; max = mosts i; file = files i }
+
+same_operation : (task other : Combine) → names.Combine task.operation ≡ names.Combine other.operation → task.operation ≡ other.operation
+same_operation task other is = cc
+
+same_transformation : (task other : Transform) → names.Transform task.operation ≡ names.Transform other.operation → task.operation ≡ other.operation
+same_transformation task other is = cc
+
+same_task : (rows : List Row) (task other : AutomataTask) → name_of_task task ≡ name_of_task other → GivesTask task rows → GivesTask other rows → task ≡ other
+same_task rows (tasks.Combine task) (tasks.Combine other) is a b = ap tasks.Combine (same_combine rows task other (same_operation task other is) a b)
+same_task rows (tasks.Transform task) (tasks.Transform other) is a b =
+    ap tasks.Transform (same_transform rows task other (same_transformation task other is) a b)
+same_task rows (tasks.Minimise task) (tasks.Minimise other) is a b = ap tasks.Minimise (same_minimise rows task other a b)
+same_task rows (tasks.Compare task) (tasks.Compare other) is a b = ap tasks.Compare (same_compare rows task other a b)
+same_task rows (tasks.Enumerate task) (tasks.Enumerate other) is a b = ap tasks.Enumerate (same_enumerate rows task other a b)
+same_task rows _ _ is a b = cc
+
+-- one command at most is entered
+pub one_automata_task : (entered : Entered) (task other : AutomataTask) → IsAutomataTask entered task → IsAutomataTask entered other → task ≡ other
+one_automata_task entered task other a b =
+    let named_alike = own_name entered (name_text (name_of_task task)) (name_text (name_of_task other)) a.rows (GivesTask other) a.is b in
+    let own = own_rows entered (name_text (name_of_task task)) (name_text (name_of_task other)) a.rows (GivesTask other) a.is b in
+    same_task a.rows task other (one_name (name_of_task task) (name_of_task other) named_alike) a.so own
+
+-- ---- a command that is entered has one of the names
+
+pub is_listed : (name : Name) → Contains command_names (name_text name)
+is_listed (names.Combine And) = (0, lit< tt, refl)
+is_listed (names.Combine Or) = (1, lit< tt, refl)
+is_listed (names.Combine Concat) = (6, lit< tt, refl)
+is_listed (names.Transform Not) = (2, lit< tt, refl)
+is_listed (names.Transform Exists) = (5, lit< tt, refl)
+is_listed (names.Transform Star) = (7, lit< tt, refl)
+is_listed (names.Transform Reverse) = (8, lit< tt, refl)
+is_listed names.Minimise = (3, lit< tt, refl)
+is_listed names.Compare = (4, lit< tt, refl)
+is_listed names.Enumerate = (9, lit< tt, refl)
+
+pub automata_task-named : (name : Text) (rows : List Row) (task : AutomataTask) → IsAutomataTask (Some (name, rows)) task → Contains command_names name
+automata_task-named name rows task is =
+    subst (Contains command_names) (sym (own_name (Some (name, rows)) name (name_text (name_of_task task)) rows (GivesTask task) refl is))
+    (is_listed (name_of_task task))
+
+-- ---- what is read of what was entered
+
+-- what is read of the arguments and options of a subcommand is read of it
+pub read-entered : (entered : Entered) (name : Name) (rows : List Row) (read : Option AutomataTask) → entered ≡ Some (name_text name, rows)
+    → IsRead name rows read → ReadsAs IsAutomataTask entered read
+read-entered entered name rows (Some task) is reads =
+    record { rows = rows; is = is ∙ ap (λ n. Some (name_text n, rows)) (sym reads.0); so = reads.1 }
+read-entered entered name rows None is reads = λ task entered_task.
+    let same = own_name entered (name_text name) (name_text (name_of_task task)) rows (GivesTask task) is entered_task in
+    reads task (sym (one_name name (name_of_task task) same))
+    (own_rows entered (name_text name) (name_text (name_of_task task)) rows (GivesTask task) is entered_task)
+
+-- a subcommand of no name of theirs is none of the commands
+pub unnamed-entered : (entered : Entered) (text : Text) (rows : List Row) → entered ≡ Some (text, rows) → ((name : Name) → text ≢ name_text name)
+    → (task : AutomataTask) → ¬ IsAutomataTask entered task
+unnamed-entered entered text rows is none task entered_task =
+    none (name_of_task task) (own_name entered text (name_text (name_of_task task)) rows (GivesTask task) is entered_task)
+
+-- no subcommand is none of the commands
+pub none-entered : (entered : Entered) → entered ≡ None → (task : AutomataTask) → ¬ IsAutomataTask entered task
+none-entered entered none task entered_task = let no : Some (name_text (name_of_task task), entered_task.rows) ≡ None = sym entered_task.is ∙ none in cc
+
+-- ---- arguments that give no command
+
+pub no_combine : (operation : Combination) (rows : List Row) → ((n : ℕ) → ¬ GivesStates rows n)
+    → (task : AutomataTask) → name_of_task task ≡ names.Combine operation → ¬ GivesTask task rows
+no_combine operation rows none (tasks.Combine task) is gives = none task.max_states gives.max_states
+no_combine operation rows none _ is gives = cc
+
+pub no_transform : (operation : Transformation) (rows : List Row) → ((n : ℕ) → ¬ GivesStates rows n)
+    → (task : AutomataTask) → name_of_task task ≡ names.Transform operation → ¬ GivesTask task rows
+no_transform operation rows none (tasks.Transform task) is gives = none task.max_states gives.max_states
+no_transform operation rows none _ is gives = cc
+
+pub no_compare : (rows : List Row) → ((n : ℕ) → ¬ GivesStates rows n)
+    → (task : AutomataTask) → name_of_task task ≡ names.Compare → ¬ GivesTask task rows
+no_compare rows none (tasks.Compare task) is gives = none task.max_states gives.max_states
+no_compare rows none _ is gives = cc
+
+pub no_least : (rows : List Row) → ((n : ℕ) → ¬ GivesNumber rows (codes "min") 0 65535 n)
+    → (task : AutomataTask) → name_of_task task ≡ names.Enumerate → ¬ GivesTask task rows
+no_least rows none (tasks.Enumerate task) is gives = none task.min gives.min
+no_least rows none _ is gives = cc
+
+pub no_most : (rows : List Row) → ((n : ℕ) → ¬ GivesNumber rows (codes "max") 0 65535 n)
+    → (task : AutomataTask) → name_of_task task ≡ names.Enumerate → ¬ GivesTask task rows
+no_most rows none (tasks.Enumerate task) is gives = none task.max gives.max
+no_most rows none _ is gives = cc
+
+-- ---- commands that are added one after another
+
+-- one more command is added
+pub one_added : (index : ℕ) (program sub next : Command) (whole : App) → index < 10
+    → AddsSubcommand program sub next → (out-Command sub).has_globals ≡ false → app_of sub ≡ command_app (get_or all_names index (names.Combine And))
+    → with_commands (app_of program) (drop index all_names) ≡ whole → with_commands (app_of next) (drop (index + 1) all_names) ≡ whole
+one_added index program sub next whole within adds local is_app rest =
+    let name : Name = get_or all_names index (names.Combine And) in
+    let split : drop index all_names ≡ name ∷ drop (suc index) all_names = drop-cons all_names index (names.Combine And) within in
+    let first : with_commands (with_subcommand (app_of program) (command_app name).top) (drop (suc index) all_names) ≡ whole =
+    sym (ap (with_commands (app_of program)) split) ∙ rest in
+    let after : index + 1 ≡ suc index = omega arith in
+    ap (λ k. with_commands (app_of next) (drop k all_names)) after
+    ∙ ap (λ app. with_commands app (drop (suc index) all_names)) (added program sub next (app_of program) (command_app name) adds local is_app refl) ∙ first
+
+-- all commands are added
+pub all_added : (index : ℕ) (program : Command) (whole : App) → 10 ≤ index → with_commands (app_of program) (drop index all_names) ≡ whole
+    → app_of program ≡ whole
+all_added index program whole past rest = sym (ap (with_commands (app_of program)) (drop_all index all_names past)) ∙ rest

@@ -1,0 +1,103 @@
+-- Of runs over one or two files: where nothing is refused the load isn't their end, and two runs over the same files
+-- loaded the same automata.
+use Rattle.std.proofs.Common.{◌≡◌, ℕ, List, sym, subst}
+use Rattle.kb_io.specs.Outside.{Outside}
+use Rattle.kb_fsa.specs.Language.{Automaton}
+use Rattle.kb_task.specs.Statuses.{IsConclusive, IsFaultless, IsYes}
+use Rattle.kb_task.specs.declared.loading.automata.Kind.{Kind}
+use Rattle.kb_task.specs.declared.status.Status.{Status}
+use Rattle.kb_task.specs.declared.status.Status.TheVariants.{Yes, Memory}
+use Rattle.kb_task.proofs.LoadEnds.{memory_at_load, load_inconclusive, one_held}
+use Rattle.kb_cmd_automata.specs.Loaded.{MeaningOfOne, MeaningOfTwo, OneMeans, TwoMean, at_load, loaded, at_first, at_second, both, IsUnrefusedAs, AreBothUnrefused}
+
+-- a run that answered yes answered
+pub yes-conclusive : (status : Status) → IsYes status → IsConclusive status
+yes-conclusive Yes is_yes = tt
+yes-conclusive _ is_yes = absurd is_yes
+
+-- where nothing is refused, the status is one of those after the load
+module _ (Answers : Status → Type 0) (on_memory : Answers Memory) (before after : Outside)
+    (status : Status)
+    (faultless : IsFaultless status) where
+  pub one_answers : (kind : Kind) (file : List ℕ) (Means : MeaningOfOne)
+      → ((names : List (List ℕ)) (automaton : Automaton) → Means names automaton before after status
+      → Answers status)
+      → IsUnrefusedAs kind file before → OneMeans kind file Means before after status
+      → Answers status
+  one_answers kind file Means answers unrefused (at_load ends unchanged) =
+      subst Answers (sym (memory_at_load _ file status unrefused faultless ends)) on_memory
+  one_answers kind file Means answers unrefused
+      (loaded {names = names} {automaton = automaton} holds is_kind means) =
+      answers names automaton means
+
+  pub two_answer : (kind : Kind) (one two : List ℕ) (Mean : MeaningOfTwo)
+      → ((names : List (List ℕ)) (first second : Automaton)
+      → Mean names first second before after status
+      → Answers status)
+      → AreBothUnrefused kind one two before → TwoMean kind one two Mean before after status
+      → Answers status
+  two_answer kind one two Mean answers unrefused (at_first ends unchanged) =
+      subst Answers (sym (memory_at_load _ one status unrefused.first faultless ends)) on_memory
+  two_answer kind one two Mean answers unrefused
+      (at_second {names = names} {first = first} holds is_kind ends unchanged) =
+      subst Answers
+      (sym (memory_at_load _ two status (unrefused.second names first holds) faultless ends))
+      on_memory
+  two_answer kind one two Mean answers unrefused
+      (both {names = names} {first = first} {second = second} holds is_kind second_holds
+      alphabet means) =
+      answers names first second means
+
+-- two runs that answered
+module _ (before after other_before other_after : Outside) (status other : Status)
+    (conclusive : IsConclusive status) (also_conclusive : IsConclusive other) where
+  -- over the same file they are about the same automaton
+  pub over_one : (P : Type 0) (kind : Kind) (file : List ℕ) (Means OtherMeans : MeaningOfOne)
+      → ((names : List (List ℕ)) (automaton : Automaton) → Means names automaton before after status
+      → OtherMeans names automaton other_before other_after other → P)
+      → before.shelf.holds file ≡ other_before.shelf.holds file
+      → OneMeans kind file Means before after status
+      → OneMeans kind file OtherMeans other_before other_after other → P
+  over_one P kind file Means OtherMeans so same (at_load ends unchanged) more =
+      absurd (load_inconclusive _ file status ends conclusive)
+  over_one P kind file Means OtherMeans so same more (at_load ends unchanged) =
+      absurd (load_inconclusive _ file other ends also_conclusive)
+  over_one P kind file Means OtherMeans so same
+      (loaded {names = names} {automaton = automaton} holds is_kind means)
+      (loaded {names = found} {automaton = second} held also_kind others) =
+      let one = one_held same holds held in
+      so names automaton means
+      (subst (λ n. OtherMeans n automaton other_before other_after other) (sym one.0)
+      (subst (λ a. OtherMeans found a other_before other_after other) (sym one.1) others))
+
+  -- over the same files they are about the same automata
+  pub over_two : (P : Type 0) (kind : Kind) (one two : List ℕ) (Mean OtherMean : MeaningOfTwo)
+      → ((names : List (List ℕ)) (first second : Automaton)
+      → Mean names first second before after status
+      → OtherMean names first second other_before other_after other → P)
+      → before.shelf.holds one ≡ other_before.shelf.holds one
+      → before.shelf.holds two ≡ other_before.shelf.holds two
+      → TwoMean kind one two Mean before after status
+      → TwoMean kind one two OtherMean other_before other_after other → P
+  over_two P kind one two Mean OtherMean so same also (at_first ends unchanged) more =
+      absurd (load_inconclusive _ one status ends conclusive)
+  over_two P kind one two Mean OtherMean so same also
+      (at_second holds is_kind ends unchanged) more =
+      absurd (load_inconclusive _ two status ends conclusive)
+  over_two P kind one two Mean OtherMean so same also more (at_first ends unchanged) =
+      absurd (load_inconclusive _ one other ends also_conclusive)
+  over_two P kind one two Mean OtherMean so same also more
+      (at_second holds is_kind ends unchanged) =
+      absurd (load_inconclusive _ two other ends also_conclusive)
+  over_two P kind one two Mean OtherMean so same also
+      (both {names = names} {first = first} {second = second} holds is_kind
+      second_holds alphabet means)
+      (both {names = found} {first = other_first} {second = other_second} held also_kind second_held
+      also_alphabet others) =
+      let firsts = one_held same holds held in
+      let seconds = one_held also second_holds second_held in
+      so names first second means
+      (subst (λ n. OtherMean n first second other_before other_after other) (sym firsts.0)
+      (subst (λ a. OtherMean found a second other_before other_after other) (sym firsts.1)
+      (subst (λ a. OtherMean found other_first a other_before other_after other)
+      (sym seconds.1) others)))

@@ -1,0 +1,71 @@
+//! `fsaenumerate MIN MAX A`: the words that an automaton accepts.
+
+use crate::listing::list_words;
+use kb_io::{Shelf, Sink, Source};
+use kb_task::{Kind, Status, Task, load_automaton};
+use kb_word::OwnedText;
+use std::alloc::Global;
+
+/// Prints the words that the automaton in a file accepts.
+#[derive(Drop)]
+pub struct Enumerate {
+    /// The least length.
+    pub(crate) min: u16,
+    /// The greatest length.
+    pub(crate) max: u16,
+    /// The name of the file.
+    pub(crate) file: OwnedText,
+}
+
+impl Task for Enumerate {
+    ghost use Rattle.kb_task.specs.Statuses.{AnswersYes, IsConclusive};
+    ghost use Rattle.kb_cmd_automata.specs.Enumerate.{EnumerateMeans, enumerate_may_store, enumerate_reads, enumerate_is_unrefused, EnumeratesDifferInOptions};
+    ghost use Rattle.kb_cmd_automata.specs.EnumerateLaws.{enumerate_complete, enumerate_settled, enumerate_one_function};
+
+    ghost means = { EnumerateMeans };
+
+    ghost may_store = { enumerate_may_store };
+
+    ghost reads = { enumerate_reads };
+
+    ghost is_unrefused = { enumerate_is_unrefused };
+
+    ghost answers = { λ task. AnswersYes };
+
+    ghost settles = { λ task. IsConclusive };
+
+    ghost differs_in_options = { EnumeratesDifferInOptions };
+
+    ghost complete = { enumerate_complete };
+
+    ghost settled = { enumerate_settled };
+
+    ghost one_function = { enumerate_one_function };
+}
+
+impl Enumerate {
+    ghost use Rattle.kb_io.specs.Outside.{outside};
+    ghost use Rattle.kb_task.specs.Runs.{IsRun};
+    ghost use Rattle.kb_cmd_automata.specs.Enumerate.{EnumerateMeans, enumerate_may_store};
+
+    /// Runs the command. What it writes to `err` only shows that it lives.
+    pub fn run<F: Shelf, I: Source, O: Sink, E: Sink>(
+        self,
+        alloc: Global,
+        shelf: &mut F,
+        input: &mut I,
+        out: &mut O,
+        err: &mut E,
+    ) -> Status
+        ensures { IsRun (EnumerateMeans self) (enumerate_may_store self)
+            (outside (F.state shelf.old) (I.state input.old) (O.state out.old))
+            (outside (F.state shelf.new) (I.state input.new) (O.state out.new)) result }
+    {
+        let _ = input;
+        let _ = err;
+        match load_automaton(alloc, Kind::Words, self.file, shelf) {
+            Ok(given) => list_words(alloc, &given, self.min, self.max, out),
+            Err(status) => status,
+        }
+    }
+}

@@ -1,0 +1,145 @@
+//! Commands from their arguments and options.
+
+ghost use Rattle.std.specs.Prelude.{IfOk};
+ghost use Rattle.clap.specs.Words.{found_of, rows_of};
+ghost use Rattle.kb_cmd_automata.specs.Line.{IsRead};
+ghost use Rattle.kb_cmd_automata.specs.declared.line.name.Name.TheVariants as names;
+
+use super::name::Name;
+use crate::combine::{Combination, Combine};
+use crate::compare::Compare;
+use crate::enumerate::Enumerate;
+use crate::minimise::Minimise;
+use crate::task::AutomataTask;
+use crate::transform::{Transform, Transformation};
+use clap::ArgMatches;
+use kb_task::{length_given, states_given, text_given};
+use kb_word::{Memory, OwnedText};
+use std::alloc::Global;
+
+/// The command of the name that the matches give.
+pub(super) fn task_given(
+    alloc: Global,
+    name: Name,
+    matches: &ArgMatches<'_>,
+) -> Result<Option<AutomataTask>, Memory>
+    ensures { IfOk result (IsRead name (rows_of (found_of matches.now))) }
+{
+    match name {
+        Name::Combine(operation) => combine_given(alloc, operation, matches),
+        Name::Transform(operation) => transform_given(alloc, operation, matches),
+        Name::Minimise => minimise_given(alloc, matches),
+        Name::Compare => compare_given(alloc, matches),
+        Name::Enumerate => enumerate_given(alloc, matches),
+    }
+}
+
+/// The command that the matches of `fsaand`, `fsaor` or `fsaconcat` give.
+fn combine_given(
+    alloc: Global,
+    operation: Combination,
+    matches: &ArgMatches<'_>,
+) -> Result<Option<AutomataTask>, Memory>
+    ensures { IfOk result (IsRead (names.Combine operation) (rows_of (found_of matches.now))) }
+{
+    let Some(one) = text_given(matches, "first") else {
+        return Ok(None);
+    };
+    let Some(two) = text_given(matches, "second") else {
+        return Ok(None);
+    };
+    let Some(out) = text_given(matches, "out") else {
+        return Ok(None);
+    };
+    let Some(max_states) = states_given(matches) else {
+        return Ok(None);
+    };
+    Ok(Some(AutomataTask::Combine(Combine {
+        operation,
+        one: OwnedText::from_str(alloc, one)?,
+        two: OwnedText::from_str(alloc, two)?,
+        out: OwnedText::from_str(alloc, out)?,
+        max_states,
+    })))
+}
+
+/// The command that the matches of `fsanot`, `fsaexists`, `fsastar` or `fsareverse` give.
+fn transform_given(
+    alloc: Global,
+    operation: Transformation,
+    matches: &ArgMatches<'_>,
+) -> Result<Option<AutomataTask>, Memory>
+    ensures { IfOk result (IsRead (names.Transform operation) (rows_of (found_of matches.now))) }
+{
+    let Some(file) = text_given(matches, "first") else {
+        return Ok(None);
+    };
+    let Some(out) = text_given(matches, "out") else {
+        return Ok(None);
+    };
+    let Some(max_states) = states_given(matches) else {
+        return Ok(None);
+    };
+    Ok(Some(AutomataTask::Transform(Transform {
+        operation,
+        file: OwnedText::from_str(alloc, file)?,
+        out: OwnedText::from_str(alloc, out)?,
+        max_states,
+    })))
+}
+
+/// The command that the matches of `fsamin` give.
+fn minimise_given(alloc: Global, matches: &ArgMatches<'_>) -> Result<Option<AutomataTask>, Memory>
+    ensures { IfOk result (IsRead names.Minimise (rows_of (found_of matches.now))) }
+{
+    let Some(file) = text_given(matches, "first") else {
+        return Ok(None);
+    };
+    let Some(out) = text_given(matches, "out") else {
+        return Ok(None);
+    };
+    Ok(Some(AutomataTask::Minimise(Minimise {
+        file: OwnedText::from_str(alloc, file)?,
+        out: OwnedText::from_str(alloc, out)?,
+    })))
+}
+
+/// The command that the matches of `fsalequal` give.
+fn compare_given(alloc: Global, matches: &ArgMatches<'_>) -> Result<Option<AutomataTask>, Memory>
+    ensures { IfOk result (IsRead names.Compare (rows_of (found_of matches.now))) }
+{
+    let Some(one) = text_given(matches, "first") else {
+        return Ok(None);
+    };
+    let Some(two) = text_given(matches, "second") else {
+        return Ok(None);
+    };
+    let Some(max_states) = states_given(matches) else {
+        return Ok(None);
+    };
+    Ok(Some(AutomataTask::Compare(Compare {
+        one: OwnedText::from_str(alloc, one)?,
+        two: OwnedText::from_str(alloc, two)?,
+        max_states,
+    })))
+}
+
+/// The command that the matches of `fsaenumerate` give.
+fn enumerate_given(alloc: Global, matches: &ArgMatches<'_>) -> Result<Option<AutomataTask>, Memory>
+    ensures { IfOk result (IsRead names.Enumerate (rows_of (found_of matches.now))) }
+{
+    let Some(min) = length_given(matches, "min") else {
+        return Ok(None);
+    };
+    let Some(max) = length_given(matches, "max") else {
+        return Ok(None);
+    };
+    let Some(file) = text_given(matches, "first") else {
+        return Ok(None);
+    };
+    Ok(Some(AutomataTask::Enumerate(Enumerate {
+        min,
+        max,
+        file: OwnedText::from_str(alloc, file)?,
+    })))
+}

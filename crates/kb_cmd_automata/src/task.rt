@@ -1,0 +1,79 @@
+//! The ten commands in one type.
+
+use crate::combine::Combine;
+use crate::compare::Compare;
+use crate::enumerate::Enumerate;
+use crate::minimise::Minimise;
+use crate::transform::Transform;
+use kb_io::{Shelf, Sink, Source};
+use kb_task::{Status, Task};
+use std::alloc::Global;
+
+/// A command on automata.
+#[derive(Drop)]
+pub enum AutomataTask {
+    /// `fsaand`, `fsaor`, `fsaconcat`
+    Combine(Combine),
+    /// `fsanot`, `fsaexists`, `fsastar`, `fsareverse`
+    Transform(Transform),
+    /// `fsamin`
+    Minimise(Minimise),
+    /// `fsalequal`
+    Compare(Compare),
+    /// `fsaenumerate`
+    Enumerate(Enumerate),
+}
+
+impl Task for AutomataTask {
+    ghost use Rattle.kb_task.specs.Statuses.{IsConclusive};
+    ghost use Rattle.kb_cmd_automata.specs.Tasks.{AutomataMeans, automata_may_store, automata_reads, automata_is_unrefused, automata_answers, AutomataDifferInOptions};
+    ghost use Rattle.kb_cmd_automata.specs.TaskLaws.{automata_complete, automata_settled, automata_one_function};
+
+    ghost means = { AutomataMeans };
+
+    ghost may_store = { automata_may_store };
+
+    ghost reads = { automata_reads };
+
+    ghost is_unrefused = { automata_is_unrefused };
+
+    ghost answers = { automata_answers };
+
+    ghost settles = { λ task. IsConclusive };
+
+    ghost differs_in_options = { AutomataDifferInOptions };
+
+    ghost complete = { automata_complete };
+
+    ghost settled = { automata_settled };
+
+    ghost one_function = { automata_one_function };
+}
+
+impl AutomataTask {
+    ghost use Rattle.kb_io.specs.Outside.{outside};
+    ghost use Rattle.kb_task.specs.Runs.{IsRun};
+    ghost use Rattle.kb_cmd_automata.specs.Tasks.{AutomataMeans, automata_may_store};
+
+    /// Runs the command. What it writes to `err` only shows that it lives.
+    pub fn run<F: Shelf, I: Source, O: Sink, E: Sink>(
+        self,
+        alloc: Global,
+        shelf: &mut F,
+        input: &mut I,
+        out: &mut O,
+        err: &mut E,
+    ) -> Status
+        ensures { IsRun (AutomataMeans self) (automata_may_store self)
+            (outside (F.state shelf.old) (I.state input.old) (O.state out.old))
+            (outside (F.state shelf.new) (I.state input.new) (O.state out.new)) result }
+    {
+        match self {
+            AutomataTask::Combine(task) => task.run(alloc, shelf, input, out, err),
+            AutomataTask::Transform(task) => task.run(alloc, shelf, input, out, err),
+            AutomataTask::Minimise(task) => task.run(alloc, shelf, input, out, err),
+            AutomataTask::Compare(task) => task.run(alloc, shelf, input, out, err),
+            AutomataTask::Enumerate(task) => task.run(alloc, shelf, input, out, err),
+        }
+    }
+}

@@ -1,0 +1,37 @@
+//! Names of the files that belong to a presentation's file.
+
+ghost use Rattle.std.specs.Prelude.{◌≡◌, ◌++◌, IfOk};
+ghost use Rattle.kb_cmd_completion.specs.Files.{rules_file, acceptor_file, log_file};
+
+use kb_word::{Memory, OwnedText};
+use std::alloc::Global;
+
+/// The file of the rules.
+pub(crate) fn rules_file(alloc: Global, file: &OwnedText) -> Result<OwnedText, Memory>
+    ensures { IfOk result (λ name. name ≡ rules_file file.now) }
+{
+    with_ending(alloc, file, ".kbprog")
+}
+
+/// The file of the word acceptor.
+pub(crate) fn acceptor_file(alloc: Global, file: &OwnedText) -> Result<OwnedText, Memory>
+    ensures { IfOk result (λ name. name ≡ acceptor_file file.now) }
+{
+    with_ending(alloc, file, ".wa")
+}
+
+/// The file of the log.
+pub(crate) fn log_file(alloc: Global, file: &OwnedText) -> Result<OwnedText, Memory>
+    ensures { IfOk result (λ name. name ≡ log_file file.now) }
+{
+    with_ending(alloc, file, ".kblog")
+}
+
+/// The name with an ending behind it.
+fn with_ending(alloc: Global, file: &OwnedText, ending: &str) -> Result<OwnedText, Memory>
+    ensures { IfOk result (λ name. name ≡ file.now ++ ending.now) }
+{
+    let mut name = String::from_str(alloc, file.as_str())?;
+    name.push_str(ending)?;
+    Ok(OwnedText::from_string(name))
+}

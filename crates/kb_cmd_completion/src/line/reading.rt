@@ -1,0 +1,108 @@
+//! Commands from their arguments and options.
+
+ghost use Rattle.std.specs.Prelude.{◌≡◌, ℕ, IfOk, IfSome, None, codes};
+ghost use Rattle.clap.specs.Words.{found_of, rows_of};
+ghost use Rattle.kb_system.specs.Evidence.{Limits as LimitsGiven};
+ghost use Rattle.kb_task.specs.Arguments.{GivesNumber};
+ghost use Rattle.kb_cmd_completion.specs.Given.{limits_of};
+ghost use Rattle.kb_cmd_completion.specs.Line.{GivesLimits, IsRead};
+ghost use Rattle.kb_cmd_completion.specs.declared.line.name.Name.TheVariants as names;
+
+use super::name::Name;
+use crate::kbprog::Kbprog;
+use crate::logread::Logread;
+use crate::selftest::SelfTest;
+use crate::task::CompletionTask;
+use clap::ArgMatches;
+use kb_book::Limits;
+use kb_task::{number_given, states_given, text_given};
+use kb_word::{Memory, OwnedText};
+use std::alloc::Global;
+
+/// No command of completion keeps word differences, so this limit of theirs is never reached.
+const MOST_DIFFERENCES: u32 = 65_535;
+
+/// The command of the name that the matches give.
+pub(super) fn task_given(
+    alloc: Global,
+    name: Name,
+    matches: &ArgMatches<'_>,
+) -> Result<Option<CompletionTask>, Memory>
+    ensures { IfOk result (IsRead name (rows_of (found_of matches.now))) }
+{
+    match name {
+        Name::Kbprog => kbprog_given(alloc, matches),
+        Name::Logread => logread_given(alloc, matches),
+        Name::SelfTest => Ok(selftest_given(matches)),
+    }
+}
+
+/// The command that the matches of `kbprog` give.
+fn kbprog_given(alloc: Global, matches: &ArgMatches<'_>) -> Result<Option<CompletionTask>, Memory>
+    ensures { IfOk result (IsRead names.Kbprog (rows_of (found_of matches.now))) }
+{
+    let Some(file) = text_given(matches, "file") else {
+        return Ok(None);
+    };
+    let Some(workers) = number_given(matches, "workers", 1, 64) else {
+        return Ok(None);
+    };
+    let Some(limits) = limits_given(matches) else {
+        return Ok(None);
+    };
+    Ok(Some(CompletionTask::Kbprog(Kbprog {
+        file: OwnedText::from_str(alloc, file)?,
+        workers,
+        limits,
+    })))
+}
+
+/// The command that the matches of `logread` give.
+fn logread_given(alloc: Global, matches: &ArgMatches<'_>) -> Result<Option<CompletionTask>, Memory>
+    ensures { IfOk result (IsRead names.Logread (rows_of (found_of matches.now))) }
+{
+    let Some(file) = text_given(matches, "file") else {
+        return Ok(None);
+    };
+    Ok(Some(CompletionTask::Logread(Logread {
+        file: OwnedText::from_str(alloc, file)?,
+    })))
+}
+
+/// The command that the matches of `selftest` give.
+fn selftest_given(matches: &ArgMatches<'_>) -> Option<CompletionTask>
+    ensures { IsRead names.SelfTest (rows_of (found_of matches.now)) result }
+{
+    let rank = rank_given(matches)?;
+    let workers = number_given(matches, "workers", 1, 64)?;
+    let limits = limits_given(matches)?;
+    Some(CompletionTask::SelfTest(SelfTest {
+        rank,
+        workers,
+        limits,
+    }))
+}
+
+/// The rank of a group that the matches give.
+fn rank_given(matches: &ArgMatches<'_>) -> Option<u16>
+    ensures some { IfSome result
+        (λ rank. GivesNumber (rows_of (found_of matches.now)) (codes "rank") 1 40 rank) }
+    ensures none { result ≡ None → (rank : ℕ)
+        → ¬ GivesNumber (rows_of (found_of matches.now)) (codes "rank") 1 40 rank }
+{
+    let rank = number_given(matches, "rank", 1, 40)?;
+    u16::try_from(rank).ok()
+}
+
+/// The limits of a completion that the matches give.
+fn limits_given(matches: &ArgMatches<'_>) -> Option<Limits>
+    ensures some { IfSome result
+        (λ limits. GivesLimits (rows_of (found_of matches.now)) (limits_of limits)) }
+    ensures none { result ≡ None → (limits : LimitsGiven)
+        → ¬ GivesLimits (rows_of (found_of matches.now)) limits }
+{
+    let lines = number_given(matches, "max-rules", 1, 1_000_000)?;
+    let letters = number_given(matches, "max-len", 1, 65_535)?;
+    let states = states_given(matches)?;
+    Some(Limits::new(lines, letters, MOST_DIFFERENCES, states))
+}

@@ -1,0 +1,219 @@
+//! `selftest N`: completes the free abelian group of rank N.
+
+ghost use Rattle.std.specs.Prelude.{◌≡◌, ◌≤◌, IfOk};
+ghost use Rattle.kb_word.specs.Presentations.{parts_of};
+ghost use Rattle.kb_system.specs.Ended.{EndsAs};
+ghost use Rattle.kb_cmd_completion.specs.FreeAbelian.{free_abelian};
+ghost use Rattle.kb_cmd_completion.specs.Given.{SelfTestGiven, limits_of};
+ghost use Rattle.kb_cmd_completion.specs.SelfTest.{IsCompletedReport, IsHaltedReport, IsReport, IsTooLargeReport};
+
+use crate::evidence::limit_reached;
+use crate::free_abelian::selftest_presentation;
+use crate::printing::{append, append_number};
+use kb_book::Limits;
+use kb_system::{Ending, Reached, complete_presentation};
+use kb_io::{Gate, Shelf, Sink, Source};
+use kb_machine::Line;
+use kb_proof::{Log, Version, print_log};
+use kb_share::Silent;
+use kb_task::{
+    Construction, Limit, Status, Task, print_line, undecided_line, undecided_words_line,
+};
+use kb_threads::Workers;
+use kb_word::{Memory, Presentation};
+use std::alloc::Global;
+use std::marker::Model;
+use std::sync::Wait;
+use std::thread::Threads;
+
+/// Completes a free abelian group, and counts its rules and the states of its word acceptor.
+/// Contracts see what the command line gives it; the rank is 1 to 40, and there are 1 to 64
+/// workers.
+#[derive(Drop)]
+pub struct SelfTest {
+    /// The rank of the group.
+    pub(crate) rank: u16,
+    /// How many threads may work side by side.
+    pub(crate) workers: u32,
+    /// The limits of the completion.
+    pub(crate) limits: Limits,
+}
+
+impl Model for SelfTest {
+    ghost use Rattle.std.specs.Prelude.{◌≤◌};
+    ghost use Rattle.kb_cmd_completion.specs.Given.{SelfTestGiven, limits_of};
+
+    ghost Value = { SelfTestGiven };
+
+    ghost view = { λ task. record {
+      rank = task.rank;
+      workers = task.workers;
+      limits = limits_of task.limits;
+    } };
+
+    ghost invariant = { λ task. (1 ≤ task.rank) × (task.rank ≤ 40) × (1 ≤ task.workers)
+        × (task.workers ≤ 64) };
+}
+
+impl Task for SelfTest {
+    ghost use Rattle.kb_task.specs.Statuses.{AnswersYesOrLimit, IsYes};
+    ghost use Rattle.kb_cmd_completion.specs.SelfTest.{SelfTestMeans, selftest_may_store, selftest_reads, selftest_is_unrefused, SelfTestsDifferInOptions};
+    ghost use Rattle.kb_cmd_completion.specs.SelfTestLaws.{selftest_complete, selftest_settled, selftest_one_function};
+
+    ghost means = { SelfTestMeans };
+
+    ghost may_store = { selftest_may_store };
+
+    ghost reads = { selftest_reads };
+
+    ghost is_unrefused = { selftest_is_unrefused };
+
+    ghost answers = { λ task. AnswersYesOrLimit };
+
+    ghost settles = { λ task. IsYes };
+
+    ghost differs_in_options = { SelfTestsDifferInOptions };
+
+    ghost complete = { selftest_complete };
+
+    ghost settled = { selftest_settled };
+
+    ghost one_function = { selftest_one_function };
+}
+
+impl SelfTest {
+    ghost use Rattle.kb_io.specs.Outside.{outside};
+    ghost use Rattle.kb_task.specs.Runs.{IsRun};
+    ghost use Rattle.kb_cmd_completion.specs.SelfTest.{SelfTestMeans, selftest_may_store};
+
+    /// Runs the command. What it writes to `err` only shows that it lives. Workers are threads of `rt`, and
+    /// pass the gate.
+    pub fn run<T: Threads + Wait + Sync, G: Gate, F: Shelf, I: Source, O: Sink, E: Sink>(
+        self,
+        rt: &T,
+        alloc: Global,
+        gate: &G,
+        shelf: &mut F,
+        input: &mut I,
+        out: &mut O,
+        err: &mut E,
+    ) -> Status
+        ensures { IsRun (SelfTestMeans self) (selftest_may_store self)
+            (outside (F.state shelf.old) (I.state input.old) (O.state out.old))
+            (outside (F.state shelf.new) (I.state input.new) (O.state out.new)) result }
+    {
+        let _ = shelf;
+        let _ = input;
+        let _ = err;
+        let workers = Workers::of(self.workers, gate);
+        match completion_report(rt, alloc, &workers, self.rank, &self.limits) {
+            Ok(Report { text, status }) => print_line(&text, status, out),
+            Err(Memory) => Status::Memory,
+        }
+    }
+}
+
+/// What is written about a completion, and the status that it is about.
+#[derive(Drop)]
+pub(crate) struct Report {
+    /// What is written.
+    pub text: Vec<u8>,
+    /// How the run ends.
+    pub status: Status,
+}
+
+/// Completes the free abelian group of a rank.
+fn completion_report<T: Threads + Wait + Sync, G: Gate>(
+    rt: &T,
+    alloc: Global,
+    workers: &Workers<'_, G>,
+    rank: u16,
+    limits: &Limits,
+) -> Result<Report, Memory>
+    requires { (1 ≤ rank) × (rank ≤ 40) }
+    ensures { (given : SelfTestGiven) → given.rank ≡ rank → given.limits ≡ limits_of limits.now
+        → IfOk result (IsReport given) }
+{
+    let presentation = selftest_presentation(alloc, rank)?;
+    let ending = complete_presentation(rt, alloc, &presentation, limits, workers, &mut Silent)?;
+    report_on(alloc, rank, &presentation, ending)
+}
+
+/// What is written about a completion that ended so.
+fn report_on(
+    alloc: Global,
+    rank: u16,
+    presentation: &Presentation,
+    ending: Ending,
+) -> Result<Report, Memory>
+    requires { parts_of presentation.now ≡ free_abelian rank }
+    ensures { (given : SelfTestGiven) → given.rank ≡ rank
+        → EndsAs given.limits (free_abelian rank) ending → IfOk result (IsReport given) }
+{
+    match ending {
+        Ending::Completed { rules, acceptor } => {
+            completed_report(alloc, rank, rules.len(), acceptor.len())
+        }
+        Ending::Halted {
+            reached,
+            lines,
+            waiting,
+            ..
+        } => halted_report(alloc, presentation, reached, lines, waiting),
+        Ending::TooLarge { .. } => too_large_report(alloc),
+    }
+}
+
+/// `selftest`, the rank, how many rules and how many states of the acceptor there are, and a newline.
+fn completed_report(alloc: Global, rank: u16, rules: usize, states: u32) -> Result<Report, Memory>
+    ensures { IfOk result (IsCompletedReport rank rules states) }
+{
+    let mut text = Vec::from_slice(alloc, b"selftest ")?;
+    append_number(u64::from(rank), &mut text)?;
+    append(b": rules ", &mut text)?;
+    append_number(rules as u64, &mut text)?;
+    append(b", acceptor states ", &mut text)?;
+    append_number(u64::from(states), &mut text)?;
+    text.push(b'\n')?;
+    Ok(Report {
+        text,
+        status: Status::Yes,
+    })
+}
+
+/// The log, and the line of the limit that was reached.
+fn halted_report(
+    alloc: Global,
+    presentation: &Presentation,
+    reached: Reached,
+    lines: Vec<Line>,
+    waiting: Line,
+) -> Result<Report, Memory>
+    ensures { IfOk result (IsHaltedReport presentation.now.names reached lines.items waiting) }
+{
+    let limit = limit_reached(reached);
+    let names = &presentation.names;
+    let line = undecided_words_line(alloc, names, limit, &waiting.left, &waiting.right)?;
+    let log = Log {
+        version: Version::Two,
+        lines,
+        waiting: Some(waiting),
+    };
+    let mut text = print_log(alloc, &log, presentation)?;
+    append(&line, &mut text)?;
+    Ok(Report {
+        text,
+        status: Status::Undecided(limit),
+    })
+}
+
+/// The line of the limit of states.
+fn too_large_report(alloc: Global) -> Result<Report, Memory>
+    ensures { IfOk result IsTooLargeReport }
+{
+    let limit = Limit::States(Construction::Acceptor);
+    Ok(Report {
+        text: undecided_line(alloc, limit)?,
+        status: Status::Undecided(limit),
+    })
+}

@@ -1,0 +1,268 @@
+-- The laws of what the statuses of `wordreduce` mean.
+use Rattle.std.proofs.Common.{◌≡◌, ℕ, ◌<◌, inl, inr, List, ◌++◌, length, slice_get, refl, sym, ◌∙◌, ap, subst, arith, length-append}
+use Rattle.std.proofs.lemmas.Option.{same_Some}
+use Rattle.kb_io.specs.Outside.{Outside}
+use Rattle.kb_word.specs.Words.{Pair}
+use Rattle.kb_word.specs.Overlap.{IsConfluent, IsResolved, IsUnresolved, critical_pair}
+use Rattle.kb_word.specs.Rewriting.{NormalForm}
+use Rattle.kb_word.specs.Presentations.{PresentationParts}
+use Rattle.kb_word.specs.WordOrderLaws.{word_orders}
+use Rattle.kb_rules.proofs.Unique.{normal_form_unique}
+use Rattle.kb_confluence.specs.Unjoined.{ComesBefore, IsFirstUnjoined}
+use Rattle.kb_record.specs.Tree.{TextTree}
+use Rattle.kb_presfile.specs.Holds.{PresentationOf, HoldsPresentation as TreeHoldsPresentation}
+use Rattle.kb_presfile.proofs.UniqueParts.{one_presentation}
+use Rattle.kb_task.specs.Loads.{Files}
+use Rattle.kb_task.specs.Presentations.{HoldsPresentation, IsPresentationFault}
+use Rattle.kb_task.specs.Runs.{HasSameEffect, ReadsSame}
+use Rattle.kb_task.specs.Statuses.{AnswersYesOrNo, IsConclusive, IsFaultless, IsYes}
+use Rattle.kb_task.specs.declared.status.Cert.TheVariants.{NotConfluent}
+use Rattle.kb_task.specs.declared.status.Refusal.TheVariants.{File, Line, InputTooLong}
+use Rattle.kb_task.specs.declared.status.Status.{Status}
+use Rattle.kb_task.specs.declared.status.Status.TheVariants.{Yes, Refused, Undecided, No, Memory, Fault, Usage}
+use Rattle.kb_task.proofs.LoadEnds.{memory_at_load, load_inconclusive, same_bytes, one_tree}
+use Rattle.kb_lines.proofs.UniqueLemmas.{one-answered}
+use Rattle.kb_cmd_words.specs.Confluence.{IsLeastIn, OrientedAreConfluent, OrientedAreNotConfluent}
+use Rattle.kb_cmd_words.specs.Given.{Given}
+use Rattle.kb_cmd_words.specs.WordReduce.{streams_of, AnswersMean, WordReduceMeans, wordreduce_may_store, wordreduce_reads, wordreduce_is_unrefused, WordReducesDifferInOptions}
+use Rattle.kb_cmd_words.specs.OrientationLaws.{one_orienting}
+
+-- ---- confluent or not
+
+-- what joins doesn't part
+not_parted : {rules : List Pair} {pair : Pair} {u v : List ℕ} → IsResolved rules pair
+    → ¬ IsUnresolved rules pair u v
+not_parted joins parted =
+    parted.different
+    (normal_form_unique parted.left joins.left ∙ normal_form_unique joins.right parted.right)
+
+-- no presentation's oriented relations are confluent and not
+pub confluent-not_refuted : (parts : PresentationParts) (u v : List ℕ) → OrientedAreConfluent parts
+    → ¬ OrientedAreNotConfluent parts u v
+confluent-not_refuted parts u v holds refuted =
+    let confluent =
+    subst IsConfluent
+    (one_orienting (word_orders parts.order) _ _ holds.rules refuted.rules holds.oriented
+    refuted.oriented)
+    holds.confluent in
+    let first = refuted.first in
+    not_parted (confluent refuted.i refuted.j refuted.place first.first first.second first.overlap)
+    first.parts
+
+-- no overlap that doesn't join comes before the first
+not_before : {rules : List Pair} {i j p k l q : ℕ} {u v w x : List ℕ}
+    → IsFirstUnjoined rules i j p u v
+    → IsFirstUnjoined rules k l q w x
+    → ¬ ComesBefore i j p k l q
+not_before {i = i} {j = j} {p = p} one other before =
+    not_parted (other.earlier i j p one.first one.second before one.overlap) one.parts
+
+one_place : (i j p k l q : ℕ) → ¬ ComesBefore i j p k l q → ¬ ComesBefore k l q i j p
+    → (i ≡ k) × (j ≡ l) × (p ≡ q)
+one_place i j p k l q none_before none_after =
+    let not_less : i < k → ⊥ = λ less. none_before (inl less) in
+    let not_more : k < i → ⊥ = λ more. none_after (inl more) in
+    let first : i ≡ k = omega arith in
+    let second_not_less : j < l → ⊥ = λ less. none_before (inr (first, inl less)) in
+    let second_not_more : l < j → ⊥ = λ more. none_after (inr (sym first, inl more)) in
+    let second : j ≡ l = omega arith in
+    let place_not_less : p < q → ⊥ = λ less. none_before (inr (first, inr (second, less))) in
+    let place_not_more : q < p → ⊥ = λ more. none_after (inr (sym first, inr (sym second, more))) in
+    (first, second, omega arith)
+
+-- the first overlap that doesn't join has one pair of normal forms
+one_unjoined : {rules : List Pair} {i j p k l q : ℕ} {u v w x : List ℕ}
+    → IsFirstUnjoined rules i j p u v
+    → IsFirstUnjoined rules k l q w x
+    → (u ≡ w) × (v ≡ x)
+one_unjoined {rules} {i} {j} {p} {k} {l} {q} {u} {v} {w} {x} one other =
+    let places = one_place i j p k l q (not_before one other) (not_before other one) in
+    let first : one.first ≡ other.first =
+    same_Some _ _ (sym one.overlap.is_first ∙ ap (slice_get rules) places.0
+    ∙ other.overlap.is_first) in
+    let second : one.second ≡ other.second =
+    same_Some _ _ (sym one.overlap.is_second ∙ ap (slice_get rules) places.1
+    ∙ other.overlap.is_second) in
+    let pair : critical_pair other.first other.second q ≡ critical_pair one.first one.second p =
+    let place : p ≡ q = places.2 in cc in
+    let left = subst (λ (c : Pair). NormalForm rules c.0 w) pair other.parts.left in
+    let right = subst (λ (c : Pair). NormalForm rules c.1 x) pair other.parts.right in
+    (normal_form_unique one.parts.left left, normal_form_unique one.parts.right right)
+
+one_counterexample : (parts : PresentationParts) (u v w x : List ℕ)
+    → OrientedAreNotConfluent parts u v
+    → OrientedAreNotConfluent parts w x
+    → NotConfluent u v ≡ NotConfluent w x
+one_counterexample parts u v w x one other =
+    let rules : other.rules ≡ one.rules =
+    one_orienting (word_orders parts.order) _ _ other.rules one.rules other.oriented one.oriented in
+    let words = one_unjoined one.first
+    (subst (λ r. IsFirstUnjoined r other.i other.j other.place w x) rules other.first) in
+    ap (λ a. NotConfluent a v) words.0 ∙ ap (NotConfluent w) words.1
+
+-- a word has one least word
+pub one_least : (parts : PresentationParts) (w m n : List ℕ) → IsLeastIn parts w m
+    → IsLeastIn parts w n → m ≡ n
+one_least parts w m n one other = elim ((word_orders parts.order).total m n) [
+  | inl same ↦ same
+  | inr (inl less) ↦ absurd (other.least m one.congruent less)
+  | inr (inr more) ↦ absurd (one.least n other.congruent more)
+]
+
+-- ---- the file
+
+-- a file holds one presentation
+one_held : {files others : Files} {name : List ℕ} {one other : PresentationParts}
+    → files name ≡ others name
+    → HoldsPresentation files name one → HoldsPresentation others name other → one ≡ other
+one_held {one = one} {other = other} same first second =
+    let read : PresentationOf second.bytes one =
+    subst (λ b. PresentationOf b one) (same_bytes same first.held second.held) first.says in
+    let tree = one_tree second.bytes read.text second.says.text read.formed second.says.formed in
+    let P : TextTree → Type 0 = λ text. TreeHoldsPresentation text.fields one in
+    one_presentation second.says.text.fields one other (subst P tree read.holds) second.says.holds
+
+-- ---- the laws
+
+lines_answer : (given : Given) (parts : PresentationParts) (before after : Outside)
+    (status : Status)
+    → HoldsPresentation before.shelf.holds given.file parts → wordreduce_is_unrefused given before
+    → IsFaultless status
+    → AnswersMean parts before after status → AnswersYesOrNo status
+lines_answer given parts before after Yes holds unrefused faultless means = tt
+lines_answer given parts before after (No cert) holds unrefused faultless means = tt
+lines_answer given parts before after Memory holds unrefused faultless means = tt
+lines_answer given parts before after (Refused (Line number fault)) holds unrefused
+    faultless means =
+    unrefused.lines parts number fault holds means.1.means.refused
+lines_answer given parts before after (Refused InputTooLong) holds unrefused faultless means =
+    let more = means.1.means.0 in
+    let short = unrefused.short in
+    omega (
+      arith,
+      more,
+      short,
+      ap length means.1.takes,
+      length-append means.1.taken
+          after.input.left,
+    )
+lines_answer given parts before after (Refused (File name fault)) holds unrefused faultless means =
+    means
+lines_answer given parts before after (Fault which) holds unrefused faultless means = cc
+lines_answer given parts before after (Undecided limit) holds unrefused faultless means = means
+lines_answer given parts before after (Usage kind) holds unrefused faultless means = means
+
+pub wordreduce_complete : (given : Given) (before after : Outside) (status : Status)
+    → WordReduceMeans given before after status
+    → wordreduce_is_unrefused given before → IsFaultless status → AnswersYesOrNo status
+wordreduce_complete given before after status (inl means) unrefused faultless =
+    subst AnswersYesOrNo
+    (sym (memory_at_load (IsPresentationFault before.shelf.holds given.file) given.file
+    status unrefused.file
+    faultless means.0)) tt
+wordreduce_complete given before after status (inr means) unrefused faultless =
+    lines_answer given means.0 before after status means.1 unrefused faultless means.2
+
+lines_settled : (parts : PresentationParts) (before after other_before other_after : Outside)
+    (status other : Status)
+    → IsConclusive status → IsConclusive other → AnswersMean parts before after status
+    → AnswersMean parts other_before other_after other
+    → status ≡ other
+lines_settled parts a b c d Yes Yes conclusive also means others = refl
+lines_settled parts a b c d Yes (No (NotConfluent u v)) conclusive also means others =
+    absurd (confluent-not_refuted parts u v means.0 others.0)
+lines_settled parts a b c d Yes (No cert) conclusive also means others = absurd others
+lines_settled parts a b c d Yes (Undecided limit) conclusive also means others = absurd others
+lines_settled parts a b c d Yes other conclusive also means others = absurd also
+lines_settled parts a b c d (No (NotConfluent u v)) Yes conclusive also means others =
+    absurd (confluent-not_refuted parts u v others.0 means.0)
+lines_settled parts a b c d (No (NotConfluent u v)) (No (NotConfluent w x)) conclusive
+    also means others =
+    ap No (one_counterexample parts u v w x means.0 others.0)
+lines_settled parts a b c d (No (NotConfluent u v)) (No cert) conclusive also means others =
+    absurd others
+lines_settled parts a b c d (No (NotConfluent u v)) (Undecided limit) conclusive also means others =
+    absurd others
+lines_settled parts a b c d (No (NotConfluent u v)) other conclusive also means others = absurd also
+lines_settled parts a b c d (No cert) other conclusive also means others = absurd means
+lines_settled parts a b c d (Undecided limit) other conclusive also means others = absurd means
+lines_settled parts a b c d status other conclusive also means others = absurd conclusive
+
+pub wordreduce_settled : (given : Given) (before after other_before other_after : Outside)
+    (status other : Status)
+    → WordReduceMeans given before after status
+    → WordReduceMeans given other_before other_after other
+    → ReadsSame (wordreduce_reads given) before other_before → IsConclusive status
+    → IsConclusive other → status ≡ other
+wordreduce_settled given before after other_before other_after status other (inl means) others same
+    conclusive also =
+    absurd (load_inconclusive (IsPresentationFault before.shelf.holds given.file) given.file status
+    means.0 conclusive)
+wordreduce_settled given before after other_before other_after status other (inr means)
+    (inl others) same
+    conclusive also =
+    absurd (load_inconclusive (IsPresentationFault other_before.shelf.holds given.file) given.file
+    other others.0 also)
+wordreduce_settled given before after other_before other_after status other (inr means)
+    (inr others) same
+    conclusive also =
+    let parts = one_held (same given.file refl) means.1 others.1 in
+    lines_settled others.0 before after other_before other_after status other conclusive also
+    (subst (λ p. AnswersMean p before after status) parts means.2) others.2
+
+yes-conclusive : (status : Status) → IsYes status → IsConclusive status
+yes-conclusive Yes is_yes = tt
+yes-conclusive status is_yes = absurd is_yes
+
+lines_same : (given : Given) (parts : PresentationParts)
+    (before after other_before other_after : Outside)
+    (status other : Status) → IsYes status → IsYes other
+    → AnswersMean parts before after status → AnswersMean parts other_before other_after other
+    → before.input.left ≡ other_before.input.left
+    → HasSameEffect (wordreduce_may_store given) before after other_before other_after
+lines_same given parts before after other_before other_after Yes Yes is_yes also means others same =
+    let one = means.1 in
+    let other = others.1 in
+    let text = one-answered (streams_of before) (streams_of after) (streams_of other_before)
+    (streams_of other_after) (one_least parts) one other same in
+    record {
+      bytes = one.given;
+      written = one.sent;
+      other_written = other.sent ∙ ap (λ g. other_before.output.written ++ g) (sym text);
+      stored = λ name stored. absurd stored;
+    }
+lines_same given parts before after other_before other_after Yes other is_yes also means others
+    same = absurd also
+lines_same given parts before after other_before other_after status other is_yes also means others
+    same = absurd is_yes
+
+pub wordreduce_one_function : (given other_given : Given)
+    (before after other_before other_after : Outside)
+    (status other : Status)
+    → WordReduceMeans given before after status
+    → WordReduceMeans other_given other_before other_after other
+    → IsYes status → IsYes other
+    → WordReducesDifferInOptions given other_given
+    → ReadsSame (wordreduce_reads given) before other_before
+    → before.input.left ≡ other_before.input.left
+    → HasSameEffect (wordreduce_may_store given) before after other_before other_after
+wordreduce_one_function given other_given before after other_before other_after status other
+    (inl means) others
+    is_yes also file same input =
+    absurd (load_inconclusive (IsPresentationFault before.shelf.holds given.file)
+    given.file status means.0
+    (yes-conclusive status is_yes))
+wordreduce_one_function given other_given before after other_before other_after status
+    other (inr means)
+    (inl others) is_yes also file same input =
+    absurd (load_inconclusive
+    (IsPresentationFault other_before.shelf.holds other_given.file) other_given.file
+    other others.0 (yes-conclusive other also))
+wordreduce_one_function given other_given before after other_before other_after status
+    other (inr means)
+    (inr others) is_yes also file same input =
+    let held = subst (λ name. HoldsPresentation other_before.shelf.holds name others.0)
+    (sym file) others.1 in
+    let parts = one_held (same given.file refl) means.1 held in
+    lines_same given others.0 before after other_before other_after status other is_yes also
+    (subst (λ p. AnswersMean p before after status) parts means.2) others.2 input

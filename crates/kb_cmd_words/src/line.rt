@@ -1,0 +1,80 @@
+//! The command on the command line.
+
+ghost use Rattle.std.specs.Prelude.{◌≡◌, IfOk, false};
+ghost use Rattle.clap.specs.Words.{app_of, found_of, rows_of, subcommand_rows_of};
+ghost use Rattle.clap.specs.declared.builder.command.Command.TheViews.{out-Command as fields_of};
+ghost use Rattle.kb_task.specs.Arguments.{ReadsAs};
+ghost use Rattle.kb_cmd_words.specs.Line.{with_wordreduce, wordreduce_app, IsWordReduce, GivenAs};
+
+use crate::word_reduce::WordReduce;
+use clap::{ArgMatches, Command};
+use kb_task::{needed_argument, number_given, text_given, workers_option};
+use kb_word::{Memory, OwnedText};
+use std::alloc::{AllocError, Global};
+
+/// Adds the command to a program.
+pub fn add_commands<'a>(alloc: Global, program: Command<'a>) -> Result<Command<'a>, AllocError>
+    ensures { IfOk result (λ added. app_of added ≡ with_wordreduce (app_of program.entry)) }
+{
+    program.subcommand(definition(alloc)?)
+}
+
+/// The definition of the command of this name, if it is this one.
+pub fn command_named<'a>(alloc: Global, name: &str) -> Result<Option<Command<'a>>, AllocError> {
+    if name == "wordreduce" {
+        return Ok(Some(definition(alloc)?));
+    }
+    Ok(None)
+}
+
+/// The command that the matches of a program give, if they are of this one.
+pub fn entered_command(
+    alloc: Global,
+    matches: &ArgMatches<'_>,
+) -> Result<Option<WordReduce>, Memory>
+    ensures { IfOk result (ReadsAs IsWordReduce (subcommand_rows_of matches.now)) }
+{
+    let Some((name, inner)) = matches.subcommand() else {
+        return Ok(None);
+    };
+    if name != "wordreduce" {
+        return Ok(None);
+    }
+    wordreduce_given(alloc, inner)
+}
+
+/// The command that the matches of `wordreduce` give.
+fn wordreduce_given(alloc: Global, matches: &ArgMatches<'_>) -> Result<Option<WordReduce>, Memory>
+    ensures { IfOk result (GivenAs (rows_of (found_of matches.now))) }
+{
+    let Some(file) = text_given(matches, "file") else {
+        return Ok(None);
+    };
+    let Some(workers) = number_given(matches, "workers", 1, 64) else {
+        return Ok(None);
+    };
+    Ok(Some(WordReduce {
+        file: OwnedText::from_str(alloc, file)?,
+        workers,
+    }))
+}
+
+/// `wordreduce FILE`.
+fn definition<'a>(alloc: Global) -> Result<Command<'a>, AllocError>
+    ensures app { IfOk result (λ command. app_of command ≡ wordreduce_app) }
+    ensures local { IfOk result (λ command. (fields_of command).has_globals ≡ false) }
+{
+    let file = needed_argument(
+        alloc,
+        "file",
+        "FILE",
+        "A presentation file (GAP record); its relations must be confluent as rules",
+    );
+    Command::new(alloc, "wordreduce")
+        .about(
+            "Prints, for the word on each line of standard input, the shortlex-least word that equals it",
+        )
+        .after_help("Example: echo 'a*b' | kb wordreduce FILE")
+        .arg(file)?
+        .arg(workers_option(alloc))
+}

@@ -1,0 +1,186 @@
+//! A run of the command.
+
+ghost use Rattle.std.specs.Prelude.{◌≡◌, ◌≤◌, ◌^◌, IfOk, length};
+ghost use Rattle.kb_io.specs.Outside.{outside};
+ghost use Rattle.kb_io.specs.States.{ShelfState, SourceState};
+ghost use Rattle.kb_word.specs.WordOrders.{Below};
+ghost use Rattle.kb_word.specs.Overlap.{IsConfluent};
+ghost use Rattle.kb_word.specs.Presentations.{parts_of};
+ghost use Rattle.kb_word.specs.Relations.{AreOriented};
+ghost use Rattle.kb_presfile.specs.Holds.{most_equations};
+ghost use Rattle.kb_task.specs.Runs.{IsRun};
+ghost use Rattle.kb_cmd_words.specs.Confluence.{relations, OrientedAreNotConfluent, no_line};
+ghost use Rattle.kb_cmd_words.specs.WordReduce.{AnswersMean, StoresNothing};
+
+use crate::orienting::{oriented, oriented_relations_keep_the_congruence, oriented_rules_decrease};
+use crate::word_reduce::WordReduce;
+use kb_confluence::{
+    Verdict, check, least_by_the_same_congruence, normal_forms_by_confluent_rules_are_least,
+};
+use kb_index::Index;
+use kb_io::{Shelf, Sink, Source};
+use kb_lines::answer_lines;
+use kb_reduce::{NormalForms, status_of};
+use kb_rules::{Reducer, Rules};
+use kb_task::{Cert, Status, Task, load_presentation, print_line};
+use kb_word::{Memory, Names, Presentation, Word, print_word};
+use kb_wordreader::WordReader;
+use std::alloc::Global;
+use std::sync::Wait;
+use std::thread::Threads;
+
+impl Task for WordReduce {
+    ghost use Rattle.kb_task.specs.Statuses.{AnswersYesOrNo, IsConclusive};
+    ghost use Rattle.kb_cmd_words.specs.WordReduce.{WordReduceMeans, wordreduce_may_store, wordreduce_reads, wordreduce_is_unrefused, WordReducesDifferInOptions};
+    ghost use Rattle.kb_cmd_words.specs.WordReduceLaws.{wordreduce_complete, wordreduce_settled, wordreduce_one_function};
+
+    ghost means = { WordReduceMeans };
+
+    ghost may_store = { wordreduce_may_store };
+
+    ghost reads = { wordreduce_reads };
+
+    ghost is_unrefused = { wordreduce_is_unrefused };
+
+    ghost answers = { λ task. AnswersYesOrNo };
+
+    ghost settles = { λ task. IsConclusive };
+
+    ghost differs_in_options = { WordReducesDifferInOptions };
+
+    ghost complete = { wordreduce_complete };
+
+    ghost settled = { wordreduce_settled };
+
+    ghost one_function = { wordreduce_one_function };
+}
+
+impl WordReduce {
+    ghost use Rattle.kb_cmd_words.specs.WordReduce.{WordReduceMeans, wordreduce_may_store};
+
+    /// Runs the command. What it writes to `err` only shows that it lives. Workers are threads of `rt`.
+    pub fn run<T: Threads + Wait + Sync, F: Shelf, I: Source, O: Sink, E: Sink>(
+        self,
+        rt: &T,
+        alloc: Global,
+        shelf: &mut F,
+        input: &mut I,
+        out: &mut O,
+        err: &mut E,
+    ) -> Status
+        ensures { IsRun (WordReduceMeans self) (wordreduce_may_store self)
+            (outside (F.state shelf.old) (I.state input.old) (O.state out.old))
+            (outside (F.state shelf.new) (I.state input.new) (O.state out.new)) result }
+    {
+        let _ = err;
+        let workers = self.workers;
+        match load_presentation(alloc, self.file, shelf) {
+            Ok(presentation) => answer_by(rt, alloc, presentation, workers, input, out),
+            Err(status) => status,
+        }
+    }
+}
+
+/// Checks the oriented relations, and answers the word lines by them.
+fn answer_by<T: Threads + Wait + Sync, I: Source, O: Sink>(
+    rt: &T,
+    alloc: Global,
+    presentation: Presentation,
+    workers: u32,
+    input: &mut I,
+    out: &mut O,
+) -> Status
+    requires workers { (1 ≤ workers) × (workers ≤ 64) }
+    requires few { length presentation.eqs ≤ most_equations }
+    ensures { (shelf : ShelfState) → IsRun (AnswersMean (parts_of presentation)) StoresNothing
+        (outside shelf (I.state input.old) (O.state out.old))
+        (outside shelf (I.state input.new) (O.state out.new)) result }
+{
+    let rules = match oriented(alloc, &presentation) {
+        Ok(rules) => rules,
+        Err(Memory) => return Status::Memory,
+    };
+    let index = match Index::of(alloc, &rules) {
+        Ok(index) => index,
+        Err(Memory) => return Status::Memory,
+    };
+    rules_are_few(&presentation, &rules);
+    match check(rt, alloc, &rules, &index, workers) {
+        Ok(Verdict::Yes) => answer_all(alloc, presentation, &rules, index, input, out),
+        Ok(Verdict::No { u, v, .. }) => print_no(alloc, &presentation, u, v, out),
+        Err(Memory) => Status::Memory,
+    }
+}
+
+/// The oriented relations of a file are not more than a check can number. It does nothing when it runs.
+fn rules_are_few(presentation: &Presentation, rules: &Rules)
+    requires few { length presentation.now.eqs ≤ most_equations }
+    requires oriented { AreOriented (Below presentation.now.order)
+        (relations (parts_of presentation.now)) rules.now.rules }
+    ensures { length rules.now.rules ≤ 2 ^ 31 }
+{
+    // The range of the number of generators bounds the number of rules.
+    let _generators = presentation.n;
+}
+
+/// Answers the word lines by rules that are confluent.
+fn answer_all<I: Source, O: Sink>(
+    alloc: Global,
+    presentation: Presentation,
+    rules: &Rules,
+    index: Index,
+    input: &mut I,
+    out: &mut O,
+) -> Status
+    requires oriented { AreOriented (Below presentation.order)
+        (relations (parts_of presentation)) rules.now.rules }
+    requires confluent { IsConfluent rules.now.rules }
+    requires index { index.rules ≡ rules.now.rules }
+    ensures { (shelf : ShelfState) → IsRun (AnswersMean (parts_of presentation)) StoresNothing
+        (outside shelf (I.state input.old) (O.state out.old))
+        (outside shelf (I.state input.new) (O.state out.new)) result }
+{
+    oriented_rules_decrease();
+    oriented_relations_keep_the_congruence();
+    normal_forms_by_confluent_rules_are_least();
+    least_by_the_same_congruence();
+    let Ok(reader) = WordReader::new(alloc, presentation) else {
+        return Status::Memory;
+    };
+    let normal_forms = NormalForms { reader, index };
+    match answer_lines(alloc, &normal_forms, input, out) {
+        Ok(()) => Status::Yes,
+        Err(stop) => status_of(stop),
+    }
+}
+
+/// Prints the line that shows why the rules aren't confluent.
+fn print_no<O: Sink>(
+    alloc: Global,
+    presentation: &Presentation,
+    u: Word,
+    v: Word,
+    out: &mut O,
+) -> Status
+    requires { OrientedAreNotConfluent (parts_of presentation.now) u v }
+    ensures { (shelf : ShelfState) (input : SourceState)
+        → IsRun (AnswersMean (parts_of presentation.now)) StoresNothing
+        (outside shelf input (O.state out.old)) (outside shelf input (O.state out.new)) result }
+{
+    match line_of_no(alloc, &presentation.names, &u, &v) {
+        Ok(line) => print_line(&line, Status::No(Cert::NotConfluent { u, v }), out),
+        Err(Memory) => Status::Memory,
+    }
+}
+
+/// `no confluent U V` and a newline.
+fn line_of_no(alloc: Global, names: &Names, u: &Word, v: &Word) -> Result<Vec<u8>, Memory>
+    ensures { IfOk result (λ line. line.items ≡ no_line names.now u.now v.now) }
+{
+    let mut line = Vec::from_slice(alloc, b"no confluent ")?;
+    print_word(names, u, &mut line)?;
+    line.push(b' ')?;
+    print_word(names, v, &mut line)?;
+    line.push(b'\n')?;
+    Ok(line)
+}

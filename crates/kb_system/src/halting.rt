@@ -1,0 +1,98 @@
+//! Completions that halted at a limit.
+
+ghost use Rattle.std.specs.Prelude.{◌≡◌, List, ◌∷◌, Some, IfOk};
+ghost use Rattle.kb_word.specs.Presentations.{PresentationParts};
+ghost use Rattle.kb_machine.specs.declared.origin.Origin.{Origin as PairOrigin};
+ghost use Rattle.kb_machine.specs.declared.halt.Halt.{Halt as Reason};
+ghost use Rattle.kb_machine.specs.Course.{waiting_line as line_of};
+ghost use Rattle.kb_system.specs.Evidence.{Limits};
+ghost use Rattle.kb_system.specs.Problems.{problem_of, limit_of};
+ghost use Rattle.kb_system.specs.Ended.{EndsAs};
+
+use crate::ending::{Ending, Reached};
+use kb_book::Book;
+use kb_machine::{Halt, Line, Origin};
+use kb_rules::Reducer;
+use kb_share::{book_is_sound, live_rules};
+use kb_word::Memory;
+use std::alloc::Global;
+
+/// The end of a completion that halted: its log, the line that waits, and its live rules.
+pub(crate) fn halted<R: Reducer>(alloc: Global, book: Book<R>) -> Result<Ending, Memory>
+    requires { (reason : Reason) × (book.course.state.halt ≡ Some reason) }
+    ensures { IfOk result (λ ending. (limits : Limits) (parts : PresentationParts)
+        → book.course.problem ≡ problem_of limits parts → EndsAs limits parts ending) }
+{
+    book_is_sound(&book);
+    let rules = live_rules(alloc, &book)?;
+    let origin = first_pending(&book);
+    let (lines, halt) = log_and_halt(book);
+    let reached = limit_reached(&halt);
+    let waiting = waiting_line(origin, halt);
+    Ok(Ending::Halted {
+        reached,
+        lines,
+        waiting,
+        rules,
+    })
+}
+
+/// The origin of the first pending pair. A completion that halted has one.
+fn first_pending<R: Reducer>(book: &Book<R>) -> Origin
+    requires { (reason : Reason) × (book.now.course.state.halt ≡ Some reason) }
+    ensures { (rest : List PairOrigin) × (book.now.course.state.pending ≡ result ∷ rest) }
+{
+    book_is_sound(book);
+    match book.pending().front() {
+        Some(origin) => *origin,
+        None => unreachable!(),
+    }
+}
+
+/// The lines of a completion that halted, and its halt.
+fn log_and_halt<R: Reducer>(book: Book<R>) -> (Vec<Line>, Halt)
+    requires { (reason : Reason) × (book.course.state.halt ≡ Some reason) }
+    ensures lines { result.0.items ≡ book.course.state.lines }
+    ensures halt { book.course.state.halt ≡ Some result.1 }
+{
+    match book.into_log() {
+        (lines, Some(halt)) => (lines, halt),
+        (_, None) => unreachable!(),
+    }
+}
+
+/// The limit that a halt names.
+fn limit_reached(halt: &Halt) -> Reached
+    ensures { result ≡ limit_of halt.now }
+{
+    match halt {
+        Halt::Rules { .. } => Reached::Lines,
+        Halt::Length { .. } => Reached::Letters,
+    }
+}
+
+/// The line that would be made of the pair that waits.
+fn waiting_line(origin: Origin, halt: Halt) -> Line
+    ensures { result ≡ line_of origin halt }
+{
+    match halt {
+        Halt::Rules {
+            u,
+            v,
+            first_steps,
+            second_steps,
+        }
+        | Halt::Length {
+            u,
+            v,
+            first_steps,
+            second_steps,
+        } => Line {
+            origin,
+            left: u,
+            right: v,
+            first_steps,
+            second_steps,
+        },
+    }
+}

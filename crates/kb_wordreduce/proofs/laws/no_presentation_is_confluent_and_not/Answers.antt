@@ -1,5 +1,0 @@
-use Rattle.kb_wordreduce.specs.WordReduceLaws.{confluent-not_refuted}
-use Rattle.kb_wordreduce.proofs.laws.no_presentation_is_confluent_and_not.Goals as goal
-
-pub returns : goal.returns
-returns c = confluent-not_refuted

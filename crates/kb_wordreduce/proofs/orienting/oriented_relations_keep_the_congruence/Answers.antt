@@ -1,5 +1,0 @@
-use Rattle.kb_wordreduce.proofs.OrientLemmas.{oriented_congruence}
-use Rattle.kb_wordreduce.proofs.orienting.oriented_relations_keep_the_congruence.Goals as goal
-
-pub returns : goal.returns
-returns c order = oriented_congruence
