@@ -2,9 +2,9 @@
 
 use kb_cmd_automata::AutomataTask;
 use kb_cmd_completion::CompletionTask;
+use kb_cmd_words::WordReduce;
 use kb_io::{Gate, Shelf, Sink, Source};
 use kb_task::{Status, Task};
-use kb_cmd_words::WordReduce;
 use std::alloc::Global;
 use std::sync::Wait;
 use std::thread::Threads;

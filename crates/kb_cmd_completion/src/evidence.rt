@@ -11,11 +11,11 @@ ghost use Rattle.kb_cmd_completion.specs.Files.{evidence_texts, halted_texts, to
 
 use crate::file_names::{log_file, rules_file};
 use crate::files::both;
-use kb_system::Reached;
 use kb_machine::Line;
 use kb_presprint::write as write_presentation;
 use kb_proof::{Log, Version, print_log};
 use kb_rules::Rules;
+use kb_system::Reached;
 use kb_task::{Construction, Limit, TextFile, undecided_line, undecided_words_line};
 use kb_word::{Memory, OwnedText, Presentation};
 use std::alloc::Global;

@@ -11,11 +11,11 @@ use crate::evidence::limit_reached;
 use crate::free_abelian::selftest_presentation;
 use crate::printing::{append, append_number};
 use kb_book::Limits;
-use kb_system::{Ending, Reached, complete_presentation};
 use kb_io::{Gate, Shelf, Sink, Source};
 use kb_machine::Line;
 use kb_proof::{Log, Version, print_log};
 use kb_share::Silent;
+use kb_system::{Ending, Reached, complete_presentation};
 use kb_task::{
     Construction, Limit, Status, Task, print_line, undecided_line, undecided_words_line,
 };

@@ -7,8 +7,8 @@ ghost use Rattle.kb_diff.specs.Groups.{group_of};
 
 use crate::system::System;
 use anyhow::ensure;
-use kb_diffwa::{Det, acceptor, multipliers};
 use kb_diff::Differences;
+use kb_diffwa::{Det, acceptor, multipliers};
 use kb_fsa::Fsa;
 use kb_fsamin::canonical;
 use kb_index::Index;

@@ -3,10 +3,10 @@
 ghost use Rattle.std.specs.Prelude.{◌≡◌, ◌<◌, ◌≤◌, All, IfOk, length, map};
 ghost use Rattle.kb_machine.specs.States.{live_rules as rules_that_live, rule_numbered};
 
+use crate::sound::book_is_sound;
 use kb_book::Book;
 use kb_machine::Line;
 use kb_rules::{Reducer, Rule, Rules};
-use crate::sound::book_is_sound;
 use kb_word::Memory;
 use std::alloc::Global;
 

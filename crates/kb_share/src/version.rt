@@ -5,9 +5,9 @@ ghost use Rattle.std.specs.List.{AllPairs, Contains};
 ghost use Rattle.kb_share.specs.Versions.{HasLine, IsPublished, IsRuleOfLine, version_of};
 
 use crate::live::live_rules;
+use crate::sound::book_is_sound;
 use kb_book::Book;
 use kb_rules::{Reducer, Rule, Rules};
-use crate::sound::book_is_sound;
 use kb_word::Memory;
 use std::alloc::Global;
 use std::marker::Model;
