@@ -1,11 +1,16 @@
 //! One rule.
 
-ghost use Rattle.std.specs.Prelude.{◌≡◌, ◌↔◌, IsTrue, IfOk};
+ghost use Rattle.std.specs.Prelude.{◌≡◌, ◌↔◌, ◌++◌, IsTrue, IfOk};
 ghost use Rattle.std.specs.Cmp.{partial_equiv_from_equiv};
+ghost use Rattle.std.specs.Cmp.Rules.{hashing};
+ghost use Rattle.std.specs.Hash as fed;
+ghost use Rattle.std.proofs.Common.{rules};
+ghost use Rattle.kb_word.specs.Words.{Pair};
 ghost use Rattle.kb_rules.specs.Sides.{same_sides, same_sides_equiv};
 
 use kb_word::{Memory, Word};
 use std::alloc::Global;
+use std::hash::{Hash, Hasher};
 use std::marker::Model;
 
 /// A rule: its left side may be replaced by its right side. Which order it decreases along is said by the list that
@@ -78,4 +83,15 @@ impl PartialEq for Rule {
 
 impl Eq for Rule {
     ghost laws = { same_sides_equiv };
+}
+
+impl Hash for Rule {
+    ghost hash_input = { λ (rule : Pair). fed.slice fed.u16 rule.0 ++ fed.slice fed.u16 rule.1 };
+
+    ghost respects_eq = { Prim.search (hashing, rules) };
+
+    fn hash<H: Hasher>(&self, state: &mut H) {
+        self.left.hash(state);
+        self.right.hash(state);
+    }
 }

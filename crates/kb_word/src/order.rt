@@ -1,15 +1,19 @@
-//! The shortlex order of words, and their equality.
+//! The shortlex order of words, their equality, and how they are hashed.
 
 ghost use Rattle.std.specs.Prelude.{◌≡◌, refl, ◌↔◌, ℕ, ◌<◌, ◌^◌, List, nat_eq, IsTrue, All};
 ghost use Rattle.std.specs.Cmp.{partial_equiv_from_equiv};
 ghost use Rattle.std.specs.Cmp.Lexicographic.{pointwise, nat_list_eq_equiv};
+ghost use Rattle.std.specs.Cmp.Rules.{hashing};
+ghost use Rattle.std.specs.Hash as fed;
 ghost use Rattle.std.specs.Ordering.{as_partial_cmp};
+ghost use Rattle.std.proofs.Common.{rules};
 ghost use Rattle.kb_word.specs.Words.{Less};
 ghost use Rattle.kb_word.specs.Order.{IsReductionOrder, rank};
 ghost use Rattle.kb_word.specs.Comparison.{shortlex_cmp, shortlex_cmp_total, shortlex_ties, shortlex_partial_order};
 
 use crate::word::Word;
 use std::cmp::Ordering;
+use std::hash::{Hash, Hasher};
 
 impl PartialEq for Word {
     ghost eq = { pointwise nat_eq };
@@ -26,6 +30,16 @@ impl PartialEq for Word {
 
 impl Eq for Word {
     ghost laws = { nat_list_eq_equiv };
+}
+
+impl Hash for Word {
+    ghost hash_input = { fed.slice fed.u16 };
+
+    ghost respects_eq = { Prim.search (hashing, rules) };
+
+    fn hash<H: Hasher>(&self, state: &mut H) {
+        self.letters().hash(state);
+    }
 }
 
 impl Ord for Word {

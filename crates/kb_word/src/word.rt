@@ -91,6 +91,32 @@ impl Word {
         Ok(())
     }
 
+    /// Adds these letters at the end. After want of memory some of them may stand there.
+    pub fn extend_from_slice(&mut self, letters: &[Letter]) -> Result<(), Memory>
+        ensures { OnOk result (self.new ≡ self.old ++ letters.now) }
+    {
+        for letter in letters {
+            self.push(*letter)?;
+        }
+        Ok(())
+    }
+
+    /// Becomes a word of the same letters as another, and keeps its memory.
+    pub fn assign(&mut self, other: &Word) -> Result<(), Memory>
+        ensures ok { OnOk result (self.new ≡ other.now) }
+        ensures err { OnErr result (self.new ≡ []) }
+    {
+        self.clear();
+        self.append(other)
+    }
+
+    /// Becomes the empty word, and keeps its memory.
+    pub fn clear(&mut self)
+        ensures { self.new ≡ [] }
+    {
+        self.letters.clear();
+    }
+
     /// Keeps the first letters only, as many as are named.
     pub fn truncate(&mut self, len: usize)
         ensures { self.new ≡ take len self.old }
