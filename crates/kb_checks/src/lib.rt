@@ -3,7 +3,8 @@
 //!
 //! That a call succeeds where there is memory is stated by no contract, since want of memory is an
 //! answer that is free. Calls that the program makes are shown by the worked cases (`kb_cases`);
-//! the others are called here. `words` has words, presentations and reducers, `records` printed
+//! the others are called here. `words` has words, presentations and a copied reducer, `reducers` both
+//! reducers by a list that changes, `records` printed
 //! records, `automata` automata and the time that the canonical form of many states takes,
 //! `exploration` the least text that a machine accepts, `branching` the states of a machine with
 //! several moves by one symbol, `least` the least text of a nondeterministic automaton, and
@@ -24,5 +25,7 @@ mod least;
 mod outside;
 #[cfg(test)]
 mod records;
+#[cfg(test)]
+mod reducers;
 #[cfg(test)]
 mod words;

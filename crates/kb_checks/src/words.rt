@@ -73,7 +73,8 @@ fn presentations_answer(rt: HostRuntime) -> Result<(), Fail> {
     Ok(())
 }
 
-fn word(alloc: Global, numbers: &[u16]) -> Result<Word, Memory> {
+/// The word of letters by their numbers.
+pub(crate) fn word(alloc: Global, numbers: &[u16]) -> Result<Word, Memory> {
     let mut word = Word::new(alloc);
     for number in numbers {
         word.push(Letter::new(*number))?;

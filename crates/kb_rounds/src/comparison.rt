@@ -5,10 +5,9 @@ ghost use Rattle.kb_word.specs.Words.{IsFactor, Pair};
 ghost use Rattle.kb_fsa.specs.declared.alphabet.Alphabet.TheVariants.{Plain};
 ghost use Rattle.kb_wa.specs.Prefixes.{AreLeftSidesApart};
 
-use crate::figures::Figures;
-use crate::round::{MOST_STATES, differences_of, round_of};
+use crate::round::{MOST_STATES, made};
 use crate::system::System;
-use crate::texts::text_of_automaton;
+use crate::texts::{print_automata, text_of_automaton};
 use anyhow::{Context, ensure};
 use kb_fsa::Fsa;
 use kb_rules::Rule;
@@ -36,22 +35,19 @@ pub(crate) fn compare<R: Files + AllocGlobal + Print>(rt: &R) -> anyhow::Result<
     Ok(())
 }
 
-/// Prints how large the automata of a group are, and whether its acceptor is that of its rules, which is the result.
+/// Prints how large the automata of a group are, and whether its acceptor is that of its rules, which is the result. Of
+/// the first group the automata are printed too.
 fn compare_group<R: Files + AllocGlobal + Print>(rt: &R, name: &str) -> anyhow::Result<bool> {
     let file = format!(in rt.alloc(); "{name}.kbprog")?;
     let system = System::load(rt, file.as_str())?;
-    let (figures, same) = compare_system(rt.alloc(), &system)?;
+    let (round, figures) = made(rt.alloc(), &system)?;
+    if name == GROUPS[0] {
+        print_automata(rt, &system, &round)?;
+    }
+    let same = is_acceptor_of_rules(rt.alloc(), &system, &round.acceptor)?;
     let verdict = if same { "the same" } else { "another" };
     println!(rt; "{name}: {figures}; the acceptor of its rules is {verdict}")?;
     Ok(same)
-}
-
-/// How large the automata of a system are, and whether its acceptor is that of its rules.
-fn compare_system(alloc: Global, system: &System) -> anyhow::Result<(Figures, bool)> {
-    let differences = differences_of(alloc, system)?;
-    let round = round_of(alloc, &differences)?;
-    let same = is_acceptor_of_rules(alloc, system, &round.acceptor)?;
-    Ok((Figures::of(system, &differences, &round), same))
 }
 
 /// Whether an acceptor is that of a system's rules, by the printed texts of their canonical forms.

@@ -3,11 +3,11 @@
 //! Each automaton is proved to accept exactly what the differences say. What no clause says is seen
 //! here: that the calls succeed where there are memory and room, how the automata are printed, and
 //! that the differences of a complete system's rules are enough for its acceptor, which is then
-//! that of the words that the rules leave. The program prints what it made and compared, and ends
-//! with status 1 where something differs. It compares groups of `data/`, each with a complete
-//! system of rules by the shortlex order, as `kb kbprog FILE` stores it in `FILE.kbprog`:
+//! that of the words that the rules leave. The program goes over the groups of `data/`, each with a
+//! complete system of rules by the shortlex order, as `kb kbprog FILE` stores it in `FILE.kbprog`,
+//! and ends with status 1 where an acceptor differs from that of the rules:
 //!
-//! - the infinite cyclic group and the free abelian group of rank 2,
+//! - the infinite cyclic group, whose automata it prints, and the free abelian group of rank 2,
 //! - the Coxeter group B3, the symmetries of the cube, each of whose generators is its own inverse,
 //! - the fundamental group of the closed orientable surface of genus 2,
 //! - PSL(2,Z), the group of the trefoil knot modulo its center.
@@ -19,16 +19,15 @@
 //! # How it is made
 //!
 //! - `system` reads a complete system from a file, and `round` makes its automata.
-//! - `cyclic` shows those of the infinite cyclic group, and its differences and limits.
-//! - `comparison` compares acceptors with those of rules, and `measured` has the run that is timed.
-//! - `texts` has words and automata as they are printed, and `figures` how large a round is.
+//! - `comparison` compares acceptors with those of rules, `texts` prints automata, and `measured` has the run that is
+//!   timed.
+//! - `figures` has how large a round is.
 //!
-//! Below are `kb_presfile`, which reads files, `kb_diff`, `kb_diffwa` and `kb_diffwa`, which
-//! make the automata, and `kb_wa` with the acceptor of rules; nothing is above.
+//! Below are `kb_presfile`, which reads files, `kb_diff` and `kb_diffwa`, which make the automata, and `kb_wa` with the
+//! acceptor of rules.
 #![tactic(auto)]
 
 mod comparison;
-mod cyclic;
 mod figures;
 mod measured;
 mod round;
@@ -43,6 +42,5 @@ fn main(rt: HostRuntime) -> anyhow::Result<()> {
     if !words.is_empty() {
         return measured::measure(&rt, words.as_slice());
     }
-    cyclic::show(&rt)?;
     comparison::compare(&rt)
 }

@@ -5,6 +5,7 @@ ghost use Rattle.kb_word.specs.declared.word_order.WordOrder.TheVariants.{ShortL
 ghost use Rattle.kb_fsa.specs.declared.alphabet.Alphabet.TheVariants.{Pair, Plain};
 ghost use Rattle.kb_diff.specs.Groups.{group_of};
 
+use crate::figures::Figures;
 use crate::system::System;
 use anyhow::ensure;
 use kb_diff::Differences;
@@ -31,8 +32,20 @@ pub(crate) struct Round {
     pub(crate) multipliers: Vec<Fsa>,
 }
 
+/// The automata of a system, and how large they are.
+pub(crate) fn made(alloc: Global, system: &System) -> anyhow::Result<(Round, Figures)>
+    ensures acceptor { IfOk result (λ made. made.0.acceptor.alphabet ≡ Plain system.now.group.n) }
+    ensures multipliers { IfOk result (λ made.
+        All (λ fsa. fsa.alphabet ≡ Pair system.now.group.n) made.0.multipliers.items) }
+{
+    let differences = differences_of(alloc, system)?;
+    let round = round_of(alloc, &differences)?;
+    let figures = Figures::of(system, &differences, &round);
+    Ok((round, figures))
+}
+
 /// The word differences of a system's rules.
-pub(crate) fn differences_of(alloc: Global, system: &System) -> anyhow::Result<Differences<Index>>
+fn differences_of(alloc: Global, system: &System) -> anyhow::Result<Differences<Index>>
     ensures { IfOk result (λ kept.
         kept.group ≡ group_of system.now.group system.now.rules.rules) }
 {
@@ -50,7 +63,7 @@ pub(crate) fn differences_of(alloc: Global, system: &System) -> anyhow::Result<D
 }
 
 /// The automata of these differences.
-pub(crate) fn round_of(alloc: Global, differences: &Differences<Index>) -> Result<Round, Det>
+fn round_of(alloc: Global, differences: &Differences<Index>) -> Result<Round, Det>
     requires { differences.now.group.order ≡ ShortLex }
     ensures acceptor { IfOk result (λ round.
         round.acceptor.alphabet ≡ Plain differences.now.group.n) }

@@ -1,18 +1,34 @@
-//! Words and automata as they are printed.
+//! Automata as they are printed.
 
-ghost use Rattle.std.specs.Prelude.{◌≡◌, length};
+ghost use Rattle.std.specs.Prelude.{◌≡◌, All, length};
 ghost use Rattle.kb_fsa.specs.Language.{generators};
+ghost use Rattle.kb_fsa.specs.declared.alphabet.Alphabet.TheVariants.{Pair, Plain};
 
+use crate::round::Round;
+use crate::system::System;
 use kb_fsa::Fsa;
 use kb_fsamin::canonical;
-use kb_word::{Names, Word, print_word};
+use kb_word::Names;
 use std::alloc::Global;
 
-/// A word over generators of these names.
-pub(crate) fn text_of_word(alloc: Global, names: &Names, word: &Word) -> anyhow::Result<String> {
-    let mut bytes = Vec::new(alloc);
-    print_word(names, word, &mut bytes)?;
-    text_of(alloc, bytes.as_slice())
+/// Prints the word acceptor and the multipliers of a group.
+pub(crate) fn print_automata<R: AllocGlobal + Print>(
+    rt: &R,
+    system: &System,
+    round: &Round,
+) -> anyhow::Result<()>
+    requires acceptor { round.now.acceptor.alphabet ≡ Plain system.now.group.n }
+    requires multipliers { All (λ fsa. fsa.alphabet ≡ Pair system.now.group.n)
+        round.now.multipliers.items }
+{
+    let names = &system.group.names;
+    let text = text_of_automaton(rt.alloc(), names, &round.acceptor)?;
+    print!(rt; "{text}")?;
+    for multiplier in &round.multipliers {
+        let text = text_of_automaton(rt.alloc(), names, multiplier)?;
+        print!(rt; "{text}")?;
+    }
+    Ok(())
 }
 
 /// The canonical form of an automaton over generators of these names.
@@ -21,11 +37,6 @@ pub(crate) fn text_of_automaton(alloc: Global, names: &Names, fsa: &Fsa) -> anyh
 {
     let fsa = canonical(alloc, fsa)?;
     let bytes = kb_fsaprint::write(alloc, names, &fsa)?;
-    text_of(alloc, bytes.as_slice())
-}
-
-/// The text of these bytes.
-fn text_of(alloc: Global, bytes: &[u8]) -> anyhow::Result<String> {
-    let text = std::str::from_utf8(bytes)?;
+    let text = std::str::from_utf8(&bytes)?;
     Ok(String::from_str(alloc, text)?)
 }
