@@ -60,19 +60,3 @@ def measure_words(program, room, examples):
         with open(file, "w", encoding="ascii") as it:
             it.write(text)
         reduce(what, file, lambda: f"{word}\n".encode())
-
-
-def measure_reducers(program):
-    """Prints the figures of the program that runs one reducer: `kb_compare`."""
-    million = 1_000_000
-    for reducer, count, sizes in (
-        ("scan", million // 100, (10, 100, 1_000)),
-        ("index", million, (10, 100, 1_000, 10_000)),
-    ):
-        for size in sizes:
-            what = f"{reducer}: {count:,} letters by {size:,} rules"
-            words = [program, "reduce", reducer, str(size), str(count)]
-            measure(what, words, rate=(count / million, "million letters"))
-    for reducer, changes in (("scan", 10_000), ("index", 10_000), ("index", 30_000)):
-        what = f"{reducer}: {changes:,} rules put in or taken out"
-        measure(what, [program, "change", reducer, str(changes)], rate=(changes / million, "million changes"))
