@@ -8,9 +8,9 @@
 //! States are numbered in the order in which they are first seen: the starts, then those where the
 //! moves of state 1 lead, and so on.
 //!
-//! `kb_explore`, which explores deterministic machines, and `kb_fsadet`, whose automata these are,
-//! are below; constructions that guess, such as composites of pairs and projections to first words,
-//! are above.
+//! It serves constructions that guess, such as composites of pairs and projections to first words.
+//!
+//! Below are `kb_explore`, which explores deterministic machines, and `kb_fsadet`, whose automata these are.
 //!
 //! # Where the proofs are
 //!

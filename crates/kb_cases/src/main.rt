@@ -2,7 +2,7 @@
 //!
 //! The files named in `data/cases.list` have the cases, in the form that `data/README.md` describes. Each case is
 //! one call of `kb_cli::run` over memory: a shelf with files, an input, and what has to come of them. What a run's
-//! status says is proved below, in `kb_cli`; the cases show what no clause says: that runs succeed where there is
+//! status says is proved in `kb_cli`; the cases show what no clause says: that runs succeed where there is
 //! memory, how texts are printed, which of several faults is named, and that the definitions say what was meant.
 //!
 //! # How it is made
@@ -10,7 +10,7 @@
 //! - `suite` goes through the sections of a file, which `kb_casefile` reads.
 //! - `trial` runs a case, and `report` prints what differs.
 //!
-//! Below are `kb_casefile` and `kb_cli`; nothing is above.
+//! Below are `kb_casefile` and `kb_cli`.
 #![tactic(auto)]
 
 mod report;

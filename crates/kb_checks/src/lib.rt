@@ -10,7 +10,7 @@
 //! several moves by one symbol, `least` the least text of a nondeterministic automaton, and
 //! `outside` the adapters over real files and streams.
 //!
-//! Below are the libraries that are tested; nothing is above.
+//! Below are the libraries that are tested.
 #![tactic(auto)]
 
 #[cfg(test)]

@@ -11,7 +11,7 @@
 //! order, asks of each as soon as it is numbered whether it accepts, and stops at the first that
 //! does. No row is kept, and only the states of the texts up to that one count for the limit.
 //!
-//! `kb_fsa` is below; the operations on automata, which are machines, are above.
+//! Below is `kb_fsa`. The operations on automata are machines.
 //!
 //! # Where the proofs are
 //!

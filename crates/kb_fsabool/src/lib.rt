@@ -13,7 +13,7 @@
 //! `RowMerges` has the merging of rows, `ProductLemmas` and `ComplementLemmas` the languages and the counts, and
 //! `Differences` the least text.
 //!
-//! `kb_fsa` and `kb_explore` are below; the commands are above.
+//! Below are `kb_fsa` and `kb_explore`.
 #![tactic(auto)]
 
 mod comparison;

@@ -11,7 +11,7 @@
 //! moves by a symbol are many beside the states, each is a mark in a row of its symbol, and the marks of a row are a
 //! set in order (`marks`). Otherwise the moves are sorted by symbols, and each group by targets (`subset`).
 //!
-//! `kb_fsa`, `kb_fsa` and `kb_explore` are below; the rational operations and the programs are above.
+//! Below are `kb_fsa` and `kb_explore`.
 //!
 //! # Where the proofs are
 //!

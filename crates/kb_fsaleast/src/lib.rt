@@ -19,8 +19,8 @@
 //! states and the moves, up to sorting, where the subset construction may take exponential time; no
 //! clause says so.
 //!
-//! `kb_explore`, whose `text_to` reads the origins, and `kb_fsadet`, whose nondeterministic
-//! automata these are, stand below.
+//! Below are `kb_explore`, whose `text_to` reads the origins, and `kb_fsadet`, whose nondeterministic
+//! automata these are.
 //!
 //! # Where the proofs are
 //!

@@ -4,8 +4,7 @@
 //! and by `one_language_has_one_canonical_automaton` there is one only, so that two canonical automata of one
 //! language are equal. A canonical automaton has exactly the states and moves (transitions) that accepted texts need.
 //!
-//! `kb_fsa` with the definitions, `kb_fsa` with the moves backwards and `kb_explore` with the numbering are below;
-//! the programs are above.
+//! Below are `kb_fsa` with the definitions and the moves backwards, and `kb_explore` with the numbering.
 //!
 //! # Where the proofs are
 //!

@@ -8,7 +8,7 @@
 //! `kb_fsadet` determinises. `star` counts the empty set of states too where a word leads to it, which is where some
 //! state of the answer has no move by some letter.
 //!
-//! `kb_fsa`, `kb_explore` and `kb_fsadet` are below; the programs are above.
+//! Below are `kb_fsa`, `kb_explore` and `kb_fsadet`.
 //!
 //! # Where the proofs are
 //!

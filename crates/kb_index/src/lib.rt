@@ -28,7 +28,7 @@
 //!   is empty, and steps go by children and links.
 //! - `chains`: the rules of each state, those whose left side is its word: the last of them, and for each rule the
 //!   one before it. `ends`: for each state the one of the longest suffix of its word that has rules. `automaton` puts
-//!   all these together; it never changes. `stepping` has its calls for the crates above, state by state.
+//!   all these together; it never changes. `stepping` has its calls for other crates, state by state.
 //! - `recent`: the rules that came after the automaton was made: a trie of the left sides read from their ends, which
 //!   takes a further rule letter by letter. What is read is looked up in it from its last letter on. Where no rule
 //!   came, it costs nothing. `short_children` has the children of its states by the letters below 64, in a row of 256
@@ -57,8 +57,7 @@
 //! a word, and that steps come to an end, are lemmas of `kb_rules`.
 //!
 //! Below are `kb_word`, with words and the definitions of rewriting, and `kb_rules`, with rules and the contract of
-//! reducers; above are the commands that reduce words, and the word acceptor of rules, which is made from the states of
-//! the [`Automaton`].
+//! reducers.
 #![tactic(auto)]
 
 mod automaton;

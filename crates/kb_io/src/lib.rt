@@ -13,7 +13,7 @@
 //! told to; `WholeSource`, `WholeSink` and `WholeShelf` never fail. `FileShelf`, `StdIn`, `StdOut` and
 //! `StdErr` are the four adapters over the system, of whose bytes contracts know nothing.
 //!
-//! No crate of the repository is below; `kb_task` and all commands are above.
+//! Nothing is below but `std`.
 #![tactic(auto)]
 
 mod failed;

@@ -26,7 +26,7 @@
 //! - `proofs/NameFronts.antt`: the name with which a text begins.
 //! - `proofs/TokenFronts.antt`: where the last token of a front is a bracket, the whole text begins with its tokens.
 //!
-//! Nothing stands below but `std`. Above stand `kb_record`, which reads trees from the tokens, and `kb_wordreader`.
+//! Nothing is below but `std`.
 #![tactic(auto)]
 
 mod fronts;

@@ -47,7 +47,7 @@
 //! - `proofs/HeaderLemmas.antt`: the first line. `proofs/PrintLemmas.antt`: what is printed piece by piece.
 //! - `proofs/SameLemmas.antt`, `proofs/FaultLemmas.antt`: the laws.
 //!
-//! Below stand `kb_machine`, which has lines, `kb_word`, whose presentations name letters, and `kb_lexing`, whose
+//! Below are `kb_machine`, which has lines, `kb_word`, whose presentations name letters, and `kb_lexing`, whose
 //! numbers versions are.
 #![tactic(auto)]
 

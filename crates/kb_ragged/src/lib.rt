@@ -14,7 +14,7 @@
 //! `specs/Cuts.antt` has the lists that the two arrays stand for, and `proofs/RaggedLemmas.antt` what becomes of them
 //! where one more is appended.
 //!
-//! Below stands `kb_word`, for want of memory. Above stands `kb_record`, whose trees keep tables of numbers this way.
+//! Below is `kb_word`, for want of memory.
 #![tactic(auto)]
 
 mod ragged;

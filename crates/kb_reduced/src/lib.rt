@@ -24,7 +24,7 @@
 //! only what can't be, no congruent word below, so that it is enough that the class can't be without a least
 //! word (`proofs/Complete.antt`).
 //!
-//! Below are `kb_word`, `kb_rules`, `kb_overlap` and `kb_confluence`; above is completion.
+//! Below are `kb_word`, `kb_rules`, `kb_overlap` and `kb_confluence`.
 #![tactic(auto)]
 
 mod laws;

@@ -17,8 +17,7 @@
 //! stand for); the lemmas are in `proofs`: `Unique` and `Exists` on normal forms, `Endings` on the
 //! left side that ends a word, `Tracing` on steps.
 //!
-//! Below is `kb_word`, with words, their orders and the definitions of rewriting; above are `kb_index`, with a reducer
-//! that looks left sides up, and the crates that test confluence and reduce words.
+//! Below is `kb_word`, with words, their orders and the definitions of rewriting.
 #![tactic(auto)]
 
 mod laws;

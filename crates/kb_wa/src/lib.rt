@@ -12,8 +12,8 @@
 //! reducible. Each proper prefix is irreducible, since no left side has another one as a factor, and so each is a
 //! state.
 //!
-//! `kb_index` is below, with the trie of left sides and the steps along failure links; so is `kb_explore`, which goes
-//! through the states that are reached. Automatic structures are made from the acceptor above.
+//! Below are `kb_index`, with the trie of left sides and the steps along failure links, and `kb_explore`, which goes
+//! through the states that are reached.
 #![tactic(auto)]
 
 mod dictionary;

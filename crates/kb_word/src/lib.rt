@@ -1,18 +1,18 @@
-//! Words over the generators of a presentation, and the mathematics that the crates above share.
+//! Words over the generators of a presentation, and the mathematics that all crates share.
 //!
 //! A word is seen by contracts as the list of its letters' numbers, a relation or a rule as a pair of
 //! words. The definitions of the shortlex order, of the congruence that relations generate, of rewriting,
-//! overlaps and confluence stand here, in `specs/`, since all crates above cite them. The crate's public
+//! overlaps and confluence stand here, in `specs/`, since all other crates cite them. The crate's public
 //! contract: `less` decides the shortlex order, which is a reduction order along which `rank` falls,
 //! `factor_at` finds the first place of a factor, and a `Presentation`, with its names, inverses and
 //! equations, lists its defining relations and inverts words. `Names` has no name twice and finds a name's
 //! letter by hash. `print_word` appends a word as it is printed.
 //! Any call that allocates may fail for want of memory; no other failure is unspecified.
 //!
-//! Lemmas that proofs above may cite stand in `proofs/`: on paths and congruence in `PathLemmas`, on the
+//! Lemmas that proofs of other crates may cite stand in `proofs/`: on paths and congruence in `PathLemmas`, on the
 //! order in `Shortlex`, on the places of factors in `Places`.
 //!
-//! Below stands `indexmap`; all other crates but `kb_io` stand on it, directly or not.
+//! Below is `indexmap` alone.
 #![tactic(auto)]
 
 mod equations;
