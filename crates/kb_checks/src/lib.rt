@@ -3,11 +3,11 @@
 //!
 //! That a call succeeds where there is memory is stated by no contract, since want of memory is an
 //! answer that is free. Calls that the program makes are shown by the worked cases (`kb_cases`);
-//! the others are called here. `words` has words, presentations and reducers, `records` printed
-//! records, `automata` automata and the time that the canonical form of many states takes,
-//! `exploration` the least text that a machine accepts, `branching` the states of a machine with
-//! several moves by one symbol, `least` the least text of a nondeterministic automaton, and
-//! `outside` the adapters over real files and streams.
+//! the others are called here. `words` has words, presentations and reducers, `automata`
+//! automata and the time that the canonical form of many states takes, `exploration` the least
+//! text that a machine accepts, `branching` the states of a machine with several moves by one
+//! symbol, `least` the least text of a nondeterministic automaton, and `outside` the adapters over
+//! real files and streams.
 //!
 //! Below are the libraries that are tested; nothing is above.
 #![tactic(auto)]
@@ -22,7 +22,5 @@ mod exploration;
 mod least;
 #[cfg(test)]
 mod outside;
-#[cfg(test)]
-mod records;
 #[cfg(test)]
 mod words;

@@ -5,11 +5,11 @@ use Rattle.std.specs.List.{list_all}
 use Rattle.std.proofs.lemmas.Bool.{and_from, le-leb}
 use Rattle.std.proofs.lemmas.List.{drop_more}
 use Rattle.kb_record.specs.Tree.{Value, range_value, string_value, record_value, list_value, Fields, no_fields, field}
-use Rattle.kb_record.specs.Layout.{indent, line_of, line_of_more_places, are_lists, lines_of_places, text_of_value, printed}
-use Rattle.kb_record.specs.Printing.{pieces, IsPrintedUpTo}
-use Rattle.kb_record.proofs.PrintedPieces.{pieces_go, pieces_end}
+use Rattle.kb_layout.specs.Layout.{indent, line_of, line_of_more_places, are_lists, lines_of_places, text_of_value, printed}
+use Rattle.kb_layout.specs.Printing.{pieces, IsPrintedUpTo}
+use Rattle.kb_layout.proofs.PrintedPieces.{pieces_go, pieces_end}
 use Rattle.kb_fields.specs.Fields.{bare_name, list_of_names}
-use Rattle.kb_fields.proofs.WrittenTexts.{joined, record_lines}
+use Rattle.kb_layout.proofs.WrittenTexts.{joined, record_lines}
 use Rattle.kb_fsa.specs.Table.{Moves, IsRow, IsSplit, target}
 use Rattle.kb_fsa.proofs.RowSplits.{rest_of_split}
 use Rattle.kb_fsaprint.specs.Values.{count_value, list_of_numbers, entry_value}

@@ -10,7 +10,7 @@ ghost use Rattle.kb_fields.specs.Generators.{most_generators};
 ghost use Rattle.kb_fsa.specs.Language.{Automaton, IsAutomaton, generators};
 ghost use Rattle.kb_fsaprint.specs.Printed.{tree_of, text_of_automaton};
 
-use kb_record::a_printed_text_is_read_again;
+use kb_layout::a_printed_text_is_read_again;
 
 /// What is written of an automaton over as many names as generators may have is a text of its tree, which is shallow
 /// and has no field twice.

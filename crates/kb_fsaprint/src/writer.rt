@@ -2,7 +2,7 @@
 
 ghost use Rattle.std.specs.Prelude.{◌≡◌, ◌≢◌, ◌≤◌, ◌<◌, ◌^◌, ◌-◌, ◌++◌, [], IfOk, OnOk, length, pos};
 ghost use Rattle.kb_record.specs.Tree.{record_value, list_value};
-ghost use Rattle.kb_record.specs.Layout.{indent, line_of, text_of_value};
+ghost use Rattle.kb_layout.specs.Layout.{indent, line_of, text_of_value};
 ghost use Rattle.kb_fsa.specs.Language.{generators};
 ghost use Rattle.kb_fsa.specs.Canonical.{IsCanonical};
 ghost use Rattle.kb_fsa.specs.declared.alphabet.Alphabet.TheVariants.{Pair};
@@ -11,9 +11,8 @@ ghost use Rattle.kb_fsaprint.specs.Printed.{text_of_automaton, alphabet_fields, 
 ghost use Rattle.kb_fsaprint.specs.Writing.{number_text, move_text};
 
 use crate::format::RowFormat;
-use kb_fields::print_names;
 use kb_fsa::{Alphabet, Fsa, Row, Table, split_at_symbol};
-use kb_record::{print_indent, print_number};
+use kb_layout::{print_indent, print_names, print_number};
 use kb_word::{Memory, Names};
 use std::alloc::Global;
 

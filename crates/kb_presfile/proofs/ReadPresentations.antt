@@ -12,7 +12,7 @@ use Rattle.kb_word.specs.declared.word_order.WordOrder.{WordOrder}
 use Rattle.kb_word.specs.declared.word_order.WordOrder.TheVariants as orders
 use Rattle.kb_record.specs.Tree.{Value, Fields, no_fields, field}
 use Rattle.kb_record.specs.Spelling.{IsName}
-use Rattle.kb_record.specs.Layout.{IsSpelledValue, AreSpelledFields, AreSpelledPlaces}
+use Rattle.kb_layout.specs.Layout.{IsSpelledValue, AreSpelledFields, AreSpelledPlaces}
 use Rattle.kb_fields.specs.Fields.{value_of, list_of_names}
 use Rattle.kb_fields.proofs.ListingLemmas.{some_value}
 use Rattle.kb_presprint.specs.Printable.{IsPrintable}

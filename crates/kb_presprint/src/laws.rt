@@ -10,7 +10,7 @@ ghost use Rattle.kb_fields.specs.Fields.{HasFieldTwice};
 ghost use Rattle.kb_presprint.specs.Printed.{tree_of, text_of_presentation};
 ghost use Rattle.kb_presprint.specs.Printable.{IsPrintable};
 
-use kb_record::a_printed_text_is_read_again;
+use kb_layout::a_printed_text_is_read_again;
 
 /// What is written of a presentation with rules over its generators is a text of its tree, which is shallow and has no
 /// field twice.

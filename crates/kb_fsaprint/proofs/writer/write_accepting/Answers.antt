@@ -3,8 +3,8 @@ use Rattle.std.specs.List.{list_all}
 use Rattle.std.proofs.lemmas.Bool.{and_left, and_right, lt-leb}
 use Rattle.std.proofs.lemmas.Iterator.{YieldsList-from_slice}
 use Rattle.std.proofs.lemmas.Iterator.Search.{all_from_yields_List}
-use Rattle.kb_record.proofs.PrintedPieces.{ok_then}
-use Rattle.kb_fields.proofs.WrittenTexts.{to_come, text_more, all_texts}
+use Rattle.kb_layout.proofs.PrintedPieces.{ok_then}
+use Rattle.kb_layout.proofs.WrittenTexts.{to_come, text_more, all_texts}
 use Rattle.kb_fsaprint.proofs.Writings.{range_texts, accepting_range, accepting_list}
 use Rattle.kb_fsaprint.proofs.writer.write_accepting.Goals as goal
 use Rattle.kb_fsaprint.proofs.writer.write_accepting.Goals.{else-all-via-then-all+else-accepting-ge2, else-all-via-else-all}

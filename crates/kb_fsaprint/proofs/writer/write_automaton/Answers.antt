@@ -1,9 +1,9 @@
 use Rattle.std.proofs.Common.{◌++◌, ◌∙◌, length, ap}
 use Rattle.kb_record.specs.Tree.{record_value}
-use Rattle.kb_record.specs.Layout.{text_of_value}
+use Rattle.kb_layout.specs.Layout.{text_of_value}
 use Rattle.kb_fsaprint.specs.Printed.{alphabet_fields, accepting_value, format_of, table_fields, text_of_automaton}
 use Rattle.kb_fsaprint.specs.Writing.{number_text}
-use Rattle.kb_fields.proofs.WrittenTexts.{to_come, text_more, all_texts}
+use Rattle.kb_layout.proofs.WrittenTexts.{to_come, text_more, all_texts}
 use Rattle.kb_fsaprint.proofs.Writings.{whole_texts, whole_text}
 use Rattle.kb_fsaprint.proofs.writer.write_automaton.Goals as goal
 

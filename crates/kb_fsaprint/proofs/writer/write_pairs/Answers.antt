@@ -4,7 +4,7 @@ use Rattle.kb_fsa.specs.Language.{symbols}
 use Rattle.kb_fsa.specs.declared.alphabet.Alphabet.TheVariants.{Pair}
 use Rattle.kb_fsaprint.specs.Printed.{names_fields}
 use Rattle.kb_fsaprint.specs.Writing.{number_text}
-use Rattle.kb_fields.proofs.WrittenTexts.{to_come, text_more, all_texts}
+use Rattle.kb_layout.proofs.WrittenTexts.{to_come, text_more, all_texts}
 use Rattle.kb_fsaprint.proofs.Writings.{pairs_texts, pairs_record}
 use Rattle.kb_fsaprint.proofs.writer.write_pairs.Goals as goal
 
