@@ -12,4 +12,3 @@ pub mod RowLemmas
 pub mod TableLemmas
 pub mod TextLemmas
 pub mod UniqueAutomaton
-pub mod WrittenAutomata

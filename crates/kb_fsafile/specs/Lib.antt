@@ -1,4 +1,3 @@
-pub use Rattle.kb_fsaprint.specs.Printed
 pub mod Kinds
 pub mod Misplaced
 pub mod Cleaning

@@ -12,7 +12,7 @@ use Rattle.kb_fields.specs.Fields.{bare_name, list_of_names}
 use Rattle.kb_layout.proofs.WrittenTexts.{joined, record_lines}
 use Rattle.kb_fsa.specs.Table.{Moves, IsRow, IsSplit, target}
 use Rattle.kb_fsa.proofs.RowSplits.{rest_of_split}
-use Rattle.kb_fsaprint.specs.Values.{count_value, list_of_numbers, entry_value}
+use Rattle.kb_fsafile.specs.Kinds.{count_value, list_of_numbers, entry_value}
 use Rattle.kb_fsaprint.specs.Printed.{numbers_value, names_fields, states_fields, flags_value, targets_from, list_of_moves, row_places, rows_places, accepting_from, accepting_value}
 use Rattle.kb_fsaprint.specs.Writing.{number_text, move_text, IsRowPrinted}
 use Rattle.kb_fsaprint.specs.declared.format.RowFormat.{RowFormat}

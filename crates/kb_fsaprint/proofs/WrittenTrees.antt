@@ -18,7 +18,7 @@ use Rattle.kb_fsa.specs.Table.{Moves, IsRow, Table, IsTable, HasSymbols, target}
 use Rattle.kb_fsa.specs.Language.{Automaton, IsAutomaton, generators, symbols}
 use Rattle.kb_fsa.proofs.Lookups.{Ascends-head, Ascends-tail, target_within}
 use Rattle.kb_fsa.specs.Table.{Ascends}
-use Rattle.kb_fsaprint.specs.Values.{list_of_numbers}
+use Rattle.kb_fsafile.specs.Kinds.{list_of_numbers}
 use Rattle.kb_fsaprint.specs.Printed.{numbers_value, targets_from, list_of_moves, row_places, rows_places, format_of, format_name, move_count, accepting_from, accepting_value, names_fields, alphabet_fields, states_fields, flags_value, table_fields, tree_of}
 use Rattle.kb_fsaprint.specs.declared.format.RowFormat.{RowFormat}
 use Rattle.kb_fsaprint.specs.declared.format.RowFormat.TheVariants.{Dense, Sparse}

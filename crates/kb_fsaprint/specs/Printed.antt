@@ -8,7 +8,7 @@ use Rattle.kb_fsa.specs.declared.alphabet.Alphabet.{Alphabet}
 use Rattle.kb_fsa.specs.declared.alphabet.Alphabet.TheVariants.{Plain, Pair}
 use Rattle.kb_fsa.specs.Table.{Moves, target}
 use Rattle.kb_fsa.specs.Language.{Automaton, generators, symbols}
-use Rattle.kb_fsaprint.specs.Values.{count_value, list_of_numbers, list_of_entries}
+use Rattle.kb_fsafile.specs.Kinds.{count_value, list_of_numbers, list_of_entries}
 use Rattle.kb_fsaprint.specs.declared.format.RowFormat.{RowFormat}
 use Rattle.kb_fsaprint.specs.declared.format.RowFormat.TheVariants.{Dense, Sparse}
 

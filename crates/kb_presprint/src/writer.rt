@@ -5,7 +5,7 @@ ghost use Rattle.kb_word.specs.Presentations.{parts_of};
 ghost use Rattle.kb_word.specs.Printed.{letter_name};
 ghost use Rattle.kb_word.specs.declared.word_order.WordOrder.TheVariants as orders;
 ghost use Rattle.kb_layout.specs.Layout.{indent, line_of, text_of_value};
-ghost use Rattle.kb_presprint.specs.Values.{equation_value};
+ghost use Rattle.kb_presfile.specs.Kinds.{equation_value};
 ghost use Rattle.kb_presprint.specs.Printed as printed;
 ghost use Rattle.kb_presprint.specs.Printed.{text_of_presentation, side_factors, rules_value, inverses_value, weights_value};
 ghost use Rattle.kb_presprint.specs.Writing.{inverse_text, weight_line};

@@ -1,5 +1,5 @@
-use Rattle.kb_presfile.proofs.ReadPresentations.{read_printable}
-use Rattle.kb_presfile.proofs.laws.a_presentation_that_is_read_can_be_written.Goals as goal
+use Rattle.kb_presprint.proofs.ReadPresentations.{read_printable}
+use Rattle.kb_presprint.proofs.laws.a_presentation_that_is_read_can_be_written.Goals as goal
 
 pub returns-clause-printable : goal.returns-clause-printable
 returns-clause-printable c bytes parts rules says presents =

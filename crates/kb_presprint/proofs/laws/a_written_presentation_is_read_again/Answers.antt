@@ -1,6 +1,6 @@
 use Rattle.kb_presprint.specs.Printed.{tree_of}
-use Rattle.kb_presfile.proofs.WrittenPresentations.{presentation_written}
-use Rattle.kb_presfile.proofs.laws.a_written_presentation_is_read_again.Goals as goal
+use Rattle.kb_presprint.proofs.WrittenPresentations.{presentation_written}
+use Rattle.kb_presprint.proofs.laws.a_written_presentation_is_read_again.Goals as goal
 
 pub returns : goal.returns
 returns c parts rules confluent free is room = record {

@@ -22,9 +22,9 @@ use Rattle.kb_presprint.specs.Printable.{IsPrintable}
 use Rattle.kb_presprint.proofs.WrittenTrees.{inverse_within}
 use Rattle.kb_presfile.specs.Kinds.{list_of_places, list_of_equations}
 use Rattle.kb_presfile.specs.Holds.{HasOrder, HoldsPlaces, place_at, AreMutual, GivesInverses, HasInverses, HasEquations, HoldsPresentation}
-use Rattle.kb_presfile.specs.Written.{with_equations, HaveRoom}
+use Rattle.kb_presprint.specs.Written.{with_equations, HaveRoom}
 use Rattle.kb_presfile.proofs.InverseLemmas.{same_text, inverse_read}
-use Rattle.kb_presfile.proofs.WrittenWords.{letter_read, rules_read}
+use Rattle.kb_presprint.proofs.WrittenWords.{letter_read, rules_read}
 
 -- ---- inverses
 

@@ -1,6 +1,6 @@
 use Rattle.kb_fsaprint.specs.Printed.{tree_of}
-use Rattle.kb_fsafile.proofs.WrittenAutomata.{automaton_written}
-use Rattle.kb_fsafile.proofs.laws.a_written_automaton_is_read_again.Goals as goal
+use Rattle.kb_fsaprint.proofs.WrittenAutomata.{automaton_written}
+use Rattle.kb_fsaprint.proofs.laws.a_written_automaton_is_read_again.Goals as goal
 
 pub returns : goal.returns
 returns c names automaton is canonical free each counted = record {
