@@ -1,6 +1,4 @@
 pub mod Kinds
-pub mod Misplaced
-pub mod Cleaning
 pub mod Holds
 pub mod Faults
 pub mod Reading

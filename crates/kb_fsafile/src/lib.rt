@@ -35,19 +35,17 @@
 //!   to 10^18 before the rows are seen to be as many, so the accepting states are marked after the rows.
 //! - `rows` reads the rows of a table, dense or sparse, as ascending symbols with targets that are states. A row that
 //!   the tree keeps as numbers is read where it stands, and a sparse row needs no map where its symbols ascend.
-//! - `misplaced` drops moves of automata of pairs, or refuses them. By then the tree of the text is
-//!   let go, and the moves that are listed to find them are let go before rows are made anew.
+//! - `kb_padding` drops moves of automata of pairs, or refuses them. By then the tree of the text is let go.
 //! - `reader` joins them, each step a function called in the order of the refusals.
 //!
 //! # Where the definitions and proofs are
 //!
 //! Definitions speak of the tree of the text: in `specs/` the kinds of values in `Kinds`, what a text holds in
-//! `Holds`, what each refusal means in `Faults`, moves that no padded text takes in `Misplaced`; what the functions
-//! for fields and rows return in `Reading` and `RowsRead`. In `proofs/`, `UniqueAutomaton` and `NoFault` have the laws,
-//! and `EdgeLemmas`, `PaddedTexts`, `PaddingReach` and `Cleanings` the moves that are dropped.
+//! `Holds`, what each refusal means in `Faults`; what the functions
+//! for fields and rows return in `Reading` and `RowsRead`. In `proofs/`, `UniqueAutomaton` and `NoFault` have the laws.
 //!
-//! `kb_record` (trees), `kb_fields` (fields) and `kb_fsa` (automata, and what moves lead to) are below; `kb_fsaprint`,
-//! which writes what is read here again, and the commands that load automata are above.
+//! `kb_record` (trees), `kb_fields` (fields), `kb_fsa` (automata) and `kb_padding` (moves that no padded text takes) are
+//! below; `kb_fsaprint`, which writes what is read here again, and the commands that load automata are above.
 #![tactic(auto)]
 
 mod accepting;
@@ -58,7 +56,6 @@ mod format;
 mod header;
 mod initial;
 mod laws;
-mod misplaced;
 mod reader;
 mod rows;
 mod states;

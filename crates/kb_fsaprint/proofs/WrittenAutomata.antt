@@ -16,7 +16,7 @@ use Rattle.kb_fsa.specs.Padding.{IsPadded}
 use Rattle.kb_fsa.proofs.Lookups.{lookup_here, lookup_there, lookup_nowhere, target_none, target_some, target_within, All-moves_of, IsRow-moves_of, accepting_positive, after-append}
 use Rattle.kb_fsa.proofs.PairSymbolLaws.{square}
 use Rattle.kb_fsafile.specs.Kinds.{IsNumbers, StandsFor, IsNumberOf, numbered_from}
-use Rattle.kb_fsafile.specs.Misplaced.{IsDropped, IsMisplaced, IsWithoutMisplaced, IsCleaned}
+use Rattle.kb_padding.specs.Misplaced.{IsDropped, IsMisplaced, IsWithoutMisplaced, IsCleaned}
 use Rattle.kb_fsafile.specs.Holds.{HoldsNames, HoldsAlphabet, HoldsInitial, HoldsAccepting, HoldsEntries, HoldsRow, HoldsRows, HoldsMoves, HoldsTable, HoldsAutomaton, IsPairSize, format_name}
 use Rattle.kb_fsafile.specs.Reading.{AreStates}
 use Rattle.kb_fsaprint.specs.Printed.{numbers_value, targets_from, list_of_moves, row_places, rows_places, format_of, format_name as printed_name, accepting_from, accepting_value, names_fields, alphabet_fields, states_fields, table_fields, tree_of}
@@ -25,7 +25,7 @@ use Rattle.kb_fsaprint.specs.declared.format.RowFormat.TheVariants as printed
 use Rattle.kb_fsafile.specs.declared.format.Format.{Format}
 use Rattle.kb_fsafile.specs.declared.format.Format.TheVariants.{Dense, Sparse}
 use Rattle.kb_fsafile.proofs.NumberLemmas.{IsPos, listed_stands}
-use Rattle.kb_fsafile.proofs.PaddedTexts.{in_place_from_padded}
+use Rattle.kb_padding.proofs.PaddedTexts.{in_place_from_padded}
 use Rattle.kb_fsafile.proofs.UniqueAutomaton.{pos_same}
 
 -- ---- the alphabet
