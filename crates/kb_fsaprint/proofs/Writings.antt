@@ -173,8 +173,8 @@ names_record level inside names is = ap (λ k. joined (names_texts level k names
 -- the record of an alphabet of pairs, at level 1
 abbrev pub pairs_texts : ℕ → Value → List (List ℕ)
 pairs_texts size base =
-    codes "rec(\n    type := \"product\",\n    size := " ∷ number_text size ∷ codes ",\n    arity := " ∷ number_text 2
-    ∷ codes ",\n    padding := _,\n    base := " ∷ text_of_value 2 base ∷ codes "\n  )" ∷ []
+    codes "rec(\n    type := \"product\",\n    size := " ∷ number_text size
+    ∷ codes ",\n    arity := 2,\n    padding := _,\n    base := " ∷ text_of_value 2 base ∷ codes "\n  )" ∷ []
 
 pub pairs_record : (size : ℕ) (base : Value)
     → joined (pairs_texts size base)
@@ -217,8 +217,8 @@ abbrev pub whole_texts : Value → Value → Value → ℕ → List (List ℕ)
 whole_texts alphabet accepting table count =
     codes "_FSA := rec(\n  isFSA := true,\n  alphabet := " ∷ text_of_value 1 alphabet
     ∷ codes ",\n  states := rec(\n    type := \"simple\",\n    size := " ∷ number_text count
-    ∷ codes "\n  ),\n  flags := [\"DFA\",\"minimized\",\"BFS\",\"accessible\",\"trim\"],\n  initial := [" ∷ number_text 1
-    ∷ codes "],\n  accepting := " ∷ text_of_value 1 accepting ∷ codes ",\n  table := " ∷ text_of_value 1 table ∷ codes "\n);\n" ∷ []
+    ∷ codes "\n  ),\n  flags := [\"DFA\",\"minimized\",\"BFS\",\"accessible\",\"trim\"],\n  initial := [1],\n  accepting := "
+    ∷ text_of_value 1 accepting ∷ codes ",\n  table := " ∷ text_of_value 1 table ∷ codes "\n);\n" ∷ []
 
 -- its fields
 abbrev whole_fields : Value → Value → Value → ℕ → Fields
@@ -231,9 +231,8 @@ whole_fields alphabet accepting table count =
     (field (codes "accepting") accepting
     (field (codes "table") table no_fields))))))
 
-initial_line : (after_it : List ℕ) → text_of_value 1 (numbers_value (1 ∷ [])) ++ after_it ≡ codes "[" ++ (number_text 1 ++ (codes "]" ++ after_it))
-initial_line after_it =
-    ap (λ t. codes "[" ++ t) (append_assoc (number_text 1 ++ []) (codes "]") after_it ∙ ap (λ t. t ++ (codes "]" ++ after_it)) (append-nil (number_text 1)))
+initial_line : (after_it : List ℕ) → text_of_value 1 (numbers_value (1 ∷ [])) ++ after_it ≡ codes "[1]" ++ after_it
+initial_line after_it = refl
 
 pub whole_text : (alphabet accepting table : Value) (count : ℕ)
     → joined (whole_texts alphabet accepting table count)
@@ -262,7 +261,7 @@ whole_text alphabet accepting table count =
 -- ---- the states that accept, as a range or as a list
 
 abbrev pub range_texts : ℕ → List (List ℕ)
-range_texts count = codes "[" ∷ number_text 1 ∷ codes ".." ∷ number_text count ∷ codes "]" ∷ []
+range_texts count = codes "[1.." ∷ number_text count ∷ codes "]" ∷ []
 
 accepting_as : Bool → List Bool → List ℕ
 accepting_as ranged accepting =
@@ -273,10 +272,7 @@ pub accepting_range : (accepting : List Bool) → list_all (λ accepts. accepts)
 unfolding accepting_as
 accepting_range accepting all some =
     let test = and_from (list_all (λ accepts. accepts) accepting) (nat_le 2 (length accepting)) all (le-leb 2 (length accepting) some) in
-    let count = number_text (length accepting) in
-    ap (λ t. codes "[" ++ t)
-    (sym (append_assoc (number_text 1 ++ codes "..") count (codes "]") ∙ append_assoc (number_text 1) (codes "..") (count ++ codes "]")))
-    ∙ sym (ap (λ b. accepting_as b accepting) test)
+    sym (ap (λ b. accepting_as b accepting) test)
 
 pub accepting_list : (accepting : List Bool) → (list_all (λ accepts. accepts) accepting && nat_le 2 (length accepting)) ≡ false
     → line_of (numbers_value (accepting_from 1 accepting)) ≡ text_of_value 1 (accepting_value accepting)

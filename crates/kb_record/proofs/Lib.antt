@@ -18,4 +18,3 @@ pub mod OpenBrackets
 pub mod Shallow
 pub mod WordFaults
 pub mod WordMeanings
-

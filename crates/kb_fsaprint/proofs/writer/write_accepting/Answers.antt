@@ -27,8 +27,7 @@ returns-then-accepting-ge2 c =
     let accepting = c.args.accepting.now in
     let answer : c.all.result ≡ list_all (λ accepts. accepts) accepting =
     all_from_yields_List (λ (accepts : Bool). accepts) _ _ c.all.result c.all.ensures.ran (YieldsList-from_slice accepting cc) (λ x b q k. search (rules, tests)) in
-    all_texts (text_more (text_more (text_more (text_more (text_more
+    all_texts (text_more (text_more (text_more
     (to_come c.args.out.now.items (range_texts (length accepting)))
-    c.in_ok-push.ensures.items) c.in_ok-write_number.ensures) c.in_ok-extend_from_slice.ensures.items) c.in_ok-write_number-2.ensures)
-    c.in_ok-push-2.ensures.items)
+    c.in_ok-extend_from_slice.ensures.items) c.in_ok-write_number.ensures) c.in_ok-push.ensures.items)
     ∙ ap (λ t. c.args.out.now.items ++ t) (accepting_range accepting (sym answer ∙ c.if-all.true) c.if-accepting-ge2.true)
