@@ -3,6 +3,7 @@ use Rattle.std.proofs.Common.{◌≡◌, ◌≢◌, ℕ, suc, ◌+◌, ◌<◌, 
 use Rattle.std.specs.Prelude.{codes}
 use Rattle.std.specs.List.{list_all}
 use Rattle.std.proofs.lemmas.Bool.{and_from, le-leb}
+use Rattle.std.proofs.lemmas.Fmt.{decimal_digit}
 use Rattle.std.proofs.lemmas.List.{drop_more}
 use Rattle.kb_record.specs.Tree.{Value, range_value, string_value, record_value, list_value, Fields, no_fields, field}
 use Rattle.kb_layout.specs.Layout.{indent, line_of, line_of_more_places, are_lists, lines_of_places, text_of_value, printed}
@@ -16,6 +17,14 @@ use Rattle.kb_fsafile.specs.Kinds.{count_value, list_of_numbers, entry_value}
 use Rattle.kb_fsaprint.specs.Printed.{numbers_value, names_fields, states_fields, flags_value, targets_from, list_of_moves, row_places, rows_places, accepting_from, accepting_value}
 use Rattle.kb_fsaprint.specs.Writing.{number_text, move_text, IsRowPrinted}
 use Rattle.kb_fsaprint.specs.declared.format.RowFormat.{RowFormat}
+
+-- ---- the numbers that each text has
+
+one_text : number_text 1 ≡ codes "1"
+one_text = decimal_digit 1 (omega arith)
+
+two_text : number_text 2 ≡ codes "2"
+two_text = decimal_digit 2 (omega arith)
 
 -- ---- lists on one line
 
@@ -184,7 +193,10 @@ pub pairs_record : (size : ℕ) (base : Value)
     (field (codes "arity") (count_value 2)
     (field (codes "padding") (bare_name (codes "_"))
     (field (codes "base") base no_fields))))))
-pairs_record size base = sym (record_lines 1 (
+pairs_record size base =
+    let behind = codes ",\n    padding := _,\n    base := " ++ (text_of_value 2 base ++ codes "\n  )") in
+    ap (λ t. codes "rec(\n    type := \"product\",\n    size := " ++ (number_text size ++ (codes ",\n    arity := " ++ (t ++ behind)))) (sym two_text)
+    ∙ sym (record_lines 1 (
     field (codes "type") (string_value (codes "product"))
     (field (codes "size") (count_value size)
     (field (codes "arity") (count_value 2)
@@ -232,7 +244,7 @@ whole_fields alphabet accepting table count =
     (field (codes "table") table no_fields))))))
 
 initial_line : (after_it : List ℕ) → text_of_value 1 (numbers_value (1 ∷ [])) ++ after_it ≡ codes "[1]" ++ after_it
-initial_line after_it = refl
+initial_line after_it = ap (λ t. codes "[" ++ (((t ++ []) ++ codes "]") ++ after_it)) one_text
 
 pub whole_text : (alphabet accepting table : Value) (count : ℕ)
     → joined (whole_texts alphabet accepting table count)
@@ -272,7 +284,8 @@ pub accepting_range : (accepting : List Bool) → list_all (λ accepts. accepts)
 unfolding accepting_as
 accepting_range accepting all some =
     let test = and_from (list_all (λ accepts. accepts) accepting) (nat_le 2 (length accepting)) all (le-leb 2 (length accepting) some) in
-    sym (ap (λ b. accepting_as b accepting) test)
+    let count = number_text (length accepting) in
+    ap (λ t. codes "[" ++ (((t ++ codes "..") ++ count) ++ codes "]")) (sym one_text) ∙ sym (ap (λ b. accepting_as b accepting) test)
 
 pub accepting_list : (accepting : List Bool) → (list_all (λ accepts. accepts) accepting && nat_le 2 (length accepting)) ≡ false
     → line_of (numbers_value (accepting_from 1 accepting)) ≡ text_of_value 1 (accepting_value accepting)
