@@ -65,7 +65,6 @@ mod values;
 
 pub use error::{Field, PresError};
 pub use laws::{
-    a_presentation_file_has_no_fault, a_presentation_has_no_fault,
-    a_text_says_one_presentation,
+    a_presentation_file_has_no_fault, a_presentation_has_no_fault, a_text_says_one_presentation,
 };
 pub use reader::read;

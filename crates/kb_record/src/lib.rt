@@ -69,9 +69,9 @@ mod words;
 
 pub use error::{RecordError, WordError};
 pub use laws::{
-    a_shallow_text_is_not_too_deep, a_shallow_word_is_not_too_deep,
-    a_text_has_one_tree, a_word_has_one_meaning, a_word_has_one_tree,
-    a_word_that_is_read_has_no_fault, a_word_that_is_read_is_not_refused,
+    a_shallow_text_is_not_too_deep, a_shallow_word_is_not_too_deep, a_text_has_one_tree,
+    a_word_has_one_meaning, a_word_has_one_tree, a_word_that_is_read_has_no_fault,
+    a_word_that_is_read_is_not_refused,
 };
 pub use listed::Place;
 pub use meaning::word_of;
