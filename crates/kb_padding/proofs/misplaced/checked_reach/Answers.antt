@@ -1,4 +1,4 @@
-use Rattle.std.proofs.Common.{◌≡◌, ◌↔◌, ◌+◌, ℕ, suc, false, Bool, List, ◌∷◌, length, refl, sym, ap, ◌∙◌, subst}
+use Rattle.std.proofs.Common.{◌≡◌, ◌↔◌, ◌+◌, ℕ, suc, false, Bool, List, ◌∷◌, length, refl, sym, ◌∙◌, subst}
 use Rattle.std.proofs.lemmas.Bool.{false≢true}
 use Rattle.kb_fsa.specs.Table.{Table, IsTable, IsLive}
 use Rattle.kb_fsa.specs.Graphs.{IsMarked, IsReached}

@@ -1,6 +1,5 @@
-use Rattle.std.proofs.Common.{◌≡◌, ◌+◌, ◌<◌, ◌∷◌, ◌++◌, [], length, get_or, set, refl, sym, ap, ◌∙◌, subst, arith}
+use Rattle.std.proofs.Common.{◌≡◌, ◌<◌, length, get_or, refl, sym, ap, ◌∙◌, arith}
 use Rattle.std.proofs.lemmas.List.{get_or_read}
-use Rattle.kb_padding.specs.Cleaning.{AreForward}
 use Rattle.kb_padding.proofs.EdgeLemmas.{AreForward-added, AreForward-known, AreForward-same, same_from_forward}
 use Rattle.kb_padding.proofs.misplaced.forward.Goals as goal
 use Rattle.kb_padding.proofs.misplaced.forward.Goals.{then-index-state+in_ok-push, else-index-state}

@@ -1,11 +1,9 @@
 use Rattle.std.proofs.Common.{◌≡◌, ◌≢◌, ◌*◌, ◌+◌, ◌-◌, ℕ, Bool, List, sym, ap, ◌∙◌, subst}
-use Rattle.std.proofs.lemmas.Bool.{false≢true}
-use Rattle.kb_fsa.specs.Table.{Moves, Table, IsTable, HasSymbols, IsLive, state_after}
+use Rattle.kb_fsa.specs.Table.{Moves, Table, IsTable, HasSymbols, state_after}
 use Rattle.kb_fsa.specs.Padding.{IsPadded}
-use Rattle.kb_fsa.specs.Graphs.{IsMarked}
 use Rattle.kb_padding.specs.Misplaced.{IsWithoutMisplaced}
 use Rattle.kb_padding.specs.Cleaning.{is_dropped, kept_rows}
-use Rattle.kb_padding.proofs.Cleanings.{unpadded_text, padded_where_accepted, IsTable-without, without_misplaced_moves, texts_without, symbols_without}
+use Rattle.kb_padding.proofs.Cleanings.{IsTable-without, without_misplaced_moves, texts_without, symbols_without}
 use Rattle.kb_padding.proofs.misplaced.without_misplaced.Goals as goal
 
 same_table : {initial initial' : ℕ} {rows rows' : List Moves} {accepting accepting' : List Bool} → initial ≡ initial' → rows ≡ rows' → accepting ≡ accepting'
