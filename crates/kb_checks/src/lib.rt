@@ -3,12 +3,15 @@
 //!
 //! That a call succeeds where there is memory is stated by no contract, since want of memory is an
 //! answer that is free. Calls that the program makes are shown by the worked cases (`kb_cases`);
-//! the others are called here. `words` has words, presentations and a copied reducer, `reducers` both
-//! reducers by a list that changes, `records` printed
-//! records, `automata` automata and the time that the canonical form of many states takes,
-//! `exploration` the least text that a machine accepts, `branching` the states of a machine with
-//! several moves by one symbol, `least` the least text of a nondeterministic automaton, and
-//! `outside` the adapters over real files and streams.
+//! the others are called here, and what no clause says of threads is seen here:
+//!
+//! - `automata`: automata, and the time that the canonical form of many states takes.
+//! - `branching`: the states of a machine with several moves by one symbol.
+//! - `exploration`: the least text that a machine accepts.
+//! - `least`: the least text of a nondeterministic automaton.
+//! - `outside`: the adapters over real files and streams.
+//! - `reducers`: both reducers, by a list of rules that changes.
+//! - `words`: words, presentations and a copied reducer.
 //!
 //! Below are the libraries that are tested.
 #![tactic(auto)]
@@ -23,8 +26,6 @@ mod exploration;
 mod least;
 #[cfg(test)]
 mod outside;
-#[cfg(test)]
-mod records;
 #[cfg(test)]
 mod reducers;
 #[cfg(test)]

@@ -8,7 +8,7 @@ use Rattle.kb_fsa.specs.Counted.{CountedAnd, CountedOr, CountedNot, CountedExist
 use Rattle.kb_fsabool.specs.Answers.{IsIntersection, IsUnion, IsComplement}
 use Rattle.kb_fsadet.specs.Projection.{IsProjection}
 use Rattle.kb_fsarat.specs.Products.{IsConcatenation, IsStar, IsReversal}
-use Rattle.kb_fsafile.specs.Printed.{text_of_automaton}
+use Rattle.kb_fsaprint.specs.Printed.{text_of_automaton}
 use Rattle.kb_task.specs.Effects.{Writes, WritesFront, Stores, LeavesUnknown}
 use Rattle.kb_task.specs.Limits.{undecided_line}
 use Rattle.kb_task.specs.declared.loading.automata.Kind.{Kind}

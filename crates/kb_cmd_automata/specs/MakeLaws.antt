@@ -4,7 +4,7 @@ use Rattle.kb_io.specs.Outside.{Outside}
 use Rattle.kb_fsa.specs.Language.{Automaton, AcceptsText, SameLanguage, IsTextOf}
 use Rattle.kb_fsa.specs.Counted.{IsProduct}
 use Rattle.kb_fsadet.specs.Projection.{HasSecond}
-use Rattle.kb_fsafile.specs.Printed.{text_of_automaton}
+use Rattle.kb_fsaprint.specs.Printed.{text_of_automaton}
 use Rattle.kb_fsamin.proofs.Uniqueness.{one_canonical}
 use Rattle.kb_fsarat.specs.Products.{IsSplit}
 use Rattle.kb_task.specs.Runs.{HasSameEffect, IsComplete, IsSettledByFiles, IsFunctionOfInputs}

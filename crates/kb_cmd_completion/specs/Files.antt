@@ -4,7 +4,7 @@ use Rattle.kb_word.specs.Words.{Pair}
 use Rattle.kb_word.specs.Presentations.{PresentationParts}
 use Rattle.kb_machine.specs.declared.line.Line.{Line}
 use Rattle.kb_fsa.specs.Language.{Automaton}
-use Rattle.kb_fsafile.specs.Printed.{text_of_automaton}
+use Rattle.kb_fsaprint.specs.Printed.{text_of_automaton}
 use Rattle.kb_presprint.specs.Printed.{text_of_presentation}
 use Rattle.kb_proof.specs.Printed.{header, text_of_body}
 use Rattle.kb_proof.specs.declared.log.Version.TheVariants.{Two}

@@ -5,7 +5,7 @@ use Rattle.kb_io.specs.Outside.{Outside}
 use Rattle.kb_word.specs.Presentations.{PresentationParts}
 use Rattle.kb_word.specs.WordOrderLaws.{word_orders}
 use Rattle.kb_lines.proofs.UniqueLemmas.{one-answered}
-use Rattle.kb_fsafile.specs.Printed.{text_of_automaton}
+use Rattle.kb_fsaprint.specs.Printed.{text_of_automaton}
 use Rattle.kb_presprint.specs.Printed.{text_of_presentation}
 use Rattle.kb_task.specs.Presentations.{HoldsPresentation, IsPresentationFault}
 use Rattle.kb_task.specs.Runs.{HasSameEffect, LeavesSame, ReadsSame}

@@ -8,7 +8,7 @@ ghost use Rattle.kb_cmd_completion.specs.Files.{completed_texts};
 
 use crate::file_names::{acceptor_file, rules_file};
 use kb_fsa::Fsa;
-use kb_fsafile::write as write_automaton;
+use kb_fsaprint::write as write_automaton;
 use kb_presprint::write as write_presentation;
 use kb_rules::Rules;
 use kb_task::TextFile;

@@ -6,6 +6,3 @@ pub mod PlaceLemmas
 pub mod RepeatLemmas
 pub mod TakenLemmas
 pub mod ViewLemmas
-pub mod SpelledValues
-pub mod WrittenTexts
-pub mod WrittenLists

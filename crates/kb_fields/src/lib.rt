@@ -1,4 +1,4 @@
-//! Fields of records, and lists of names of generators: what files of presentations and of automata share.
+//! Fields of records, and lists of names of generators: what readers of presentations and of automata share.
 //!
 //! # The public contract
 //!
@@ -12,7 +12,6 @@
 //!   none `IdWord` or `_`. A refusal names a fault that the value has (`HasNamesFault` of
 //!   `specs/Generators.antt`), and by the law [`names_of_generators_have_no_fault`] a value that lists such names
 //!   has none: so, want of memory apart, a value is refused exactly where it has a fault.
-//! - [`print_names`] appends a list of names as it is printed.
 //!
 //! No clause says which of several names is answered: of repeated names it is the one whose second place comes
 //! first in the text, and of taken names the first that stands earlier in the list too, or is `IdWord` or `_`. The
@@ -25,7 +24,6 @@
 //! - `values` tells Names and lists of Names apart from other values, and `numbers` numbers and lists of numbers.
 //!   Lists are read place by place, in whichever form they are kept; one kept as numbers is copied at once.
 //! - `generators` joins them to names of generators: each name is pushed in turn, and one that was there is taken.
-//! - `printing` appends the names of a list one by one.
 //!
 //! Definitions speak of the tree of the text (`specs/Tree.antt` of `kb_record`): `specs/Fields.antt` of fields and
 //! of values, `specs/Generators.antt` of names of generators.
@@ -40,8 +38,6 @@
 //! - `proofs/RepeatLemmas.antt`, `proofs/TakenLemmas.antt`: names that stand twice in a record, and taken names.
 //! - `proofs/NameFaults.antt`: names of generators have no fault.
 //! - `proofs/Outcomes.antt`: what follows from a clause on an outcome.
-//! - `proofs/WrittenTexts.antt`: texts that are written piece by piece. `proofs/WrittenLists.antt`,
-//!   `proofs/SpelledValues.antt`: lists, names and strings whose text is read again.
 //!
 //! Below stand `kb_record`, which reads trees, and `kb_word`, whose names are the answers. Above stand the crates
 //! that read and write files of presentations and of automata.
@@ -52,7 +48,6 @@ mod fields;
 mod generators;
 mod laws;
 mod numbers;
-mod printing;
 mod values;
 
 pub use error::NamesFault;
@@ -60,5 +55,4 @@ pub use fields::{field_named, repeated_name};
 pub use generators::names_of;
 pub use laws::names_of_generators_have_no_fault;
 pub use numbers::{number_at, number_of, numbers_listed};
-pub use printing::print_names;
 pub use values::bare_name;

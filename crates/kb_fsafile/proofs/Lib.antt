@@ -1,15 +1,10 @@
-pub mod Cleanings
-pub mod EdgeLemmas
 pub mod FieldFaults
 pub mod HeldFields
 pub mod KindLemmas
 pub mod MoveLemmas
 pub mod NoFault
 pub mod NumberLemmas
-pub mod PaddedTexts
-pub mod PaddingReach
 pub mod RowLemmas
 pub mod TableLemmas
 pub mod TextLemmas
 pub mod UniqueAutomaton
-pub mod WrittenAutomata

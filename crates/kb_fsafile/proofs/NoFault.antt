@@ -16,7 +16,7 @@ use Rattle.kb_fsa.specs.declared.alphabet.Alphabet.TheVariants.{Pair}
 use Rattle.kb_fsa.specs.Table.{Table, AcceptsFrom}
 use Rattle.kb_fsa.specs.Language.{Automaton}
 use Rattle.kb_fsafile.specs.Kinds.{list_of_numbers, list_of_entries, StandsFor, IsNumberOf, IsTargetOf, numbered_from}
-use Rattle.kb_fsafile.specs.Misplaced.{IsCleaned}
+use Rattle.kb_padding.specs.Misplaced.{IsCleaned}
 use Rattle.kb_fsafile.specs.Holds.{HoldsEntries, HoldsTable, HoldsAutomaton, AutomatonOf, IsPairSize}
 use Rattle.kb_fsafile.specs.Faults.{HasOtherAlphabet, HasWrongStates, HasOutOfRange, HasOtherForm, HasPaddingInside, HasFieldFault, HasFsaFault}
 use Rattle.kb_fsafile.specs.declared.format.Format.TheVariants.{Dense, Sparse}

@@ -18,6 +18,10 @@ use Rattle.kb_fsafile.specs.Faults.{HasSize, HasFieldFault, HasFsaFault}
 use Rattle.kb_fsafile.specs.Reading.{HasLetters, IsAcceptingState, HasAcceptingStates}
 use Rattle.kb_fsafile.specs.RowsRead.{HasRows, HasTable, TableOf, most_symbols, IsCleaningFault}
 use Rattle.kb_fsafile.specs.declared.accepting.Accepting.{Accepting}
+use Rattle.kb_padding.specs.Misplaced.{IsPaddingFault}
+use Rattle.kb_padding.specs.declared.error.PaddingFault.{PaddingFault}
+use Rattle.kb_padding.specs.declared.error.PaddingFault.TheVariants as padding_faults
+use Rattle.kb_fsafile.specs.Refusals.{RefusesPadding}
 use Rattle.kb_fsafile.specs.declared.error.FsaError.{FsaError}
 use Rattle.kb_fsafile.specs.declared.error.FsaError.TheVariants as errors
 
@@ -145,14 +149,19 @@ plain_automaton n alphabet read is few table symbols =
     let all = subst S is symbols in
     subst A (sym is) (record { generators = subst G is few; table = table; symbols = all; texts = λ text some. words_over n read read.initial text table all some })
 
+-- a text that is accepted and not padded is a fault of the fields
+padding_fault : (given : Fields) (names : List (List ℕ)) (n : ℕ) (read : Table) (fault : PaddingFault) (error : FsaError) → HoldsTable given names (Pair n) read
+    → IsPaddingFault n read fault → RefusesPadding fault error → HasFieldFault given error
+padding_fault given names n read padding_faults.Inside error holds unpadded is =
+    let P : FsaError → Type 0 = λ e. HasFieldFault given e in
+    subst P (sym is) (record { names = names; n = n; read = read; holds = holds; text = unpadded.0; accepted = unpadded.1; not_padded = unpadded.2 })
+padding_fault given names n read padding_faults.Memory error holds any is = let P : FsaError → Type 0 = λ e. HasFieldFault given e in subst P (sym is) tt
+
 -- a fault of the cleaned table is one of the fields
 pub cleaning_fault : (given : Fields) (names : List (List ℕ)) (alphabet : Alphabet) (read : Table) (error : FsaError) → HoldsTable given names alphabet read
     → IsCleaningFault alphabet read error → HasFieldFault given error
 cleaning_fault given names (Plain n) read error holds fault = absurd fault
-cleaning_fault given names (Pair n) read errors.PaddingInside holds fault =
-    record { names = names; n = n; read = read; holds = holds; text = fault.0; accepted = fault.1; not_padded = fault.2 }
-cleaning_fault given names (Pair n) read errors.Memory holds fault = tt
-cleaning_fault given names (Pair n) read error holds fault = absurd fault
+cleaning_fault given names (Pair n) read error holds fault = padding_fault given names n read fault.0 error holds fault.1 fault.2
 
 -- a fault of the fields is one of the bytes
 pub text_fault : (bytes : List ℕ) (text : TextTree) (error : FsaError) → TextOf bytes text → text_nesting text ≤ deepest → HasFieldFault text.fields error → HasFsaFault bytes error

@@ -12,7 +12,7 @@ use Rattle.kb_fsa.specs.Table.{Moves, target, Table, moves_of, step}
 use Rattle.kb_fsa.specs.Language.{Automaton}
 use Rattle.kb_fsa.proofs.Lookups.{same_from_targets, IsRow-moves_of}
 use Rattle.kb_fsafile.specs.Kinds.{count_value, list_of_numbers, list_of_entries, entry_value, StandsFor, numbered_from}
-use Rattle.kb_fsafile.specs.Misplaced.{IsWithoutMisplaced, IsCleaned}
+use Rattle.kb_padding.specs.Misplaced.{IsWithoutMisplaced, IsCleaned}
 use Rattle.kb_fsafile.specs.Holds.{HoldsRecord, HoldsString, HoldsCount, HoldsNames, HoldsPairs, HoldsAlphabet, HoldsStates, HoldsInitial, HoldsAccepting, HoldsEntries, HoldsRow, HoldsRows, HoldsMoves, HoldsTable, HoldsAutomaton, format_name}
 use Rattle.kb_fsafile.specs.declared.format.Format.{Format}
 use Rattle.kb_fsafile.specs.declared.format.Format.TheVariants.{Dense, Sparse}

@@ -10,7 +10,7 @@ use Rattle.kb_fsa.specs.declared.alphabet.Alphabet.TheVariants.{Plain, Pair}
 use Rattle.kb_fsa.specs.Table.{Moves, IsRow, target, Table}
 use Rattle.kb_fsa.specs.Language.{Automaton}
 use Rattle.kb_fsafile.specs.Kinds.{count_value, list_of_numbers, list_of_entries, IsNumbers, StandsFor, IsNumberOf, numbered_from}
-use Rattle.kb_fsafile.specs.Misplaced.{IsCleaned}
+use Rattle.kb_padding.specs.Misplaced.{IsCleaned}
 use Rattle.kb_fsafile.specs.declared.format.Format.{Format}
 use Rattle.kb_fsafile.specs.declared.format.Format.TheVariants.{Dense, Sparse}
 

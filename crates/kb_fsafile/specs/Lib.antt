@@ -1,7 +1,4 @@
-pub use Rattle.kb_fsaprint.specs.Printed
 pub mod Kinds
-pub mod Misplaced
-pub mod Cleaning
 pub mod Holds
 pub mod Faults
 pub mod Reading

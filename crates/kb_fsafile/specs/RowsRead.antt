@@ -12,7 +12,9 @@ use Rattle.kb_fsa.specs.declared.alphabet.Alphabet.{Alphabet}
 use Rattle.kb_fsa.specs.declared.alphabet.Alphabet.TheVariants.{Plain, Pair}
 use Rattle.kb_fsafile.specs.Kinds.{list_of_numbers, list_of_entries, numbered_from}
 use Rattle.kb_fsafile.specs.Holds.{HoldsStates, HoldsInitial, HoldsAccepting, HoldsRow, HoldsRows, HoldsMoves, HoldsTable}
-use Rattle.kb_fsafile.specs.Misplaced.{IsPaddingFault}
+use Rattle.kb_padding.specs.Misplaced.{IsPaddingFault}
+use Rattle.kb_padding.specs.declared.error.PaddingFault.{PaddingFault}
+use Rattle.kb_fsafile.specs.Refusals.{RefusesPadding}
 use Rattle.kb_fsafile.specs.Faults.{ListsRows, HasSize, HasFieldFault}
 use Rattle.kb_fsafile.specs.declared.format.Format.{Format}
 use Rattle.kb_fsafile.specs.declared.format.Format.TheVariants.{Dense, Sparse}
@@ -151,4 +153,5 @@ pub record TableOf (bytes : List ℕ) (names : List (List ℕ)) (alphabet : Alph
 -- why the table is refused: it is one of pairs and accepts a text that isn't padded
 abbrev pub IsCleaningFault : Alphabet → Table → FsaError → Type 0
 IsCleaningFault (Plain n) read error = ⊥
-IsCleaningFault (Pair n) read error = IsPaddingFault n read error
+IsCleaningFault (Pair n) read error =
+    (fault : PaddingFault) × IsPaddingFault n read fault × RefusesPadding fault error

@@ -4,6 +4,7 @@ ghost use Rattle.kb_fsafile.specs.Faults.{name_of};
 ghost use Rattle.kb_fsafile.specs.declared.error.FsaError.TheVariants as errors;
 ghost use Rattle.std.specs.Prelude.{◌≡◌};
 
+use kb_padding::PaddingFault;
 use kb_record::RecordError;
 use kb_word::{Memory, OwnedText};
 use std::alloc::{AllocError, AllocFailed};
@@ -113,6 +114,19 @@ impl From<RecordError> for FsaError {
             RecordError::Syntax { at } => FsaError::Syntax { at },
             RecordError::TooDeep { at } => FsaError::TooDeep { at },
             RecordError::Memory => FsaError::Memory,
+        }
+    }
+}
+
+impl From<PaddingFault> for FsaError {
+    ghost use Rattle.kb_fsafile.specs.Refusals.{RefusesPadding};
+
+    ghost from_gives = { λ fault error. RefusesPadding fault error };
+
+    fn from(fault: PaddingFault) -> FsaError {
+        match fault {
+            PaddingFault::Inside => FsaError::PaddingInside,
+            PaddingFault::Memory => FsaError::Memory,
         }
     }
 }

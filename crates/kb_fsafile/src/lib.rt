@@ -1,4 +1,4 @@
-//! Automaton files: from bytes to automata; and what is written is read again.
+//! Automaton files: from bytes to automata.
 //!
 //! A file is the text of a record, `NAME := rec( FIELDS )`. Its own name is free, and of its fields these count;
 //! others are read and ignored.
@@ -27,9 +27,6 @@
 //! text is read in one way at most. So, want of memory apart, a text is refused exactly where it has a fault. Which
 //! of several faults is named is tested, and not proved; `docs/formats.md` has the order.
 //!
-//! [`write`], of `kb_fsaprint`, returns the one printed text of a canonical automaton over any names. Where they are
-//! names of generators, it is read as that automaton ([`a_written_automaton_is_read_again`]).
-//!
 //! # How it is made
 //!
 //! - `fields` looks up fields of their kinds, and `values` tells strings, ranges and lists of pairs of numbers from
@@ -38,20 +35,17 @@
 //!   to 10^18 before the rows are seen to be as many, so the accepting states are marked after the rows.
 //! - `rows` reads the rows of a table, dense or sparse, as ascending symbols with targets that are states. A row that
 //!   the tree keeps as numbers is read where it stands, and a sparse row needs no map where its symbols ascend.
-//! - `misplaced` drops moves of automata of pairs, or refuses them. By then the tree of the text is
-//!   let go, and the moves that are listed to find them are let go before rows are made anew.
+//! - `kb_padding` drops moves of automata of pairs, or refuses them. By then the tree of the text is let go.
 //! - `reader` joins them, each step a function called in the order of the refusals.
 //!
 //! # Where the definitions and proofs are
 //!
 //! Definitions speak of the tree of the text: in `specs/` the kinds of values in `Kinds`, what a text holds in
-//! `Holds`, what each refusal means in `Faults`, moves that no padded text takes in `Misplaced`; what the functions
-//! for fields and rows return in `Reading` and `RowsRead`. In `proofs/`, `UniqueAutomaton` and `NoFault` have the laws
-//! of reading, `WrittenAutomata` that of writing, and `EdgeLemmas`, `PaddedTexts`, `PaddingReach` and `Cleanings` the
-//! moves that are dropped.
+//! `Holds`, what each refusal means in `Faults`; what the functions
+//! for fields and rows return in `Reading` and `RowsRead`. In `proofs/`, `UniqueAutomaton` and `NoFault` have the laws.
 //!
-//! `kb_record` (trees), `kb_fields` (fields), `kb_fsaprint` (the printed text), `kb_fsa` (automata) and `kb_fsa`
-//! (what moves lead to) are below; the commands that load and store automata are above.
+//! `kb_record` (trees), `kb_fields` (fields), `kb_fsa` (automata) and `kb_padding` (moves that no padded text takes) are
+//! below; `kb_fsaprint`, which writes what is read here again, and the commands that load automata are above.
 #![tactic(auto)]
 
 mod accepting;
@@ -62,7 +56,6 @@ mod format;
 mod header;
 mod initial;
 mod laws;
-mod misplaced;
 mod reader;
 mod rows;
 mod states;
@@ -70,8 +63,5 @@ mod table;
 mod values;
 
 pub use error::{Field, FsaError};
-pub use kb_fsaprint::write;
-pub use laws::{
-    a_text_says_one_automaton, a_written_automaton_is_read_again, an_automaton_file_has_no_fault,
-};
+pub use laws::{a_text_says_one_automaton, an_automaton_file_has_no_fault};
 pub use reader::read;

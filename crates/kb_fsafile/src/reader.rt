@@ -7,7 +7,7 @@ ghost use Rattle.kb_record.specs.View.{text_view};
 ghost use Rattle.kb_fields.specs.Fields.{fields_view};
 ghost use Rattle.kb_fsa.specs.Language.{IsAutomaton, generators};
 ghost use Rattle.kb_fsa.specs.Table.{IsTable, HasSymbols};
-ghost use Rattle.kb_fsafile.specs.Misplaced.{IsCleaned};
+ghost use Rattle.kb_padding.specs.Misplaced.{IsCleaned};
 ghost use Rattle.kb_fsafile.specs.Holds.{AutomatonOf};
 ghost use Rattle.kb_fsafile.specs.Faults.{HasSize, HasFieldFault, HasFsaFault};
 ghost use Rattle.kb_fsafile.specs.RowsRead.{HasTable, HasLetteredTable, TableOf, most_symbols, IsCleaningFault};
@@ -18,10 +18,10 @@ use crate::error::FsaError;
 use crate::fields::check_once;
 use crate::header::check_is_fsa;
 use crate::initial::read_initial;
-use crate::misplaced::without_misplaced;
 use crate::states::count_states;
 use crate::table::read_rows;
 use kb_fsa::{Alphabet, Fsa, Table};
+use kb_padding::without_misplaced;
 use kb_record::{Rec, Value, parse};
 use kb_word::Names;
 use std::alloc::Global;
@@ -104,6 +104,6 @@ fn automaton_table(alloc: Global, alphabet: Alphabet, read: Table) -> Result<Tab
 {
     match alphabet {
         Alphabet::Plain(_) => Ok(read),
-        Alphabet::Pair(n) => without_misplaced(alloc, n, read),
+        Alphabet::Pair(n) => Ok(without_misplaced(alloc, n, read)?),
     }
 }

@@ -3,19 +3,28 @@ use Rattle.std.proofs.Common.{◌≡◌, ◌≢◌, ℕ, suc, ◌+◌, ◌<◌, 
 use Rattle.std.specs.Prelude.{codes}
 use Rattle.std.specs.List.{list_all}
 use Rattle.std.proofs.lemmas.Bool.{and_from, le-leb}
+use Rattle.std.proofs.lemmas.Fmt.{decimal_digit}
 use Rattle.std.proofs.lemmas.List.{drop_more}
 use Rattle.kb_record.specs.Tree.{Value, range_value, string_value, record_value, list_value, Fields, no_fields, field}
-use Rattle.kb_record.specs.Layout.{indent, line_of, line_of_more_places, are_lists, lines_of_places, text_of_value, printed}
-use Rattle.kb_record.specs.Printing.{pieces, IsPrintedUpTo}
-use Rattle.kb_record.proofs.PrintedPieces.{pieces_go, pieces_end}
+use Rattle.kb_layout.specs.Layout.{indent, line_of, line_of_more_places, are_lists, lines_of_places, text_of_value, printed}
+use Rattle.kb_layout.specs.Printing.{pieces, IsPrintedUpTo}
+use Rattle.kb_layout.proofs.PrintedPieces.{pieces_go, pieces_end}
 use Rattle.kb_fields.specs.Fields.{bare_name, list_of_names}
-use Rattle.kb_fields.proofs.WrittenTexts.{joined, record_lines}
+use Rattle.kb_layout.proofs.WrittenTexts.{joined, record_lines}
 use Rattle.kb_fsa.specs.Table.{Moves, IsRow, IsSplit, target}
 use Rattle.kb_fsa.proofs.RowSplits.{rest_of_split}
-use Rattle.kb_fsaprint.specs.Values.{count_value, list_of_numbers, entry_value}
+use Rattle.kb_fsafile.specs.Kinds.{count_value, list_of_numbers, entry_value}
 use Rattle.kb_fsaprint.specs.Printed.{numbers_value, names_fields, states_fields, flags_value, targets_from, list_of_moves, row_places, rows_places, accepting_from, accepting_value}
 use Rattle.kb_fsaprint.specs.Writing.{number_text, move_text, IsRowPrinted}
 use Rattle.kb_fsaprint.specs.declared.format.RowFormat.{RowFormat}
+
+-- ---- the numbers that each text has
+
+one_text : number_text 1 ≡ codes "1"
+one_text = decimal_digit 1 (omega arith)
+
+two_text : number_text 2 ≡ codes "2"
+two_text = decimal_digit 2 (omega arith)
 
 -- ---- lists on one line
 
@@ -173,8 +182,8 @@ names_record level inside names is = ap (λ k. joined (names_texts level k names
 -- the record of an alphabet of pairs, at level 1
 abbrev pub pairs_texts : ℕ → Value → List (List ℕ)
 pairs_texts size base =
-    codes "rec(\n    type := \"product\",\n    size := " ∷ number_text size ∷ codes ",\n    arity := " ∷ number_text 2
-    ∷ codes ",\n    padding := _,\n    base := " ∷ text_of_value 2 base ∷ codes "\n  )" ∷ []
+    codes "rec(\n    type := \"product\",\n    size := " ∷ number_text size
+    ∷ codes ",\n    arity := 2,\n    padding := _,\n    base := " ∷ text_of_value 2 base ∷ codes "\n  )" ∷ []
 
 pub pairs_record : (size : ℕ) (base : Value)
     → joined (pairs_texts size base)
@@ -184,7 +193,10 @@ pub pairs_record : (size : ℕ) (base : Value)
     (field (codes "arity") (count_value 2)
     (field (codes "padding") (bare_name (codes "_"))
     (field (codes "base") base no_fields))))))
-pairs_record size base = sym (record_lines 1 (
+pairs_record size base =
+    let behind = codes ",\n    padding := _,\n    base := " ++ (text_of_value 2 base ++ codes "\n  )") in
+    ap (λ t. codes "rec(\n    type := \"product\",\n    size := " ++ (number_text size ++ (codes ",\n    arity := " ++ (t ++ behind)))) (sym two_text)
+    ∙ sym (record_lines 1 (
     field (codes "type") (string_value (codes "product"))
     (field (codes "size") (count_value size)
     (field (codes "arity") (count_value 2)
@@ -217,8 +229,8 @@ abbrev pub whole_texts : Value → Value → Value → ℕ → List (List ℕ)
 whole_texts alphabet accepting table count =
     codes "_FSA := rec(\n  isFSA := true,\n  alphabet := " ∷ text_of_value 1 alphabet
     ∷ codes ",\n  states := rec(\n    type := \"simple\",\n    size := " ∷ number_text count
-    ∷ codes "\n  ),\n  flags := [\"DFA\",\"minimized\",\"BFS\",\"accessible\",\"trim\"],\n  initial := [" ∷ number_text 1
-    ∷ codes "],\n  accepting := " ∷ text_of_value 1 accepting ∷ codes ",\n  table := " ∷ text_of_value 1 table ∷ codes "\n);\n" ∷ []
+    ∷ codes "\n  ),\n  flags := [\"DFA\",\"minimized\",\"BFS\",\"accessible\",\"trim\"],\n  initial := [1],\n  accepting := "
+    ∷ text_of_value 1 accepting ∷ codes ",\n  table := " ∷ text_of_value 1 table ∷ codes "\n);\n" ∷ []
 
 -- its fields
 abbrev whole_fields : Value → Value → Value → ℕ → Fields
@@ -231,9 +243,8 @@ whole_fields alphabet accepting table count =
     (field (codes "accepting") accepting
     (field (codes "table") table no_fields))))))
 
-initial_line : (after_it : List ℕ) → text_of_value 1 (numbers_value (1 ∷ [])) ++ after_it ≡ codes "[" ++ (number_text 1 ++ (codes "]" ++ after_it))
-initial_line after_it =
-    ap (λ t. codes "[" ++ t) (append_assoc (number_text 1 ++ []) (codes "]") after_it ∙ ap (λ t. t ++ (codes "]" ++ after_it)) (append-nil (number_text 1)))
+initial_line : (after_it : List ℕ) → text_of_value 1 (numbers_value (1 ∷ [])) ++ after_it ≡ codes "[1]" ++ after_it
+initial_line after_it = ap (λ t. codes "[" ++ (((t ++ []) ++ codes "]") ++ after_it)) one_text
 
 pub whole_text : (alphabet accepting table : Value) (count : ℕ)
     → joined (whole_texts alphabet accepting table count)
@@ -262,7 +273,7 @@ whole_text alphabet accepting table count =
 -- ---- the states that accept, as a range or as a list
 
 abbrev pub range_texts : ℕ → List (List ℕ)
-range_texts count = codes "[" ∷ number_text 1 ∷ codes ".." ∷ number_text count ∷ codes "]" ∷ []
+range_texts count = codes "[1.." ∷ number_text count ∷ codes "]" ∷ []
 
 accepting_as : Bool → List Bool → List ℕ
 accepting_as ranged accepting =
@@ -274,9 +285,7 @@ unfolding accepting_as
 accepting_range accepting all some =
     let test = and_from (list_all (λ accepts. accepts) accepting) (nat_le 2 (length accepting)) all (le-leb 2 (length accepting) some) in
     let count = number_text (length accepting) in
-    ap (λ t. codes "[" ++ t)
-    (sym (append_assoc (number_text 1 ++ codes "..") count (codes "]") ∙ append_assoc (number_text 1) (codes "..") (count ++ codes "]")))
-    ∙ sym (ap (λ b. accepting_as b accepting) test)
+    ap (λ t. codes "[" ++ (((t ++ codes "..") ++ count) ++ codes "]")) (sym one_text) ∙ sym (ap (λ b. accepting_as b accepting) test)
 
 pub accepting_list : (accepting : List Bool) → (list_all (λ accepts. accepts) accepting && nat_le 2 (length accepting)) ≡ false
     → line_of (numbers_value (accepting_from 1 accepting)) ≡ text_of_value 1 (accepting_value accepting)

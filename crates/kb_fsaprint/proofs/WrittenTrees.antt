@@ -8,7 +8,7 @@ use Rattle.std.proofs.lemmas.List.Elements.{All-head, All-tail}
 use Rattle.kb_record.specs.Tree.{Value, range_value, list_value, record_value}
 use Rattle.kb_record.specs.Spelling.{IsName, IsStringByte}
 use Rattle.kb_record.specs.Grammar.{IsValue, AreFields, IsPlaceList, ArePlaces}
-use Rattle.kb_record.specs.Layout.{IsSpelledValue, AreSpelledFields, AreSpelledPlaces}
+use Rattle.kb_layout.specs.Layout.{IsSpelledValue, AreSpelledFields, AreSpelledPlaces}
 use Rattle.kb_record.specs.Nesting.{value_nesting, fields_nesting, places_nesting, text_nesting, deepest}
 use Rattle.kb_fields.specs.Fields.{field_names, HasFieldTwice, SomePlaceHasTwice}
 use Rattle.kb_fields.specs.Generators.{most_generators}
@@ -18,12 +18,12 @@ use Rattle.kb_fsa.specs.Table.{Moves, IsRow, Table, IsTable, HasSymbols, target}
 use Rattle.kb_fsa.specs.Language.{Automaton, IsAutomaton, generators, symbols}
 use Rattle.kb_fsa.proofs.Lookups.{Ascends-head, Ascends-tail, target_within}
 use Rattle.kb_fsa.specs.Table.{Ascends}
-use Rattle.kb_fsaprint.specs.Values.{list_of_numbers}
+use Rattle.kb_fsafile.specs.Kinds.{list_of_numbers}
 use Rattle.kb_fsaprint.specs.Printed.{numbers_value, targets_from, list_of_moves, row_places, rows_places, format_of, format_name, move_count, accepting_from, accepting_value, names_fields, alphabet_fields, states_fields, flags_value, table_fields, tree_of}
 use Rattle.kb_fsaprint.specs.declared.format.RowFormat.{RowFormat}
 use Rattle.kb_fsaprint.specs.declared.format.RowFormat.TheVariants.{Dense, Sparse}
-use Rattle.kb_fields.proofs.WrittenLists.{names_formed, numbers_formed, names_shallow, numbers_shallow, none_of, nothing, names_once, numbers_once, short, names_spelled}
-use Rattle.kb_fields.proofs.SpelledValues.{word_is_name, string_bytes, none_stands_twice}
+use Rattle.kb_layout.proofs.WrittenLists.{names_formed, numbers_formed, names_shallow, numbers_shallow, none_of, nothing, names_once, numbers_once, short, names_spelled}
+use Rattle.kb_layout.proofs.SpelledValues.{word_is_name, string_bytes, none_stands_twice}
 
 -- what holds of a range and of a list holds of the accepting states
 either : (P : Value → Type 0) (b : Bool) (x y : Value) → P x → P y → P (if b then x else y)

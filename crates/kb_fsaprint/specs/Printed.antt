@@ -2,13 +2,13 @@
 use Rattle.std.specs.Prelude.{ℕ, zero, suc, ◌+◌, nat_le, Bool, true, false, ◌&&◌, if◌then◌else◌, pos, List, [], ◌∷◌, length, map, codes}
 use Rattle.std.specs.List.{list_all}
 use Rattle.kb_record.specs.Tree.{Value, string_value, record_value, list_value, range_value, Fields, no_fields, field, Places, no_places, place, TextTree}
-use Rattle.kb_record.specs.Layout.{printed}
+use Rattle.kb_layout.specs.Layout.{printed}
 use Rattle.kb_fields.specs.Fields.{bare_name, list_of_names}
 use Rattle.kb_fsa.specs.declared.alphabet.Alphabet.{Alphabet}
 use Rattle.kb_fsa.specs.declared.alphabet.Alphabet.TheVariants.{Plain, Pair}
 use Rattle.kb_fsa.specs.Table.{Moves, target}
 use Rattle.kb_fsa.specs.Language.{Automaton, generators, symbols}
-use Rattle.kb_fsaprint.specs.Values.{count_value, list_of_numbers, list_of_entries}
+use Rattle.kb_fsafile.specs.Kinds.{count_value, list_of_numbers, list_of_entries}
 use Rattle.kb_fsaprint.specs.declared.format.RowFormat.{RowFormat}
 use Rattle.kb_fsaprint.specs.declared.format.RowFormat.TheVariants.{Dense, Sparse}
 

@@ -1,7 +1,7 @@
 -- Writing an automaton's text: rows and lists on their way.
 use Rattle.std.specs.Prelude.{◌≡◌, ℕ, ◌≤◌, pos, List, ◌++◌, All, codes}
 use Rattle.std.specs.Fmt.{signed_decimal}
-use Rattle.kb_record.specs.Printing.{IsPrintedUpTo}
+use Rattle.kb_layout.specs.Printing.{IsPrintedUpTo}
 use Rattle.kb_fsa.specs.Table.{Moves, target, IsRow}
 use Rattle.kb_fsaprint.specs.Printed.{targets_from}
 

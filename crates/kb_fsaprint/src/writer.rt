@@ -2,7 +2,7 @@
 
 ghost use Rattle.std.specs.Prelude.{◌≡◌, ◌≢◌, ◌≤◌, ◌<◌, ◌^◌, ◌-◌, ◌++◌, [], IfOk, OnOk, length, pos};
 ghost use Rattle.kb_record.specs.Tree.{record_value, list_value};
-ghost use Rattle.kb_record.specs.Layout.{indent, line_of, text_of_value};
+ghost use Rattle.kb_layout.specs.Layout.{indent, line_of, text_of_value};
 ghost use Rattle.kb_fsa.specs.Language.{generators};
 ghost use Rattle.kb_fsa.specs.Canonical.{IsCanonical};
 ghost use Rattle.kb_fsa.specs.declared.alphabet.Alphabet.TheVariants.{Pair};
@@ -11,9 +11,8 @@ ghost use Rattle.kb_fsaprint.specs.Printed.{text_of_automaton, alphabet_fields, 
 ghost use Rattle.kb_fsaprint.specs.Writing.{number_text, move_text};
 
 use crate::format::RowFormat;
-use kb_fields::print_names;
 use kb_fsa::{Alphabet, Fsa, Row, Table, split_at_symbol};
-use kb_record::{print_indent, print_number};
+use kb_layout::{print_indent, print_names, print_number};
 use kb_word::{Memory, Names};
 use std::alloc::Global;
 
@@ -39,10 +38,8 @@ fn write_automaton(names: &Names, fsa: &Fsa, out: &mut Vec<u8>) -> Result<(), Me
     out.extend_from_slice(b",\n  states := rec(\n    type := \"simple\",\n    size := ")?;
     write_number(fsa.len(), out)?;
     out.extend_from_slice(
-        b"\n  ),\n  flags := [\"DFA\",\"minimized\",\"BFS\",\"accessible\",\"trim\"],\n  initial := [",
+        b"\n  ),\n  flags := [\"DFA\",\"minimized\",\"BFS\",\"accessible\",\"trim\"],\n  initial := [1],\n  accepting := ",
     )?;
-    write_number(1, out)?;
-    out.extend_from_slice(b"],\n  accepting := ")?;
     write_accepting(fsa.table().accepting(), out)?;
     out.extend_from_slice(b",\n  table := ")?;
     write_table(fsa.table(), RowFormat::of_alphabet(alphabet), out)?;
@@ -74,9 +71,7 @@ fn write_pairs(n: u16, names: &Names, out: &mut Vec<u8>) -> Result<(), Memory>
 {
     out.extend_from_slice(b"rec(\n    type := \"product\",\n    size := ")?;
     write_number(Alphabet::Pair(n).symbols(), out)?;
-    out.extend_from_slice(b",\n    arity := ")?;
-    write_number(2, out)?;
-    out.extend_from_slice(b",\n    padding := _,\n    base := ")?;
+    out.extend_from_slice(b",\n    arity := 2,\n    padding := _,\n    base := ")?;
     write_names(2, names, out)?;
     out.extend_from_slice(b"\n  )")?;
     Ok(())
@@ -124,9 +119,7 @@ fn write_accepting(accepting: &[bool], out: &mut Vec<u8>) -> Result<(), Memory>
         (out.new.items ≡ out.old.items ++ text_of_value 1 (accepting_value accepting.now)) }
 {
     if accepting.iter().all(|accepts| *accepts) && accepting.len() >= 2 {
-        out.push(b'[')?;
-        write_number(1, out)?;
-        out.extend_from_slice(b"..")?;
+        out.extend_from_slice(b"[1..")?;
         write_number(accepting.len() as u32, out)?;
         out.push(b']')?;
         return Ok(());

@@ -7,7 +7,8 @@ ghost use Rattle.kb_record.specs.declared.error.WordError.TheVariants as word_er
 ghost use Rattle.kb_lines.specs.WordLines.{IsOneLine, LineHasFault, AddsGiven};
 
 use crate::answerer::Answerer;
-use kb_record::{WordError, is_blank};
+use kb_lexing::is_blank;
+use kb_record::WordError;
 use kb_word::{Memory, Names, Word, print_word};
 use std::alloc::Global;
 

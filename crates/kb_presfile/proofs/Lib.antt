@@ -7,6 +7,3 @@ pub mod PlaceLemmas
 pub mod UniqueParts
 pub mod RefusalLemmas
 pub mod WeightLemmas
-pub mod WrittenWords
-pub mod WrittenPresentations
-pub mod ReadPresentations

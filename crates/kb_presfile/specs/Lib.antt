@@ -2,4 +2,3 @@ pub mod Kinds
 pub mod Holds
 pub mod Faults
 pub mod Refusals
-pub mod Written

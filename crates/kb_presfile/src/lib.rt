@@ -1,4 +1,4 @@
-//! Presentation files: from bytes to presentations; and what is written is read again.
+//! Presentation files: from bytes to presentations.
 //!
 //! A file is the text of a record, `NAME := rec( FIELDS )`. Its own name is free, and of its fields these
 //! count; others are read and ignored.
@@ -22,12 +22,6 @@
 //! [`a_text_says_one_presentation`] a text is read in one way at most. So, want of memory apart, a text is
 //! refused exactly where it has a fault.
 //!
-//! [`write`], of `kb_presprint`, returns the one printed text of a presentation with the rules of a
-//! list as its equations. Where the names are Names of generators, the rules are over the
-//! generators, and a file has room for them, it is read as that presentation
-//! ([`a_written_presentation_is_read_again`]). The names and weights of a presentation that was
-//! read are such ([`a_presentation_that_is_read_can_be_written`]).
-//!
 //! A text may have several faults. Which of them is named, and at which place, no clause says: whole runs show
 //! the order that `docs/formats.md` has. Each step of it is a function of its own, called in that order.
 //!
@@ -41,8 +35,7 @@
 //!
 //! Definitions speak of the tree of the text (`specs/Tree.antt` of `kb_record`) and of its fields and names of
 //! generators (`specs/` of `kb_fields`): `specs/Kinds.antt` of the kinds of values, `specs/Holds.antt` of what a
-//! text says, `specs/Faults.antt` of what each refusal means, and `specs/Written.antt`
-//! of what is written. Where a field's name stands twice, "the value of the field" is that of the first.
+//! text says, and `specs/Faults.antt` of what each refusal means. Where a field's name stands twice, "the value of the field" is that of the first.
 //!
 //! # Where the proofs are
 //!
@@ -53,12 +46,10 @@
 //! - `proofs/WeightLemmas.antt`: numbers that are weights.
 //! - `proofs/RefusalLemmas.antt`: what the crates below refuse is a fault of the file.
 //! - `proofs/UniqueParts.antt`, `proofs/NoFault.antt`: a text's fields say one presentation, which has no fault.
-//! - `proofs/WrittenWords.antt`, `proofs/WrittenPresentations.antt`: a printed word means the word, and the tree of a
-//!   presentation says it. `proofs/ReadPresentations.antt`: names that were read are Names.
 //!
 //! Below stand `kb_fields`, which looks up fields and reads names of generators, `kb_record`, which reads trees and
-//! evaluates words, `kb_presprint`, which makes the printed text, and `kb_word`, whose presentations are the answers.
-//! Above stand the commands that load and store a presentation.
+//! evaluates words, and `kb_word`, whose presentations are the answers. Above stand `kb_presprint`, which writes what
+//! is read here again, and the commands that load a presentation.
 #![tactic(auto)]
 
 mod equations;
@@ -73,10 +64,7 @@ mod reader;
 mod values;
 
 pub use error::{Field, PresError};
-pub use kb_presprint::write;
 pub use laws::{
-    a_presentation_file_has_no_fault, a_presentation_has_no_fault,
-    a_presentation_that_is_read_can_be_written, a_text_says_one_presentation,
-    a_written_presentation_is_read_again,
+    a_presentation_file_has_no_fault, a_presentation_has_no_fault, a_text_says_one_presentation,
 };
 pub use reader::read;

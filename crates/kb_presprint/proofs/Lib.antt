@@ -1,2 +1,5 @@
 pub mod Writings
 pub mod WrittenTrees
+pub mod WrittenWords
+pub mod WrittenPresentations
+pub mod ReadPresentations

@@ -8,12 +8,12 @@ use Rattle.kb_word.specs.declared.word_order.WordOrder.{WordOrder}
 use Rattle.kb_word.specs.declared.word_order.WordOrder.TheVariants as orders
 use Rattle.kb_record.specs.Tree.{Value, number_value, string_value, list_value, Fields, no_fields, field, place}
 use Rattle.kb_record.specs.View.{places_of}
-use Rattle.kb_record.specs.Layout.{word_text, more_factors_text, line_of, line_of_more_places, are_lists, is_table, text_of_value, printed}
-use Rattle.kb_record.specs.Printing.{pieces, list_of}
-use Rattle.kb_record.proofs.PrintedPieces.{no_table}
+use Rattle.kb_layout.specs.Layout.{word_text, more_factors_text, line_of, line_of_more_places, are_lists, is_table, text_of_value, printed}
+use Rattle.kb_layout.specs.Printing.{pieces, list_of}
+use Rattle.kb_layout.proofs.PrintedPieces.{no_table}
 use Rattle.kb_fields.specs.Fields.{bare_name, list_of_numbers}
-use Rattle.kb_fields.proofs.WrittenTexts.{joined, name_line, record_lines}
-use Rattle.kb_presprint.specs.Values.{equation_value, list_of_places, list_of_equations}
+use Rattle.kb_layout.proofs.WrittenTexts.{joined, name_line, record_lines}
+use Rattle.kb_presfile.specs.Kinds.{equation_value, list_of_places, list_of_equations}
 use Rattle.kb_presprint.specs.Printed.{letter_factors, word_factors, side_factors, rules_value, inverse_names, inverses_value, order_name, weights_value, with_weights}
 use Rattle.kb_presprint.specs.Writing.{inverse_text, weight_line}
 

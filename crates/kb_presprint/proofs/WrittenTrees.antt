@@ -17,12 +17,12 @@ use Rattle.kb_word.specs.declared.word_order.WordOrder.TheVariants as orders
 use Rattle.kb_record.specs.Tree.{record_value, Fields}
 use Rattle.kb_record.specs.Spelling.{IsName, IsStringByte}
 use Rattle.kb_record.specs.Grammar.{IsWord, AreFactorTrees, IsValue, AreFields, IsPlaceList, ArePlaces}
-use Rattle.kb_record.specs.Layout.{IsSpelledWord, IsSpelledValue, AreSpelledFields, AreSpelledPlaces}
+use Rattle.kb_layout.specs.Layout.{IsSpelledWord, IsSpelledValue, AreSpelledFields, AreSpelledPlaces}
 use Rattle.kb_record.specs.Nesting.{word_nesting, value_nesting, fields_nesting, places_nesting, text_nesting, deepest}
 use Rattle.kb_fields.specs.Fields.{list_of_numbers, field_names, HasFieldTwice, SomePlaceHasTwice}
-use Rattle.kb_fields.proofs.SpelledValues.{word_is_name, string_bytes, none_stands_twice}
-use Rattle.kb_fields.proofs.WrittenLists.{names_formed, numbers_formed, names_shallow, numbers_shallow, none_of, nothing, names_once, numbers_once, short, names_spelled}
-use Rattle.kb_presprint.specs.Values.{list_of_places, two_places, list_of_equations}
+use Rattle.kb_layout.proofs.SpelledValues.{word_is_name, string_bytes, none_stands_twice}
+use Rattle.kb_layout.proofs.WrittenLists.{names_formed, numbers_formed, names_shallow, numbers_shallow, none_of, nothing, names_once, numbers_once, short, names_spelled}
+use Rattle.kb_presfile.specs.Kinds.{list_of_places, two_places, list_of_equations}
 use Rattle.kb_presprint.specs.Printed.{letter_factors, word_factors, side_factors, inverse_names, inverses_value, truth_name, order_name, with_weights, tree_of}
 use Rattle.kb_presprint.specs.Printable.{IsPrintable}
 

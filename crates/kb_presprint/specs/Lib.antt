@@ -1,4 +1,4 @@
-pub mod Values
 pub mod Printed
 pub mod Writing
 pub mod Printable
+pub mod Written

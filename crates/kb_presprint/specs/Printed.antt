@@ -7,9 +7,9 @@ use Rattle.kb_word.specs.Presentations.{PresentationParts}
 use Rattle.kb_word.specs.declared.word_order.WordOrder.{WordOrder}
 use Rattle.kb_word.specs.declared.word_order.WordOrder.TheVariants as orders
 use Rattle.kb_record.specs.Tree.{named, Factors, no_factors, factor, Value, string_value, list_value, Fields, no_fields, field, no_places, TextTree}
-use Rattle.kb_record.specs.Layout.{printed}
+use Rattle.kb_layout.specs.Layout.{printed}
 use Rattle.kb_fields.specs.Fields.{bare_name, list_of_names, list_of_numbers}
-use Rattle.kb_presprint.specs.Values.{list_of_places, list_of_equations}
+use Rattle.kb_presfile.specs.Kinds.{list_of_places, list_of_equations}
 
 -- a name for each letter
 abbrev pub letter_factors : List (List ℕ) → List ℕ → Factors

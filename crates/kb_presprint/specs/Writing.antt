@@ -3,7 +3,7 @@ use Rattle.std.specs.Prelude.{ℕ, List, [], ◌++◌, codes, Option, Some, None
 use Rattle.kb_word.specs.Printed.{letter_name}
 use Rattle.kb_word.specs.declared.word_order.WordOrder.{WordOrder}
 use Rattle.kb_word.specs.declared.word_order.WordOrder.TheVariants as orders
-use Rattle.kb_record.specs.Layout.{text_of_value}
+use Rattle.kb_layout.specs.Layout.{text_of_value}
 use Rattle.kb_presprint.specs.Printed.{weights_value}
 
 -- the name of an inverse, or nothing

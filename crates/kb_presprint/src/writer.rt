@@ -4,14 +4,13 @@ ghost use Rattle.std.specs.Prelude.{◌≡◌, ◌≢◌, ◌++◌, [], IfOk, On
 ghost use Rattle.kb_word.specs.Presentations.{parts_of};
 ghost use Rattle.kb_word.specs.Printed.{letter_name};
 ghost use Rattle.kb_word.specs.declared.word_order.WordOrder.TheVariants as orders;
-ghost use Rattle.kb_record.specs.Layout.{indent, line_of, text_of_value};
-ghost use Rattle.kb_presprint.specs.Values.{equation_value};
+ghost use Rattle.kb_layout.specs.Layout.{indent, line_of, text_of_value};
+ghost use Rattle.kb_presfile.specs.Kinds.{equation_value};
 ghost use Rattle.kb_presprint.specs.Printed as printed;
 ghost use Rattle.kb_presprint.specs.Printed.{text_of_presentation, side_factors, rules_value, inverses_value, weights_value};
 ghost use Rattle.kb_presprint.specs.Writing.{inverse_text, weight_line};
 
-use kb_fields::print_names;
-use kb_record::{print_indent, print_number};
+use kb_layout::{print_indent, print_names, print_number};
 use kb_rules::{Rule, Rules};
 use kb_word::{Letter, Memory, Names, Presentation, WordOrder, WtLex, print_word};
 use std::alloc::Global;

@@ -18,8 +18,3 @@ pub mod OpenBrackets
 pub mod Shallow
 pub mod WordFaults
 pub mod WordMeanings
-pub mod PrintedPieces
-pub mod Numerals
-pub mod SpelledTrees
-pub mod TokenTexts
-pub mod PrintedTokens

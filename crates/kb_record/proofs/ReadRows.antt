@@ -1,8 +1,8 @@
 -- Items in a row, one at a time.
-use Rattle.std.proofs.Common.{◌≡◌, ℕ, zero, suc, ◌-◌, ◌<◌, List, [], ◌∷◌, ◌++◌, map, length, Bool, true, false, if◌then◌else◌, Option, Some, None, Result, Err, refl, sym, ap, ◌∙◌, subst, arith, append_assoc}
+use Rattle.std.proofs.Common.{◌≡◌, ℕ, zero, suc, ◌-◌, ◌<◌, List, [], ◌∷◌, ◌++◌, map, length, Bool, true, false, if◌then◌else◌, Option, Some, None, Result, Err, ℤ, refl, sym, ap, ◌∙◌, subst, arith, append_assoc}
 use Rattle.std.proofs.lemmas.List.{map-append}
-use Rattle.kb_lexing.specs.Token.{Token}
-use Rattle.kb_record.specs.Reading.{Reading, read, unexpected, too_deep, Parse, and_then, reading_map, Reads, joined, behind, passes, passes_to, passes_comma, comma_unless, past}
+use Rattle.kb_lexing.specs.Token.{Token, number}
+use Rattle.kb_record.specs.Reading.{Reading, read, unexpected, too_deep, Parse, and_then, reading_map, read_number, Reads, joined, behind, passes, passes_to, passes_comma, comma_unless, past}
 use Rattle.kb_record.specs.declared.cursor.Mark.{Mark}
 use Rattle.kb_record.specs.declared.cursor.Mark.TheVariants.{Comma}
 use Rattle.kb_record.specs.declared.cursor.Stop.{Stop}
@@ -87,3 +87,8 @@ comma_to tokens rest more None None h k f e = let e' : ◌≡◌ {A = Reading Bo
 pub comma-shorter : (close : Mark) (tokens rest : List Token) (more : Bool) → passes_comma close tokens ≡ read more rest → length rest < length tokens
 comma-shorter close tokens rest more e =
     comma_to tokens rest more (behind close tokens) (behind Comma tokens) (λ r. behind-shorter close tokens r) (λ r. behind-shorter Comma tokens r) refl e
+
+-- behind a number that is read fewer tokens are left
+pub number_shorter : (tokens rest : List Token) (z : ℤ) → read_number tokens ≡ read z rest → length rest < length tokens
+number_shorter (number y ∷ tokens) rest z e = let same : tokens ≡ rest = cc in subst (λ r. length r < length (number y ∷ tokens)) same (omega arith)
+number_shorter _ rest z e = cc

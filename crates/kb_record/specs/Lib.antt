@@ -10,5 +10,3 @@ pub use Rattle.kb_lexing.specs.Lexemes
 pub mod Faults
 pub mod Reading
 pub mod Refusals
-pub mod Layout
-pub mod Printing

@@ -3,9 +3,7 @@
 ghost use Rattle.std.specs.Prelude.{◌≡◌, ◌≢◌, ◌≤◌, ℕ, List, Option, Result, Ok};
 ghost use Rattle.kb_lexing.specs.Token.{Token};
 ghost use Rattle.kb_record.specs.Tree.{Factors, TextTree};
-ghost use Rattle.kb_record.specs.Grammar.{AreFields, IsText, IsWordText, TextOf, WordOf};
-ghost use Rattle.kb_record.specs.Layout.{AreSpelledFields, printed};
-ghost use Rattle.kb_lexing.specs.Spelling.{IsName};
+ghost use Rattle.kb_record.specs.Grammar.{IsText, IsWordText, TextOf, WordOf};
 ghost use Rattle.kb_record.specs.Nesting.{deepest, text_nesting, word_nesting, IsTooDeep};
 ghost use Rattle.kb_record.specs.Meaning.{WordFault};
 ghost use Rattle.kb_record.specs.Faults.{Meaning, HasWordFault};
@@ -56,17 +54,4 @@ pub fn a_word_that_is_read_is_not_refused()
     ensures { (bytes : List ℕ) (names : List (List ℕ)) (inverses : List (Option ℕ))
         (w : List ℕ) (error : WordError) → Meaning bytes names inverses (Ok w)
         → HasWordFault bytes names inverses error → ¬ (error ≢ word_errors.Memory) }
-{}
-
-/// The printed text of a tree whose names, numbers and strings can be spelled is a text of that tree.
-pub fn a_printed_text_is_read_again()
-    ensures { (text : TextTree) → IsName text.title → AreFields text.fields
-        → AreSpelledFields text.fields
-        → TextOf (printed text) text }
-{}
-
-/// The tree of a text can be printed: its names, numbers and strings can be spelled.
-pub fn what_is_read_can_be_printed()
-    ensures { (bytes : List ℕ) (text : TextTree) → TextOf bytes text
-        → IsName text.title × AreFields text.fields × AreSpelledFields text.fields }
 {}

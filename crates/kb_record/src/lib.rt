@@ -1,5 +1,4 @@
-//! Words and records as text: from bytes to trees, from the trees of records back to bytes, and from the trees
-//! of words to words of a presentation.
+//! Words and records as text: from bytes to trees, and from the trees of words to words of a presentation.
 //!
 //! A text is `NAME := rec( FIELDS )`, with `;` behind it or nothing; a field is `NAME := VALUE`. A value is
 //! a number, a string, a record, a list in square brackets, of which places may be empty, a range
@@ -16,14 +15,6 @@
 //! over a presentation, or returns the first fault from the left, and [`parse_word`] is both in one call. By
 //! [`a_word_that_is_read_has_no_fault`] bytes that mean a word are not refused but for want of memory, and by
 //! [`a_word_has_one_meaning`] they mean one word.
-//!
-//! [`print`] appends the one printed text that a record has, `printed` of `specs/Layout.antt`: a line for each field
-//! and for each place of a list of lists, two blanks for each level, and no more blanks than that and around `:=`. A
-//! tree that was read is printed as a text that is read again as that tree: by the law
-//! [`what_is_read_can_be_printed`] its names, numbers and strings can be spelled, and by
-//! [`a_printed_text_is_read_again`] the printed text of such a tree is a text of the same tree. [`print_indent`] and
-//! [`print_number`] append pieces of such a text, for a writer that holds no tree. Where memory runs out, each of
-//! the three leaves the buffer as it was.
 //!
 //! A list is one tree, in whichever form it is kept: [`Value::place_count`](Value) and [`Value::place`](Value) read it
 //! place by place, and [`Place`] hands out a row of numbers, or of pairs, as it stands.
@@ -45,8 +36,6 @@
 //!   lists of pairs stays in arrays (`kb_ragged`) as long as its places allow, which takes a small
 //!   part of the memory of a tree of values. `listed` reads the places of a list in any form.
 //! - `meaning` evaluates the tree of a word.
-//! - `printing` goes down the tree of a record, and appends the pieces in order: `print_on_line` what stands on one
-//!   line, `print_value` what stands at a level. `flat` appends the lists that keep their numbers side by side.
 //!
 //! # Where the proofs are
 //!
@@ -59,41 +48,32 @@
 //! - `proofs/TokensToBytes.antt`, with `TextFronts`: from what the tokens say to what the bytes say.
 //! - `proofs/WordMeanings.antt`, `proofs/WordFaults.antt`: names, repetitions and powers; bytes that mean a word have
 //!   no fault.
-//! - `proofs/PrintedPieces.antt`: texts that are printed piece by piece. A list is printed by its places, whatever
-//!   items they are kept as.
-//! - `proofs/PrintedTokens.antt`, with `TokenTexts` and `Numerals`: the tokens of a printed text are those of its tree.
-//!   `SpelledTrees`: the trees of texts can be spelled.
 //! - `proofs/ReadRows.antt`, `PassedMarks`, `Depths`, `Views`: one step of the functions and of the
 //!   trees. `Taken`: lists that are gone through place by place.
 //!
 //! Below stand `kb_lexing`, `kb_ragged`, and `kb_word`, whose words and presentations are the
 //! answers. Above stand the crates that read files of presentations and of automata, and the lines
-//! of words of the command `wordreduce`.
+//! of words of the command `wordreduce`, and `kb_layout`, which says how a tree is printed.
 #![tactic(auto)]
 
 mod cursor;
 mod error;
-mod flat;
 mod laws;
 mod listed;
 mod longer;
 mod meaning;
 mod parser;
-mod printing;
 mod records;
 mod tree;
 mod words;
 
 pub use error::{RecordError, WordError};
-pub use kb_lexing::is_blank;
 pub use laws::{
-    a_printed_text_is_read_again, a_shallow_text_is_not_too_deep, a_shallow_word_is_not_too_deep,
-    a_text_has_one_tree, a_word_has_one_meaning, a_word_has_one_tree,
-    a_word_that_is_read_has_no_fault, a_word_that_is_read_is_not_refused,
-    what_is_read_can_be_printed,
+    a_shallow_text_is_not_too_deep, a_shallow_word_is_not_too_deep, a_text_has_one_tree,
+    a_word_has_one_meaning, a_word_has_one_tree, a_word_that_is_read_has_no_fault,
+    a_word_that_is_read_is_not_refused,
 };
 pub use listed::Place;
 pub use meaning::word_of;
 pub use parser::{parse, parse_expr, parse_word};
-pub use printing::{print, print_indent, print_number};
 pub use tree::{Expr, Factor, Rec, Value};

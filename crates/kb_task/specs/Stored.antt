@@ -3,7 +3,7 @@ use Rattle.std.specs.Prelude.{◌≡◌, ℕ, List}
 use Rattle.kb_io.specs.Outside.{Outside, IsUnchanged}
 use Rattle.kb_fsa.specs.Language.{Automaton, IsAutomaton, SameLanguage}
 use Rattle.kb_fsa.specs.Canonical.{IsCanonical}
-use Rattle.kb_fsafile.specs.Printed.{text_of_automaton}
+use Rattle.kb_fsaprint.specs.Printed.{text_of_automaton}
 use Rattle.kb_task.specs.Effects.{Stores, LeavesUnknown}
 use Rattle.kb_task.specs.declared.status.Status.{Status}
 use Rattle.kb_task.specs.declared.status.Status.TheVariants.{Yes, Memory, Fault}

@@ -11,8 +11,8 @@ ghost use Rattle.kb_task.specs.Stores.{Text, text_of, texts_of, names_of, PutsTe
 
 use crate::status::{Status, Which};
 use kb_fsa::Fsa;
-use kb_fsafile::write;
 use kb_fsamin::canonical;
+use kb_fsaprint::write;
 use kb_io::{Shelf, ShelfFault};
 use kb_word::{Memory, Names, OwnedText};
 use std::alloc::Global;

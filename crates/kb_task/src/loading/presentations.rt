@@ -13,7 +13,8 @@ ghost use Rattle.kb_task.specs.Runs.{FaultIsCounted};
 use super::{LoadStop, load_text};
 use crate::status::{FileFault, Status};
 use kb_io::Shelf;
-use kb_presfile::{PresError, a_presentation_that_is_read_can_be_written, read};
+use kb_presfile::{PresError, read};
+use kb_presprint::a_presentation_that_is_read_can_be_written;
 use kb_word::{OwnedText, Presentation};
 use std::alloc::Global;
 

@@ -3,8 +3,8 @@ use Rattle.std.specs.List.{list_all}
 use Rattle.std.proofs.lemmas.Bool.{and_left, and_right, lt-leb}
 use Rattle.std.proofs.lemmas.Iterator.{YieldsList-from_slice}
 use Rattle.std.proofs.lemmas.Iterator.Search.{all_from_yields_List}
-use Rattle.kb_record.proofs.PrintedPieces.{ok_then}
-use Rattle.kb_fields.proofs.WrittenTexts.{to_come, text_more, all_texts}
+use Rattle.kb_layout.proofs.PrintedPieces.{ok_then}
+use Rattle.kb_layout.proofs.WrittenTexts.{to_come, text_more, all_texts}
 use Rattle.kb_fsaprint.proofs.Writings.{range_texts, accepting_range, accepting_list}
 use Rattle.kb_fsaprint.proofs.writer.write_accepting.Goals as goal
 use Rattle.kb_fsaprint.proofs.writer.write_accepting.Goals.{else-all-via-then-all+else-accepting-ge2, else-all-via-else-all}
@@ -27,8 +27,7 @@ returns-then-accepting-ge2 c =
     let accepting = c.args.accepting.now in
     let answer : c.all.result ≡ list_all (λ accepts. accepts) accepting =
     all_from_yields_List (λ (accepts : Bool). accepts) _ _ c.all.result c.all.ensures.ran (YieldsList-from_slice accepting cc) (λ x b q k. search (rules, tests)) in
-    all_texts (text_more (text_more (text_more (text_more (text_more
+    all_texts (text_more (text_more (text_more
     (to_come c.args.out.now.items (range_texts (length accepting)))
-    c.in_ok-push.ensures.items) c.in_ok-write_number.ensures) c.in_ok-extend_from_slice.ensures.items) c.in_ok-write_number-2.ensures)
-    c.in_ok-push-2.ensures.items)
+    c.in_ok-extend_from_slice.ensures.items) c.in_ok-write_number.ensures) c.in_ok-push.ensures.items)
     ∙ ap (λ t. c.args.out.now.items ++ t) (accepting_range accepting (sym answer ∙ c.if-all.true) c.if-accepting-ge2.true)

@@ -1,7 +1,7 @@
 use Rattle.std.proofs.Common.{◌++◌, ◌+◌, ◌∙◌, ℕ, suc, List, [], drop, sym, ap, subst, arith}
 use Rattle.std.specs.Prelude.{codes}
 use Rattle.std.proofs.lemmas.List.{drop_all}
-use Rattle.kb_record.specs.Printing.{pieces, IsPrintedUpTo}
+use Rattle.kb_layout.specs.Printing.{pieces, IsPrintedUpTo}
 use Rattle.kb_fsaprint.specs.Printed.{accepting_from}
 use Rattle.kb_fsaprint.specs.Writing.{number_text}
 use Rattle.kb_fsaprint.proofs.Writings.{number_pieces, pieces_done, accepting_next, accepting_passed}

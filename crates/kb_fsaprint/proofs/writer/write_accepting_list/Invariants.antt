@@ -1,6 +1,6 @@
 use Rattle.std.proofs.Common.{◌≡◌, suc, [], ◌++◌, drop}
 use Rattle.std.specs.Prelude.{codes}
-use Rattle.kb_record.specs.Printing.{pieces, IsPrintedUpTo}
+use Rattle.kb_layout.specs.Printing.{pieces, IsPrintedUpTo}
 use Rattle.kb_fsaprint.specs.Printed.{accepting_from}
 use Rattle.kb_fsaprint.specs.Writing.{number_text}
 use Rattle.kb_fsaprint.proofs.writer.write_accepting_list.Given as goal

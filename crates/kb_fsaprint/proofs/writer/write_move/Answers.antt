@@ -1,4 +1,4 @@
-use Rattle.kb_fields.proofs.WrittenTexts.{to_come, text_more, all_texts}
+use Rattle.kb_layout.proofs.WrittenTexts.{to_come, text_more, all_texts}
 use Rattle.kb_fsaprint.proofs.Writings.{move_texts}
 use Rattle.kb_fsaprint.proofs.writer.write_move.Goals as goal
 

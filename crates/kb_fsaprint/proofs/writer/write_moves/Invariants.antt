@@ -1,6 +1,6 @@
 use Rattle.std.proofs.Common.{[], ◌++◌}
 use Rattle.std.specs.Prelude.{codes}
-use Rattle.kb_record.specs.Printing.{pieces, IsPrintedUpTo}
+use Rattle.kb_layout.specs.Printing.{pieces, IsPrintedUpTo}
 use Rattle.kb_fsaprint.specs.Writing.{move_text}
 use Rattle.kb_fsaprint.proofs.writer.write_moves.Given as goal
 

@@ -1,7 +1,7 @@
 use Rattle.std.proofs.Common.{◌≡◌, ◌++◌, ◌+◌, ◌∙◌, suc, ap, arith}
-use Rattle.kb_record.proofs.PrintedPieces.{ok_then}
+use Rattle.kb_layout.proofs.PrintedPieces.{ok_then}
 use Rattle.kb_fsaprint.specs.Writing.{number_text}
-use Rattle.kb_fields.proofs.WrittenTexts.{to_come, text_more, all_texts}
+use Rattle.kb_layout.proofs.WrittenTexts.{to_come, text_more, all_texts}
 use Rattle.kb_fsaprint.proofs.Writings.{names_texts, names_record}
 use Rattle.kb_fsaprint.proofs.writer.write_names.Goals as goal
 

@@ -1,5 +1,5 @@
 use Rattle.std.proofs.Common.{◌++◌, ◌∙◌, ap, arith}
-use Rattle.kb_record.proofs.PrintedPieces.{pieces_end}
+use Rattle.kb_layout.proofs.PrintedPieces.{pieces_end}
 use Rattle.kb_fsaprint.proofs.Writings.{row_lines}
 use Rattle.kb_fsaprint.proofs.writer.write_rows.Goals as goal
 

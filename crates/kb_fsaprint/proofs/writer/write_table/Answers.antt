@@ -1,9 +1,9 @@
 use Rattle.std.proofs.Common.{◌≡◌, ◌++◌, ◌∙◌, ap}
 use Rattle.kb_record.specs.Tree.{list_value}
-use Rattle.kb_record.specs.Layout.{text_of_value}
+use Rattle.kb_layout.specs.Layout.{text_of_value}
 use Rattle.kb_fsaprint.specs.Printed.{format_name, rows_places, move_count}
 use Rattle.kb_fsaprint.specs.Writing.{number_text}
-use Rattle.kb_fields.proofs.WrittenTexts.{to_come, text_more, all_texts}
+use Rattle.kb_layout.proofs.WrittenTexts.{to_come, text_more, all_texts}
 use Rattle.kb_fsaprint.proofs.Writings.{table_texts, table_record}
 use Rattle.kb_fsaprint.proofs.writer.write_table.Goals as goal
 

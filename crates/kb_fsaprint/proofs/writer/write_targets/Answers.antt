@@ -1,7 +1,7 @@
 use Rattle.std.proofs.Common.{◌≡◌, ◌++◌, ◌+◌, ◌-◌, ◌∙◌, ℕ, suc, [], sym, ap, subst, arith}
 use Rattle.std.specs.Prelude.{codes}
-use Rattle.kb_record.specs.Printing.{pieces}
-use Rattle.kb_record.proofs.PrintedPieces.{pieces_start}
+use Rattle.kb_layout.specs.Printing.{pieces}
+use Rattle.kb_layout.proofs.PrintedPieces.{pieces_start}
 use Rattle.kb_fsa.specs.Table.{Moves}
 use Rattle.kb_fsaprint.specs.Printed.{targets_from}
 use Rattle.kb_fsaprint.specs.Writing.{number_text, IsRowPrinted}

@@ -1,6 +1,6 @@
 use Rattle.std.proofs.Common.{◌+◌, ◌-◌, [], ◌++◌}
 use Rattle.std.specs.Prelude.{codes}
-use Rattle.kb_record.specs.Printing.{pieces}
+use Rattle.kb_layout.specs.Printing.{pieces}
 use Rattle.kb_fsaprint.specs.Printed.{targets_from}
 use Rattle.kb_fsaprint.specs.Writing.{number_text, IsRowPrinted}
 use Rattle.kb_fsaprint.proofs.writer.write_targets.Given as goal

@@ -1,5 +1,5 @@
 use Rattle.std.proofs.Common.{◌++◌, ◌∙◌, ap, arith}
-use Rattle.kb_record.proofs.PrintedPieces.{pieces_end}
+use Rattle.kb_layout.proofs.PrintedPieces.{pieces_end}
 use Rattle.kb_presprint.proofs.Writings.{inverses_line}
 use Rattle.kb_presprint.proofs.writer.write_inverses.Goals as goal
 

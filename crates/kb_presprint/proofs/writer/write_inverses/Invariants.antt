@@ -1,6 +1,6 @@
 use Rattle.std.proofs.Common.{[], ◌++◌}
 use Rattle.std.specs.Prelude.{codes}
-use Rattle.kb_record.specs.Printing.{pieces, IsPrintedUpTo}
+use Rattle.kb_layout.specs.Printing.{pieces, IsPrintedUpTo}
 use Rattle.kb_presprint.specs.Writing.{inverse_text}
 use Rattle.kb_presprint.proofs.writer.write_inverses.Given as goal
 

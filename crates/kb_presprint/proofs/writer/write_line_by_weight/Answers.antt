@@ -1,7 +1,7 @@
 use Rattle.std.proofs.Common.{◌++◌, ◌∙◌, ap, append_assoc}
 use Rattle.std.specs.Prelude.{codes}
-use Rattle.kb_record.specs.Layout.{text_of_value}
-use Rattle.kb_record.proofs.PrintedPieces.{ok_then}
+use Rattle.kb_layout.specs.Layout.{text_of_value}
+use Rattle.kb_layout.proofs.PrintedPieces.{ok_then}
 use Rattle.kb_presprint.specs.Printed.{weights_value}
 use Rattle.kb_presprint.proofs.writer.write_line_by_weight.Goals as goal
 

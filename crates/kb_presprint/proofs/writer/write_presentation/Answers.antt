@@ -1,9 +1,9 @@
 use Rattle.std.proofs.Common.{◌≡◌, ◌++◌, ◌∙◌, sym, ap}
 use Rattle.kb_word.specs.Presentations.{parts_of}
 use Rattle.kb_record.specs.Tree.{list_value}
-use Rattle.kb_record.specs.Layout.{text_of_value}
+use Rattle.kb_layout.specs.Layout.{text_of_value}
 use Rattle.kb_fields.specs.Fields.{list_of_names}
-use Rattle.kb_fields.proofs.WrittenTexts.{to_come, text_more, all_texts, names_text}
+use Rattle.kb_layout.proofs.WrittenTexts.{to_come, text_more, all_texts, names_text}
 use Rattle.kb_presprint.specs.Printed.{truth_name, order_name, inverses_value, rules_value, text_of_presentation}
 use Rattle.kb_presprint.proofs.Writings.{whole_texts, whole_text}
 use Rattle.kb_presprint.proofs.writer.write_presentation.Goals as goal

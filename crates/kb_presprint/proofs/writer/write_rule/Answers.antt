@@ -1,7 +1,7 @@
 use Rattle.std.proofs.Common.{◌++◌, ◌∷◌, ◌∙◌, ap}
 use Rattle.kb_word.specs.Printed.{text_of_word}
-use Rattle.kb_record.specs.Layout.{indent}
-use Rattle.kb_fields.proofs.WrittenTexts.{to_come, text_more, all_texts}
+use Rattle.kb_layout.specs.Layout.{indent}
+use Rattle.kb_layout.proofs.WrittenTexts.{to_come, text_more, all_texts}
 use Rattle.kb_presprint.proofs.Writings.{rule_texts, rule_line}
 use Rattle.kb_presprint.proofs.writer.write_rule.Goals as goal
 

@@ -1,6 +1,6 @@
 use Rattle.std.proofs.Common.{◌++◌, ◌∙◌, ap, arith}
-use Rattle.kb_record.specs.Layout.{text_of_value}
-use Rattle.kb_record.proofs.PrintedPieces.{table_end}
+use Rattle.kb_layout.specs.Layout.{text_of_value}
+use Rattle.kb_layout.proofs.PrintedPieces.{table_end}
 use Rattle.kb_presprint.proofs.Writings.{rule_place, rules_listed, rules_are_table}
 use Rattle.kb_presprint.proofs.writer.write_rule_lines.Goals as goal
 

@@ -1,4 +1,4 @@
-use Rattle.kb_record.proofs.PrintedPieces.{IsTableUpTo}
+use Rattle.kb_layout.proofs.PrintedPieces.{IsTableUpTo}
 use Rattle.kb_presprint.proofs.Writings.{rule_place}
 use Rattle.kb_presprint.proofs.writer.write_rule_lines.Given as goal
 

@@ -1,5 +1,5 @@
 use Rattle.std.proofs.Common.{◌++◌, ◌∙◌, ap, arith}
-use Rattle.kb_record.proofs.PrintedPieces.{list_end}
+use Rattle.kb_layout.proofs.PrintedPieces.{list_end}
 use Rattle.kb_presprint.proofs.Writings.{weight_place, weights_line}
 use Rattle.kb_presprint.proofs.writer.write_weights.Goals as goal
 

@@ -1,4 +1,4 @@
-use Rattle.kb_record.proofs.PrintedPieces.{IsListUpTo}
+use Rattle.kb_layout.proofs.PrintedPieces.{IsListUpTo}
 use Rattle.kb_presprint.proofs.Writings.{weight_place}
 use Rattle.kb_presprint.proofs.writer.write_weights.Given as goal
 

@@ -1,4 +1,4 @@
-use Rattle.std.proofs.Common.{◌≡◌, ℕ, ◌-◌, List, [], ◌∷◌, ◌++◌, Some, None, Err, map, Bool, true, false, option_map, sym, ap, ◌∙◌, arith, rules, Vec, Global}
+use Rattle.std.proofs.Common.{◌≡◌, ℕ, ◌-◌, ◌<◌, List, [], ◌∷◌, ◌++◌, Some, None, Err, map, Bool, true, false, option_map, sym, ap, ◌∙◌, arith, rules, Vec, Global}
 use Rattle.std.specs.Borrow.{Bor}
 use Rattle.kb_record.specs.Tree.{record_value}
 use Rattle.kb_record.specs.Reading.{Reads, read, remaining, passes_comma, joined, reading_map, read_value, place_with, field_with, field_view, fields_from, read_fields, past, behind, begins_word, read_scalar}
@@ -8,6 +8,7 @@ use Rattle.kb_record.specs.declared.tree.Value.{Value as ValueType}
 use Rattle.kb_record.specs.declared.cursor.Mark.TheVariants.{CloseRound, CloseSquare, Rec, OpenSquare}
 use Rattle.kb_record.proofs.ReadRows.{after_items, turn, last, item_fails, comma_fails, as_answered, map_one_more, comma-shorter}
 use Rattle.kb_record.proofs.Depths.{value-word, value-record, value-list, value-scalar, same_reading}
+use Rattle.kb_record.proofs.PassedMarks.{behind-shorter}
 use Rattle.kb_record.proofs.Views.{fields_alike, view-Record, listed-is, has_its_places}
 use Rattle.kb_record.proofs.records.+values.Goals as goal
 
@@ -152,3 +153,13 @@ value-returns-clause-reads t c =
     let no_list : (behind OpenSquare (remaining c.take.new.self) ≡ None) × (remaining c.take-2.new.self ≡ remaining c.take.new.self) = grind arith in
     same_reading _ _ value_view c.scalar.result _
     (value-scalar c.args.depth tokens word no_record.0 (ap (behind OpenSquare) (sym no_record.1) ∙ no_list.0) ∙ ap read_scalar (sym (no_list.1 ∙ no_record.1))) c.scalar.ensures
+
+pub fields-returns-then-take-clause-shorter : goal.fields-returns-then-take-clause-shorter
+fields-returns-then-take-clause-shorter t c =
+    let closed = behind-shorter CloseRound (remaining c.args.tokens.now) (remaining c.take.new.self) c.if-take.ensures in
+    omega arith
+
+pub list-returns-then-take-clause-shorter : goal.list-returns-then-take-clause-shorter
+list-returns-then-take-clause-shorter t c =
+    let closed = behind-shorter CloseSquare (remaining c.args.tokens.now) (remaining c.take.new.self) c.if-take.ensures in
+    omega arith

@@ -1,5 +1,0 @@
-use Rattle.kb_fsafile.specs.Cleaning.{AreForward}
-use Rattle.kb_fsafile.proofs.misplaced.forward.Given as goal
-
-abbrev pub invariant-loop-target : goal.invariant-loop-target
-invariant-loop-target l = AreForward l.backward l.target-index l.count l.edges.items l.latest.items

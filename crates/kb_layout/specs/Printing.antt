@@ -1,0 +1,42 @@
+-- Texts that are printed piece by piece.
+use Rattle.std.specs.Prelude.{◌≡◌, ℕ, List, [], ◌∷◌, ◌++◌, drop, map, Option, Some, None}
+use Rattle.kb_record.specs.Tree.{Value as ValueTree, list_value}
+use Rattle.kb_record.specs.View.{places_of}
+use Rattle.kb_layout.specs.Layout.{line_of, indent}
+
+-- something, or nothing, stands behind what was there
+abbrev pub Appended : List ℕ → List ℕ → Type 0
+Appended old new = (more : List ℕ) × (new ≡ old ++ more)
+
+-- pieces with a text before the first and another before each that follows
+abbrev pub pieces : {A : Type 0} → (A → List ℕ) → List ℕ → List ℕ → List A → List ℕ
+pieces text before between [] = []
+pieces text before between (x ∷ xs) = before ++ (text x ++ pieces text between between xs)
+
+-- Behind what stood there a whole text is printed up to the piece at a place: `ending` stands behind the pieces.
+pub record IsPrintedUpTo {A : Type 0} (text : A → List ℕ) (between ending : List ℕ) (xs : List A)
+    (whole old : List ℕ) (index : ℕ) (before now : List ℕ) : Type 0 where
+  pub done : List ℕ
+  pub so_far : now ≡ old ++ done
+  pub to_come : whole ≡ done ++ (pieces text before between (drop index xs) ++ ending)
+
+-- what stands at a place on one line, or nothing
+abbrev pub line_at : Option ValueTree → List ℕ
+line_at None = []
+line_at (Some v) = line_of v
+
+-- the same on a line of its own
+abbrev pub row_at : ℕ → Option ValueTree → List ℕ
+row_at level p = indent level ++ line_at p
+
+-- the place that an item is seen as, on one line
+abbrev pub line_of_place : {A : Type 0} → (A → Option ValueTree) → A → List ℕ
+line_of_place seen x = line_at (seen x)
+
+-- the same on a line of its own
+abbrev pub row_of_place : {A : Type 0} → ℕ → (A → Option ValueTree) → A → List ℕ
+row_of_place level seen x = row_at level (seen x)
+
+-- a list of items, each of which is seen as a place
+abbrev pub list_of : {A : Type 0} → (A → Option ValueTree) → List A → ValueTree
+list_of seen xs = list_value (places_of (map seen xs))

@@ -1,0 +1,4 @@
+pub mod Cleanings
+pub mod EdgeLemmas
+pub mod PaddedTexts
+pub mod PaddingReach

@@ -1,5 +1,0 @@
-use Rattle.kb_record.proofs.PrintedPieces.{IsListUpTo}
-use Rattle.kb_record.proofs.flat.print_items.Given as goal
-
-abbrev pub invariant-loop-item : goal.invariant-loop-item
-invariant-loop-item g l = IsListUpTo g.T.Item.seen l.items l.fn.out.items l.item-index l.before l.out.items

@@ -1,6 +1,0 @@
-use Rattle.kb_record.specs.Printing.{list_place}
-use Rattle.kb_record.proofs.PrintedPieces.{IsListUpTo}
-use Rattle.kb_record.proofs.flat.print_lists_on_line.Given as goal
-
-abbrev pub invariant-loop-place : goal.invariant-loop-place
-invariant-loop-place g l = IsListUpTo (list_place g.T.Item.seen) l.lists l.fn.out.items l.place l.before l.out.items
