@@ -69,34 +69,33 @@ pending-cut {given} {one} {two} {a} {b} {c} first front = record {
 -- ---- one line
 
 -- a front of what was pending was sent, and nothing of what the line gives
-pub front-before : (parts : PresentationParts) (Answers : List ℕ → List ℕ → Type 0) (old : Progress) (a b : SinkState)
-    → AppendsPrefix a.written b.written old.pending.items → LineFront parts Answers old a b
-front-before parts Answers old a b front = record {
+pub front-before : (parts : PresentationParts) (Answers : List ℕ → List ℕ → Type 0) (line pending : List ℕ) (a b : SinkState)
+    → AppendsPrefix a.written b.written pending → LineFront parts Answers line pending a b
+front-before parts Answers line pending a b front = record {
   given = [];
   answered = inl refl;
   unsent = front.rest;
-  pending = pending-front [] old.pending.items old.pending.items a b (sym (append-nil old.pending.items)) front;
+  goes_on = pending-front [] pending pending a b (sym (append-nil pending)) front;
 }
 
 -- nothing was sent
-pub front-none : (parts : PresentationParts) (Answers : List ℕ → List ℕ → Type 0) (old : Progress) (a : SinkState)
-    → LineFront parts Answers old a a
-front-none parts Answers old a = record {
+pub front-none : (parts : PresentationParts) (Answers : List ℕ → List ℕ → Type 0) (line pending : List ℕ) (a : SinkState)
+    → LineFront parts Answers line pending a a
+front-none parts Answers line pending a = record {
   given = [];
   answered = inl refl;
-  unsent = old.pending.items;
-  pending = pending-stays old.pending.items a;
+  unsent = pending;
+  goes_on = pending-stays pending a;
 }
 
 -- what the line gives was added, and then a front of what is pending was sent
-pub added-front : (parts : PresentationParts) (Answers : List ℕ → List ℕ → Type 0) (old : Progress) (line middle : List ℕ) (a b : SinkState)
-    → line ≡ old.line.items → AddsGiven parts Answers line old.pending.items middle → AppendsPrefix a.written b.written middle
-    → LineFront parts Answers old a b
-added-front parts Answers old line middle a b same adds front = record {
+pub added-front : (parts : PresentationParts) (Answers : List ℕ → List ℕ → Type 0) (line pending middle : List ℕ) (a b : SinkState)
+    → AddsGiven parts Answers line pending middle → AppendsPrefix a.written b.written middle → LineFront parts Answers line pending a b
+added-front parts Answers line pending middle a b adds front = record {
   given = adds.given;
-  answered = inr (subst (λ l. LineGives parts Answers l adds.given) same adds.gives);
+  answered = inr adds.gives;
   unsent = front.rest;
-  pending = pending-front adds.given old.pending.items middle a b adds.added front;
+  goes_on = pending-front adds.given pending middle a b adds.added front;
 }
 
 -- where sending alone can stop
@@ -106,23 +105,24 @@ send-stops P Front (Ok x) output front means = tt
 send-stops P Front (Err stop) output front means = subst P (sym output) (means front)
 
 -- a line was answered, and then a front of what is pending was sent
-pub ends-front : {parts : PresentationParts} {Answers : List ℕ → List ℕ → Type 0} {old new : Progress} {a b c : SinkState}
-    → LineEnds parts Answers old new a b → AppendsPrefix b.written c.written new.pending.items → LineFront parts Answers old a c
+pub ends-front : {parts : PresentationParts} {Answers : List ℕ → List ℕ → Type 0} {line : List ℕ} {old new : Progress} {a b c : SinkState}
+    → LineEnds parts Answers line old new a b → AppendsPrefix b.written c.written new.pending.items
+    → LineFront parts Answers line old.pending.items a c
 ends-front ends front = record {
   given = ends.given;
   answered = inr ends.answered;
   unsent = front.rest;
-  pending = pending-cut ends.pending front;
+  goes_on = pending-cut ends.pending front;
 }
 
 -- a line was answered, and then all that is pending was sent
-pub ends-sent : {parts : PresentationParts} {Answers : List ℕ → List ℕ → Type 0} {old middle : Progress} {a b c : SinkState} (new : Progress)
-    → LineEnds parts Answers old middle a b → new.line.items ≡ middle.line.items → new.number ≡ middle.number → new.pending.items ≡ []
-    → c.written ≡ b.written ++ middle.pending.items → LineEnds parts Answers old new a c
-ends-sent new ends line number none sent = record {
+pub ends-sent : {parts : PresentationParts} {Answers : List ℕ → List ℕ → Type 0} {line : List ℕ} {old middle : Progress} {a b c : SinkState} (new : Progress)
+    → LineEnds parts Answers line old middle a b → new.line.items ≡ middle.line.items → new.number ≡ middle.number → new.pending.items ≡ []
+    → c.written ≡ b.written ++ middle.pending.items → LineEnds parts Answers line old new a c
+ends-sent new ends same number none sent = record {
   given = ends.given;
   answered = ends.answered;
-  line = line ∙ ends.line;
+  fresh = same ∙ ends.fresh;
   number = number ∙ ends.number;
   pending = pending-all ends.pending none sent;
 }
@@ -144,40 +144,38 @@ module _ {parts : PresentationParts} {Answers : List ℕ → List ℕ → Type 0
   }
 
   -- the bytes are the lines that were answered, the line that goes on to its newline, and what is behind it
-  whole-line : {bytes rest : List ℕ} {old middle : Progress} {a b : SinkState} (line behind : List ℕ) (long : Progress)
+  whole-line : {bytes rest : List ℕ} {old middle : Progress} {a b : SinkState} (line behind : List ℕ)
       → (so_far : Advances parts Answers bytes rest old middle a b) → rest ≡ line ++ newline ∷ behind
-      → long.line.items ≡ middle.line.items ++ line
-      → old.line.items ++ bytes ≡ ended so_far.lines ++ (long.line.items ++ newline ∷ behind)
-  whole-line {middle = middle} line behind long so_far split longer =
+      → old.line.items ++ bytes ≡ ended so_far.lines ++ ((middle.line.items ++ line) ++ newline ∷ behind)
+  whole-line {middle = middle} line behind so_far split =
       so_far.whole
       ∙ ap (λ r. ended so_far.lines ++ (middle.line.items ++ r)) split
-      ∙ ap (λ r. ended so_far.lines ++ r) (sym (append_assoc middle.line.items line (newline ∷ behind)) ∙ ap (λ l. l ++ newline ∷ behind) (sym longer))
+      ∙ ap (λ r. ended so_far.lines ++ r) (sym (append_assoc middle.line.items line (newline ∷ behind)))
 
-  long-line : {bytes rest : List ℕ} {old middle : Progress} {a b : SinkState} (line : List ℕ) (long : Progress)
-      → (so_far : Advances parts Answers bytes rest old middle a b) → IsOneLine line → long.line.items ≡ middle.line.items ++ line
-      → IsOneLine long.line.items
-  long-line {middle = middle} line long so_far one longer =
-      subst IsOneLine (sym longer) (all-append (λ byte. byte ≢ newline) middle.line.items line so_far.open_line one)
+  long-line : {bytes rest : List ℕ} {old middle : Progress} {a b : SinkState} (line : List ℕ)
+      → (so_far : Advances parts Answers bytes rest old middle a b) → IsOneLine line → IsOneLine (middle.line.items ++ line)
+  long-line {middle = middle} line so_far one = all-append (λ byte. byte ≢ newline) middle.line.items line so_far.open_line one
 
   -- the next line was answered
-  pub advances-line : {bytes rest : List ℕ} {old middle new : Progress} {a b c : SinkState} (line behind : List ℕ) (long : Progress)
+  pub advances-line : {bytes rest : List ℕ} {old middle new : Progress} {a b c : SinkState} (line behind : List ℕ)
       → Advances parts Answers bytes rest old middle a b → rest ≡ line ++ newline ∷ behind → IsOneLine line
-      → long.line.items ≡ middle.line.items ++ line → long.number ≡ middle.number → long.pending.items ≡ middle.pending.items
-      → LineEnds parts Answers long new b c → Advances parts Answers bytes behind old new a c
-  advances-line {bytes} {rest} {old} {middle} {new} {a} {b} {c} line behind long so_far split one longer number pending ends = record {
-    lines = so_far.lines ++ long.line.items ∷ [];
-    whole = whole-line line behind long so_far split longer ∙ ended-next so_far.lines long.line.items behind
-        ∙ ap (λ l. ended (so_far.lines ++ long.line.items ∷ []) ++ (l ++ behind)) (sym ends.line);
-    each = all-append IsOneLine so_far.lines (long.line.items ∷ []) so_far.each (long-line line long so_far one longer, tt);
-    open_line = subst IsOneLine (sym ends.line) tt;
-    number =
-        let before = so_far.number in
-        let after = ends.number in
-        omega (arith, before, after, number, length-append so_far.lines (long.line.items ∷ []));
-    given = so_far.given ++ ends.given;
-    answered = gives-next parts Answers so_far.lines long.line.items so_far.given ends.given so_far.answered ends.answered;
-    pending = pending-then so_far.pending (subst (λ p. PendingGoesOn ends.given p new.pending.items b c) pending ends.pending);
-  }
+      → LineEnds parts Answers (middle.line.items ++ line) middle new b c → Advances parts Answers bytes behind old new a c
+  advances-line {middle = middle} line behind so_far split one ends =
+      let long : List ℕ = middle.line.items ++ line in
+      record {
+        lines = so_far.lines ++ long ∷ [];
+        whole = whole-line line behind so_far split ∙ ended-next so_far.lines long behind
+            ∙ ap (λ l. ended (so_far.lines ++ long ∷ []) ++ (l ++ behind)) (sym ends.fresh);
+        each = all-append IsOneLine so_far.lines (long ∷ []) so_far.each (long-line line so_far one, tt);
+        open_line = subst IsOneLine (sym ends.fresh) tt;
+        number =
+            let before = so_far.number in
+            let after = ends.number in
+            omega (arith, before, after, length-append so_far.lines (long ∷ []));
+        given = so_far.given ++ ends.given;
+        answered = gives-next parts Answers so_far.lines long so_far.given ends.given so_far.answered ends.answered;
+        pending = pending-then so_far.pending ends.pending;
+      }
 
   -- the rest of the bytes has no newline
   pub advances-end : {bytes rest : List ℕ} {old middle : Progress} {a b : SinkState} (new : Progress)
@@ -188,7 +186,7 @@ module _ {parts : PresentationParts} {Answers : List ℕ → List ℕ → Type 0
     lines = so_far.lines;
     whole = so_far.whole ∙ ap (λ l. ended so_far.lines ++ l) (sym longer ∙ sym (append-nil new.line.items));
     each = so_far.each;
-    open_line = long-line rest new so_far one longer;
+    open_line = subst IsOneLine (sym longer) (long-line rest so_far one);
     number = number ∙ so_far.number;
     given = so_far.given;
     answered = so_far.answered;
@@ -239,43 +237,42 @@ module _ {parts : PresentationParts} {Answers : List ℕ → List ℕ → Type 0
   }
 
   -- the next line is refused
-  pub advances-refused : {bytes rest : List ℕ} {old middle : Progress} {a b c : SinkState} (line behind : List ℕ) (long : Progress)
+  pub advances-refused : {bytes rest : List ℕ} {old middle : Progress} {a b c : SinkState} (line behind : List ℕ)
       {number : ℕ} {fault : WordError}
       → Advances parts Answers bytes rest old middle a b → rest ≡ line ++ newline ∷ behind → IsOneLine line
-      → long.line.items ≡ middle.line.items ++ line → long.number ≡ middle.number → long.pending.items ≡ middle.pending.items
-      → LineRefused parts long b c number fault → RefusesIn parts Answers bytes old a c number fault
-  advances-refused {bytes} {rest} {old} {middle} {a} {b} {c} line behind long {number} {fault} so_far split one longer same_number pending refused = record {
+      → LineRefused parts (middle.line.items ++ line) middle.number middle.pending.items b c number fault
+      → RefusesIn parts Answers bytes old a c number fault
+  advances-refused {middle = middle} {a = a} line behind so_far split one refused = record {
     lines = so_far.lines;
-    line = long.line.items;
+    line = middle.line.items ++ line;
     behind = behind;
-    whole = whole-line line behind long so_far split longer ∙ sym (append_assoc (ended so_far.lines) long.line.items (newline ∷ behind));
+    whole = whole-line line behind so_far split ∙ sym (append_assoc (ended so_far.lines) (middle.line.items ++ line) (newline ∷ behind));
     each = so_far.each;
-    one = long-line line long so_far one longer;
+    one = long-line line so_far one;
     counted =
         let before = so_far.number in
         let after = refused.counted in
-        omega (arith, before, after, same_number);
+        omega (arith, before, after);
     given = so_far.given;
     answered = so_far.answered;
     faulty = refused.faulty;
-    sent = refused.sent ∙ ap (λ p. b.written ++ p) pending ∙ ap (λ w. w ++ middle.pending.items) so_far.pending.appended
+    sent = refused.sent ∙ ap (λ w. w ++ middle.pending.items) so_far.pending.appended
         ∙ append_assoc a.written so_far.pending.sent middle.pending.items ∙ ap (λ h. a.written ++ h) (sym so_far.pending.held);
   }
 
   -- a front was sent of what was pending, with what the next line gives behind it or without that
-  pub advances-line_front : {bytes rest : List ℕ} {old middle : Progress} {a b c : SinkState} (line behind : List ℕ) (long : Progress)
+  pub advances-line_front : {bytes rest : List ℕ} {old middle : Progress} {a b c : SinkState} (line behind : List ℕ)
       → Advances parts Answers bytes rest old middle a b → rest ≡ line ++ newline ∷ behind → IsOneLine line
-      → long.line.items ≡ middle.line.items ++ line → long.pending.items ≡ middle.pending.items
-      → LineFront parts Answers long b c → FrontIn parts Answers bytes old a c
-  advances-line_front {bytes} {rest} {old} {middle} {a} {b} {c} line behind long so_far split one longer pending front =
-      let goes_on : PendingGoesOn (so_far.given ++ front.given) old.pending.items front.unsent a c =
-      pending-then so_far.pending (subst (λ p. PendingGoesOn front.given p front.unsent b c) pending front.pending) in
-      let whole = whole-line line behind long so_far split longer in
+      → LineFront parts Answers (middle.line.items ++ line) middle.pending.items b c → FrontIn parts Answers bytes old a c
+  advances-line_front {old = old} {middle = middle} {a = a} {c = c} line behind so_far split one front =
+      let long : List ℕ = middle.line.items ++ line in
+      let goes_on : PendingGoesOn (so_far.given ++ front.given) old.pending.items front.unsent a c = pending-then so_far.pending front.goes_on in
+      let whole = whole-line line behind so_far split in
       elim front.answered [
         | inl none ↦ record {
           lines = so_far.lines;
           each = so_far.each;
-          rest = long.line.items ++ newline ∷ behind;
+          rest = long ++ newline ∷ behind;
           at_front = whole;
           given = so_far.given ++ front.given;
           answered = subst (λ g. LinesGive parts Answers so_far.lines g) (sym (ap (λ g. so_far.given ++ g) none ∙ append-nil so_far.given)) so_far.answered;
@@ -283,30 +280,27 @@ module _ {parts : PresentationParts} {Answers : List ℕ → List ℕ → Type 0
           pending = goes_on;
         }
         | inr gives ↦ record {
-          lines = so_far.lines ++ long.line.items ∷ [];
-          each = all-append IsOneLine so_far.lines (long.line.items ∷ []) so_far.each (long-line line long so_far one longer, tt);
+          lines = so_far.lines ++ long ∷ [];
+          each = all-append IsOneLine so_far.lines (long ∷ []) so_far.each (long-line line so_far one, tt);
           rest = behind;
-          at_front = whole ∙ ended-next so_far.lines long.line.items behind;
+          at_front = whole ∙ ended-next so_far.lines long behind;
           given = so_far.given ++ front.given;
-          answered = gives-next parts Answers so_far.lines long.line.items so_far.given front.given so_far.answered gives;
+          answered = gives-next parts Answers so_far.lines long so_far.given front.given so_far.answered gives;
           unsent = front.unsent;
           pending = goes_on;
         }
       ]
 
   -- the next line stops the answers
-  pub advances-stops : {bytes rest : List ℕ} {old middle : Progress} {a b : SinkState} (c : SinkState) (line behind : List ℕ) (long : Progress) (stop : Stop)
+  pub advances-stops : {bytes rest : List ℕ} {old middle : Progress} {a b : SinkState} (c : SinkState) (line behind : List ℕ) (stop : Stop)
       → Advances parts Answers bytes rest old middle a b → rest ≡ line ++ newline ∷ behind → IsOneLine line
-      → long.line.items ≡ middle.line.items ++ line → long.number ≡ middle.number → long.pending.items ≡ middle.pending.items
-      → LineStops parts Answers long b c stop → StopsIn parts Answers bytes old a c stop
-  advances-stops c line behind long (Refused number fault) so_far split one longer same pending stops =
-      advances-refused line behind long so_far split one longer same pending stops
-  advances-stops c line behind long Output so_far split one longer same pending stops =
-      advances-line_front line behind long so_far split one longer pending stops
-  advances-stops c line behind long Memory so_far split one longer same pending stops =
-      advances-line_front line behind long so_far split one longer pending stops
-  advances-stops c line behind long TooLong so_far split one longer same pending stops = absurd stops
-  advances-stops c line behind long Input so_far split one longer same pending stops = absurd stops
+      → LineStops parts Answers (middle.line.items ++ line) middle.number middle.pending.items b c stop
+      → StopsIn parts Answers bytes old a c stop
+  advances-stops c line behind (Refused number fault) so_far split one stops = advances-refused line behind so_far split one stops
+  advances-stops c line behind Output so_far split one stops = advances-line_front line behind so_far split one stops
+  advances-stops c line behind Memory so_far split one stops = advances-line_front line behind so_far split one stops
+  advances-stops c line behind TooLong so_far split one stops = absurd stops
+  advances-stops c line behind Input so_far split one stops = absurd stops
 
   -- more bytes behind those
   pub advances-append : {bytes more : List ℕ} {one two three : Progress} {a b c : SinkState} → Advances parts Answers bytes [] one two a b

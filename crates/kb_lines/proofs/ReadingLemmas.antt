@@ -296,7 +296,7 @@ module _ {parts : PresentationParts} {Answers : List ℕ → List ℕ → Type 0
   -- all was answered
   pub reading-answered : {before now after : Streams} {progress progress' : Progress} {count : ℕ}
       → IsReading parts Answers before now progress count → now.input.left ≡ [] → after.input.left ≡ [] → count ≤ most_input
-      → LineEnds parts Answers progress progress' now.output after.output → progress'.pending.items ≡ []
+      → LineEnds parts Answers progress.line.items progress progress' now.output after.output → progress'.pending.items ≡ []
       → AllAnswered parts Answers before after
   reading-answered {before} {now} {after} {progress} reading none left short ends sent =
       let advances = reading.advances in
@@ -334,15 +334,18 @@ module _ {parts : PresentationParts} {Answers : List ℕ → List ℕ → Type 0
   }
 
   last-front : {before now after : Streams} {progress : Progress} {count : ℕ} → IsReading parts Answers before now progress count
-      → now.input.left ≡ [] → LineFront parts Answers progress now.output after.output → FrontAnswered parts Answers before after
+      → now.input.left ≡ [] → LineFront parts Answers progress.line.items progress.pending.items now.output after.output
+      → FrontAnswered parts Answers before after
   last-front {before} {now} {after} {progress} reading none front =
       front-answered [] before after reading.fresh
       (ap (λ i. i ++ newline ∷ []) (all-read reading none) ∙ sym (append-nil (reading.taken ++ newline ∷ [])))
-      (advances-line_front [] [] progress (one-more reading.advances) refl tt (sym (append-nil progress.line.items)) refl front)
+      (advances-line_front [] [] (one-more reading.advances) refl tt
+      (subst (λ l. LineFront parts Answers l progress.pending.items now.output after.output) (sym (append-nil progress.line.items)) front))
 
   last-refused : {before now after : Streams} {progress : Progress} {count number : ℕ} {fault : WordError}
       → (reading : IsReading parts Answers before now progress count) → now.input.left ≡ [] → count ≤ most_input
-      → LineRefused parts progress now.output after.output number fault → RefusedAt parts Answers number fault reading.taken before after
+      → LineRefused parts progress.line.items progress.number progress.pending.items now.output after.output number fault
+      → RefusedAt parts Answers number fault reading.taken before after
   last-refused {before} {now} {after} {progress} reading none short refused =
       let advances = reading.advances in
       let counted = reading.counted in
@@ -373,7 +376,8 @@ module _ {parts : PresentationParts} {Answers : List ℕ → List ℕ → Type 0
 
   last-means : {before now : Streams} {progress : Progress} {count : ℕ} (after : Streams) (stop : Stop)
       → (reading : IsReading parts Answers before now progress count) → now.input.left ≡ [] → count ≤ most_input
-      → LineStops parts Answers progress now.output after.output stop → StopMeans parts Answers reading.taken before after stop
+      → LineStops parts Answers progress.line.items progress.number progress.pending.items now.output after.output stop
+      → StopMeans parts Answers reading.taken before after stop
   last-means after (Refused number fault) reading none short stops = last-refused reading none short stops
   last-means after Output reading none short stops = last-front reading none stops
   last-means after Memory reading none short stops = last-front reading none stops
@@ -383,7 +387,8 @@ module _ {parts : PresentationParts} {Answers : List ℕ → List ℕ → Type 0
   -- the last line stops the answers
   pub last-stops : {before now after : Streams} {progress : Progress} {count : ℕ} (stop : Stop)
       → IsReading parts Answers before now progress count → now.input.left ≡ [] → after.input.left ≡ [] → count ≤ most_input
-      → LineStops parts Answers progress now.output after.output stop → Stops parts Answers before after stop
+      → LineStops parts Answers progress.line.items progress.number progress.pending.items now.output after.output stop
+      → Stops parts Answers before after stop
   last-stops {before} {now} {after} stop reading none left short stops = record {
     taken = reading.taken;
     takes = reading.takes ∙ ap (λ l. reading.taken ++ l) (none ∙ sym left);

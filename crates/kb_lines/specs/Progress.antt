@@ -27,41 +27,41 @@ pub record PendingGoesOn (given pending pending' : List ℕ) (before after : Sin
   pub appended : after.written ≡ before.written ++ sent
   pub held : pending ++ given ≡ sent ++ pending'
 
--- the line that had begun was answered
+-- the line was answered, and no other has begun
 pub record LineEnds (parts : PresentationParts) (Answers : List ℕ → List ℕ → Type 0)
-    (old new : Progress)
+    (line : List ℕ) (old new : Progress)
     (before after : SinkState) : Type 0 where
   pub given : List ℕ
-  pub answered : LineGives parts Answers old.line.items given
-  pub line : new.line.items ≡ []
+  pub answered : LineGives parts Answers line given
+  pub fresh : new.line.items ≡ []
   pub number : new.number ≡ old.number + 1
   pub pending : PendingGoesOn given old.pending.items new.pending.items before after
 
 -- a front of what was pending was sent, with what the line gives behind it or without that
-pub record LineFront (parts : PresentationParts)
-    (Answers : List ℕ → List ℕ → Type 0) (old : Progress)
-    (before after : SinkState) : Type 0 where
+pub record LineFront (parts : PresentationParts) (Answers : List ℕ → List ℕ → Type 0)
+    (line pending : List ℕ) (before after : SinkState) : Type 0 where
   pub given : List ℕ
-  pub answered : (given ≡ []) ⊎ LineGives parts Answers old.line.items given
+  pub answered : (given ≡ []) ⊎ LineGives parts Answers line given
   pub unsent : List ℕ
-  pub pending : PendingGoesOn given old.pending.items unsent before after
+  pub goes_on : PendingGoesOn given pending unsent before after
 
--- the line is refused, and what was pending was sent
-pub record LineRefused (parts : PresentationParts) (old : Progress)
-    (before after : SinkState) (number : ℕ)
-    (fault : WordError) : Type 0 where
-  pub counted : number ≡ old.number + 1
-  pub faulty : LineHasFault parts old.line.items fault
-  pub sent : after.written ≡ before.written ++ old.pending.items
+-- the line behind so many others is refused, and what was pending was sent
+pub record LineRefused (parts : PresentationParts) (line : List ℕ) (others : ℕ) (pending : List ℕ)
+    (before after : SinkState) (number : ℕ) (fault : WordError) : Type 0 where
+  pub counted : number ≡ others + 1
+  pub faulty : LineHasFault parts line fault
+  pub sent : after.written ≡ before.written ++ pending
 
--- what is true where the line that has begun stops the answers
-abbrev pub LineStops : PresentationParts → (List ℕ → List ℕ → Type 0) → Progress → SinkState
-    → SinkState → Stop → Type 0
-LineStops parts Answers old before after (Refused number fault) =
-    LineRefused parts old before after number fault
-LineStops parts Answers old before after Output = LineFront parts Answers old before after
-LineStops parts Answers old before after Memory = LineFront parts Answers old before after
-LineStops parts Answers old before after _ = ⊥
+-- what is true where the line behind so many others stops the answers
+abbrev pub LineStops : PresentationParts → (List ℕ → List ℕ → Type 0) → List ℕ → ℕ → List ℕ
+    → SinkState → SinkState → Stop → Type 0
+LineStops parts Answers line others pending before after (Refused number fault) =
+    LineRefused parts line others pending before after number fault
+LineStops parts Answers line others pending before after Output =
+    LineFront parts Answers line pending before after
+LineStops parts Answers line others pending before after Memory =
+    LineFront parts Answers line pending before after
+LineStops parts Answers line others pending before after _ = ⊥
 
 -- of these bytes, which go on with the line that had begun, the rest is still to come: each line that ended before it
 -- was answered

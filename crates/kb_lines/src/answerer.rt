@@ -1,6 +1,6 @@
 //! What answers a word.
 
-ghost use Rattle.std.specs.Prelude.{◌≡◌, ℕ, List, IfOk};
+ghost use Rattle.std.specs.Prelude.{◌≡◌, ℕ, List, OnOk};
 ghost use Rattle.kb_word.specs.Presentations.{PresentationParts, parts_of};
 
 use kb_word::{Memory, Word};
@@ -9,6 +9,9 @@ use std::alloc::Global;
 
 /// Answers words over the letters of a presentation, each with a word.
 pub trait Answerer {
+    /// The memory that it works in, kept from word to word. What it holds before and after counts for nothing.
+    type Workspace: Drop;
+
     /// The presentation.
     ghost parts: { Self → PresentationParts };
 
@@ -19,7 +22,10 @@ pub trait Answerer {
     fn reader(&self) -> &WordReader
         ensures { parts_of result.now.presentation ≡ parts self.now };
 
-    /// Answers a word.
-    fn answer(&self, alloc: Global, word: &Word) -> Result<Word, Memory>
-        ensures { IfOk result (answers self.now word.now) };
+    /// A workspace that has taken no memory yet.
+    fn workspace(&self, alloc: Global) -> Self::Workspace;
+
+    /// Replaces a word by an answer to it. After want of memory the word is of no use.
+    fn answer(&self, word: &mut Word, workspace: &mut Self::Workspace) -> Result<(), Memory>
+        ensures { OnOk result (answers self.now word.old word.new) };
 }

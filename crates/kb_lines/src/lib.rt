@@ -6,10 +6,12 @@
 //! text where each word has one answer.
 //!
 //! A line is answered, and its answer sent, before a byte past those that have come is needed. What
-//! is held is the line that has begun, one buffer of input, and the answers that aren't sent yet.
+//! is held is the line that has begun, one buffer of input, the answers that aren't sent yet, and
+//! the memory that one line is answered in, which serves for all lines: the word that is read becomes
+//! its answer. A line that lies in the buffer as a whole is read where it lies.
 //!
 //! - `answerer` is what answers a word, with the reader of words, and `stop` why the lines aren't answered to the end.
-//! - `line` is one line, `progress` what is held between two reads, and `lines` the reading.
+//! - `line` is one line and the memory for it, `progress` what is held between two reads, and `lines` the reading.
 //!
 //! Below are kb_word, kb_record, kb_wordreader and kb_io; above are the commands that answer word lines.
 #![tactic(auto)]

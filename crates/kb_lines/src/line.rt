@@ -22,10 +22,20 @@ pub(crate) fn split_line(bytes: &[u8]) -> Option<(&[u8], &[u8])>
     Some((&bytes[..end], &bytes[end + 1..]))
 }
 
+/// The memory that lines are answered in, kept from line to line.
+#[derive(Drop)]
+pub(crate) struct LineWorkspace<W> {
+    /// The word that is read, which becomes its answer.
+    pub word: Word,
+    /// What the answerer works in.
+    pub workspace: W,
+}
+
 /// Appends what a line gives: nothing, or the word that answers it and a newline.
 pub(crate) fn answer_line<A: Answerer>(
     alloc: Global,
     answerer: &A,
+    work: &mut LineWorkspace<A::Workspace>,
     line: &[u8],
     pending: &mut Vec<u8>,
 ) -> Result<(), WordError>
@@ -39,9 +49,9 @@ pub(crate) fn answer_line<A: Answerer>(
         return Ok(());
     }
     let reader = answerer.reader();
-    let word = reader.parse(alloc, line)?;
-    let answer = answerer.answer(alloc, &word)?;
-    print_answer(&reader.presentation.names, &answer, pending)?;
+    reader.parse_into(alloc, line, &mut work.word)?;
+    answerer.answer(&mut work.word, &mut work.workspace)?;
+    print_answer(&reader.presentation.names, &work.word, pending)?;
     Ok(())
 }
 

@@ -5,9 +5,11 @@ ghost use Rattle.kb_lines.specs.Streams.{streams, AreTold, StreamsGoOn};
 ghost use Rattle.kb_lines.specs.Answered.{AllAnswered, Stops, StopIsCounted};
 
 use crate::answerer::Answerer;
+use crate::line::LineWorkspace;
 use crate::progress::Progress;
 use crate::stop::Stop;
 use kb_io::{Failed, Sink, Source};
+use kb_word::Word;
 use std::alloc::Global;
 
 /// The most bytes of word lines that are read.
@@ -42,6 +44,10 @@ pub fn answer_lines<A: Answerer, I: Source, O: Sink>(
 {
     let mut space = vec![in alloc; 0u8; BUFFER]?;
     let buffer = space.as_mut_slice();
+    let mut work = LineWorkspace {
+        word: Word::new(alloc),
+        workspace: answerer.workspace(alloc),
+    };
     let mut progress = Progress::new(alloc);
     let mut count = 0;
     loop {
@@ -50,10 +56,10 @@ pub fn answer_lines<A: Answerer, I: Source, O: Sink>(
             Err(Failed) => return Err(Stop::Input),
         };
         if more == 0 {
-            return progress.finish(alloc, answerer, out);
+            return progress.finish(alloc, answerer, &mut work, out);
         }
         let room = MOST_INPUT - count;
-        progress.take_bytes(alloc, answerer, &buffer[..more.min(room)], out)?;
+        progress.take_bytes(alloc, answerer, &mut work, &buffer[..more.min(room)], out)?;
         if room < more {
             return Err(Stop::TooLong);
         }

@@ -7,11 +7,12 @@ ghost use Rattle.kb_lines.specs.Progress.{IsFresh, IsReady, LineEnds, LineStops,
 ghost use Rattle.kb_lines.specs.declared.stop.Stop.TheVariants as stops;
 
 use crate::answerer::Answerer;
-use crate::line::{answer_line, split_line};
+use crate::line::{LineWorkspace, answer_line, split_line};
 use crate::stop::Stop;
 use kb_io::{Sink, write_all};
 use kb_record::WordError;
 use std::alloc::Global;
+use std::mem::replace;
 
 /// The line that has begun, how many lines ended before it, and the answers that aren't sent yet.
 #[derive(Drop)]
@@ -42,6 +43,7 @@ impl Progress {
         &mut self,
         alloc: Global,
         answerer: &A,
+        work: &mut LineWorkspace<A::Workspace>,
         bytes: &[u8],
         out: &mut O,
     ) -> Result<(), Stop>
@@ -59,7 +61,7 @@ impl Progress {
         ensures counted { IfErr result (LineStopIsCounted (O.state out.old) (O.state out.new)) }
         ensures goes_on { SinkGoesOn (O.state out.old) (O.state out.new) }
     {
-        self.take_lines(alloc, answerer, bytes, out)?;
+        self.take_lines(alloc, answerer, work, bytes, out)?;
         self.send(out)
     }
 
@@ -68,22 +70,23 @@ impl Progress {
         &mut self,
         alloc: Global,
         answerer: &A,
+        work: &mut LineWorkspace<A::Workspace>,
         out: &mut O,
     ) -> Result<(), Stop>
         requires room { self.old.number + 1 < 2 ^ 32 }
         ensures ends { IsTrue (O.state out.old).told → OnOk result
-            (LineEnds (A.parts answerer.now) (A.answers answerer.now) self.old self.new
-            (O.state out.old) (O.state out.new)) }
+            (LineEnds (A.parts answerer.now) (A.answers answerer.now) self.old.line.items
+            self.old self.new (O.state out.old) (O.state out.new)) }
         ensures sent { OnOk result (self.new.pending.items ≡ []) }
 
         // After a stop.
         ensures stops { IsTrue (O.state out.old).told → IfErr result
-            (LineStops (A.parts answerer.now) (A.answers answerer.now) self.old
-            (O.state out.old) (O.state out.new)) }
+            (LineStops (A.parts answerer.now) (A.answers answerer.now) self.old.line.items
+            self.old.number self.old.pending.items (O.state out.old) (O.state out.new)) }
         ensures counted { IfErr result (LineStopIsCounted (O.state out.old) (O.state out.new)) }
         ensures goes_on { SinkGoesOn (O.state out.old) (O.state out.new) }
     {
-        self.end_line(alloc, answerer, out)?;
+        self.end_line(alloc, answerer, work, &[], out)?;
         self.send(out)
     }
 
@@ -93,6 +96,7 @@ impl Progress {
         &mut self,
         alloc: Global,
         answerer: &A,
+        work: &mut LineWorkspace<A::Workspace>,
         bytes: &[u8],
         out: &mut O,
     ) -> Result<(), Stop>
@@ -111,37 +115,73 @@ impl Progress {
     {
         let mut rest = bytes;
         while let Some((line, behind)) = split_line(rest) {
-            self.line.extend_from_slice(line)?;
-            self.end_line(alloc, answerer, out)?;
+            self.end_line(alloc, answerer, work, line, out)?;
             rest = behind;
         }
         self.line.extend_from_slice(rest)?;
         Ok(())
     }
 
-    /// Answers the line that has begun, which has come to its end.
+    /// Answers the line that has begun and ends with these bytes. Where none has begun, it isn't copied.
     fn end_line<A: Answerer, O: Sink>(
         &mut self,
         alloc: Global,
         answerer: &A,
+        work: &mut LineWorkspace<A::Workspace>,
+        end: &[u8],
         out: &mut O,
     ) -> Result<(), Stop>
         requires room { self.old.number + 1 < 2 ^ 32 }
         ensures ends { IsTrue (O.state out.old).told → OnOk result
-            (LineEnds (A.parts answerer.now) (A.answers answerer.now) self.old self.new
+            (LineEnds (A.parts answerer.now) (A.answers answerer.now)
+            (self.old.line.items ++ end.now) self.old self.new
             (O.state out.old) (O.state out.new)) }
         ensures number { OnOk result (self.new.number ≡ self.old.number + 1) }
 
         // After a stop.
         ensures stops { IsTrue (O.state out.old).told → IfErr result
-            (LineStops (A.parts answerer.now) (A.answers answerer.now) self.old
+            (LineStops (A.parts answerer.now) (A.answers answerer.now)
+            (self.old.line.items ++ end.now) self.old.number self.old.pending.items
             (O.state out.old) (O.state out.new)) }
         ensures counted { IfErr result (LineStopIsCounted (O.state out.old) (O.state out.new)) }
         ensures goes_on { SinkGoesOn (O.state out.old) (O.state out.new) }
     {
-        match answer_line(alloc, answerer, &self.line, &mut self.pending) {
+        if self.line.is_empty() {
+            return self.answer(alloc, answerer, work, end, out);
+        }
+        self.line.extend_from_slice(end)?;
+        let mut line = replace(&mut self.line, Vec::new(alloc));
+        self.answer(alloc, answerer, work, &line, out)?;
+        line.clear();
+        self.line = line;
+        Ok(())
+    }
+
+    /// Answers a line, where no other has begun.
+    fn answer<A: Answerer, O: Sink>(
+        &mut self,
+        alloc: Global,
+        answerer: &A,
+        work: &mut LineWorkspace<A::Workspace>,
+        line: &[u8],
+        out: &mut O,
+    ) -> Result<(), Stop>
+        requires fresh { self.old.line.items ≡ [] }
+        requires room { self.old.number + 1 < 2 ^ 32 }
+        ensures ends { IsTrue (O.state out.old).told → OnOk result
+            (LineEnds (A.parts answerer.now) (A.answers answerer.now) line.now self.old self.new
+            (O.state out.old) (O.state out.new)) }
+        ensures number { OnOk result (self.new.number ≡ self.old.number + 1) }
+
+        // After a stop.
+        ensures stops { IsTrue (O.state out.old).told → IfErr result
+            (LineStops (A.parts answerer.now) (A.answers answerer.now) line.now
+            self.old.number self.old.pending.items (O.state out.old) (O.state out.new)) }
+        ensures counted { IfErr result (LineStopIsCounted (O.state out.old) (O.state out.new)) }
+        ensures goes_on { SinkGoesOn (O.state out.old) (O.state out.new) }
+    {
+        match answer_line(alloc, answerer, work, line, &mut self.pending) {
             Ok(()) => {
-                self.line.clear();
                 self.number += 1;
                 if self.pending.len() < ENOUGH {
                     return Ok(());

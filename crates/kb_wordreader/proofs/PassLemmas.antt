@@ -1,6 +1,6 @@
 -- The pass over a plain product: what is read, and what is still to come.
 use Rattle.std.proofs.Common.{◌≡◌, ℕ, ◌-◌, ◌<◌, ◌≤◌, max, take, drop, get_or, length-append, List, [], ◌∷◌, ◌++◌, length, Option, None, Some, Ok, Err, inl, inr, refl, sym, ap, ◌∙◌, subst, arith}
-use Rattle.std.specs.Prelude.{Result, IfOk, IfErr, IfSome}
+use Rattle.std.specs.Prelude.{Result}
 use Rattle.std.proofs.lemmas.List.{take_rest}
 use Rattle.kb_lexing.proofs.Lexings.{gap_front}
 use Rattle.kb_lexing.specs.Token.{Token, name, star, caret, open_round, close_round}
@@ -151,14 +151,3 @@ gap_length text =
     let gap = gap_front text in
     let whole = ap length gap.whole in
     omega (arith, whole, length-append gap.front (after_gap text))
-
--- what the end of the pass returns
-pub ends_ok : (r : Result (Option (List ℕ)) WordError) (w : List ℕ) (fault : Option WordError) (P : List ℕ → Type 0) → IfOk r (λ product. (fault ≡ None) × (product ≡ Some w)) → (fault ≡ None → P w)
-    → IfOk r (λ product. IfSome product P)
-ends_ok (Ok product) w fault P h p = subst (λ x. IfSome x P) (sym h.1) (p h.0)
-ends_ok (Err error) w fault P h p = tt
-
-pub ends_err : (r : Result (Option (List ℕ)) WordError) (fault : Option WordError) (P : WordError → Type 0) → IfErr r (λ error. fault ≡ Some error) → ((error : WordError) → fault ≡ Some error → P error)
-    → IfErr r P
-ends_err (Ok product) fault P h p = tt
-ends_err (Err error) fault P h p = p error h

@@ -17,23 +17,24 @@ use std::alloc::Global;
 /// How deep brackets may stand in brackets.
 const DEEPEST: usize = 64;
 
-/// The word of bytes with powers and brackets.
+/// The word becomes that of bytes with powers and brackets.
 pub(crate) fn product_of_powers(
     alloc: Global,
     presentation: &Presentation,
     byte_letters: &[Option<Letter>],
     bytes: &[u8],
-) -> Option<Word>
+    word: &mut Word,
+) -> Option<()>
     requires { AreByteLetters presentation.now.names byte_letters.now }
     ensures { IfSome result
-        (λ word. Meaning bytes.now presentation.now.names presentation.now.inv (Ok word)) }
+        (λ done. Meaning bytes.now presentation.now.names presentation.now.inv (Ok word.new)) }
 {
-    let mut word = Word::new(alloc);
-    let rest = take_factors(alloc, presentation, byte_letters, bytes, DEEPEST, &mut word)?;
+    word.clear();
+    let rest = take_factors(alloc, presentation, byte_letters, bytes, DEEPEST, word)?;
     if !is_blank(rest) {
         return None;
     }
-    Some(word)
+    Some(())
 }
 
 /// Adds the letters of the factors at the front of a text, as many as are joined by `*`, with brackets in brackets

@@ -2,7 +2,7 @@
 //!
 //! # The public contract
 //!
-//! [`WordReader::parse`] returns the word that bytes stand for, or refuses them, by the clauses of
+//! [`WordReader::parse_into`] makes a word that which bytes stand for, or refuses them, by the clauses of
 //! [`parse_word`](kb_record::parse_word).
 //!
 //! # How it is made

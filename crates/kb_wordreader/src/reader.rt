@@ -1,6 +1,6 @@
 //! The reader of words.
 
-ghost use Rattle.std.specs.Prelude.{◌≡◌, IfOk, IfErr, Ok};
+ghost use Rattle.std.specs.Prelude.{◌≡◌, IfOk, OnOk, IfErr, Ok};
 ghost use Rattle.kb_record.specs.Faults.{HasWordFault, Meaning};
 ghost use Rattle.kb_wordreader.specs.Letters.{AreByteLetters};
 
@@ -32,37 +32,44 @@ impl WordReader {
         })
     }
 
-    /// Reads a word: the word that the bytes stand for, or the refusal of the bytes, or of the first fault of the
-    /// word that is met from the left.
+    /// Reads a word: the word becomes that which the bytes stand for, and keeps its memory. Or the refusal of the bytes,
+    /// or of the first fault of the word that is met from the left; the word is of no use then.
     ///
     /// By `a_word_that_is_read_has_no_fault` the bytes are refused exactly where they have a fault, but for want of
     /// memory. No clause says which of two faults of the bytes is named, nor what `at` is.
-    pub fn parse(&self, alloc: Global, bytes: &[u8]) -> Result<Word, WordError>
-        ensures read { IfOk result
-            (λ word. Meaning bytes.now self.now.presentation.names self.now.presentation.inv
-            (Ok word)) }
+    pub fn parse_into(&self, alloc: Global, bytes: &[u8], word: &mut Word) -> Result<(), WordError>
+        ensures read { OnOk result
+            (Meaning bytes.now self.now.presentation.names self.now.presentation.inv
+            (Ok word.new)) }
         ensures fault { IfErr result
             (HasWordFault bytes.now self.now.presentation.names self.now.presentation.inv) }
     {
         let names = &self.presentation.names;
-        match plain_product(alloc, names, &self.byte_letters, bytes) {
-            Ok(Some(word)) => Ok(word),
-            Ok(None) => self.parse_powers(alloc, bytes),
+        match plain_product(alloc, names, &self.byte_letters, bytes, word) {
+            Ok(Some(())) => Ok(()),
+            Ok(None) => self.parse_powers(alloc, bytes, word),
             Err(fault) => Err(fault),
         }
     }
 
     /// Reads a word that is no plain product: in one pass, and by its tree where the pass gives up.
-    fn parse_powers(&self, alloc: Global, bytes: &[u8]) -> Result<Word, WordError>
-        ensures read { IfOk result
-            (λ word. Meaning bytes.now self.now.presentation.names self.now.presentation.inv
-            (Ok word)) }
+    fn parse_powers(&self, alloc: Global, bytes: &[u8], word: &mut Word) -> Result<(), WordError>
+        ensures read { OnOk result
+            (Meaning bytes.now self.now.presentation.names self.now.presentation.inv
+            (Ok word.new)) }
         ensures fault { IfErr result
             (HasWordFault bytes.now self.now.presentation.names self.now.presentation.inv) }
     {
-        match product_of_powers(alloc, &self.presentation, &self.byte_letters, bytes) {
-            Some(word) => Ok(word),
-            None => parse_word(alloc, bytes, &self.presentation),
+        if let Some(()) = product_of_powers(
+            alloc,
+            &self.presentation,
+            &self.byte_letters,
+            bytes,
+            word,
+        ) {
+            return Ok(());
         }
+        *word = parse_word(alloc, bytes, &self.presentation)?;
+        Ok(())
     }
 }

@@ -15,7 +15,7 @@ returns-clause-given g c =
     subst (λ (parts : PresentationParts). AddsGiven parts (g.A.Answerer.answers c.args.answerer.now) c.args.line.now c.args.pending.now.items c.print_answer.new.pending.items)
     c.reader-reader.ensures
     (record {
-      given = text_of_word c.reader-reader.result.now.presentation.names c.in_ok-answer.answer ++ newline ∷ [];
-      gives = word some c.in_ok-word.ensures.read c.in_ok-answer.ensures;
+      given = text_of_word c.reader-reader.result.now.presentation.names c.answer.new.word ++ newline ∷ [];
+      gives = word some c.in_ok-parse_into.ensures.read c.in_ok-answer.ensures;
       added = c.in_ok-print_answer.ensures.printed;
     })

@@ -38,7 +38,7 @@ returns-then-more-eq0-clause-answered g c = λ told.
     let none : (g.I.Source.state c.loop-more.input).left ≡ [] = (c.in-Ok.ensures.end now.input).0 c.if-more-eq0.true in
     let left = nothing-left c.read.new.buf _ (g.I.Source.state c.read.new.self).left c.in-Ok.more (c.in-Ok.ensures.moved now.input) none in
     ok-then
-    (LineEnds (g.A.Answerer.parts c.args.answerer.now) (g.A.Answerer.answers c.args.answerer.now) c.loop-more.progress c.finish.new.self (g.O.Sink.state c.loop-more.out) (g.O.Sink.state c.finish.new.out))
+    (LineEnds (g.A.Answerer.parts c.args.answerer.now) (g.A.Answerer.answers c.args.answerer.now) c.loop-more.progress.line.items c.loop-more.progress c.finish.new.self (g.O.Sink.state c.loop-more.out) (g.O.Sink.state c.finish.new.out))
     (c.finish.new.self.pending.items ≡ [])
     (AllAnswered (g.A.Answerer.parts c.args.answerer.now) (g.A.Answerer.answers c.args.answerer.now) before after)
     c.finish.result
@@ -54,7 +54,7 @@ returns-then-more-eq0-clause-stops g c = λ told.
     let none : (g.I.Source.state c.loop-more.input).left ≡ [] = (c.in-Ok.ensures.end now.input).0 c.if-more-eq0.true in
     let left = nothing-left c.read.new.buf _ (g.I.Source.state c.read.new.self).left c.in-Ok.more (c.in-Ok.ensures.moved now.input) none in
     err-then
-    (LineStops (g.A.Answerer.parts c.args.answerer.now) (g.A.Answerer.answers c.args.answerer.now) c.loop-more.progress (g.O.Sink.state c.loop-more.out) (g.O.Sink.state c.finish.new.out))
+    (LineStops (g.A.Answerer.parts c.args.answerer.now) (g.A.Answerer.answers c.args.answerer.now) c.loop-more.progress.line.items c.loop-more.progress.number c.loop-more.progress.pending.items (g.O.Sink.state c.loop-more.out) (g.O.Sink.state c.finish.new.out))
     (Stops (g.A.Answerer.parts c.args.answerer.now) (g.A.Answerer.answers c.args.answerer.now) before after)
     c.finish.result
     (λ stop stops. last-stops stop (kept.reading told) none left kept.most stops)

@@ -11,5 +11,5 @@ returns c =
     let rest = c.in_ok-rest.rest.now in
     let w = c.take_factors.new.word in
     let read : Adds (FactorsFront names inverses deepest c.args.bytes.now rest) [] w =
-    subst (λ old. Adds (FactorsFront names inverses deepest c.args.bytes.now rest) old w) c.new-word.ensures c.in_ok-rest.ensures.takes in
+    subst (λ old. Adds (FactorsFront names inverses deepest c.args.bytes.now rest) old w) c.clear.ensures c.in_ok-rest.ensures.takes in
     meaning names inverses c.args.bytes.now rest w read (c.is_blank.ensures.0 c.if-not-is_blank.false)

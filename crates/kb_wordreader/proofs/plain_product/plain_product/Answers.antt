@@ -1,15 +1,13 @@
-use Rattle.std.proofs.Common.{rules, ◌≡◌, ℕ, List, Option, ◌∷◌, [], ◌-◌, length, take, drop, get_or, sym, ◌∙◌, arith}
-use Rattle.std.specs.Prelude.{Ok}
+use Rattle.std.proofs.Common.{rules, ◌≡◌, ◌∷◌, [], ◌-◌, length, take, drop, get_or, sym, ◌∙◌, arith}
 use Rattle.kb_lexing.specs.Token.{name}
 use Rattle.kb_lexing.specs.Spelling.{after_gap}
-use Rattle.kb_record.specs.Faults.{HasWordFault, Meaning}
 use Rattle.kb_wordreader.specs.Products.{Passed}
-use Rattle.kb_wordreader.proofs.PassLemmas.{passed_more, passed_word, passed_fault, no_bytes, mark_split, ends_ok, ends_err}
+use Rattle.kb_wordreader.proofs.PassLemmas.{passed_more, passed_word, passed_fault, no_bytes, mark_split}
 use Rattle.kb_wordreader.proofs.FactorLemmas.{token_shorter, mark_shorter}
 use Rattle.kb_wordreader.proofs.plain_product.plain_product.Goals as goal
 
-pub returns-in-empty-clause-word : goal.returns-in-empty-clause-word
-returns-in-empty-clause-word c =
+pub returns-in-None-clause-word : goal.returns-in-None-clause-word
+returns-in-None-clause-word c =
     let names = c.args.names.now in
     let bytes = c.args.bytes.now in
     let rest = c.take_starred_names-rest.result.now in
@@ -20,11 +18,10 @@ returns-in-empty-clause-word c =
     let t = c.in-Some.ensures.takes in
     let passed : Passed names bytes rest so_far before = c.take_starred_names-rest.ensures.takes bytes c.loop-behind.invariant.passed in
     let end : after_gap c.in-Some.behind.now ≡ [] = sym c.behind_gap.ensures ∙ no_bytes _ (omega (arith, c.in-empty.len_below)) in
-    ends_ok c.product.result w fault (λ v. (inverses : List (Option ℕ)) → Meaning bytes names inverses (Ok v)) c.product.ensures.word
-    (passed_word names bytes rest c.in-Some.behind.now so_far t.spelling w before fault passed t.first t.takes end)
+    passed_word names bytes rest c.in-Some.behind.now so_far t.spelling w before fault passed t.first t.takes end (search rules)
 
-pub returns-in-empty-clause-fault : goal.returns-in-empty-clause-fault
-returns-in-empty-clause-fault c =
+pub returns-in-Some-fault-clause-fault : goal.returns-in-Some-fault-clause-fault
+returns-in-Some-fault-clause-fault c =
     let names = c.args.names.now in
     let bytes = c.args.bytes.now in
     let rest = c.take_starred_names-rest.result.now in
@@ -35,8 +32,7 @@ returns-in-empty-clause-fault c =
     let t = c.in-Some.ensures.takes in
     let passed : Passed names bytes rest so_far before = c.take_starred_names-rest.ensures.takes bytes c.loop-behind.invariant.passed in
     let end : after_gap c.in-Some.behind.now ≡ [] = sym c.behind_gap.ensures ∙ no_bytes _ (omega (arith, c.in-empty.len_below)) in
-    ends_err c.product.result fault (λ error. (inverses : List (Option ℕ)) → HasWordFault bytes names inverses error) c.product.ensures.fault
-    (passed_fault names bytes rest c.in-Some.behind.now so_far t.spelling w before fault passed t.first t.takes end)
+    passed_fault names bytes rest c.in-Some.behind.now so_far t.spelling w before fault passed t.first t.takes end _ (search rules)
 
 pub loop-behind-smaller : goal.loop-behind-smaller
 loop-behind-smaller c =
