@@ -12,11 +12,12 @@ use Rattle.kb_cli.specs.declared.arguments.UsageError.TheVariants.{Usage, Memory
 use Rattle.kb_cli.specs.declared.command.Command.{Command}
 use Rattle.kb_cli.specs.declared.command.Command.TheVariants.{WordReduce, Automata, Completion}
 
--- the program without commands; the arguments begin after the program's name
+-- the program without commands; the arguments begin after the program's name, and `--version` may be among them
 abbrev pub bare_app : App
 bare_app = record (new_app (codes "kb")) {
   top = record (new_app (codes "kb")).top {
     no_binary_name = true;
+    has_version = true;
     subcommand_required = true;
     arg_required_else_help = true;
   };
@@ -24,7 +25,7 @@ bare_app = record (new_app (codes "kb")) {
 
 -- the program with its commands
 abbrev pub line_app : App
-line_app = with_completions (with_automata (with_wordreduce bare_app))
+line_app = with_automata (with_completions (with_wordreduce bare_app))
 
 -- the subcommand that was entered is the command
 abbrev pub IsCommand : Entered → Command → Type 0
@@ -37,8 +38,8 @@ pub record IsLine (arguments : List Text) (command : Command) : Type 0 where
   pub faultless : fault_of line_app arguments ≡ []
   pub is : IsCommand (subcommand_of line_app arguments) command
 
--- The arguments are no line of the program: clap finds a fault of this kind, or finds none, but a number among them has
--- a sign or a zero before another digit.
+-- The arguments are no line of the program: clap finds a fault of this kind, as which it also counts that they ask for
+-- help or for the version, or finds none, but a number among them has a sign or a zero before another digit.
 pub data IsNoLine (arguments : List Text) (kind : ErrorKind) : Type 0 where
   faulty : IsAmong kind (fault_of line_app arguments) → IsNoLine arguments kind
   no_number : fault_of line_app arguments ≡ []

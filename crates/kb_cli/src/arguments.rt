@@ -17,7 +17,7 @@ use std::alloc::{AllocError, Global};
 /// Why arguments are no command.
 #[derive(Drop)]
 pub enum UsageError {
-    /// The arguments are no line of the program, or ask for help.
+    /// The arguments are no line of the program, or ask for help or for the version.
     Usage {
         /// What is wrong with them, in `clap`'s terms.
         kind: ErrorKind,
@@ -51,7 +51,7 @@ impl From<Memory> for UsageError {
 /// Reads the arguments, which are the words after the program's name.
 ///
 /// They are a command exactly where `clap` finds no fault in them and the numbers among them have neither a sign nor
-/// a zero before another digit. Arguments that ask for help are none.
+/// a zero before another digit. Arguments that ask for help or for the version are none.
 pub fn read_arguments(alloc: Global, arguments: &[String]) -> Result<Command, UsageError>
     ensures ok { IfOk result (IsLine (map string_bytes arguments.now)) }
     ensures err { IfErr result (Explains (map string_bytes arguments.now)) }

@@ -15,13 +15,14 @@ pub(crate) fn program_line<'a>(alloc: Global) -> Result<clap::Command<'a>, Alloc
             "Computes with words in finitely presented groups and monoids, and with automata on words",
         )
         .after_help(AFTER_HELP)
+        .version(VERSION)
         .no_binary_name(true)
         .bin_name("kb")?
         .subcommand_required(true)
         .arg_required_else_help(true);
     let program = kb_cmd_words::add_commands(alloc, program)?;
-    let program = kb_cmd_automata::add_commands(alloc, program)?;
-    kb_cmd_completion::add_commands(alloc, program)
+    let program = kb_cmd_completion::add_commands(alloc, program)?;
+    kb_cmd_automata::add_commands(alloc, program)
 }
 
 /// The command of this name, as its usage calls it; the program where there is none.
@@ -42,8 +43,19 @@ pub(crate) fn command_line_of<'a>(
     program_line(alloc)
 }
 
+/// What `--version` says after the program's name: its version, the kit that proves it, and what proved means.
+const VERSION: &str = "\
+0.9.0
+rattle-kit-13b logic dac8208d650f15bf
+Status 0 is a theorem: the answer to each word line is the least word equal to it, rules stored are complete, and each automaton stored has exactly the stated language.";
+
 /// What `--help` says after the list of commands.
 const AFTER_HELP: &str = "\
+Words and completion: wordreduce, kbprog, logread
+Automata:             fsaand to fsaenumerate
+The program itself:   selftest, help
+
+`kb COMMAND --help` names the files that a command stores, and says how input ends.
 Exit status: 0 answered, 1 refused, 2 limit reached, 3 no, 4 no memory, 5 device failed, 6 usage.
 Files are GAP records as KBMAG has them; docs/formats.md has every form.
 Example: echo 'i*j*i^-1*j^-1*i^2' | kb wordreduce examples/quaternion";

@@ -8,7 +8,7 @@ ghost use Rattle.kb_cmd_words.specs.Line.{with_wordreduce, wordreduce_app, IsWor
 
 use crate::word_reduce::WordReduce;
 use clap::{ArgMatches, Command};
-use kb_task::{needed_argument, number_given, text_given, workers_option};
+use kb_task::{help_end, needed_argument, number_given, text_given, workers_option};
 use kb_word::{Memory, OwnedText};
 use std::alloc::{AllocError, Global};
 
@@ -71,10 +71,12 @@ fn definition<'a>(alloc: Global) -> Result<Command<'a>, AllocError>
         "A presentation file (GAP record); its relations must be confluent as rules",
     );
     Command::new(alloc, "wordreduce")
-        .about(
-            "Prints, for the word on each line of standard input, the shortlex-least word that equals it",
-        )
-        .after_help("Example: echo 'a*b' | kb wordreduce FILE")
+        .about("Prints, for the word on each line of standard input, the least word that equals it")
+        .after_help(help_end!(
+            "Words come from standard input, one a line; end with Ctrl-D; `</dev/null` for none.",
+            "No file is stored.",
+            "Example: echo 'a*b*a*b' | kb wordreduce examples/symmetric-3"
+        ))
         .arg(file)?
         .arg(workers_option(alloc))
 }

@@ -7,6 +7,14 @@ ghost use Rattle.kb_task.specs.Arguments.{GivesNumber, GivesStates, IsNumber, Is
 use clap::{Arg, ArgAction, ArgMatches, value_parser};
 use std::alloc::Global;
 
+/// What stands at the end of a command's help: the lines that are given, and where refusals are explained.
+#[macro_export]
+macro_rules! help_end {
+    ($($line:literal),+) => {
+        concat!($($line, "\n",)+ "docs/formats.md, \"Refusals\", explains the code of each refusal.")
+    };
+}
+
 /// An argument that must be there.
 pub fn needed_argument<'a>(
     alloc: Global,
@@ -90,7 +98,7 @@ pub fn workers_option<'a>(alloc: Global) -> Arg<'a>
         .default_value("4")
         .action(ArgAction::Set)
         .value_parser(value_parser!(u32).range(1..=64))
-        .help("Number of threads, 1 to 64 (no effect yet)")
+        .help("Number of threads, 1 to 64; no answer depends on it")
 }
 
 /// The text that is given under the name.

@@ -24,7 +24,7 @@ pub enum Status {
     Memory,
     /// Something outside failed.
     Fault(Which),
-    /// The words aren't a line of the program, or ask for help.
+    /// The words aren't a line of the program, or ask for help or for the version.
     Usage(ErrorKind),
 }
 

@@ -95,7 +95,7 @@ fn labelled<'a>(alloc: Global, name: Name) -> Command<'a>
     let label = name.label();
     Command::new(alloc, label.text)
         .about(label.about)
-        .after_help(label.example)
+        .after_help(label.after_help)
 }
 
 /// The argument that names the file of an automaton, the first where there are two.

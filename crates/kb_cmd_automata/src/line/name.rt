@@ -6,6 +6,27 @@ ghost use Rattle.kb_cmd_automata.specs.declared.line.name.Name.TheVariants as na
 
 use crate::combine::Combination;
 use crate::transform::Transformation;
+use kb_task::help_end;
+
+/// The end of the help of a command that stores an automaton.
+macro_rules! stores_out {
+    ($example:literal) => {
+        help_end!(
+            "OUT is the file that is stored: the canonical automaton. Standard input is not read.",
+            $example
+        )
+    };
+}
+
+/// The end of the help of a command that stores nothing.
+macro_rules! stores_nothing {
+    ($example:literal) => {
+        help_end!(
+            "No file is stored. Standard input is not read.",
+            $example
+        )
+    };
+}
 
 /// A command on automata, without its arguments.
 #[derive(Clone, Copy)]
@@ -29,8 +50,8 @@ pub(crate) struct Label<'a> {
     pub text: &'a str,
     /// What it does.
     pub about: &'a str,
-    /// A command line that uses it.
-    pub example: &'a str,
+    /// What its help says at the end.
+    pub after_help: &'a str,
 }
 
 /// The commands, in the order in which the program lists them.
@@ -78,17 +99,17 @@ impl Name {
             Name::Minimise => Label {
                 text: "fsamin",
                 about: "Stores the minimal automaton of what A accepts",
-                example: "Example: kb fsamin examples/multiples-of-3.fsa OUT",
+                after_help: stores_out!("Example: kb fsamin examples/multiples-of-3.fsa OUT"),
             },
             Name::Compare => Label {
                 text: "fsalequal",
                 about: "Says whether A and B accept the same, and if not, the least that only one of them accepts",
-                example: "Example: kb fsalequal examples/multiples-of-2.fsa examples/multiples-of-3.fsa",
+                after_help: stores_nothing!("Example: kb fsalequal examples/multiples-of-2.fsa examples/multiples-of-3.fsa"),
             },
             Name::Enumerate => Label {
                 text: "fsaenumerate",
                 about: "Prints the words of MIN to MAX letters that A accepts, in the shortlex order",
-                example: "Example: kb fsaenumerate 0 5 examples/dihedral-4.wa",
+                after_help: stores_nothing!("Example: kb fsaenumerate 0 5 examples/dihedral-4.wa"),
             },
         }
     }
@@ -102,17 +123,17 @@ fn combination_label<'a>(operation: Combination) -> Label<'a>
         Combination::And => Label {
             text: "fsaand",
             about: "Stores the automaton of what both A and B accept",
-            example: "Example: kb fsaand examples/multiples-of-2.fsa examples/multiples-of-3.fsa OUT",
+            after_help: stores_out!("Example: kb fsaand examples/multiples-of-2.fsa examples/multiples-of-3.fsa OUT"),
         },
         Combination::Or => Label {
             text: "fsaor",
             about: "Stores the automaton of what A or B accepts",
-            example: "Example: kb fsaor examples/multiples-of-2.fsa examples/multiples-of-3.fsa OUT",
+            after_help: stores_out!("Example: kb fsaor examples/multiples-of-2.fsa examples/multiples-of-3.fsa OUT"),
         },
         Combination::Concat => Label {
             text: "fsaconcat",
             about: "Stores the automaton of the words of A followed by words of B",
-            example: "Example: kb fsaconcat examples/multiples-of-2.fsa examples/multiples-of-3.fsa OUT",
+            after_help: stores_out!("Example: kb fsaconcat examples/multiples-of-2.fsa examples/multiples-of-3.fsa OUT"),
         },
     }
 }
@@ -125,22 +146,22 @@ fn transformation_label<'a>(operation: Transformation) -> Label<'a>
         Transformation::Not => Label {
             text: "fsanot",
             about: "Stores the automaton of what A does not accept",
-            example: "Example: kb fsanot examples/golden-mean.fsa OUT",
+            after_help: stores_out!("Example: kb fsanot examples/golden-mean.fsa OUT"),
         },
         Transformation::Exists => Label {
             text: "fsaexists",
             about: "Stores the projection of A to its first words",
-            example: "Example: kb fsaexists examples/free-2.times-a OUT",
+            after_help: stores_out!("Example: kb fsaexists examples/free-2.times-a OUT"),
         },
         Transformation::Star => Label {
             text: "fsastar",
             about: "Stores the automaton of the Kleene star of A",
-            example: "Example: kb fsastar examples/golden-mean.fsa OUT",
+            after_help: stores_out!("Example: kb fsastar examples/golden-mean.fsa OUT"),
         },
         Transformation::Reverse => Label {
             text: "fsareverse",
             about: "Stores the automaton of the words of A read backwards",
-            example: "Example: kb fsareverse examples/golden-mean.fsa OUT",
+            after_help: stores_out!("Example: kb fsareverse examples/golden-mean.fsa OUT"),
         },
     }
 }

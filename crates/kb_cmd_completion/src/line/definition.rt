@@ -12,6 +12,9 @@ use clap::{Arg, Command, value_parser};
 use kb_task::{letters_option, lines_option, needed_argument, states_option, workers_option};
 use std::alloc::{AllocError, Global};
 
+/// The place of `selftest` in the program's list of commands: behind those of all families.
+const SELFTEST_PLACE: usize = 900;
+
 /// The definition of a command.
 pub(super) fn definition<'a>(alloc: Global, name: Name) -> Result<Command<'a>, AllocError>
     ensures app { IfOk result (λ command. app_of command ≡ command_app name) }
@@ -50,7 +53,9 @@ fn selftest_definition<'a>(alloc: Global) -> Result<Command<'a>, AllocError>
 {
     with_limits(
         alloc,
-        labelled(alloc, Name::SelfTest).arg(rank_argument(alloc))?,
+        labelled(alloc, Name::SelfTest)
+            .display_order(SELFTEST_PLACE)
+            .arg(rank_argument(alloc))?,
     )
 }
 
@@ -75,7 +80,7 @@ fn labelled<'a>(alloc: Global, name: Name) -> Command<'a>
     let label = name.label();
     Command::new(alloc, label.text)
         .about(label.about)
-        .after_help(label.example)
+        .after_help(label.after_help)
 }
 
 /// The argument that names the file of a presentation.

@@ -3,6 +3,8 @@
 ghost use Rattle.std.specs.Prelude.{◌≡◌, ◌≢◌, IfSome, None};
 ghost use Rattle.kb_cmd_completion.specs.Line.{name_text};
 
+use kb_task::help_end;
+
 /// A command of completion, without its arguments.
 #[derive(Clone, Copy)]
 pub(crate) enum Name {
@@ -21,8 +23,8 @@ pub(crate) struct Label<'a> {
     pub text: &'a str,
     /// What it does.
     pub about: &'a str,
-    /// A command line that uses it.
-    pub example: &'a str,
+    /// What its help says at the end.
+    pub after_help: &'a str,
 }
 
 /// The commands, in the order in which the program lists them.
@@ -50,17 +52,30 @@ impl Name {
             Name::Kbprog => Label {
                 text: "kbprog",
                 about: "Stores the complete rules and the word acceptor of FILE, and prints the least word for each word line",
-                example: "Example: echo 'B*a*b' | kb kbprog examples/free-abelian-2",
+                after_help: help_end!(
+                    "The files FILE.kbprog, the rules, and FILE.wa, the word acceptor, are stored. At a limit FILE.kblog, the log,",
+                    "and FILE.kbprog, the rules so far, are stored, and out has one line: `undecided rules U V`,",
+                    "`undecided length U V` or `undecided states acceptor`.",
+                    "Words come from standard input, one a line; end with Ctrl-D; `</dev/null` for none.",
+                    "Example: echo 'B*a*b' | kb kbprog examples/free-abelian-2"
+                ),
             },
             Name::Logread => Label {
                 text: "logread",
                 about: "Says what the log FILE.kblog of a completion holds",
-                example: "Example: kb logread FILE",
+                after_help: help_end!(
+                    "FILE and FILE.kblog are read, and no file is stored. Standard input is not read.",
+                    "Example: kb logread FILE"
+                ),
             },
             Name::SelfTest => Label {
                 text: "selftest",
                 about: "Completes the free abelian group of rank N, and counts its rules and its word acceptor's states",
-                example: "Example: kb selftest 3",
+                after_help: help_end!(
+                    "No file is stored. At a limit of rules or letters out has the log, before the line that names the limit.",
+                    "Standard input is not read.",
+                    "Example: kb selftest 3"
+                ),
             },
         }
     }
