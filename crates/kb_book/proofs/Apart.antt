@@ -1,11 +1,15 @@
 -- The line that a pending pair gives.
-use Rattle.std.proofs.Common.{◌≡◌, ◌≢◌, ℕ, zero, suc, ◌⊎◌, List, [], ◌∷◌, ◌++◌, ◌<◌, All, length, map, Some, refl, sym, ap, ◌∙◌, subst, inl, inr}
+use Rattle.std.proofs.Common.{◌≡◌, ◌≢◌, ℕ, ◌⊎◌, List, ◌<◌, All, length, map, sym, ap, ◌∙◌, subst, inl, inr}
 use Rattle.std.proofs.lemmas.Option.{same_Some}
 use Rattle.kb_word.specs.Words.{Pair}
 use Rattle.kb_word.specs.Overlap.{critical_pair}
+use Rattle.kb_overlap.specs.Joining.{JoinSays}
+use Rattle.kb_overlap.proofs.Joined.{apart_given, joined_given}
+use Rattle.kb_overlap.specs.declared.pair.Joinability.{Joinability}
+use Rattle.kb_overlap.specs.declared.pair.Joinability.TheVariants.{Joined, Apart}
 use Rattle.kb_word.specs.Rewriting.{NormalForm}
 use Rattle.kb_rules.proofs.Unique.{normal_form_unique}
-use Rattle.kb_machine.specs.Lines.{numbered, rule_of, rules_of, IsPairOf}
+use Rattle.kb_machine.specs.Lines.{rule_of, rules_of, IsPairOf}
 use Rattle.kb_machine.specs.declared.origin.Origin.{Origin}
 use Rattle.kb_machine.specs.declared.origin.Origin.TheVariants.{Relation, Overlap, Killed, Shortened}
 use Rattle.kb_machine.specs.declared.line.LogStep.{LogStep}
@@ -14,13 +18,14 @@ use Rattle.kb_machine.specs.States.{relations, live_rules}
 use Rattle.kb_machine.specs.Machine.{IsLive}
 use Rattle.kb_machine.specs.Course.{Course}
 use Rattle.kb_book.specs.Answers.{PendingNormalForms, AreNormalForms}
-use Rattle.kb_book.specs.Normal.{HasPair, HaveNormalForms, HaveDifferentForms, IsNext, IsNextLine, log_step}
+use Rattle.kb_word.specs.declared.word_order.WordOrder.{WordOrder}
+use Rattle.kb_book.specs.Books.{IsBook}
+use Rattle.kb_book.specs.Normal.{HasPair, PairIsJoined, PairIsApart, IsNext, IsNextLine, log_step}
 use Rattle.kb_machine.specs.declared.line.Line.{Line}
 use Rattle.kb_rules.specs.declared.trace.Step.{Step}
 use Rattle.kb_rules.specs.Steps.{IsFirstStep, IsStep, Leads}
 use Rattle.kb_rules.proofs.Tracing.{leads_implied, first_step_is_step}
 use Rattle.kb_word.specs.Rewriting.{IsIrreducible}
-use Rattle.kb_word.specs.Words.{OneOf}
 use Rattle.kb_machine.specs.States.{below, rule_numbered, IsLiveRule}
 use Rattle.kb_book.proofs.Derived.{AreNumbers, derives_live, irreducible_live, steps_within}
 use Rattle.std.proofs.lemmas.List.{length-map}
@@ -36,8 +41,37 @@ pair_unique relations rules (Overlap i j place) one other p q =
 pair_unique relations rules (Killed k) one other p q = same_Some one other (sym p ∙ q)
 pair_unique relations rules (Shortened k) one other p q = same_Some one other (sym p ∙ q)
 
+-- the words that are read of the origin's pair
+pub pair_of_words : (relations rules : List Pair) (origin : Origin) (pair : Pair) (u v : List ℕ) → IsPairOf relations rules origin pair
+    → u ≡ pair.0 → v ≡ pair.1 → IsPairOf relations rules origin (u, v)
+pair_of_words relations rules origin pair u v is first second =
+    let P : List ℕ → Type 0 = λ w. IsPairOf relations rules origin (w, pair.1) in
+    let Q : List ℕ → Type 0 = λ w. IsPairOf relations rules origin (u, w) in
+    subst Q (sym second) (subst P (sym first) is)
+
+-- what the reduction of the origin's pair by a book says of it
+pub origin_joined : {course : Course} {own rules : List Pair} {order : WordOrder} (book : IsBook course own rules order) (origin : Origin)
+    (relations' : List Pair) (lines : List Line) (pair reduced : Pair) (answer : Joinability) → relations' ≡ own → lines ≡ course.state.lines
+    → IsPairOf relations' (rules_of lines) origin pair → answer ≡ Joined → JoinSays rules pair reduced answer → PairIsJoined course origin
+origin_joined {course} {own} {rules} book origin relations' lines pair reduced answer are is_lines is_pair is says =
+    let P : List Pair → Type 0 = λ l. IsPairOf l (rules_of lines) origin pair in
+    let Q : List Line → Type 0 = λ l. IsPairOf (relations course.problem) (rules_of l) origin pair in
+    let named = subst Q is_lines (subst P (are ∙ book.has_relations) is_pair) in
+    let joined = joined_given rules (live_rules course.state) pair reduced answer book.reduces is says in
+    (joined.joint, record { pair = pair; is_pair = named; first = joined.left; second = joined.right })
+
+pub origin_apart : {course : Course} {own rules : List Pair} {order : WordOrder} (book : IsBook course own rules order) (origin : Origin)
+    (relations' : List Pair) (lines : List Line) (pair reduced : Pair) (answer : Joinability) → relations' ≡ own → lines ≡ course.state.lines
+    → IsPairOf relations' (rules_of lines) origin pair → answer ≡ Apart → JoinSays rules pair reduced answer → PairIsApart course origin
+origin_apart {course} {own} {rules} book origin relations' lines pair reduced answer are is_lines is_pair is says =
+    let P : List Pair → Type 0 = λ l. IsPairOf l (rules_of lines) origin pair in
+    let Q : List Line → Type 0 = λ l. IsPairOf (relations course.problem) (rules_of l) origin pair in
+    let named = subst Q is_lines (subst P (are ∙ book.has_relations) is_pair) in
+    let parts = apart_given rules (live_rules course.state) pair reduced answer book.reduces is says in
+    (reduced.0, reduced.1, record { pair = pair; is_pair = named; first = parts.left; second = parts.right }, parts.different)
+
 -- normal forms of the pair's words are different, where some are
-pub forms_differ : (course : Course) (origin : Origin) → HaveDifferentForms course origin
+pub forms_differ : (course : Course) (origin : Origin) → PairIsApart course origin
     → (relations' : List Pair) (pair : Pair) (rules : List Pair) (u v : List ℕ)
     → relations' ≡ relations course.problem → rules ≡ live_rules course.state
     → IsPairOf relations' (rules_of course.state.lines) origin pair → NormalForm rules pair.0 u → NormalForm rules pair.1 v → u ≢ v
@@ -89,7 +123,7 @@ derives_in_order allowed rules pair first_steps second_steps u v sides first sec
 
 -- the origin of different normal forms names a pair
 pub has_pair : (course : Course) (origin : Origin) (relations' : List Pair) (lines : List Line)
-    → relations' ≡ relations course.problem → lines ≡ course.state.lines → HaveDifferentForms course origin
+    → relations' ≡ relations course.problem → lines ≡ course.state.lines → PairIsApart course origin
     → HasPair relations' (rules_of lines) origin
 has_pair course origin relations' lines are same different =
     let P : List Pair → Type 0 = λ l. HasPair l (rules_of lines) origin in

@@ -1,11 +1,10 @@
 -- What is kept along every course, and a book after one more event.
-use Rattle.std.proofs.Common.{◌≡◌, ℕ, zero, suc, ◌<◌, ◌≤◌, ◌+◌, ◌⊎◌, List, [], ◌∷◌, ◌++◌, length, get_or, map, Some, slice_get, All, refl, sym, ap, ◌∙◌, subst, arith, length-append, inl, inr}
+use Rattle.std.proofs.Common.{◌≡◌, ℕ, ◌<◌, ◌≤◌, ◌+◌, List, [], ◌∷◌, ◌++◌, length, All, refl, sym, ap, ◌∙◌, subst, arith, length-append, inl, inr}
 use Rattle.std.specs.List.{AllPairs, remove, Contains}
 use Rattle.std.proofs.lemmas.Option.{none-some}
 use Rattle.std.proofs.lemmas.List.Elements.{All-append, Contains-append_cases, Contains-append_right}
 use Rattle.std.proofs.lemmas.List.Quantifiers.{all_pairs_remove, all_pairs_push}
 use Rattle.kb_word.specs.Words.{Pair, OneOf}
-use Rattle.kb_word.specs.Order.{IsReductionOrder}
 use Rattle.kb_word.specs.WordOrders.{Below}
 use Rattle.kb_word.specs.WordOrderLaws.{word_orders}
 use Rattle.kb_word.specs.declared.word_order.WordOrder.{WordOrder}
@@ -16,10 +15,10 @@ use Rattle.kb_rules.proofs.Reducts.{replaced_below, IsAtMost}
 use Rattle.kb_rules.proofs.Listed.{AreDecreasing-push}
 use Rattle.kb_machine.specs.declared.line.Line.{Line}
 use Rattle.kb_machine.specs.declared.line.LogStep.{LogStep}
-use Rattle.kb_machine.specs.Lines.{numbered, rule_of, rules_of}
+use Rattle.kb_machine.specs.Lines.{rule_of, rules_of}
 use Rattle.kb_machine.specs.Derivations.{IsStepBy, Derives}
 use Rattle.kb_machine.specs.States.{Problem, State, relations, below, start, live_rules, relation_origins}
-use Rattle.kb_machine.specs.Machine.{Step, Run, Shortens, Kills}
+use Rattle.kb_machine.specs.Machine.{Step, Run, Shortens}
 use Rattle.kb_machine.specs.Course.{Course, IsCourse, Takes}
 use Rattle.kb_machine.specs.declared.event.Event.{Event}
 use Rattle.kb_machine.specs.declared.event.Event.TheVariants.{Entered, Dropped, Made, Halted, Killed, Shortened, Published}

@@ -1,22 +1,19 @@
 -- Reductions by the live rules are derivations by live lines.
-use Rattle.std.proofs.Common.{◌≡◌, ◌≢◌, ℕ, zero, suc, ◌<◌, ◌≤◌, ◌+◌, List, [], ◌∷◌, ◌++◌, length, get_or, map, Some, None, slice_get, unwrap_or, All, refl, sym, ap, ◌∙◌, subst, arith}
+use Rattle.std.proofs.Common.{◌≡◌, ℕ, zero, suc, ◌<◌, ◌≤◌, List, [], ◌∷◌, length, get_or, map, Some, slice_get, unwrap_or, All, sym, ap, ◌∙◌, arith}
 use Rattle.std.specs.List.{Contains}
 use Rattle.std.specs.Option.{option_map}
 use Rattle.std.proofs.lemmas.List.{length-map}
 use Rattle.std.proofs.lemmas.List.Elements.{All-cons, All-nil}
-use Rattle.std.proofs.lemmas.Option.{none-some, same_Some, slice_get-map, slice_get_within, slice_get-get_or, unwrap_or-slice_get}
+use Rattle.std.proofs.lemmas.Option.{slice_get-map, slice_get_within, slice_get-get_or, unwrap_or-slice_get}
 use Rattle.kb_word.specs.Words.{Pair, OneOf}
-use Rattle.kb_word.specs.Congruence.{Replaces}
 use Rattle.kb_word.specs.Rewriting.{IsIrreducible, ReducesTo}
 use Rattle.kb_word.proofs.PathLemmas.{path_implied, Replaces-implied}
 use Rattle.kb_rules.specs.declared.trace.Step.{Step}
 use Rattle.kb_rules.specs.Steps.{IsStep, Leads}
 use Rattle.kb_machine.specs.declared.line.Line.{Line}
-use Rattle.kb_machine.specs.declared.line.LogStep.{LogStep}
 use Rattle.kb_machine.specs.Lines.{numbered, rule_of, rules_of}
 use Rattle.kb_machine.specs.Derivations.{IsStepBy, Derives}
 use Rattle.kb_machine.specs.States.{State, rule_numbered, live_rules, IsLiveRule}
-use Rattle.kb_machine.specs.Machine.{IsLive}
 use Rattle.kb_book.specs.Normal.{log_step}
 use Rattle.kb_book.proofs.Lists.{contained, contains_at}
 

@@ -1,21 +1,20 @@
 -- The events by which pending pairs go, and the rules that are live then.
-use Rattle.std.proofs.Common.{◌≡◌, ◌≢◌, ℕ, zero, suc, ◌<◌, ◌≤◌, ◌+◌, List, [], ◌∷◌, ◌++◌, length, get_or, map, drop, Option, Some, None, slice_get, unwrap_or, All, refl, sym, ap, ◌∙◌, subst, arith, inl, inr, length-append}
-use Rattle.std.proofs.lemmas.List.{map-append, length-map}
-use Rattle.kb_word.specs.Words.{Pair, OneOf}
+use Rattle.std.proofs.Common.{◌≡◌, ℕ, suc, ◌<◌, ◌≤◌, ◌+◌, List, [], ◌∷◌, ◌++◌, length, map, drop, Option, Some, slice_get, unwrap_or, refl, sym, ap, ◌∙◌, subst, arith}
+use Rattle.std.proofs.lemmas.List.{map-append}
+use Rattle.kb_word.specs.Words.{Pair}
 use Rattle.kb_rules.proofs.Reducts.{normal_form_reduct}
 use Rattle.kb_machine.specs.declared.line.Line.{Line}
 use Rattle.kb_machine.specs.declared.origin.Origin.{Origin}
 use Rattle.kb_machine.specs.Lines.{numbered, rule_of, rules_of}
-use Rattle.kb_machine.specs.States.{State, rule_numbered, live_rules, relations}
-use Rattle.kb_machine.specs.Machine.{Drops, Makes, Halts}
-use Rattle.kb_machine.specs.Course.{Course, Takes}
+use Rattle.kb_machine.specs.States.{rule_numbered}
+use Rattle.kb_machine.specs.Course.{Course}
 use Rattle.kb_machine.specs.declared.event.Event.{Event}
 use Rattle.kb_machine.specs.declared.event.Event.TheVariants.{Dropped, Made, Halted}
 use Rattle.kb_machine.specs.declared.halt.Halt.{Halt}
-use Rattle.kb_book.specs.Answers.{DropsPair, MakesLine, HaltsAt, IsCopyOf, words_of}
-use Rattle.kb_book.specs.Normal.{IsNext, IsNextLine, HaveOneForm, IsLimitOf}
+use Rattle.kb_book.specs.Answers.{DropsPair, MakesLine, HaltsAt, IsCopyOf}
+use Rattle.kb_book.specs.Normal.{IsNext, IsNextLine, PairIsJoined, IsLimitOf}
 use Rattle.kb_book.proofs.Derived.{AreNumbers, numbered_within, reduces_live}
-use Rattle.kb_book.proofs.Lists.{rules_of-push, numbered-more}
+use Rattle.kb_book.proofs.Lists.{numbered-more}
 
 last_at : (lines : List Line) (line : Line) → slice_get (rules_of (lines ++ line ∷ [])) (length lines) ≡ Some (rule_of line)
 last_at [] line = refl
@@ -61,7 +60,7 @@ rules_with lines live line k rules rules' lines' live' numbers is are pushed is_
 
 -- a book after the events
 pub dropped : (before : Course) (origin : Origin) (pending : List Origin) (journal : List Event) (next : IsNext before origin)
-    → HaveOneForm before origin → AreNumbers before.state.lines before.state.live
+    → PairIsJoined before origin → AreNumbers before.state.lines before.state.live
     → pending ≡ drop 1 before.state.pending → journal ≡ before.journal ++ Dropped ∷ []
     → DropsPair before (record { problem = before.problem; state = record before.state { pending = pending }; journal = journal })
 dropped before origin pending journal next one numbers popped is_journal =

@@ -1,12 +1,12 @@
 -- A limit that is reached, with the line that would be made; the first pending pair.
-use Rattle.std.proofs.Common.{◌≡◌, ◌<◌, ℕ, List, ◌∷◌, length, refl, sym, subst, arith}
+use Rattle.std.proofs.Common.{◌≡◌, ◌<◌, List, ◌∷◌, length, refl, sym, subst, arith}
 use Rattle.std.specs.List.{Contains}
 use Rattle.kb_word.specs.Words.{Pair}
 use Rattle.kb_machine.specs.declared.origin.Origin.{Origin}
 use Rattle.kb_machine.specs.Lines.{rules_of}
 use Rattle.kb_machine.specs.declared.line.Line.{Line}
 use Rattle.kb_machine.specs.Course.{Course}
-use Rattle.kb_machine.specs.declared.halt.Halt.TheVariants.{Rules, Length}
+use Rattle.kb_machine.specs.declared.halt.Halt.TheVariants.{Length}
 use Rattle.kb_book.specs.Normal.{HasPair, IsNextLine, IsLimitOf}
 
 pub limit_by_length : (course : Course) (line : Line) → IsNextLine course line

@@ -1,8 +1,8 @@
 -- The origins of relations, one by one.
-use Rattle.std.proofs.Common.{◌≡◌, ℕ, zero, suc, ◌<◌, ◌+◌, List, [], ◌∷◌, ◌++◌, length, take, get_or, Some, slice_get, refl, sym, ap, ◌∙◌, subst, arith}
+use Rattle.std.proofs.Common.{◌≡◌, ℕ, zero, suc, ◌<◌, ◌+◌, List, [], ◌∷◌, ◌++◌, length, take, get_or, sym, ap, ◌∙◌, subst, arith}
 use Rattle.std.specs.List.{Contains}
 use Rattle.std.proofs.lemmas.Option.{slice_get-get_or}
-use Rattle.kb_machine.specs.Lines.{IsPairOf, numbered, IsCriticalPair}
+use Rattle.kb_machine.specs.Lines.{IsPairOf}
 use Rattle.kb_book.specs.Normal.{HasPair}
 use Rattle.kb_book.proofs.Lists.{numbered-more}
 use Rattle.kb_word.specs.Words.{Pair}

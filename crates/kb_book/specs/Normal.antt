@@ -1,5 +1,5 @@
 -- The pair that an origin names, its normal forms, and the line that they give.
-use Rattle.std.specs.Prelude.{◌≡◌, ◌≢◌, ℕ, List, ◌∷◌, length, None, get_or}
+use Rattle.std.specs.Prelude.{◌≡◌, ◌≢◌, ℕ, List, ◌∷◌, None, get_or}
 use Rattle.kb_word.specs.Words.{Pair}
 use Rattle.kb_word.specs.Rewriting.{NormalForm}
 use Rattle.kb_rules.specs.declared.trace.Step.{Step}
@@ -25,9 +25,9 @@ pub record HaveNormalForms (relations rules live_rules : List Pair) (origin : Or
   pub first : NormalForm live_rules pair.0 u
   pub second : NormalForm live_rules pair.1 v
 
--- the words of the origin's pair have different normal forms
-abbrev pub HaveDifferentForms : Course → Origin → Type 0
-HaveDifferentForms course origin = (u v : List ℕ)
+-- the origin's pair is apart: its words have different normal forms
+abbrev pub PairIsApart : Course → Origin → Type 0
+PairIsApart course origin = (u v : List ℕ)
     × HaveNormalForms (relations course.problem) (rules_of course.state.lines)
     (live_rules course.state)
     origin u v × (u ≢ v)
@@ -49,9 +49,9 @@ pub record IsNextLine (course : Course) (line : Line) : Type 0 where
 abbrev pub log_step : List ℕ → Step → LogStep
 log_step live step = record { place = step.place; line = get_or live step.rule 0 }
 
--- the words of the origin's pair have one normal form
-abbrev pub HaveOneForm : Course → Origin → Type 0
-HaveOneForm course origin = (joint : List ℕ)
+-- the origin's pair is joined: its words have one normal form
+abbrev pub PairIsJoined : Course → Origin → Type 0
+PairIsJoined course origin = (joint : List ℕ)
     × HaveNormalForms (relations course.problem) (rules_of course.state.lines)
     (live_rules course.state)
     origin joint joint

@@ -10,8 +10,9 @@ ghost use Rattle.kb_machine.specs.States.{start, live_rules};
 use crate::answers::Shorten;
 use crate::limits::Limits;
 use kb_machine::{Event, Halt, Line, Origin};
+use kb_overlap::PairWorkspace;
 use kb_ragged::Ragged;
-use kb_rules::{Reducer, Workspace};
+use kb_rules::Reducer;
 use kb_word::{Memory, Presentation, Word};
 use std::alloc::Global;
 use std::collections::VecDeque;
@@ -32,10 +33,8 @@ pub struct Book<R: Reducer> {
     pub(crate) journal: Vec<Event>,
     /// By the live rules, in line order.
     pub(crate) reducer: R,
-    /// Two words and a workspace, kept to save memory; what they hold counts for nothing.
-    pub(crate) first: Word,
-    pub(crate) second: Word,
-    pub(crate) workspace: Workspace,
+    /// The pair that is looked at, kept to save memory; what it holds between calls counts for nothing.
+    pub(crate) pair: PairWorkspace,
 }
 
 impl<R: Reducer> Model for Book<R> {

@@ -1,11 +1,22 @@
-//! Copies of halts.
+//! Copies of halts, and of the rules of lines.
 
-ghost use Rattle.std.specs.Prelude.{IfOk};
+ghost use Rattle.std.specs.Prelude.{◌≡◌, IfOk};
+ghost use Rattle.kb_machine.specs.Lines.{rule_of};
 ghost use Rattle.kb_book.specs.Answers.{IsByRules, IsByLength, IsCopyOf};
 
-use kb_machine::{Halt, LogStep};
+use kb_machine::{Halt, Line, LogStep};
+use kb_rules::Rule;
 use kb_word::{Memory, Word};
 use std::alloc::Global;
+
+/// The rule of a line.
+pub(crate) fn copy_rule(alloc: Global, line: &Line) -> Result<Rule, Memory>
+    ensures { IfOk result (λ rule. rule ≡ rule_of line.now) }
+{
+    let left = line.left.copy(alloc)?;
+    let right = line.right.copy(alloc)?;
+    Ok(Rule::new(left, right))
+}
 
 /// A halt with the same words and derivations.
 pub(crate) fn copy_halt(alloc: Global, halt: &Halt) -> Result<Halt, Memory>

@@ -19,9 +19,9 @@
 //!
 //! - `book` is the type with its readers; `starting`, `making`, `entering`, `killing`, `shortening` and `publishing`
 //!   are its calls; `limits` and `answers` are the types around it.
-//! - `pairs` finds the pair of words that an origin names and their normal forms; `steps` turns reductions by the
-//!   live rules into derivations by the numbers of lines; `numbers` finds lines by their numbers.
-//! - `room` takes memory before anything changes; `copies` copies halts.
+//! - `pairs` finds the pair of words that an origin names; `steps` turns reductions by the live rules into
+//!   derivations by the numbers of lines; `numbers` finds lines by their numbers.
+//! - `room` takes memory before anything changes; `copies` copies halts and rules.
 //!
 //! In specs/, `Books` says what a book is seen as and what it keeps, and `Answers` what its calls answer; `Normal`,
 //! `Factors` and `Shorter` say when a line may be made, taken away and replaced, and `Limited` which limits there

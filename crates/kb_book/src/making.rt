@@ -4,23 +4,24 @@ ghost use Rattle.std.specs.Prelude.{◌≡◌, ◌<◌, ◌≤◌, List, [], ◌
 ghost use Rattle.kb_machine.specs.declared.origin.Origin.{Origin};
 ghost use Rattle.kb_machine.specs.declared.halt.Halt.TheVariants as halts;
 ghost use Rattle.kb_book.specs.Answers.{MakeSays};
-ghost use Rattle.kb_book.specs.Normal.{IsNext, IsNextLine, HaveDifferentForms, HaveOneForm, IsLimitOf};
+ghost use Rattle.kb_book.specs.Normal.{IsNext, IsNextLine, PairIsApart, PairIsJoined, IsLimitOf};
 
 use crate::answers::Make;
 use crate::book::Book;
-use crate::copies::copy_halt;
-use crate::pairs::{put_pair, reduce_pair};
+use crate::copies::{copy_halt, copy_rule};
+use crate::pairs::put_pair;
 use crate::room::add;
 use crate::steps::{log_steps, ordered};
 use kb_machine::{Event, Halt, Line, Origin};
-use kb_rules::{Reducer, Rule};
+use kb_overlap::Joinability;
+use kb_rules::Reducer;
 use kb_word::Memory;
 use std::alloc::Global;
 use std::collections::VecDeque;
 
 impl<R: Reducer> Book<R> {
-    /// Makes a line of the first pending pair, by the normal forms of its words; or drops the pair, where they are one
-    /// word; or halts at a limit. A halted book answers the same again.
+    /// Makes a line of the first pending pair, by the normal forms of its words; or drops the pair, where it is joined;
+    /// or halts at a limit. A halted book answers the same again.
     pub fn make(&mut self, alloc: Global) -> Result<Make, Memory>
         ensures { MakeSays self.old.course self.new.course result }
     {
@@ -30,26 +31,17 @@ impl<R: Reducer> Book<R> {
         let Some(origin) = first_of(&self.pending) else {
             return Ok(Make::Idle);
         };
-        reduce_pair(
-            &self.relations,
-            &self.lines,
-            &self.reducer,
-            origin,
-            &mut self.first,
-            &mut self.second,
-            &mut self.workspace,
-        )?;
-        if self.first == self.second {
-            self.drop_pair(origin)
-        } else {
-            self.go_on(alloc, origin)
+        put_pair(&self.relations, &self.lines, origin, &mut self.pair)?;
+        match self.pair.reduce(&self.reducer)? {
+            Joinability::Joined => self.drop_pair(origin),
+            Joinability::Apart => self.go_on(alloc, origin),
         }
     }
 
-    /// Drops the first pending pair, whose words have one normal form.
+    /// Drops the first pending pair, which is joined.
     fn drop_pair(&mut self, origin: Origin) -> Result<Make, Memory>
         requires next { IsNext self.old.course origin }
-        requires one { HaveOneForm self.old.course origin }
+        requires joined { PairIsJoined self.old.course origin }
         ensures { MakeSays self.old.course self.new.course result }
     {
         self.journal.reserve(1)?;
@@ -58,10 +50,10 @@ impl<R: Reducer> Book<R> {
         Ok(Make::Dropped)
     }
 
-    /// Makes a line of the first pending pair, whose words have different normal forms, or halts at a limit.
+    /// Makes a line of the first pending pair, which is apart, or halts at a limit.
     fn go_on(&mut self, alloc: Global, origin: Origin) -> Result<Make, Memory>
         requires next { IsNext self.old.course origin }
-        requires different { HaveDifferentForms self.old.course origin }
+        requires apart { PairIsApart self.old.course origin }
         ensures { MakeSays self.old.course self.new.course result }
     {
         let line = self.next_line(alloc, origin)?;
@@ -77,19 +69,13 @@ impl<R: Reducer> Book<R> {
     /// The line that the first pending pair gives.
     fn next_line(&mut self, alloc: Global, origin: Origin) -> Result<Line, Memory>
         requires next { IsNext self.old.course origin }
-        requires different { HaveDifferentForms self.old.course origin }
+        requires apart { PairIsApart self.old.course origin }
         ensures line { IfOk result (IsNextLine self.old.course) }
         ensures same { self.new.course ≡ self.old.course }
     {
-        put_pair(
-            &self.relations,
-            &self.lines,
-            origin,
-            &mut self.first,
-            &mut self.second,
-        )?;
-        let first = self.reducer.trace(alloc, &self.first)?;
-        let second = self.reducer.trace(alloc, &self.second)?;
+        put_pair(&self.relations, &self.lines, origin, &mut self.pair)?;
+        let first = self.reducer.trace(alloc, self.pair.first())?;
+        let second = self.reducer.trace(alloc, self.pair.second())?;
         let first_steps = log_steps(alloc, &self.live, &first.steps)?;
         let second_steps = log_steps(alloc, &self.live, &second.steps)?;
         let (left, right) = ordered(&self.presentation.order, first.word, second.word);
@@ -109,13 +95,12 @@ impl<R: Reducer> Book<R> {
         requires short { length line.left ≤ self.old.course.problem.most_letters }
         ensures { MakeSays self.old.course self.new.course result }
     {
-        let left = line.left.copy(alloc)?;
-        let right = line.right.copy(alloc)?;
+        let rule = copy_rule(alloc, &line)?;
         let k = self.lines.len() as u32 + 1;
         self.journal.reserve(1)?;
         self.lines.reserve(1)?;
         self.live.reserve(1)?;
-        self.reducer.push(alloc, &Rule::new(left, right))?;
+        self.reducer.push(alloc, &rule)?;
         let _ = self.pending.pop_front();
         add(&mut self.lines, line);
         add(&mut self.live, k);

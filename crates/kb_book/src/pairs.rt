@@ -3,115 +3,71 @@
 ghost use Rattle.std.specs.Prelude.{◌≡◌, Some, OnOk};
 ghost use Rattle.kb_word.specs.Words.{Pair};
 ghost use Rattle.kb_machine.specs.Lines.{numbered, rules_of, IsPairOf, IsCriticalPair};
-ghost use Rattle.kb_book.specs.Normal.{HasPair, HaveNormalForms};
+ghost use Rattle.kb_book.specs.Normal.{HasPair};
 
 use crate::numbers::line_of;
 use kb_machine::{Line, Origin};
-use kb_overlap::pair_into;
-use kb_rules::{Reducer, Workspace};
+use kb_overlap::PairWorkspace;
 use kb_word::{Memory, Word};
 
-/// Puts the normal forms of the pair's words in place of two words.
-pub(crate) fn reduce_pair<R: Reducer>(
-    relations: &[(Word, Word)],
-    lines: &[Line],
-    reducer: &R,
-    origin: Origin,
-    first: &mut Word,
-    second: &mut Word,
-    workspace: &mut Workspace,
-) -> Result<(), Memory>
-    requires { HasPair relations.now (rules_of lines.now) origin }
-    ensures { OnOk result
-        (HaveNormalForms relations.now (rules_of lines.now) (R.rules reducer.now) origin
-        first.new second.new) }
-{
-    put_pair(relations, lines, origin, first, second)?;
-    reducer.reduce(first, workspace)?;
-    reducer.reduce(second, workspace)?;
-    Ok(())
-}
-
-/// Puts the words of the pair in place of two words.
+/// Puts in the pair that the origin names.
 pub(crate) fn put_pair(
     relations: &[(Word, Word)],
     lines: &[Line],
     origin: Origin,
-    first: &mut Word,
-    second: &mut Word,
+    pair: &mut PairWorkspace,
 ) -> Result<(), Memory>
     requires { HasPair relations.now (rules_of lines.now) origin }
-    ensures { OnOk result
-        (IsPairOf relations.now (rules_of lines.now) origin (first.new, second.new)) }
+    ensures { OnOk result (IsPairOf relations.now (rules_of lines.now) origin pair.new) }
 {
     match origin {
-        Origin::Relation(k) => put_relation(relations, k, first, second),
+        Origin::Relation(k) => put_relation(relations, k, pair),
         Origin::Overlap {
-            first: i,
-            second: j,
+            first,
+            second,
             place,
-        } => put_critical_pair(lines, i, j, place, first, second),
-        Origin::Killed(k) => put_sides(lines, k, first, second),
-        Origin::Shortened(k) => put_sides(lines, k, first, second),
+        } => put_critical_pair(lines, first, second, place, pair),
+        Origin::Killed(k) => put_sides(lines, k, pair),
+        Origin::Shortened(k) => put_sides(lines, k, pair),
     }
 }
 
-/// Puts the sides of a relation in place of two words.
-fn put_relation(
-    relations: &[(Word, Word)],
-    k: u32,
-    first: &mut Word,
-    second: &mut Word,
-) -> Result<(), Memory>
-    requires { (pair : Pair) × (numbered relations.now k ≡ Some pair) }
-    ensures { OnOk result (numbered relations.now k ≡ Some (first.new, second.new)) }
+/// Puts in the sides of a relation.
+fn put_relation(relations: &[(Word, Word)], k: u32, pair: &mut PairWorkspace) -> Result<(), Memory>
+    requires { (relation : Pair) × (numbered relations.now k ≡ Some relation) }
+    ensures { OnOk result (numbered relations.now k ≡ Some pair.new) }
 {
     let relation = &relations[k as usize - 1];
-    put(first, &relation.0)?;
-    put(second, &relation.1)?;
-    Ok(())
+    pair.put(&relation.0, &relation.1)
 }
 
-/// Puts the sides of a line in place of two words.
-fn put_sides(lines: &[Line], k: u32, first: &mut Word, second: &mut Word) -> Result<(), Memory>
-    requires { (pair : Pair) × (numbered (rules_of lines.now) k ≡ Some pair) }
-    ensures { OnOk result (numbered (rules_of lines.now) k ≡ Some (first.new, second.new)) }
+/// Puts in the sides of a line.
+fn put_sides(lines: &[Line], k: u32, pair: &mut PairWorkspace) -> Result<(), Memory>
+    requires { (rule : Pair) × (numbered (rules_of lines.now) k ≡ Some rule) }
+    ensures { OnOk result (numbered (rules_of lines.now) k ≡ Some pair.new) }
 {
     let line = line_of(lines, k);
-    put(first, &line.left)?;
-    put(second, &line.right)?;
-    Ok(())
+    pair.put(&line.left, &line.right)
 }
 
-/// Puts the critical pair of two lines in place of two words.
+/// Puts in the critical pair of two lines.
 fn put_critical_pair(
     lines: &[Line],
     i: u32,
     j: u32,
     place: u64,
-    first: &mut Word,
-    second: &mut Word,
+    pair: &mut PairWorkspace,
 ) -> Result<(), Memory>
-    requires { (pair : Pair) × IsCriticalPair (rules_of lines.now) i j place pair }
-    ensures { OnOk result (IsCriticalPair (rules_of lines.now) i j place (first.new, second.new)) }
+    requires { (critical : Pair) × IsCriticalPair (rules_of lines.now) i j place critical }
+    ensures { OnOk result (IsCriticalPair (rules_of lines.now) i j place pair.new) }
 {
-    let one = line_of(lines, i);
-    let other = line_of(lines, j);
-    pair_into(
-        &one.left,
-        &one.right,
-        &other.left,
-        &other.right,
+    let first = line_of(lines, i);
+    let second = line_of(lines, j);
+    pair.put_critical_pair(
+        &first.left,
+        &first.right,
+        &second.left,
+        &second.right,
         place,
-        first,
-        second,
     )
-}
-
-/// Puts a word in place of another.
-pub(crate) fn put(word: &mut Word, other: &Word) -> Result<(), Memory>
-    ensures { OnOk result (word.new ≡ other.now) }
-{
-    word.truncate(0);
-    word.append(other)
 }

@@ -1,6 +1,9 @@
 //! Lines whose right side the other live rules reduce are replaced.
 
-ghost use Rattle.std.specs.Prelude.{◌≡◌, ◌<◌, [], IfOk, All, length, map};
+ghost use Rattle.std.specs.Prelude.{◌≡◌, ◌<◌, [], ◌∷◌, ◌++◌, IfOk, All, length, map};
+ghost use Rattle.std.specs.List.{remove};
+ghost use Rattle.kb_word.specs.WordOrders.{Below};
+ghost use Rattle.kb_machine.specs.Lines.{rule_of};
 ghost use Rattle.kb_machine.specs.declared.origin.Origin.TheVariants as origins;
 ghost use Rattle.kb_book.specs.Answers.{ShortenSays};
 ghost use Rattle.kb_book.specs.Normal.{log_step};
@@ -8,11 +11,12 @@ ghost use Rattle.kb_book.specs.Shorter.{IsShorter};
 
 use crate::answers::Shorten;
 use crate::book::Book;
+use crate::copies::copy_rule;
 use crate::numbers::{line_of, place_of};
 use crate::room::add;
 use crate::steps::log_steps;
 use kb_machine::{Event, Line, Origin};
-use kb_rules::{Reducer, Rule, Trace};
+use kb_rules::{Reducer, Trace};
 use kb_word::Memory;
 use std::alloc::Global;
 
@@ -48,21 +52,31 @@ impl<R: Reducer> Book<R> {
         requires { IsShorter self.old.course k place line }
         ensures { ShortenSays k self.old.course self.new.course result }
     {
-        let left = line.left.copy(alloc)?;
-        let right = line.right.copy(alloc)?;
         let new = self.lines.len() as u32 + 1;
         self.journal.reserve(1)?;
         self.lines.reserve(1)?;
-        let mut reducer = self.reducer.copy(alloc)?;
-        reducer.remove(alloc, place)?;
-        reducer.push(alloc, &Rule::new(left, right))?;
-        self.reducer = reducer;
+        self.reducer = exchanged(alloc, &self.reducer, place, &line)?;
         let _ = self.live.remove(place);
         add(&mut self.live, new);
         add(&mut self.lines, line);
         add(&mut self.journal, Event::Shortened { line: k, new });
         Ok(Shorten::Shortened(new))
     }
+}
+
+/// The reducer by the same rules, but for the one at a place, and with the line's after them.
+fn exchanged<R: Reducer>(alloc: Global, reducer: &R, place: usize, line: &Line) -> Result<R, Memory>
+    requires place { place < length (R.rules reducer.now) }
+    requires falls { Below (R.order reducer.now) line.now.right line.now.left }
+    ensures rules { IfOk result (λ other.
+        R.rules other ≡ remove (R.rules reducer.now) place ++ rule_of line.now ∷ []) }
+    ensures order { IfOk result (λ other. R.order other ≡ R.order reducer.now) }
+{
+    let rule = copy_rule(alloc, line)?;
+    let mut other = reducer.copy(alloc)?;
+    other.remove(alloc, place)?;
+    other.push(alloc, &rule)?;
+    Ok(other)
 }
 
 /// The line that replaces line k, whose right side was reduced.

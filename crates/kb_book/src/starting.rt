@@ -7,9 +7,10 @@ ghost use Rattle.kb_machine.specs.States.{relation_origins, start};
 use crate::book::Book;
 use crate::limits::Limits;
 use kb_machine::Origin;
+use kb_overlap::PairWorkspace;
 use kb_ragged::Ragged;
-use kb_rules::{Reducer, Rules, Workspace};
-use kb_word::{Memory, Presentation, Word};
+use kb_rules::{Reducer, Rules};
+use kb_word::{Memory, Presentation, Word, WordOrder};
 use std::alloc::Global;
 use std::collections::VecDeque;
 
@@ -32,8 +33,7 @@ impl<R: Reducer> Book<R> {
         let presentation = presentation.copy(alloc)?;
         let relations = presentation.relations(alloc)?;
         let pending = origins_of(alloc, &relations)?;
-        let rules = Rules::new(alloc, presentation.order.copy(alloc)?);
-        let reducer = R::of(alloc, &rules)?;
+        let reducer = without_rules(alloc, &presentation.order)?;
         let versions = Ragged::new(alloc)?;
         Ok(Book {
             presentation,
@@ -47,11 +47,18 @@ impl<R: Reducer> Book<R> {
             halt: None,
             journal: Vec::new(alloc),
             reducer,
-            first: Word::new(alloc),
-            second: Word::new(alloc),
-            workspace: Workspace::new(alloc),
+            pair: PairWorkspace::new(alloc),
         })
     }
+}
+
+/// The reducer by no rules, which is to have rules that decrease along an order.
+fn without_rules<R: Reducer>(alloc: Global, order: &WordOrder) -> Result<R, Memory>
+    ensures rules { IfOk result (λ reducer. R.rules reducer ≡ []) }
+    ensures order { IfOk result (λ reducer. R.order reducer ≡ order.now) }
+{
+    let rules = Rules::new(alloc, order.copy(alloc)?);
+    R::of(alloc, &rules)
 }
 
 /// The origins of the relations, in order. More relations than a `u32` can number take more memory than there is.

@@ -7,6 +7,7 @@
 //!
 //! - `automata`: automata, and the time that the canonical form of many states takes.
 //! - `branching`: the states of a machine with several moves by one symbol.
+//! - `confluence`: the check of confluence by several workers.
 //! - `exploration`: the least text that a machine accepts.
 //! - `least`: the least text of a nondeterministic automaton.
 //! - `outside`: the adapters over real files and streams.
@@ -20,6 +21,8 @@
 mod automata;
 #[cfg(test)]
 mod branching;
+#[cfg(test)]
+mod confluence;
 #[cfg(test)]
 mod exploration;
 #[cfg(test)]

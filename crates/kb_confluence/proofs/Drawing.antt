@@ -38,7 +38,7 @@ drew_one_more before after number i more drew =
 pub nothing_drawn : (rules : List Pair) (seat : Seat) → numbers_of seat ≡ [] → IsVerdictOn rules (Drew seat) Yes
 nothing_drawn rules seat none = record {
   named = tt;
-  joins = λ i drew low.
+  joined = λ i drew low.
       let P : List ℕ → Type 0 = λ numbers. 0 < times i numbers in
       let some : 0 < 0 = subst P none drew in
       absurd (let no : ⊥ = omega (arith, some) in no);
@@ -84,7 +84,7 @@ no_shares draw rules = record {
   count = refl;
   each = λ i x within. absurd (let no : ⊥ = omega (arith, within) in no);
   dry = λ i x within. absurd (let no : ⊥ = omega (arith, within) in no);
-  verdict = record { named = tt; joins = λ i drew low. absurd (let no : ⊥ = omega (arith, drew) in no) };
+  verdict = record { named = tt; joined = λ i drew low. absurd (let no : ⊥ = omega (arith, drew) in no) };
 }
 
 -- a share among those of all workers

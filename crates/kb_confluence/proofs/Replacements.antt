@@ -25,13 +25,13 @@ normal_form_between : {rules : List Pair} {u m : List ℕ} (before after : List 
 normal_form_between {rules = rules} before after normal =
     path_mapped (λ w. before ++ w ++ after) (λ u v step. Replaces-between before after step) (normal_form_reduct normal)
 
--- a pair that joins has a common reduct between other words too
-joins_between : {rules : List Pair} {pair : Pair} (before after : List ℕ) → IsResolved rules pair
+-- a pair that is joined has a common reduct between other words too
+joined_between : {rules : List Pair} {pair : Pair} (before after : List ℕ) → IsResolved rules pair
     → CommonReduct (OneOf rules) (before ++ pair.0 ++ after) (before ++ pair.1 ++ after)
-joins_between before after joins = record {
-  joint = before ++ joins.joint ++ after;
-  left = normal_form_between before after joins.left;
-  right = normal_form_between before after joins.right;
+joined_between before after joined = record {
+  joint = before ++ joined.joint ++ after;
+  left = normal_form_between before after joined.left;
+  right = normal_form_between before after joined.right;
 }
 
 common_along : {allowed : Pair → Type 0} (u v u' v' : List ℕ) → u ≡ u' → v ≡ v' → CommonReduct allowed u' v' → CommonReduct allowed u v
@@ -61,7 +61,7 @@ common_apart {u = u} {v = v} f g places =
 common_overlapping : {rules : List Pair} {w u v : List ℕ} (f : Replaces (OneOf rules) w u) (g : Replaces (OneOf rules) w v)
     → (places : Within f.before f.pair.0 f.after g.before g.pair.0 g.after)
     → IsResolved rules (critical_pair f.pair g.pair places.place) → CommonReduct (OneOf rules) u v
-common_overlapping {rules = rules} {u = u} {v = v} f g places joins =
+common_overlapping {rules = rules} {u = u} {v = v} f g places joined =
     let p = places.place in
     let pair : Pair = critical_pair f.pair g.pair p in
     let first : u ≡ f.before ++ pair.0 ++ places.rest =
@@ -70,7 +70,7 @@ common_overlapping {rules = rules} {u = u} {v = v} f g places joins =
     g.to ∙ ap (λ front. front ++ g.pair.1 ++ g.after) places.front_is
     ∙ ap (λ behind. f.before ++ take p f.pair.0 ++ g.pair.1 ++ behind) places.behind_is ∙ simp append_assoc in
     common_along u v (f.before ++ pair.0 ++ places.rest) (f.before ++ pair.1 ++ places.rest) first second
-    (joins_between {rules = rules} {pair = pair} f.before places.rest joins)
+    (joined_between {rules = rules} {pair = pair} f.before places.rest joined)
 
 some-injective : {x y : Pair} → Some x ≡ Some y → x ≡ y
 some-injective e = cc

@@ -1,5 +1,5 @@
 -- What follows from a verdict.
-use Rattle.std.specs.Prelude.{Result, Ok, Err, IfOk, ◌↔◌, Option, Some, None}
+use Rattle.std.specs.Prelude.{Result, Ok, Err, IfOk, ◌↔◌}
 use Rattle.std.proofs.Common.{◌≡◌, ℕ, zero, suc, ◌+◌, List, refl, sym, ◌∙◌, subst, add-one}
 use Rattle.kb_word.specs.Words.{Pair, OneOf}
 use Rattle.kb_word.specs.Congruence.{Congruent}
@@ -10,43 +10,43 @@ use Rattle.kb_rules.proofs.Reducts.{normal_form_congruent}
 use Rattle.kb_overlap.proofs.Superposed.{replaced-by-first, replaced-by-second}
 use Rattle.kb_confluence.specs.declared.confluence.Verdict.{Verdict}
 use Rattle.kb_confluence.specs.declared.confluence.Verdict.TheVariants.{Yes, No}
-use Rattle.kb_confluence.specs.Unjoined.{IsFirstUnjoined, IsCounterexample}
-use Rattle.kb_confluence.specs.Answers.{IsVerdict, GivesCounterexample, Resolves}
+use Rattle.kb_confluence.specs.FirstApart.{IsFirstApart, IsCounterexample}
+use Rattle.kb_confluence.specs.Answers.{IsVerdict, GivesCounterexample}
 use Rattle.kb_confluence.specs.Rows.{IsFirstOfRow, IsRowVerdict}
 
 -- rules are numbered one above their indices
 pub no_numbered : (rules : List Pair) (i j place : ℕ) (u v : List ℕ) → IsFirstOfRow rules i j place u v
     → IsRowVerdict rules i (No (i + 1) (j + 1) place u v)
-no_numbered rules i j place u v unjoined = rw (add-one j) (refl, unjoined)
+no_numbered rules i j place u v apart = rw (add-one j) (refl, apart)
 
 pub parts_refute : {rules : List Pair} {pair : Pair} {u v : List ℕ} → IsUnresolved rules pair u v → ¬ IsResolved rules pair
-parts_refute parts joins = parts.different (normal_form_unique parts.left joins.left ∙ normal_form_unique joins.right parts.right)
+parts_refute parts joined = parts.different (normal_form_unique parts.left joined.left ∙ normal_form_unique joined.right parts.right)
 
-pub unjoined_refutes : (rules : List Pair) (i j place : ℕ) (u v : List ℕ) → IsFirstUnjoined rules i j place u v → ¬ IsConfluent rules
-unjoined_refutes rules i j place u v unjoined confluent =
-    parts_refute unjoined.parts (confluent i j place unjoined.first unjoined.second unjoined.overlap)
+pub apart_refutes : (rules : List Pair) (i j place : ℕ) (u v : List ℕ) → IsFirstApart rules i j place u v → ¬ IsConfluent rules
+apart_refutes rules i j place u v apart confluent =
+    parts_refute apart.parts (confluent i j place apart.first apart.second apart.overlap)
 
 one_of : (rules : List Pair) (rule : Pair) → OneOf rules rule → (pair : Pair) → pair ≡ rule → OneOf rules pair
 one_of rules rule is_rule pair e = let P : Pair → Type 0 = λ other. OneOf rules other in subst P (sym e) is_rule
 
--- both words of an overlap that doesn't join come from the superposition
-pub counterexample : (rules : List Pair) (i j place : ℕ) (u v : List ℕ) → IsFirstUnjoined rules i j place u v → IsCounterexample rules u v
-counterexample rules i j place u v unjoined =
-    let first = unjoined.first in let second = unjoined.second in let overlap = unjoined.overlap in
+-- both words of an overlap that is apart come from the superposition
+pub counterexample : (rules : List Pair) (i j place : ℕ) (u v : List ℕ) → IsFirstApart rules i j place u v → IsCounterexample rules u v
+counterexample rules i j place u v apart =
+    let first = apart.first in let second = apart.second in let overlap = apart.overlap in
     let whole = superposition first.0 second.0 place in
     let pair : Pair = critical_pair first second place in
     let left : Congruent (OneOf rules) whole u =
     congruent_transitive
     (congruent_by_replacement (Replaces-implied (one_of rules first (i, overlap.is_first)) (replaced-by-first first second place overlap.overlaps)))
-    (normal_form_congruent unjoined.parts.left) in
+    (normal_form_congruent apart.parts.left) in
     let right : Congruent (OneOf rules) whole v =
     congruent_transitive
     (congruent_by_replacement (Replaces-implied (one_of rules second (j, overlap.is_second)) (replaced-by-second first second place overlap.overlaps)))
-    (normal_form_congruent unjoined.parts.right) in
+    (normal_form_congruent apart.parts.right) in
     record {
-      different = unjoined.parts.different;
-      left = unjoined.parts.left.irreducible;
-      right = unjoined.parts.right.irreducible;
+      different = apart.parts.different;
+      left = apart.parts.left.irreducible;
+      right = apart.parts.right.irreducible;
       congruent = congruent_transitive (congruent_symmetric left) right;
     }
 
@@ -63,7 +63,7 @@ pub confluent_yes : (rules : List Pair) (verdict : Verdict) → IsVerdict rules 
 confluent_yes rules Yes holds confluent = refl
 confluent_yes rules (No zero j place u v) holds confluent = absurd holds
 confluent_yes rules (No (suc i) zero place u v) holds confluent = absurd holds
-confluent_yes rules (No (suc i) (suc j) place u v) holds confluent = absurd (unjoined_refutes rules i j place u v holds confluent)
+confluent_yes rules (No (suc i) (suc j) place u v) holds confluent = absurd (apart_refutes rules i j place u v holds confluent)
 
 pub answer_confluent : {E : Type 0} (rules : List Pair) (answer : Result Verdict E) → IfOk answer (IsVerdict rules)
     → IfOk answer (λ verdict. (verdict ≡ Yes) ↔ IsConfluent rules)
@@ -74,18 +74,3 @@ pub answer_counterexample : {E : Type 0} (rules : List Pair) (answer : Result Ve
     → IfOk answer (GivesCounterexample rules)
 answer_counterexample rules (Ok verdict) holds = verdict_counterexample rules verdict holds
 answer_counterexample rules (Err error) holds = tt
-
--- what it says of a pair that there are two words, or none
-pub parts_given : (mine rules : List Pair) (pair : Pair) (words : Option Pair) (u v : List ℕ) → mine ≡ rules → words ≡ Some (u, v)
-    → Resolves mine pair words → IsUnresolved rules pair u v
-parts_given mine rules pair words u v e f says =
-    let P : Option Pair → Type 0 = λ given. Resolves mine pair given in
-    let Q : List Pair → Type 0 = λ list. IsUnresolved list pair u v in
-    subst Q e (subst P f says)
-
-pub joins_given : (mine rules : List Pair) (pair : Pair) (words : Option Pair) → mine ≡ rules → words ≡ None
-    → Resolves mine pair words → IsResolved rules pair
-joins_given mine rules pair words e f says =
-    let P : Option Pair → Type 0 = λ given. Resolves mine pair given in
-    let Q : List Pair → Type 0 = λ list. IsResolved list pair in
-    subst Q e (subst P f says)

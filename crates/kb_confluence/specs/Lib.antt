@@ -1,4 +1,4 @@
-pub mod Unjoined
+pub mod FirstApart
 pub mod Answers
 pub mod Rows
 pub mod Shares

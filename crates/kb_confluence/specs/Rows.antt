@@ -5,30 +5,30 @@ use Rattle.kb_word.specs.Overlap.{OverlapOf, IsResolved, IsUnresolved, critical_
 use Rattle.kb_confluence.specs.declared.confluence.Verdict.{Verdict}
 use Rattle.kb_confluence.specs.declared.confluence.Verdict.TheVariants.{Yes, No}
 
--- each overlap of the row joins
-abbrev pub RowJoins : List Pair → ℕ → Type 0
-RowJoins rules i = (j place : ℕ) (first second : Pair) → OverlapOf rules i j place first second
+-- each overlap of the row is joined
+abbrev pub RowIsJoined : List Pair → ℕ → Type 0
+RowIsJoined rules i = (j place : ℕ) (first second : Pair) → OverlapOf rules i j place first second
     → IsResolved rules (critical_pair first second place)
 
--- each overlap of row i joins that comes before the one with rule l at place q
-abbrev pub EarlierOfRowJoin : List Pair → ℕ → ℕ → ℕ → Type 0
-EarlierOfRowJoin rules i l q =
+-- each overlap of row i is joined that comes before the one with rule l at place q
+abbrev pub EarlierOfRowAreJoined : List Pair → ℕ → ℕ → ℕ → Type 0
+EarlierOfRowAreJoined rules i l q =
     (j p : ℕ) (first second : Pair) → (j < l) ⊎ ((j ≡ l) × (p < q))
     → OverlapOf rules i j p first second
     → IsResolved rules (critical_pair first second p)
 
--- the overlap of row i with rule j is the first of the row that doesn't join: its words' normal forms are u and v
+-- the overlap of row i with rule j is the first of the row that is apart: its words' normal forms are u and v
 pub record IsFirstOfRow (rules : List Pair) (i j place : ℕ) (u v : List ℕ) : Type 0 where
   pub first : Pair
   pub second : Pair
   pub overlap : OverlapOf rules i j place first second
   pub parts : IsUnresolved rules (critical_pair first second place) u v
-  pub earlier : EarlierOfRowJoin rules i j place
+  pub earlier : EarlierOfRowAreJoined rules i j place
 
--- The verdict on row i: `Yes` says that it joins, and `No` names the first of its overlaps that doesn't, the rules
+-- The verdict on row i: `Yes` says that it is joined, and `No` names the first of its overlaps that is apart, the rules
 -- being numbered from 1.
 abbrev pub IsRowVerdict : List Pair → ℕ → Verdict → Type 0
-IsRowVerdict rules i Yes = RowJoins rules i
+IsRowVerdict rules i Yes = RowIsJoined rules i
 IsRowVerdict rules i (No row (suc j) place u v) = (row ≡ i + 1) × IsFirstOfRow rules i j place u v
 IsRowVerdict rules i (No row zero place u v) = ⊥
 
@@ -37,17 +37,17 @@ abbrev pub named_row : Verdict → ℕ
 named_row Yes = 2 ^ 32
 named_row (No row j place u v) = row
 
--- what a `No` names is the first overlap of its row that doesn't join
+-- what a `No` names is the first overlap of its row that is apart
 abbrev pub NamesFirst : List Pair → Verdict → Type 0
 NamesFirst rules Yes = Unit {0}
 NamesFirst rules (No (suc i) (suc j) place u v) = IsFirstOfRow rules i j place u v
 NamesFirst rules (No (suc i) zero place u v) = ⊥
 NamesFirst rules (No zero j place u v) = ⊥
 
--- the verdict on the rows that meet P: those before the one that it names join
+-- the verdict on the rows that meet P: those before the one that it names are joined
 pub record IsVerdictOn (rules : List Pair) (P : ℕ → Type 0) (verdict : Verdict) : Type 0 where
   pub named : NamesFirst rules verdict
-  pub joins : (i : ℕ) → P i → i + 1 < named_row verdict → RowJoins rules i
+  pub joined : (i : ℕ) → P i → i + 1 < named_row verdict → RowIsJoined rules i
 
 -- of two verdicts the one that names the earlier row
 abbrev pub IsEarlier : Verdict → Verdict → Verdict → Type 0

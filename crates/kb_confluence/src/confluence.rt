@@ -20,7 +20,7 @@ const FEW_RULES: usize = 32;
 pub enum Verdict {
     /// The rules are confluent.
     Yes,
-    /// The first overlap, by `i`, then `j`, then `place`, whose critical pair doesn't join.
+    /// The first overlap, by `i`, then `j`, then `place`, whose critical pair is apart.
     No {
         /// The rule that begins first, numbered from 1 in list order.
         i: u32,

@@ -1,7 +1,7 @@
 //! Confluence of rules: the test, and what it is good for.
 //!
-//! The public contract: `check` answers `Yes` exactly where the critical pair of each overlap is resolved, and
-//! otherwise names the first overlap whose pair isn't, with its two normal forms; 1 to 64 workers share the test, and
+//! The public contract: `check` answers `Yes` exactly where the critical pair of each overlap is joined, and
+//! otherwise names the first overlap whose pair is apart, with its two normal forms; 1 to 64 workers share the test, and
 //! come to the same verdict whatever their number. By the law `normal_forms_by_confluent_rules_are_least` each word's
 //! normal form is then the least word that is congruent to it; `least_by_the_same_congruence` carries that over to
 //! any other list of pairs that generates the same congruence, such as a presentation's relations.
@@ -13,7 +13,7 @@
 //! `proofs/Newman.antt` have the critical pair criterion and Newman's lemma.
 //!
 //! Several workers share the rows: each draws rows by a seat of one `kb_draw::Draw` until no row is left, and so each
-//! row is drawn by one worker. A worker keeps the earliest row that doesn't join, and doesn't test the rows after it
+//! row is drawn by one worker. A worker keeps the earliest row that isn't joined, and doesn't test the rows after it
 //! that it draws. The earliest of the workers' verdicts is the verdict, the same for every number of workers.
 //! `specs/Rows.antt` says what a verdict on some of the rows is, `proofs/RowVerdicts.antt` puts such verdicts
 //! together, and `proofs/Drawing.antt` follows a worker from one row that it draws to the next.
@@ -24,8 +24,6 @@
 mod confluence;
 mod laws;
 mod rows;
-#[cfg(test)]
-mod tests;
 mod workers;
 
 pub use confluence::{Verdict, check};

@@ -1,17 +1,14 @@
 //! The check of one row: of the overlaps in which one rule begins first.
 
 ghost use Rattle.std.specs.Prelude.{◌≡◌, ◌^◌, ◌<◌, ◌≤◌, IfOk, Some, length, slice_get};
-ghost use Rattle.kb_word.specs.Overlap.{Overlaps, critical_pair};
 ghost use Rattle.kb_overlap.specs.Overlapping.{AreOverlaps};
-ghost use Rattle.kb_confluence.specs.Answers.{Resolves};
 ghost use Rattle.kb_confluence.specs.Rows.{IsRowVerdict};
 
 use crate::confluence::Verdict;
-use kb_overlap::{LeftSides, Overlap, pair_into};
-use kb_rules::{Reducer, Rule, Workspace};
-use kb_word::{Memory, Word};
+use kb_overlap::{Joinability, LeftSides, Overlap, PairWorkspace};
+use kb_rules::{Reducer, Rule};
+use kb_word::Memory;
 use std::alloc::Global;
-use std::mem::replace;
 
 /// The rows of a list of rules, and all that the check of a row reads. Row i has the overlaps in which rule i begins
 /// first.
@@ -30,15 +27,7 @@ pub struct Rows<'r, R: Reducer> {
 #[derive(Drop)]
 pub struct Buffers {
     overlaps: Vec<Overlap>,
-    pair: PairBuffers,
-}
-
-/// The words of a critical pair, which become their normal forms, and the workspace for that.
-#[derive(Drop)]
-struct PairBuffers {
-    one: Word,
-    other: Word,
-    workspace: Workspace,
+    pair: PairWorkspace,
 }
 
 impl Buffers {
@@ -46,11 +35,7 @@ impl Buffers {
     pub fn new(alloc: Global) -> Buffers {
         Buffers {
             overlaps: Vec::new(alloc),
-            pair: PairBuffers {
-                one: Word::new(alloc),
-                other: Word::new(alloc),
-                workspace: Workspace::new(alloc),
-            },
+            pair: PairWorkspace::new(alloc),
         }
     }
 }
@@ -88,7 +73,7 @@ impl<'r, R: Reducer> Rows<'r, R> {
         i: usize,
         first: &Rule,
         overlaps: &[Overlap],
-        buffers: &mut PairBuffers,
+        pair: &mut PairWorkspace,
     ) -> Result<Verdict, Memory>
         requires first { slice_get self.now.rules.now i ≡ Some first.now }
         requires overlaps { AreOverlaps self.now.rules.now first.now.0 overlaps.now }
@@ -101,55 +86,15 @@ impl<'r, R: Reducer> Rows<'r, R> {
             if i == j && place == 0 {
                 continue;
             }
-            if let Some((u, v)) = different_normal_forms(
-                self.alloc,
-                self.reducer,
-                first,
-                second,
-                place,
-                buffers,
-            )? {
-                let (i, j) = (i as u32 + 1, j as u32 + 1);
-                return Ok(Verdict::No { i, j, place, u, v });
+            match pair.join(self.reducer, first, second, place)? {
+                Joinability::Joined => {}
+                Joinability::Apart => {
+                    let (i, j) = (i as u32 + 1, j as u32 + 1);
+                    let (u, v) = pair.take(self.alloc);
+                    return Ok(Verdict::No { i, j, place, u, v });
+                }
             }
         }
         Ok(Verdict::Yes)
     }
-}
-
-/// The normal forms of a critical pair's words, where they differ.
-fn different_normal_forms<R: Reducer>(
-    alloc: Global,
-    reducer: &R,
-    first: &Rule,
-    second: &Rule,
-    place: u64,
-    buffers: &mut PairBuffers,
-) -> Result<Option<(Word, Word)>, Memory>
-    requires { Overlaps first.now.0 second.now.0 place }
-    ensures { IfOk result
-        (Resolves (R.rules reducer.now) (critical_pair first.now second.now place)) }
-{
-    let PairBuffers {
-        one,
-        other,
-        workspace,
-    } = buffers;
-    pair_into(
-        first.left(),
-        first.right(),
-        second.left(),
-        second.right(),
-        place,
-        one,
-        other,
-    )?;
-    reducer.reduce(one, workspace)?;
-    reducer.reduce(other, workspace)?;
-    if *one == *other {
-        return Ok(None);
-    }
-    let u = replace(one, Word::new(alloc));
-    let v = replace(other, Word::new(alloc));
-    Ok(Some((u, v)))
 }

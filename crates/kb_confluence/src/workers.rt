@@ -64,7 +64,7 @@ fn work<R: Reducer, T: Wait>(
         let Some(row) = draw.next(&mut seat) else {
             return Ok(Share { seat, verdict });
         };
-        // A row after one that doesn't join can't change the verdict.
+        // A row after one that isn't joined can't change the verdict.
         if verdict.named_row() <= row {
             continue;
         }

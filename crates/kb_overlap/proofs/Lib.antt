@@ -1,4 +1,5 @@
 pub mod Superposed
+pub mod Joined
 mod Keys
 mod Lists
 mod Walking

@@ -1,3 +1,4 @@
 pub mod Agreement
+pub mod Joining
 pub mod Overlapping
 pub mod Sides

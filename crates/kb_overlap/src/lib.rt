@@ -11,9 +11,10 @@
 //!   that they are exactly the overlaps, strictly ascending by the rule's index and then by the place. A caller
 //!   leaves out a rule with itself at place 0.
 //! - `meets` tells whether two words overlap at a place.
-//! - `pair_at` builds the critical pair of two rules at a place, and `pair_into` puts it into words
-//!   that a caller keeps for many pairs. `overlaps_are_superpositions` says what that pair is: the
-//!   superposition with one left side replaced.
+//! - A `PairWorkspace` has two words, reduces them by a `kb_rules::Reducer`, and tells whether they are joined or apart:
+//!   whether their normal forms are one word or two (`specs/Joining.antt`). It is kept for one pair after another.
+//!   `PairWorkspace::join` does all that for the critical pair of two rules at a place, and
+//!   `overlaps_are_superpositions` says what that pair is: the superposition with one left side replaced.
 //!
 //! # How all overlaps are found
 //!
@@ -28,9 +29,11 @@
 //!
 //! `proofs/Walking.antt` follows the walk at one place, `proofs/Collecting.antt` goes over the places, and
 //! `proofs/Indexing.antt` has what sorting gives: the left sides in order, and the overlaps with left sides as
-//! overlaps with rules. `proofs/Superposed.antt` has the equations of critical pairs.
+//! overlaps with rules. `proofs/Superposed.antt` has the equations of critical pairs, and `proofs/Joined.antt` what the
+//! normal forms of a pair's words say of it.
 //!
-//! Below are `kb_word`, with the definitions of overlap and critical pair, and `kb_rules`; above is `kb_confluence`.
+//! Below are `kb_word`, with the definitions of overlap and critical pair, and `kb_rules`; above are `kb_confluence`
+//! and what completes, from `kb_machine` on.
 #![tactic(auto)]
 
 mod left_sides;
@@ -40,4 +43,4 @@ mod walk;
 
 pub use left_sides::{LeftSides, Overlap};
 pub use meeting::meets;
-pub use pair::{overlaps_are_superpositions, pair_at, pair_into};
+pub use pair::{Joinability, PairWorkspace, overlaps_are_superpositions};

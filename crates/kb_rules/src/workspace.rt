@@ -34,7 +34,7 @@ impl Workspace {
         ensures states { self.new.states.items ≡ [] }
         ensures range { All (λ letter. letter < 2 ^ 16) word.now }
     {
-        self.front.truncate(0);
+        self.front.clear();
         self.states.clear();
         self.unread.start(word)
     }

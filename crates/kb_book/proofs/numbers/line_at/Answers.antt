@@ -1,4 +1,4 @@
-use Rattle.std.proofs.Common.{◌≡◌, Some, None, IfSome, IfNone, ℕ, suc, ◌-◌, ◌<◌, ◌≤◌, length, List, Option, slice_get, arith, Bor, refl}
+use Rattle.std.proofs.Common.{◌≡◌, Some, None, IfSome, IfNone, ℕ, suc, ◌<◌, ◌≤◌, length, List, Option, arith, Bor, refl}
 use Rattle.std.specs.Option.{MatchOption}
 use Rattle.std.specs.List.{HoldsAt}
 use Rattle.std.proofs.lemmas.Option.{slice_get_read}

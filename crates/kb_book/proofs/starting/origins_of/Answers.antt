@@ -1,4 +1,4 @@
-use Rattle.std.proofs.Common.{◌≡◌, ◌+◌, ◌<◌, [], ◌∷◌, ◌++◌, List, length, ap, sym, ◌∙◌, arith, rules}
+use Rattle.std.proofs.Common.{◌≡◌, ◌+◌, ◌<◌, [], ◌∷◌, ◌++◌, List, length, ap, sym, ◌∙◌, rules}
 use Rattle.kb_machine.specs.declared.origin.Origin.{Origin}
 use Rattle.kb_machine.specs.declared.origin.Origin.TheVariants.{Relation}
 use Rattle.kb_book.proofs.Origins.{origins_more}

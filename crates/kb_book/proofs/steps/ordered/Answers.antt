@@ -1,4 +1,4 @@
-use Rattle.std.proofs.Common.{rules, ◌≡◌, ◌⊎◌, ℕ, List, inl, inr}
+use Rattle.std.proofs.Common.{rules, inl, inr}
 use Rattle.kb_word.specs.WordOrders.{Below}
 use Rattle.kb_word.specs.WordOrderLaws.{word_orders}
 use Rattle.kb_book.proofs.steps.ordered.Goals as goal

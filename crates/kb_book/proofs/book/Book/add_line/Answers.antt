@@ -1,5 +1,4 @@
-use Rattle.std.proofs.Common.{◌≡◌, ◌<◌, ◌≤◌, ◌+◌, ℕ, List, [], ◌∷◌, ◌++◌, length, refl, sym, ap, ◌∙◌, subst, arith}
-use Rattle.kb_word.specs.Words.{Pair}
+use Rattle.std.proofs.Common.{◌≡◌, ◌<◌, ◌≤◌, ◌+◌, ℕ, List, [], ◌∷◌, ◌++◌, length, sym, ap, ◌∙◌, subst, arith}
 use Rattle.kb_machine.specs.declared.line.Line.{Line}
 use Rattle.kb_machine.specs.Lines.{rule_of}
 use Rattle.kb_machine.specs.declared.event.Event.{Event}
@@ -24,13 +23,13 @@ invariant_of-self-2 g c =
     let lines = c.add.ensures.items ∙ ap (λ (l : List Line). l ++ c.args.line ∷ []) c.reserve-2.ensures.items in
     let live = c.add-2.ensures.items ∙ ap (λ (l : List ℕ). l ++ (c.len.result + 1) ∷ []) c.reserve-3.ensures.items in
     let events = c.add-3.ensures.items ∙ ap (λ (l : List Event). l ++ Made (c.len.result + 1) ∷ []) c.reserve.ensures.items in
-    let pushed : g.R.Reducer.rules c.push-2.new.self ≡ g.R.Reducer.rules c.self.inside.reducer ++ rule_of c.args.line ∷ [] =
-    cc (c.in_ok-push.ensures.ok, c.new.ensures, c.in_ok-left.ensures, c.in_ok-right.ensures) in
+    let pushed : g.R.Reducer.rules c.push.new.self ≡ g.R.Reducer.rules c.self.inside.reducer ++ rule_of c.args.line ∷ [] =
+    cc (c.in_ok-push.ensures.ok, c.in_ok-rule.ensures) in
     book_after c.self.invariant
     (made _ c.args.line (c.len.result + 1) _ _ _ _ is room short number lines live c.pop_front.ensures.rest events).takes
     (rules_with c.self.inside.lines.items c.self.inside.live.items c.args.line (c.len.result + 1) _ _ _ _ numbers number
     c.self.invariant.reduces pushed lines live)
-    c.push-2.ensures.order
+    c.push.ensures.order
 
 pub returns : goal.returns
 returns g c =

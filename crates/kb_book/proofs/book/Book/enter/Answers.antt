@@ -1,4 +1,4 @@
-use Rattle.std.proofs.Common.{◌≡◌, ℕ, List, [], ◌∷◌, ◌++◌, refl, ap, ◌∙◌, true, rules}
+use Rattle.std.proofs.Common.{List, [], ◌∷◌, ◌++◌, refl, ap, ◌∙◌, rules}
 use Rattle.kb_word.specs.Words.{Pair}
 use Rattle.kb_machine.specs.Lines.{rules_of, OverlapOfNumbers}
 use Rattle.kb_machine.specs.declared.event.Event.{Event}

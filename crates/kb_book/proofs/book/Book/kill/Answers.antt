@@ -6,7 +6,7 @@ use Rattle.kb_machine.specs.declared.line.Line.{Line}
 use Rattle.kb_machine.specs.declared.origin.Origin.{Origin}
 use Rattle.kb_machine.specs.declared.origin.Origin.TheVariants as origins
 use Rattle.kb_machine.specs.States.{rule_numbered}
-use Rattle.kb_machine.specs.Course.{Course, Takes}
+use Rattle.kb_machine.specs.Course.{Takes}
 use Rattle.kb_machine.specs.declared.event.Event.{Event}
 use Rattle.kb_machine.specs.declared.event.Event.TheVariants.{Killed}
 use Rattle.kb_book.specs.Books.{BookParts}

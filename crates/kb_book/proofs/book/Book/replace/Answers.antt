@@ -1,11 +1,8 @@
-use Rattle.std.proofs.Common.{◌≡◌, ◌<◌, ◌+◌, ℕ, List, [], ◌∷◌, ◌++◌, length, sym, ap, ◌∙◌, subst, arith}
-use Rattle.std.specs.List.{remove}
+use Rattle.std.proofs.Common.{◌≡◌, ◌<◌, ◌+◌, ℕ, List, [], ◌∷◌, ◌++◌, length, refl, sym, ap, ◌∙◌, subst, arith}
 use Rattle.std.proofs.lemmas.Option.{slice_get_within}
-use Rattle.kb_word.specs.Words.{Pair}
 use Rattle.kb_word.specs.WordOrders.{Below}
 use Rattle.kb_word.specs.declared.word_order.WordOrder.{WordOrder}
 use Rattle.kb_machine.specs.declared.line.Line.{Line}
-use Rattle.kb_machine.specs.Lines.{rule_of}
 use Rattle.kb_machine.specs.declared.event.Event.{Event}
 use Rattle.kb_machine.specs.declared.event.Event.TheVariants.{Shortened}
 use Rattle.kb_book.specs.Books.{BookParts}
@@ -14,19 +11,16 @@ use Rattle.kb_book.proofs.Courses.{course_keeps, book_after}
 use Rattle.kb_book.proofs.Replaced.{shortened, shorter_decreases, rules_replaced}
 use Rattle.kb_book.proofs.book.Book.replace.Goals as goal
 
-pub push-requires : goal.push-requires
-push-requires g c =
+pub exchanged-requires-clause-falls : goal.exchanged-requires-clause-falls
+exchanged-requires-clause-falls g c =
     let S : BookParts → Type 0 = λ b. IsShorter b.course c.args.k c.args.place c.args.line in
     let is = subst S (sym c.self.view_is) c.requires in
     let less = shorter_decreases _ c.args.k c.args.place c.args.line c.self.invariant.is_course is in
-    let orders = c.remove.ensures.order ∙ c.in_ok-reducer.ensures.order ∙ c.self.invariant.decreases in
-    let rule : c.new.result ≡ rule_of c.args.line = cc (c.new.ensures, c.in_ok-left.ensures, c.in_ok-right.ensures) in
     let P : WordOrder → Type 0 = λ o. Below o c.args.line.right c.args.line.left in
-    let Q : Pair → Type 0 = λ r. Below (g.R.Reducer.order c.remove.new.self) r.1 r.0 in
-    subst Q (sym rule) (subst P (sym orders) less)
+    subst P (sym c.self.invariant.decreases) less
 
-pub remove-requires-2 : goal.remove-requires-2
-remove-requires-2 g c =
+pub remove-requires : goal.remove-requires
+remove-requires g c =
     let S : BookParts → Type 0 = λ b. IsShorter b.course c.args.k c.args.place c.args.line in
     let is = subst S (sym c.self.view_is) c.requires in
     let within : c.args.place < length c.self.inside.live.items = slice_get_within c.self.inside.live.items c.args.place c.args.k is.at in
@@ -39,17 +33,14 @@ invariant_of-self-2 g c =
     let numbers = (course_keeps _ c.self.invariant.is_course).numbers in
     let new : ℕ = c.len.result + 1 in
     let number : new ≡ length c.self.inside.lines.items + 1 = omega (arith, c.self.inside.lines.ok.0) in
-    let live = c.add.ensures.items ∙ ap (λ (l : List ℕ). l ++ (c.len.result + 1) ∷ []) c.remove-2.ensures.items in
+    let live = c.add.ensures.items ∙ ap (λ (l : List ℕ). l ++ (c.len.result + 1) ∷ []) c.remove.ensures.items in
     let lines = c.add-2.ensures.items ∙ ap (λ (l : List Line). l ++ c.args.line ∷ []) c.reserve-2.ensures.items in
     let events = c.add-3.ensures.items ∙ ap (λ (l : List Event). l ++ Shortened c.args.k (c.len.result + 1) ∷ []) c.reserve.ensures.items in
-    let removed = c.in_ok-remove.ensures.ok ∙ ap (λ (l : List Pair). remove l c.args.place) c.in_ok-reducer.ensures.rules in
-    let pushed : g.R.Reducer.rules c.push-2.new.self ≡ g.R.Reducer.rules c.remove.new.self ++ rule_of c.args.line ∷ [] =
-    cc (c.in_ok-push.ensures.ok, c.new.ensures, c.in_ok-left.ensures, c.in_ok-right.ensures) in
     book_after c.self.invariant
     (shortened _ c.args.k c.args.place (c.len.result + 1) c.args.line _ _ _ is number lines live events).takes
     (rules_replaced c.self.inside.lines.items c.self.inside.live.items c.args.place c.args.line (c.len.result + 1) _ _ _ _ _
-    numbers number c.self.invariant.reduces removed pushed lines live)
-    (c.push-2.ensures.order ∙ c.remove.ensures.order ∙ c.in_ok-reducer.ensures.order)
+    numbers number c.self.invariant.reduces refl c.in_ok-self-inside.ensures.rules lines live)
+    c.in_ok-self-inside.ensures.order
 
 pub returns : goal.returns
 returns g c =
@@ -57,7 +48,7 @@ returns g c =
     let is = subst S (sym c.self.view_is) c.requires in
     let new : ℕ = c.len.result + 1 in
     let number : new ≡ length c.self.inside.lines.items + 1 = omega (arith, c.self.inside.lines.ok.0) in
-    let live = c.add.ensures.items ∙ ap (λ (l : List ℕ). l ++ (c.len.result + 1) ∷ []) c.remove-2.ensures.items in
+    let live = c.add.ensures.items ∙ ap (λ (l : List ℕ). l ++ (c.len.result + 1) ∷ []) c.remove.ensures.items in
     let lines = c.add-2.ensures.items ∙ ap (λ (l : List Line). l ++ c.args.line ∷ []) c.reserve-2.ensures.items in
     let events = c.add-3.ensures.items ∙ ap (λ (l : List Event). l ++ Shortened c.args.k (c.len.result + 1) ∷ []) c.reserve.ensures.items in
     let after = shortened _ c.args.k c.args.place (c.len.result + 1) c.args.line _ _ _ is number lines live events in

@@ -1,6 +1,6 @@
-use Rattle.kb_confluence.proofs.Checking.{JoinBefore}
+use Rattle.kb_confluence.proofs.Checking.{AreJoinedBefore}
 use Rattle.kb_confluence.proofs.rows.Rows.check_overlaps.Given as goal
 
--- the overlaps of the row so far join
+-- the overlaps of the row so far are joined
 abbrev pub invariant-loop-overlap : goal.invariant-loop-overlap
-invariant-loop-overlap g l = JoinBefore l.self.rules.now l.i l.first l.overlaps l.overlap-index
+invariant-loop-overlap g l = AreJoinedBefore l.self.rules.now l.i l.first l.overlaps l.overlap-index

@@ -1,8 +1,8 @@
-//! Several workers end with the verdict of one.
+//! Confluence: several workers end with the verdict of one.
 
 ghost use Rattle.std.specs.Prelude.{◌≤◌};
 
-use crate::{Verdict, check};
+use kb_confluence::{Verdict, check};
 use kb_rules::{Reducer, Rule, Rules, Scan};
 use kb_word::{Letter, Memory, Order, Word, WordOrder};
 use std::alloc::Global;
@@ -33,8 +33,8 @@ fn add_rule(
     rules.push(Rule::new(left, right))
 }
 
-/// The rules aa -> 1 of forty letters a, all of whose rows join, and then rules ab -> a of so many letters a and the
-/// letters b that follow them, of whose rows only the last one joins.
+/// The rules aa -> 1 of forty letters a, all of whose rows are joined, and then rules ab -> a of so many letters a and
+/// the letters b that follow them, of whose rows only the last one is joined.
 fn rules_with(rt: &impl Abort, alloc: Global, last_rows: u16) -> Result<Rules, Memory>
     requires { last_rows ≤ 100 }
 {
