@@ -1,13 +1,14 @@
 -- A normal form may be computed in two parts, the front first.
-use Rattle.std.proofs.Common.{ℕ, List, [], ◌∷◌, ◌++◌, sym, ap, ◌∙◌, subst, append_assoc}
+use Rattle.std.proofs.Common.{◌≡◌, ℕ, List, [], ◌∷◌, ◌++◌, Option, Some, None, sym, ap, ◌∙◌, subst, append_assoc}
 use Rattle.std.proofs.Common.{Result, Ok, Err, OnOk}
+use Rattle.std.specs.Prelude.{MatchOption}
 use Rattle.kb_word.specs.Words.{Pair}
 use Rattle.kb_word.specs.Path.{Linked}
 use Rattle.kb_word.specs.Rewriting.{FirstRewrite, NormalForm}
 use Rattle.kb_rules.proofs.Unique.{normal_form_more}
 use Rattle.kb_diff.specs.Groups.{Group}
 use Rattle.kb_fsa.specs.Padding.{letters_of}
-use Rattle.kb_diff.specs.Tables.{IsFront, FrontLeads, LeadsToNumber}
+use Rattle.kb_diff.specs.Tables.{IsFront, FrontLeads, LeadsToNumber, listed}
 
 -- the first rewrite is the same where letters follow
 first_rewrite_longer : {rules : List Pair} {u v : List ℕ} → FirstRewrite rules u v → (more : List ℕ) → FirstRewrite rules (u ++ more) (v ++ more)
@@ -50,3 +51,8 @@ pair_leads group words d a b front target is leads = record {
 pub on_ok_more : {X E : Type 0} (P Q : Type 0) (r : Result X E) → (P → Q) → OnOk r P → OnOk r Q
 on_ok_more P Q (Ok x) more holds = more holds
 on_ok_more P Q (Err e) more holds = tt
+
+-- a letter or none, as a slice
+pub listed_slice : (letter : Option ℕ) (slice : List ℕ) → MatchOption letter (slice ≡ []) (λ x. slice ≡ x ∷ []) → slice ≡ listed letter
+listed_slice None slice is = is
+listed_slice (Some x) slice is = is

@@ -7,7 +7,6 @@ ghost use Rattle.kb_word.specs.Rewriting.{IsIrreducible};
 ghost use Rattle.kb_diff.specs.Differences.{IsDifference, HaveDifferences};
 ghost use Rattle.kb_diff.specs.Keeping.{Adds, IsFull, KeepsOne, NamesMissing};
 
-use crate::difference::Difference;
 use crate::differences::Differences;
 use crate::grow::Grow;
 use crate::inverting::{inverse_in_group, prefix_of};
@@ -99,15 +98,13 @@ impl<R: Reducer> Differences<R> {
         ensures group { self.new.group ≡ self.old.group }
         ensures most { self.new.most ≡ self.old.most }
     {
-        let difference = Difference::new(word);
-        if self.words.contains(&difference) {
+        if self.words.contains(&word) {
             return Ok(Grow::Same);
         }
         if self.words.len() >= self.most as usize {
-            let word = difference.into_word();
             return Ok(Grow::Full { word, place });
         }
-        self.words.insert(difference)?;
+        self.words.insert(word)?;
         Ok(Grow::Grew)
     }
 }

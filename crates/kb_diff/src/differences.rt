@@ -6,7 +6,6 @@ ghost use Rattle.kb_diff.specs.Groups.{EachInverts, AreRulesOver, group_of};
 ghost use Rattle.kb_diff.specs.Kept.{AreKept};
 ghost use Rattle.kb_diff.specs.Keeping.{AddsPairs};
 
-use crate::difference::Difference;
 use crate::grow::Grow;
 use indexmap::IndexSet;
 use kb_rules::{Reducer, Rules};
@@ -21,7 +20,7 @@ pub struct Differences<R: Reducer> {
     pub(crate) presentation: Presentation,
     pub(crate) reducer: R,
     pub(crate) most: u32,
-    pub(crate) words: IndexSet<Difference>,
+    pub(crate) words: IndexSet<Word>,
 }
 
 impl<R: Reducer> Model for Differences<R> {
@@ -132,17 +131,15 @@ impl<R: Reducer> Differences<R> {
     pub fn get(&self, index: usize) -> Option<&Word>
         ensures { option_copied result ≡ slice_get self.now.words index }
     {
-        self.words
-            .get_index(index)
-            .map(|difference| difference.word())
+        self.words.get_index(index)
     }
 }
 
 /// The empty word alone.
-fn empty_word_alone(alloc: Global) -> Result<IndexSet<Difference>, Memory>
+fn empty_word_alone(alloc: Global) -> Result<IndexSet<Word>, Memory>
     ensures { IfOk result (λ words. words.keys ≡ [] ∷ []) }
 {
     let mut words = IndexSet::new(alloc);
-    words.insert(Difference::new(Word::new(alloc)))?;
+    words.insert(Word::new(alloc))?;
     Ok(words)
 }

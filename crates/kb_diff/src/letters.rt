@@ -1,10 +1,10 @@
 //! Letters of pairs: generators, and the padding.
 
-ghost use Rattle.std.specs.Prelude.{◌≡◌, ◌+◌, ◌≤◌, ◌++◌, OnOk};
+ghost use Rattle.std.specs.Prelude.{◌≡◌, ◌+◌, ◌≤◌};
 ghost use Rattle.kb_fsa.specs.Padding.{letters_of};
 ghost use Rattle.kb_diff.specs.Tables.{listed};
 
-use kb_word::{Letter, Memory, Word};
+use kb_word::Letter;
 
 /// The letter with this number, or none where it is the padding.
 pub(crate) fn letter_of(n: u16, number: u32) -> Option<Letter>
@@ -16,19 +16,4 @@ pub(crate) fn letter_of(n: u16, number: u32) -> Option<Letter>
     } else {
         None
     }
-}
-
-/// Makes the word that of the letter, if there is one, before the rest. It keeps its memory.
-pub(crate) fn become_product(
-    word: &mut Word,
-    letter: Option<Letter>,
-    rest: &Word,
-) -> Result<(), Memory>
-    ensures { OnOk result (word.new ≡ listed letter ++ rest.now) }
-{
-    word.truncate(0);
-    if let Some(letter) = letter {
-        word.push(letter)?;
-    }
-    word.append(rest)
 }

@@ -29,11 +29,10 @@
 //! crates above: words lead alike by differences and by their numbers.
 //!
 //! Below are `kb_word`, with words and their inverses, and `kb_rules`, with the contract of all programs that reduce
-//! words: differences are the same by each of them. Above are `kb_diffwa` and `kb_diffwa`.
+//! words: differences are the same by each of them. Above is `kb_diffwa`.
 #![tactic(auto)]
 
 mod adding;
-mod difference;
 mod differences;
 mod grow;
 mod inverting;

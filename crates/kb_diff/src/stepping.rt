@@ -4,10 +4,9 @@ ghost use Rattle.std.specs.Prelude.{◌≡◌, ◌+◌, ◌<◌, ◌≤◌, suc,
 ghost use Rattle.kb_diff.specs.Steps.{AreSteps};
 ghost use Rattle.kb_diff.specs.Tables.{AddsRows, AddsTargets, FrontLeads, IsFront, IsNumberOf, step_in};
 
-use crate::difference::Difference;
 use crate::differences::Differences;
 use crate::inverting::inverse_of_letter;
-use crate::letters::{become_product, letter_of};
+use crate::letters::letter_of;
 use crate::machine::Machine;
 use kb_rules::{Reducer, Workspace};
 use kb_word::{Memory, Word};
@@ -19,7 +18,7 @@ struct Scratch {
     /// The normal form of a difference after the inverse of the first letter.
     front: Word,
     /// The difference to which the second letter leads from there.
-    target: Difference,
+    target: Word,
     /// The memory that reductions work in.
     workspace: Workspace,
 }
@@ -34,11 +33,11 @@ impl<R: Reducer> Differences<R> {
         let mut table = Vec::with_capacity(alloc, self.len() * (letters * letters))?;
         let mut scratch = Scratch {
             front: Word::new(alloc),
-            target: Difference::new(Word::new(alloc)),
+            target: Word::new(alloc),
             workspace: Workspace::new(alloc),
         };
         for difference in self.words.as_slice() {
-            self.add_rows(difference.word(), &mut scratch, &mut table)?;
+            self.add_rows(difference, &mut scratch, &mut table)?;
         }
         Ok(Machine::new(self.presentation.n, table))
     }
@@ -68,7 +67,9 @@ impl<R: Reducer> Differences<R> {
             (IsFront self.now.group difference.now first scratch.new.front) }
     {
         let inverse = inverse_of_letter(&self.presentation, first);
-        become_product(&mut scratch.front, inverse, difference)?;
+        scratch.front.clear();
+        scratch.front.extend_from_slice(inverse.as_slice())?;
+        scratch.front.append(difference)?;
         self.reducer
             .reduce(&mut scratch.front, &mut scratch.workspace)
     }
@@ -94,18 +95,18 @@ impl<R: Reducer> Differences<R> {
         ensures front { OnOk result (scratch.new.front ≡ scratch.old.front) }
     {
         let letter = letter_of(self.presentation.n, second);
-        scratch.target.become_longer(&scratch.front, letter)?;
-        scratch
-            .target
-            .reduce_by(&self.reducer, &mut scratch.workspace)?;
+        scratch.target.assign(&scratch.front)?;
+        scratch.target.extend_from_slice(letter.as_slice())?;
+        self.reducer
+            .reduce(&mut scratch.target, &mut scratch.workspace)?;
         Ok(self.number_of(&scratch.target))
     }
 
     /// The number of a word, and 0 where it isn't kept.
-    fn number_of(&self, difference: &Difference) -> u32
-        ensures { IsNumberOf self.now.words difference.now result }
+    fn number_of(&self, word: &Word) -> u32
+        ensures { IsNumberOf self.now.words word.now result }
     {
-        match self.words.get_index_of(difference) {
+        match self.words.get_index_of(word) {
             Some(index) => index as u32 + 1,
             None => 0,
         }

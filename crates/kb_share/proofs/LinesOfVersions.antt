@@ -12,7 +12,9 @@ use Rattle.kb_word.specs.Words.{Pair}
 use Rattle.kb_word.specs.Overlap.{Overlaps, critical_pair}
 use Rattle.kb_share.specs.Versions.{VersionParts, HasLine, IsRuleOfLine, OverlapOfLines, HasOverlap, SiftSays}
 use Rattle.kb_word.specs.declared.memory.Memory.{Memory}
-use Rattle.kb_share.specs.declared.answer.Sift.{Sift}
+use Rattle.kb_overlap.specs.Joining.{JoinSays}
+use Rattle.kb_overlap.specs.declared.pair.Joinability.{Joinability}
+use Rattle.kb_overlap.specs.declared.pair.Joinability.TheVariants.{Joined, Apart}
 
 -- in an ascending list a number stands at one index
 pub one_index : (numbers : List ℕ) (i j k : ℕ) → AllPairs (λ one other. one < other) numbers → slice_get numbers i ≡ Some k
@@ -59,7 +61,7 @@ lines_overlap version i j place one other ascending has is_one is_other =
     subst P first (subst Q second overlap.overlaps)
 
 -- what was found of the rules of the lines is said of each overlap of theirs
-pub sifted : (version : VersionParts) (i j place : ℕ) (one other : Pair) (answer : Sift)
+pub sifted : (version : VersionParts) (i j place : ℕ) (one other : Pair) (answer : Joinability)
     → AllPairs (λ one other. one < other) version.numbers → IsRuleOfLine version i one → IsRuleOfLine version j other
     → SiftSays version.rules (critical_pair one other place) answer
     → (first second : Pair) → OverlapOfLines version i j place first second
@@ -117,13 +119,18 @@ rule_read version k place rule one_each at read =
       is_rule = slice_get_read version.rules (length version.rules) place rule refl (omega (arith, within, one_each)) read;
     }
 
+join_sifts : (rules : List Pair) (pair reduced : Pair) (answer : Joinability) → JoinSays rules pair reduced answer → SiftSays rules pair answer
+join_sifts rules pair reduced Joined joined = joined
+join_sifts rules pair reduced Apart parts = (reduced.0, reduced.1, parts)
+
 -- what is answered of the rules of the lines is said of each overlap of theirs
-pub sift_given : (version : VersionParts) (i j place : ℕ) (one other : Pair) (own : List Pair) (r : Result Sift Memory)
+pub sift_given : (version : VersionParts) (i j place : ℕ) (one other : Pair) (own : List Pair) (reduced : Pair) (r : Result Joinability Memory)
     → AllPairs (λ one other. one < other) version.numbers → IsRuleOfLine version i one → IsRuleOfLine version j other
-    → own ≡ version.rules → IfOk r (SiftSays own (critical_pair one other place))
+    → own ≡ version.rules → IfOk r (JoinSays own (critical_pair one other place) reduced)
     → IfOk r (λ answer. (first second : Pair) → OverlapOfLines version i j place first second
     → SiftSays version.rules (critical_pair first second place) answer)
-sift_given version i j place one other own (Ok answer) ascending is_one is_other same says =
+sift_given version i j place one other own reduced (Ok answer) ascending is_one is_other same says =
     sifted version i j place one other answer ascending is_one is_other
-    (subst (λ (r : List Pair). SiftSays r (critical_pair one other place) answer) same says)
-sift_given version i j place one other own (Err memory) ascending is_one is_other same says = tt
+    (join_sifts version.rules (critical_pair one other place) reduced answer
+    (subst (λ (r : List Pair). JoinSays r (critical_pair one other place) reduced answer) same says))
+sift_given version i j place one other own reduced (Err memory) ascending is_one is_other same says = tt

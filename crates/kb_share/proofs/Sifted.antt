@@ -7,10 +7,8 @@ use Rattle.kb_word.specs.Overlap.{Overlaps, IsResolved, IsUnresolved, critical_p
 use Rattle.kb_rules.proofs.Unique.{normal_form_unique}
 use Rattle.kb_overlap.specs.Overlapping.{OverlapsRule}
 use Rattle.kb_overlap.specs.declared.left_sides.Overlap.{Overlap}
-use Rattle.kb_share.specs.Versions.{VersionParts, SiftSays}
+use Rattle.kb_share.specs.Versions.{VersionParts}
 use Rattle.kb_share.specs.Rows.{IsApartAt, SiftsAt, found_at}
-use Rattle.kb_share.specs.declared.answer.Sift.{Sift}
-use Rattle.kb_share.specs.declared.answer.Sift.TheVariants.{Joined, Apart}
 use Rattle.kb_share.specs.declared.found.Found.{Found}
 
 some-injective : {X : Type 0} {x y : X} → Some x ≡ Some y → x ≡ y
@@ -65,16 +63,6 @@ pub second_read : (rules read : List Pair) (l : List ℕ) (one : Overlap) (secon
 second_read rules read l one second found same is =
     slice_get_read rules (length rules) one.rule second refl (slice_get_within rules one.rule found.rule found.is_rule)
     (is ∙ ap (λ (r : List Pair). get_or r one.rule second) same)
-
-pub said_joined : (own rules : List Pair) (pair : Pair) (answer : Sift) → own ≡ rules → answer ≡ Joined → SiftSays own pair answer
-    → IsResolved rules pair
-said_joined own rules pair answer same joined says =
-    subst (λ (r : List Pair). IsResolved r pair) same (subst (λ (a : Sift). SiftSays own pair a) joined says)
-
-pub said_apart : (own rules : List Pair) (pair : Pair) (answer : Sift) → own ≡ rules → answer ≡ Apart → SiftSays own pair answer
-    → (u v : List ℕ) × IsUnresolved rules pair u v
-said_apart own rules pair answer same apart says =
-    subst (λ (r : List Pair). (u v : List ℕ) × IsUnresolved r pair u v) same (subst (λ (a : Sift). SiftSays own pair a) apart says)
 
 -- an overlap by the numbers that are read
 pub found_read : (numbers one two : List ℕ) (index : ℕ) (at : Overlap) → one ≡ numbers → two ≡ numbers

@@ -4,8 +4,8 @@ use Rattle.std.specs.List.{AllPairs}
 use Rattle.kb_word.specs.Words.{Pair}
 use Rattle.kb_word.specs.Overlap.{Overlaps, IsResolved, IsUnresolved}
 use Rattle.kb_machine.specs.States.{State, live_rules}
-use Rattle.kb_share.specs.declared.answer.Sift.{Sift}
-use Rattle.kb_share.specs.declared.answer.Sift.TheVariants.{Joined, Apart}
+use Rattle.kb_overlap.specs.declared.pair.Joinability.{Joinability}
+use Rattle.kb_overlap.specs.declared.pair.Joinability.TheVariants.{Joined, Apart}
 
 -- a version: its number, the numbers of its lines, and their rules
 pub record VersionParts : Type 0 where
@@ -52,6 +52,6 @@ abbrev pub HasOverlap : VersionParts → ℕ → ℕ → ℕ → Type 0
 HasOverlap version i j place = (first second : Pair) × OverlapOfLines version i j place first second
 
 -- what sifting a critical pair answers: whether its words have one normal form by the rules
-abbrev pub SiftSays : List Pair → Pair → Sift → Type 0
+abbrev pub SiftSays : List Pair → Pair → Joinability → Type 0
 SiftSays rules pair Joined = IsResolved rules pair
 SiftSays rules pair Apart = (u v : List ℕ) × IsUnresolved rules pair u v

@@ -24,9 +24,8 @@
 //!
 //! - A [`Version`] is what a worker sifts by: the live lines of a book when they were published, and a reducer by their
 //!   rules. [`Version::of`] copies it from the book.
-//! - [`sift`] tells whether an overlap of two of the version's lines is joined or apart. [`Sifter`]
-//!   does the same for one critical pair after another, and keeps the memory that it takes;
-//!   [`apart_in_row`] sifts all overlaps in which one line begins first.
+//! - [`sift`] tells whether an overlap of two of the version's lines is joined or apart;
+//!   [`apart_in_row`] sifts all overlaps in which one line begins first, by one `kb_overlap::PairWorkspace`.
 //! - [`OneByOne`] makes a pass by one worker. It enters exactly the overlaps that are apart, in the
 //!   order of their lines and places (`EntersAllApart` of `specs/Passes.antt`).
 //!
@@ -36,10 +35,10 @@
 //!
 //! `specs/Versions.antt` has the versions, and `specs/Passes.antt` what a worker enters.
 //!
-//! Below are `kb_overlap`, which finds all overlaps of a left side with others, and `kb_book`.
+//! Below are `kb_overlap`, which finds all overlaps of a left side with others and tells whether they are joined,
+//! and `kb_book`.
 #![tactic(auto)]
 
-mod answer;
 mod entering;
 mod finding;
 mod found;
@@ -55,7 +54,6 @@ mod sound;
 mod version;
 mod watch;
 
-pub use answer::Sift;
 pub use finding::Finder;
 pub use found::Found;
 pub use live::live_rules;
@@ -63,7 +61,7 @@ pub use one_by_one::OneByOne;
 pub use row::apart_in_row;
 pub use settled::Settled;
 pub use settling::{line_made, settle};
-pub use sifting::{Sifter, sift};
+pub use sifting::sift;
 pub use sound::book_is_sound;
 pub use version::Version;
 pub use watch::{Silent, Watch};

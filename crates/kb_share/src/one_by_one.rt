@@ -7,10 +7,9 @@ ghost use Rattle.kb_share.specs.Passes.{EntersAllApart};
 
 use crate::entering::enter_all;
 use crate::row::apart_in_row;
-use crate::sifting::Sifter;
 use crate::version::Version;
 use kb_book::Book;
-use kb_overlap::LeftSides;
+use kb_overlap::{LeftSides, PairWorkspace};
 use kb_rules::Reducer;
 use kb_word::Memory;
 use std::alloc::Global;
@@ -45,12 +44,12 @@ fn pass_over<R: Reducer>(
     let _numbers = version.numbers();
     let rules = version.rules().as_slice();
     let left_sides = LeftSides::of(alloc, rules)?;
-    let mut sifter = Sifter::new(alloc);
+    let mut pair = PairWorkspace::new(alloc);
     let mut overlaps = Vec::new(alloc);
     let mut found = Vec::new(alloc);
     for (index, first) in rules.iter().enumerate() {
         left_sides.overlaps(first.left(), &mut overlaps)?;
-        apart_in_row(version, index, first, &overlaps, &mut sifter, &mut found)?;
+        apart_in_row(version, index, first, &overlaps, &mut pair, &mut found)?;
         enter_all(book, 1, &found)?;
     }
     Ok(())

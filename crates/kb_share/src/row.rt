@@ -4,11 +4,9 @@ ghost use Rattle.std.specs.Prelude.{◌≡◌, IfOk, OnOk, Some, slice_get};
 ghost use Rattle.kb_overlap.specs.Overlapping.{AreOverlaps, OverlapsRule};
 ghost use Rattle.kb_share.specs.Rows.{IsApartAt, found_at, Picks, SiftsAt};
 
-use crate::answer::Sift;
 use crate::found::Found;
-use crate::sifting::Sifter;
 use crate::version::Version;
-use kb_overlap::Overlap;
+use kb_overlap::{Joinability, Overlap, PairWorkspace};
 use kb_rules::{Reducer, Rule};
 use kb_word::Memory;
 
@@ -19,7 +17,7 @@ pub fn apart_in_row<R: Reducer>(
     index: usize,
     first: &Rule,
     overlaps: &[Overlap],
-    sifter: &mut Sifter,
+    pair: &mut PairWorkspace,
     found: &mut Vec<Found>,
 ) -> Result<(), Memory>
     requires first { slice_get version.now.rules index ≡ Some first.now }
@@ -30,7 +28,7 @@ pub fn apart_in_row<R: Reducer>(
 {
     found.clear();
     for overlap in overlaps {
-        if let Some(one) = sift_at(version, index, first, overlap, sifter)? {
+        if let Some(one) = sift_at(version, index, first, overlap, pair)? {
             found.push(one)?;
         }
     }
@@ -43,7 +41,7 @@ fn sift_at<R: Reducer>(
     index: usize,
     first: &Rule,
     overlap: &Overlap,
-    sifter: &mut Sifter,
+    pair: &mut PairWorkspace,
 ) -> Result<Option<Found>, Memory>
     requires first { slice_get version.now.rules index ≡ Some first.now }
     requires overlap { OverlapsRule version.now.rules first.now.0 overlap.now.rule overlap.now.place }
@@ -55,9 +53,9 @@ fn sift_at<R: Reducer>(
     }
     let second = &version.rules().as_slice()[overlap.rule];
     let place = overlap.place as u64;
-    match sifter.sift(version.reducer(), first, second, place)? {
-        Sift::Joined => Ok(None),
-        Sift::Apart => Ok(Some(Found {
+    match pair.join(version.reducer(), first, second, place)? {
+        Joinability::Joined => Ok(None),
+        Joinability::Apart => Ok(Some(Found {
             first: version.numbers()[index],
             second: version.numbers()[overlap.rule],
             place,

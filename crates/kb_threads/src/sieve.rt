@@ -3,9 +3,9 @@
 ghost use Rattle.std.specs.Prelude.{◌≡◌, ◌<◌, length, drop, IsSome, IfOk};
 
 use crate::jobs::JobSeat;
-use kb_overlap::{LeftSides, Overlap};
+use kb_overlap::{LeftSides, Overlap, PairWorkspace};
 use kb_rules::Reducer;
-use kb_share::{Found, Sifter, Version, apart_in_row};
+use kb_share::{Found, Version, apart_in_row};
 use kb_word::Memory;
 use std::alloc::Global;
 use std::collections::VecDeque;
@@ -14,7 +14,7 @@ use std::collections::VecDeque;
 #[derive(Drop)]
 pub(crate) struct Sieve {
     alloc: Global,
-    sifter: Sifter,
+    pair: PairWorkspace,
     overlaps: Vec<Overlap>,
     apart: Vec<Found>,
     found: VecDeque<Found>,
@@ -25,7 +25,7 @@ impl Sieve {
     pub(crate) fn new(alloc: Global) -> Sieve {
         Sieve {
             alloc,
-            sifter: Sifter::new(alloc),
+            pair: PairWorkspace::new(alloc),
             overlaps: Vec::new(alloc),
             apart: Vec::new(alloc),
             found: VecDeque::new(alloc),
@@ -56,7 +56,7 @@ impl Sieve {
     {
         let Sieve {
             alloc: _,
-            sifter,
+            pair,
             overlaps,
             apart,
             found,
@@ -67,7 +67,7 @@ impl Sieve {
         let first = &version.rules().as_slice()[index];
         left_sides.overlaps(first.left(), overlaps)?;
         apart.clear();
-        apart_in_row(version, index, first, overlaps, sifter, apart)?;
+        apart_in_row(version, index, first, overlaps, pair, apart)?;
         for one in apart.as_slice() {
             if seat.has(one.second) {
                 found.push_back(*one)?;

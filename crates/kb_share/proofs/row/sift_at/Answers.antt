@@ -1,6 +1,7 @@
 use Rattle.std.proofs.Common.{◌≡◌, ◌<◌, ◌∙◌, arith}
 use Rattle.kb_word.specs.Overlap.{critical_pair}
-use Rattle.kb_share.proofs.Sifted.{joined_not_apart, is_apart_at, second_read, said_joined, said_apart, found_read}
+use Rattle.kb_share.proofs.Sifted.{joined_not_apart, is_apart_at, second_read, found_read}
+use Rattle.kb_overlap.proofs.Joined.{apart_given, joined_given}
 use Rattle.kb_share.proofs.row.sift_at.Goals as goal
 use Rattle.kb_share.proofs.row.sift_at.Goals.{else-overlap-index-via-then-overlap-index+else-overlap-eq0, else-overlap-index-via-else-overlap-index}
 
@@ -13,7 +14,7 @@ returns-in-Joined g c =
     let is_second = second_read version.rules c.as_slice.result.now first.0 one second c.requires.overlap
     (c.as_slice.ensures.rules ∙ c.rules.ensures) c.index-as_slice-overlap.is in
     joined_not_apart version.rules c.args.index one first second c.requires.first is_second
-    (said_joined _ version.rules (critical_pair first second one.place) c.in_ok-sift.field-0 c.reducer.ensures c.in-Joined.is c.in_ok-sift.ensures)
+    (joined_given _ version.rules (critical_pair first second one.place) c.join.new.self c.in_ok-join.field-0 c.reducer.ensures c.in-Joined.is c.in_ok-join.ensures.says)
 
 pub returns-in-Apart : goal.returns-in-Apart
 returns-in-Apart g c =
@@ -28,9 +29,10 @@ returns-in-Apart g c =
       | else-overlap-index-via-then-overlap-index+else-overlap-eq0 w ↦ omega arith
       | else-overlap-index-via-else-overlap-index w ↦ omega arith
     ] in
-    let apart = said_apart _ version.rules (critical_pair first second one.place) c.in_ok-sift.field-0 c.reducer.ensures c.in-Apart.is
-    c.in_ok-sift.ensures in (
-      is_apart_at version.rules index one first second apart.0 apart.1 c.requires.first is_second c.requires.overlap proper apart.2,
+    let reduced = c.join.new.self in
+    let parts = apart_given _ version.rules (critical_pair first second one.place) reduced c.in_ok-join.field-0 c.reducer.ensures c.in-Apart.is
+    c.in_ok-join.ensures.says in (
+      is_apart_at version.rules index one first second reduced.0 reduced.1 c.requires.first is_second c.requires.overlap proper parts,
       found_read version.numbers c.numbers.result.now c.numbers-in-Apart.result.now index one c.numbers.ensures.numbers
           c.numbers-in-Apart.ensures.numbers,
     )

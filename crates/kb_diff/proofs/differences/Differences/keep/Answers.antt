@@ -14,42 +14,33 @@ pub returns-then-contains-clause-ok : goal.returns-then-contains-clause-ok
 returns-then-contains-clause-ok g c =
     let keys = c.self.inside.words.keys in
     let P : KeptDifferences → Type 0 = λ kept. KeepsOne kept.most c.args.word c.args.place kept.words kept.words Same in
-    let W : List ℕ → Type 0 = λ w. Contains keys w in
-    let has = has_word keys c.new-difference.result (sym c.contains.ensures ∙ c.if-contains.true) in
-    subst P c.self.view_is (one_known (subst W c.new-difference.ensures has) refl)
+    subst P c.self.view_is (one_known (has_word keys c.args.word (sym c.contains.ensures ∙ c.if-contains.true)) refl)
 
 pub returns-then-len-self-clause-ok : goal.returns-then-len-self-clause-ok
 returns-then-len-self-clause-ok g c =
     let keys = c.self.inside.words.keys in
-    let W : List ℕ → Type 0 = λ w. ¬ Contains keys w in
-    let fresh = subst W c.new-difference.ensures (lacks_word keys c.new-difference.result (sym c.contains.ensures ∙ c.if-contains.false)) in
+    let fresh = lacks_word keys c.args.word (sym c.contains.ensures ∙ c.if-contains.false) in
     let count : length keys ≡ c.self.inside.most = omega (arith, c.self.invariant.within, c.if-len-self.true, c.len.ensures.len) in
-    let word : c.into_word-word.result ≡ c.args.word = c.into_word-word.ensures ∙ c.new-difference.ensures in
     let P : KeptDifferences → Type 0 = λ kept. KeepsOne kept.most c.args.word c.args.place kept.words kept.words (Full c.args.word c.args.place) in
-    let Q : List ℕ → Type 0 = λ w. KeepsOne c.args.self.now.most c.args.word c.args.place c.args.self.now.words c.args.self.now.words (Full w c.args.place) in
-    subst Q (sym word) (subst P c.self.view_is (one_too_many fresh count refl))
+    subst P c.self.view_is (one_too_many fresh count refl)
 
 pub invariant_of-self-2 : goal.invariant_of-self-2
 invariant_of-self-2 g c =
     let keys = c.self.inside.words.keys in
-    let missed : list_any (pointwise nat_eq c.new-difference.result) keys ≡ false = sym c.contains.ensures ∙ c.if-contains.false in
-    let K : KeptDifferences → Type 0 = λ kept. IsOver kept.group.n c.args.word in
-    let L : KeptDifferences → Type 0 = λ kept. IsIrreducible (OneOf kept.group.rules) c.args.word in
-    let O : List ℕ → Type 0 = λ w. IsOver c.self.inside.presentation.n w in
-    let I : List ℕ → Type 0 = λ w. IsIrreducible (OneOf (g.R.Reducer.rules c.self.inside.reducer)) w in
-    let word = sym c.new-difference.ensures in
-    let over = subst O word (subst K (sym c.self.view_is) c.requires.over) in
-    let irreducible = subst I word (subst L (sym c.self.view_is) c.requires.irreducible) in
-    kept_more _ c.self.inside.most keys c.insert.new.self.keys c.new-difference.result c.self.invariant over irreducible (lacks_word keys c.new-difference.result missed)
-    (omega (arith, c.if-len-self.false, c.len.ensures.len)) (word_added keys c.insert.new.self.keys c.new-difference.result missed c.in_ok-insert.ensures.keys)
+    let word = c.args.word in
+    let missed : list_any (pointwise nat_eq word) keys ≡ false = sym c.contains.ensures ∙ c.if-contains.false in
+    let K : KeptDifferences → Type 0 = λ kept. IsOver kept.group.n word in
+    let L : KeptDifferences → Type 0 = λ kept. IsIrreducible (OneOf kept.group.rules) word in
+    let over = subst K (sym c.self.view_is) c.requires.over in
+    let irreducible = subst L (sym c.self.view_is) c.requires.irreducible in
+    kept_more _ c.self.inside.most keys c.insert.new.self.keys word c.self.invariant over irreducible (lacks_word keys word missed)
+    (omega (arith, c.if-len-self.false, c.len.ensures.len)) (word_added keys c.insert.new.self.keys word missed c.in_ok-insert.ensures.keys)
 
 pub returns-clause-ok : goal.returns-clause-ok
 returns-clause-ok g c =
     let keys = c.self.inside.words.keys in
-    let missed : list_any (pointwise nat_eq c.new-difference.result) keys ≡ false = sym c.contains.ensures ∙ c.if-contains.false in
-    let W : List ℕ → Type 0 = λ w. ¬ Contains keys w in
-    let fresh = subst W c.new-difference.ensures (lacks_word keys c.new-difference.result missed) in
-    let longer = word_added keys c.insert.new.self.keys c.new-difference.result missed c.in_ok-insert.ensures.keys in
-    let longer' : c.insert.new.self.keys ≡ keys ++ c.args.word ∷ [] = longer ∙ ap (λ (w : List ℕ). keys ++ w ∷ []) c.new-difference.ensures in
-    let P : KeptDifferences → Type 0 = λ kept. KeepsOne kept.most c.args.word c.args.place kept.words c.insert.new.self.keys Grew in
-    subst P c.self.view_is (one_added fresh (omega (arith, c.if-len-self.false, c.len.ensures.len)) longer')
+    let word = c.args.word in
+    let missed : list_any (pointwise nat_eq word) keys ≡ false = sym c.contains.ensures ∙ c.if-contains.false in
+    let longer = word_added keys c.insert.new.self.keys word missed c.in_ok-insert.ensures.keys in
+    let P : KeptDifferences → Type 0 = λ kept. KeepsOne kept.most word c.args.place kept.words c.insert.new.self.keys Grew in
+    subst P c.self.view_is (one_added (lacks_word keys word missed) (omega (arith, c.if-len-self.false, c.len.ensures.len)) longer)

@@ -20,9 +20,8 @@ loop-difference-preserved g c =
     let listed = c.as_slice-difference-items.result.now in
     let words : listed ≡ now.words = c.as_slice-difference-items.ensures.keys ∙ ap (λ (kept : KeptDifferences). kept.words) c.self.view_is in
     let read = slice_get_read listed (length listed) index c.difference-item.result refl c.loop-difference-test.true c.difference-item.is in
-    let at : slice_get now.words index ≡ Some c.word.result.now =
-    ap (λ (l : List (List ℕ)). slice_get l index) (sym words) ∙ (read ∙ ap (λ (w : List ℕ). Some w) (sym c.word.ensures)) in
-    steps_more now.group now.words index c.word.result.now c.loop-difference.table.items c.add_rows.new.table.items c.loop-difference.invariant at
+    let at : slice_get now.words index ≡ Some c.difference-item.result = ap (λ (l : List (List ℕ)). slice_get l index) (sym words) ∙ read in
+    steps_more now.group now.words index c.difference-item.result c.loop-difference.table.items c.add_rows.new.table.items c.loop-difference.invariant at
     c.in_ok-add_rows.ensures
 
 pub returns : goal.returns
@@ -38,5 +37,5 @@ returns g c =
     let P : ℕ → Type 0 = λ k. AreStepsOf now.group now.words k items in
     let S : StepTable → Type 0 = λ table. AreSteps now.group now.words (step_in table) in
     let table_of : ℕ → StepTable = λ k. record { n = k; entries = items } in
-    let table : table_of now.group.n ≡ c.new-5.result = ap table_of (sym same) ∙ sym c.new-5.ensures in
+    let table : table_of now.group.n ≡ c.new-4.result = ap table_of (sym same) ∙ sym c.new-4.ensures in
     subst S table (are_steps now.group now.words items (subst P count c.loop-difference.invariant))
