@@ -1,12 +1,10 @@
 use Rattle.std.proofs.Common.{ℕ, List, subst}
 use Rattle.std.specs.Borrow.{Bor}
-use Rattle.std.proofs.lemmas.Result.{IfOk-weaker}
 use Rattle.kb_record.specs.View.{text_view}
 use Rattle.kb_record.specs.declared.tree.Value.{Value}
 use Rattle.kb_fields.specs.Fields.{fields_view}
 use Rattle.kb_fields.proofs.Outcomes.{IfErr_then}
 use Rattle.kb_fsafile.specs.Faults.{HasFieldFault}
-use Rattle.kb_fsafile.specs.RowsRead.{HasLetteredTable, TableOf}
 use Rattle.kb_fsafile.proofs.TextLemmas.{text_fault}
 use Rattle.kb_fsafile.proofs.reader.table_of.Goals as goal
 

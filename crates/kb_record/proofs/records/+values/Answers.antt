@@ -1,4 +1,4 @@
-use Rattle.std.proofs.Common.{◌≡◌, ℕ, ◌-◌, ◌<◌, List, [], ◌∷◌, ◌++◌, Some, None, Err, map, Bool, true, false, option_map, sym, ap, ◌∙◌, arith, rules, Vec, Global}
+use Rattle.std.proofs.Common.{◌≡◌, ℕ, ◌-◌, List, [], ◌∷◌, ◌++◌, Some, None, Err, map, Bool, true, false, option_map, sym, ap, ◌∙◌, arith, rules, Vec, Global}
 use Rattle.std.specs.Borrow.{Bor}
 use Rattle.kb_record.specs.Tree.{record_value}
 use Rattle.kb_record.specs.Reading.{Reads, read, remaining, passes_comma, joined, reading_map, read_value, place_with, field_with, field_view, fields_from, read_fields, past, behind, begins_word, read_scalar}

@@ -1,4 +1,4 @@
-use Rattle.std.proofs.Common.{◌<◌, arith}
+use Rattle.std.proofs.Common.{arith}
 use Rattle.kb_record.specs.Reading.{remaining}
 use Rattle.kb_record.specs.declared.cursor.Mark.TheVariants.{CloseSquare}
 use Rattle.kb_record.proofs.PassedMarks.{behind-shorter}
