@@ -6,13 +6,18 @@
 //! the others are called here, and what no clause says of threads is seen here:
 //!
 //! - `automata`: automata, and the time that the canonical form of many states takes.
+//! - `books`: books that tests share.
 //! - `branching`: the states of a machine with several moves by one symbol.
 //! - `confluence`: the check of confluence by several workers.
+//! - `drawing`: numbers that threads draw.
 //! - `exploration`: the least text that a machine accepts.
 //! - `least`: the least text of a nondeterministic automaton.
 //! - `outside`: the adapters over real files and streams.
+//! - `publishing`: versions that one thread publishes and others look at.
 //! - `reducers`: both reducers, by a list of rules that changes.
+//! - `sharing`: a book that workers share.
 //! - `words`: words, presentations and a copied reducer.
+//! - `workers`: passes by threads, which work side by side.
 //!
 //! Below are the libraries that are tested.
 #![tactic(auto)]
@@ -20,9 +25,13 @@
 #[cfg(test)]
 mod automata;
 #[cfg(test)]
+mod books;
+#[cfg(test)]
 mod branching;
 #[cfg(test)]
 mod confluence;
+#[cfg(test)]
+mod drawing;
 #[cfg(test)]
 mod exploration;
 #[cfg(test)]
@@ -30,6 +39,12 @@ mod least;
 #[cfg(test)]
 mod outside;
 #[cfg(test)]
+mod publishing;
+#[cfg(test)]
 mod reducers;
 #[cfg(test)]
+mod sharing;
+#[cfg(test)]
 mod words;
+#[cfg(test)]
+mod workers;

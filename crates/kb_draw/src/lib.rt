@@ -27,8 +27,6 @@
 
 mod counter;
 mod draw;
-#[cfg(test)]
-mod tests;
 
 pub use counter::Bounds;
 pub use draw::{Draw, Seat};

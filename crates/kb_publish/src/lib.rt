@@ -40,8 +40,6 @@ mod glass;
 mod notes;
 mod publisher;
 mod reader;
-#[cfg(test)]
-mod tests;
 mod versions;
 
 pub use glass::{Glass, RuledGlass, RuledReading};

@@ -1,4 +1,4 @@
-use Rattle.kb_threads.proofs.tests.advanced_once.Given as goal
+use Rattle.kb_checks.proofs.sharing.advanced_once.Given as goal
 
 abbrev pub ghosts-advanced_by_one-S-Sharing : goal.ghosts-advanced_by_one-S-Sharing
 ghosts-advanced_by_one-S-Sharing g a = record { given = a.book.course }

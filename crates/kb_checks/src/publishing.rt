@@ -2,7 +2,7 @@
 
 ghost use Rattle.std.specs.Prelude.{[], ◌∷◌};
 
-use crate::{Glass, Publisher, RuledGlass, VersionReader};
+use kb_publish::{Glass, Publisher, RuledGlass, VersionReader};
 use kb_word::Memory;
 use std::sync::Wait;
 use std::test::Fail;

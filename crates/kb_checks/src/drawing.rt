@@ -3,7 +3,7 @@
 ghost use Rattle.std.specs.Prelude.{◌≡◌, length, All, IfOk};
 ghost use Rattle.kb_draw.specs.Seats.{IsSeatOf};
 
-use crate::{Draw, Seat};
+use kb_draw::{Draw, Seat};
 use kb_word::Memory;
 use std::alloc::Global;
 use std::test::Fail;
@@ -24,7 +24,8 @@ fn drawn_by(alloc: Global, draw: &Draw, mut seat: Seat) -> Result<(Seat, Vec<u64
     Ok((seat, numbers))
 }
 
-/// The seats of a draw after two threads have drawn by them, and all numbers that they drew, in ascending order.
+/// The seats of a draw after two threads have drawn by them, and all numbers that they drew, in
+/// ascending order.
 fn drawn_by_two<R: Threads + Sync>(
     rt: &R,
     alloc: Global,

@@ -1,5 +1,5 @@
 use Rattle.kb_draw.specs.Seats.{IsSeatOf}
-use Rattle.kb_draw.proofs.tests.drawn_by.Given as goal
+use Rattle.kb_checks.proofs.drawing.drawn_by.Given as goal
 
 abbrev pub invariant-loop : goal.invariant-loop
 invariant-loop l = IsSeatOf l.draw l.seat
