@@ -104,7 +104,9 @@ impl Name {
             Name::Compare => Label {
                 text: "fsalequal",
                 about: "Says whether A and B accept the same, and if not, the least that only one of them accepts",
-                after_help: stores_nothing!("Example: kb fsalequal examples/multiples-of-2.fsa examples/multiples-of-3.fsa"),
+                after_help: stores_nothing!(
+                    "Example: kb fsalequal examples/multiples-of-2.fsa examples/multiples-of-3.fsa"
+                ),
             },
             Name::Enumerate => Label {
                 text: "fsaenumerate",
@@ -123,17 +125,23 @@ fn combination_label<'a>(operation: Combination) -> Label<'a>
         Combination::And => Label {
             text: "fsaand",
             about: "Stores the automaton of what both A and B accept",
-            after_help: stores_out!("Example: kb fsaand examples/multiples-of-2.fsa examples/multiples-of-3.fsa OUT"),
+            after_help: stores_out!(
+                "Example: kb fsaand examples/multiples-of-2.fsa examples/multiples-of-3.fsa OUT"
+            ),
         },
         Combination::Or => Label {
             text: "fsaor",
             about: "Stores the automaton of what A or B accepts",
-            after_help: stores_out!("Example: kb fsaor examples/multiples-of-2.fsa examples/multiples-of-3.fsa OUT"),
+            after_help: stores_out!(
+                "Example: kb fsaor examples/multiples-of-2.fsa examples/multiples-of-3.fsa OUT"
+            ),
         },
         Combination::Concat => Label {
             text: "fsaconcat",
             about: "Stores the automaton of the words of A followed by words of B",
-            after_help: stores_out!("Example: kb fsaconcat examples/multiples-of-2.fsa examples/multiples-of-3.fsa OUT"),
+            after_help: stores_out!(
+                "Example: kb fsaconcat examples/multiples-of-2.fsa examples/multiples-of-3.fsa OUT"
+            ),
         },
     }
 }
