@@ -68,7 +68,7 @@ impl Command {
     {
         match self {
             Command::WordReduce(task) => task.run(rt, alloc, shelf, input, out, err),
-            Command::Automata(task) => task.run(alloc, shelf, input, out, err),
+            Command::Automata(task) => task.run(alloc, shelf, input, out),
             Command::Completion(task) => task.run(rt, alloc, gate, shelf, input, out, err),
         }
     }

@@ -7,9 +7,10 @@ use Rattle.std.specs.List.{Contains}
 use Rattle.clap.specs.Words.{AddsSubcommand, App, Row, Text, app_of, with_subcommand}
 use Rattle.clap.specs.declared.builder.command.Command.{Command}
 use Rattle.clap.specs.declared.builder.command.Command.TheViews.{out-Command}
-use Rattle.kb_task.specs.Arguments.{Entered, GivesNumber, GivesStates, ReadsAs}
-use Rattle.kb_task.proofs.ArgumentLemmas.{added, text_given-at, number_given-at, own_name, own_rows}
-use Rattle.kb_cmd_automata.specs.Line.{name_text, command_app, with_commands, all_names, command_names, name_of_task, GivesTask, GivesCombine, GivesTransform, GivesMinimise, GivesCompare, GivesEnumerate, IsAutomataTask, IsRead}
+use Rattle.kb_task.specs.Arguments.{Entered, GivesNumber, GivesOption, ReadsAs}
+use Rattle.kb_task.specs.declared.arguments.NumberOption.TheVariants.{MaxStates}
+use Rattle.kb_task.proofs.ArgumentLemmas.{added, text_given-at, number_given-at, option_given-at, own_name, own_rows}
+use Rattle.kb_cmd_automata.specs.Line.{name_text, command_app, with_commands, all_names, name_of_task, GivesTask, GivesCombine, GivesTransform, GivesMinimise, GivesCompare, GivesEnumerate, IsAutomataTask, IsRead}
 use Rattle.kb_cmd_automata.specs.declared.combine.Combination.{Combination}
 use Rattle.kb_cmd_automata.specs.declared.combine.Combination.TheVariants.{And, Or, Concat}
 use Rattle.kb_cmd_automata.specs.declared.combine.Combine.{Combine}
@@ -65,8 +66,8 @@ same_combine rows task other same a b =
     let twos : task.two ≡ other.two = text_given-at rows (codes "second") task.two a.two ∙ sym (text_given-at rows (codes "second") other.two b.two) in
     let outs : task.out ≡ other.out = text_given-at rows (codes "out") task.out a.out ∙ sym (text_given-at rows (codes "out") other.out b.out) in
     let mosts : task.max_states ≡ other.max_states =
-    number_given-at rows (codes "max-states") 1 4000000 task.max_states a.max_states
-    ∙ sym (number_given-at rows (codes "max-states") 1 4000000 other.max_states b.max_states) in
+    option_given-at rows MaxStates task.max_states a.max_states
+    ∙ sym (option_given-at rows MaxStates other.max_states b.max_states) in
     λ i. record { operation = same i; one = ones i; two = twos i; out = outs i; max_states = mosts i }
 
 same_transform : (rows : List Row) (task other : Transform) → task.operation ≡ other.operation → GivesTransform rows task → GivesTransform rows other → task ≡ other
@@ -74,8 +75,8 @@ same_transform rows task other same a b =
     let files : task.file ≡ other.file = text_given-at rows (codes "first") task.file a.file ∙ sym (text_given-at rows (codes "first") other.file b.file) in
     let outs : task.out ≡ other.out = text_given-at rows (codes "out") task.out a.out ∙ sym (text_given-at rows (codes "out") other.out b.out) in
     let mosts : task.max_states ≡ other.max_states =
-    number_given-at rows (codes "max-states") 1 4000000 task.max_states a.max_states
-    ∙ sym (number_given-at rows (codes "max-states") 1 4000000 other.max_states b.max_states) in
+    option_given-at rows MaxStates task.max_states a.max_states
+    ∙ sym (option_given-at rows MaxStates other.max_states b.max_states) in
     λ i. record { operation = same i; file = files i; out = outs i; max_states = mosts i }
 
 same_minimise : (rows : List Row) (task other : Minimise) → GivesMinimise rows task → GivesMinimise rows other → task ≡ other
@@ -89,8 +90,8 @@ same_compare rows task other a b =
     let ones : task.one ≡ other.one = text_given-at rows (codes "first") task.one a.one ∙ sym (text_given-at rows (codes "first") other.one b.one) in
     let twos : task.two ≡ other.two = text_given-at rows (codes "second") task.two a.two ∙ sym (text_given-at rows (codes "second") other.two b.two) in
     let mosts : task.max_states ≡ other.max_states =
-    number_given-at rows (codes "max-states") 1 4000000 task.max_states a.max_states
-    ∙ sym (number_given-at rows (codes "max-states") 1 4000000 other.max_states b.max_states) in
+    option_given-at rows MaxStates task.max_states a.max_states
+    ∙ sym (option_given-at rows MaxStates other.max_states b.max_states) in
     λ i. record { one = ones i; two = twos i; max_states = mosts i }
 
 same_enumerate : (rows : List Row) (task other : Enumerate) → GivesEnumerate rows task → GivesEnumerate rows other → task ≡ other
@@ -124,25 +125,6 @@ one_automata_task entered task other a b =
     let own = own_rows entered (name_text (name_of_task task)) (name_text (name_of_task other)) a.rows (GivesTask other) a.is b in
     same_task a.rows task other (one_name (name_of_task task) (name_of_task other) named_alike) a.so own
 
--- ---- a command that is entered has one of the names
-
-pub is_listed : (name : Name) → Contains command_names (name_text name)
-is_listed (names.Combine And) = (0, lit< tt, refl)
-is_listed (names.Combine Or) = (1, lit< tt, refl)
-is_listed (names.Combine Concat) = (6, lit< tt, refl)
-is_listed (names.Transform Not) = (2, lit< tt, refl)
-is_listed (names.Transform Exists) = (5, lit< tt, refl)
-is_listed (names.Transform Star) = (7, lit< tt, refl)
-is_listed (names.Transform Reverse) = (8, lit< tt, refl)
-is_listed names.Minimise = (3, lit< tt, refl)
-is_listed names.Compare = (4, lit< tt, refl)
-is_listed names.Enumerate = (9, lit< tt, refl)
-
-pub automata_task-named : (name : Text) (rows : List Row) (task : AutomataTask) → IsAutomataTask (Some (name, rows)) task → Contains command_names name
-automata_task-named name rows task is =
-    subst (Contains command_names) (sym (own_name (Some (name, rows)) name (name_text (name_of_task task)) rows (GivesTask task) refl is))
-    (is_listed (name_of_task task))
-
 -- ---- what is read of what was entered
 
 -- what is read of the arguments and options of a subcommand is read of it
@@ -155,29 +137,19 @@ read-entered entered name rows None is reads = λ task entered_task.
     reads task (sym (one_name name (name_of_task task) same))
     (own_rows entered (name_text name) (name_text (name_of_task task)) rows (GivesTask task) is entered_task)
 
--- a subcommand of no name of theirs is none of the commands
-pub unnamed-entered : (entered : Entered) (text : Text) (rows : List Row) → entered ≡ Some (text, rows) → ((name : Name) → text ≢ name_text name)
-    → (task : AutomataTask) → ¬ IsAutomataTask entered task
-unnamed-entered entered text rows is none task entered_task =
-    none (name_of_task task) (own_name entered text (name_text (name_of_task task)) rows (GivesTask task) is entered_task)
-
--- no subcommand is none of the commands
-pub none-entered : (entered : Entered) → entered ≡ None → (task : AutomataTask) → ¬ IsAutomataTask entered task
-none-entered entered none task entered_task = let no : Some (name_text (name_of_task task), entered_task.rows) ≡ None = sym entered_task.is ∙ none in cc
-
 -- ---- arguments that give no command
 
-pub no_combine : (operation : Combination) (rows : List Row) → ((n : ℕ) → ¬ GivesStates rows n)
+pub no_combine : (operation : Combination) (rows : List Row) → ((n : ℕ) → ¬ GivesOption rows MaxStates n)
     → (task : AutomataTask) → name_of_task task ≡ names.Combine operation → ¬ GivesTask task rows
 no_combine operation rows none (tasks.Combine task) is gives = none task.max_states gives.max_states
 no_combine operation rows none _ is gives = cc
 
-pub no_transform : (operation : Transformation) (rows : List Row) → ((n : ℕ) → ¬ GivesStates rows n)
+pub no_transform : (operation : Transformation) (rows : List Row) → ((n : ℕ) → ¬ GivesOption rows MaxStates n)
     → (task : AutomataTask) → name_of_task task ≡ names.Transform operation → ¬ GivesTask task rows
 no_transform operation rows none (tasks.Transform task) is gives = none task.max_states gives.max_states
 no_transform operation rows none _ is gives = cc
 
-pub no_compare : (rows : List Row) → ((n : ℕ) → ¬ GivesStates rows n)
+pub no_compare : (rows : List Row) → ((n : ℕ) → ¬ GivesOption rows MaxStates n)
     → (task : AutomataTask) → name_of_task task ≡ names.Compare → ¬ GivesTask task rows
 no_compare rows none (tasks.Compare task) is gives = none task.max_states gives.max_states
 no_compare rows none _ is gives = cc

@@ -1,7 +1,8 @@
 -- The commands on automata on the command line, by clap's own definition of what a command takes.
-use Rattle.std.specs.Prelude.{◌≡◌, List, [], ◌∷◌, Option, Some, None, codes, map}
+use Rattle.std.specs.Prelude.{◌≡◌, List, [], ◌∷◌, Option, Some, None, codes}
 use Rattle.clap.specs.Words.{App, Row, Text, new_app, with_rule, with_subcommand}
-use Rattle.kb_task.specs.Arguments.{Entered, IsEntered, GivesNumber, GivesStates, GivesText, needed_rule, length_rule, states_rule}
+use Rattle.kb_task.specs.Arguments.{Entered, IsEntered, GivesNumber, GivesOption, GivesText, needed_rule, length_rule, option_rule}
+use Rattle.kb_task.specs.declared.arguments.NumberOption.TheVariants.{MaxStates}
 use Rattle.kb_cmd_automata.specs.declared.combine.Combination.TheVariants.{And, Or, Concat}
 use Rattle.kb_cmd_automata.specs.declared.combine.Combine.{Combine}
 use Rattle.kb_cmd_automata.specs.declared.compare.Compare.{Compare}
@@ -35,9 +36,6 @@ all_names =
     ∷ names.Transform Exists
     ∷ names.Combine Concat ∷ names.Transform Star ∷ names.Transform Reverse ∷ names.Enumerate ∷ []
 
-abbrev pub command_names : List Text
-command_names = map name_text all_names
-
 -- ---- what the commands take
 
 -- the file of an automaton, the first where there are two; the second; and the file in which one is stored
@@ -55,12 +53,14 @@ with_out app = with_rule app (needed_rule (codes "out"))
 abbrev pub command_app : Name → App
 command_app (names.Combine operation) =
     with_rule (with_out (with_second (with_first (new_app (name_text (names.Combine operation))))))
-    states_rule
+    (option_rule MaxStates)
 command_app (names.Transform operation) =
-    with_rule (with_out (with_first (new_app (name_text (names.Transform operation))))) states_rule
+    with_rule (with_out (with_first (new_app (name_text (names.Transform operation)))))
+    (option_rule MaxStates)
 command_app names.Minimise = with_out (with_first (new_app (name_text names.Minimise)))
 command_app names.Compare =
-    with_rule (with_second (with_first (new_app (name_text names.Compare)))) states_rule
+    with_rule (with_second (with_first (new_app (name_text names.Compare))))
+    (option_rule MaxStates)
 command_app names.Enumerate =
     with_first (with_rule
     (with_rule (new_app (name_text names.Enumerate)) (length_rule (codes "min")))
@@ -83,12 +83,12 @@ pub record GivesCombine (rows : List Row) (task : Combine) : Type 0 where
   pub one : GivesText rows (codes "first") task.one
   pub two : GivesText rows (codes "second") task.two
   pub out : GivesText rows (codes "out") task.out
-  pub max_states : GivesStates rows task.max_states
+  pub max_states : GivesOption rows MaxStates task.max_states
 
 pub record GivesTransform (rows : List Row) (task : Transform) : Type 0 where
   pub file : GivesText rows (codes "first") task.file
   pub out : GivesText rows (codes "out") task.out
-  pub max_states : GivesStates rows task.max_states
+  pub max_states : GivesOption rows MaxStates task.max_states
 
 pub record GivesMinimise (rows : List Row) (task : Minimise) : Type 0 where
   pub file : GivesText rows (codes "first") task.file
@@ -97,7 +97,7 @@ pub record GivesMinimise (rows : List Row) (task : Minimise) : Type 0 where
 pub record GivesCompare (rows : List Row) (task : Compare) : Type 0 where
   pub one : GivesText rows (codes "first") task.one
   pub two : GivesText rows (codes "second") task.two
-  pub max_states : GivesStates rows task.max_states
+  pub max_states : GivesOption rows MaxStates task.max_states
 
 pub record GivesEnumerate (rows : List Row) (task : Enumerate) : Type 0 where
   pub min : GivesNumber rows (codes "min") 0 65535 task.min

@@ -74,21 +74,19 @@ impl Combine {
     ghost use Rattle.kb_task.specs.Runs.{IsRun};
     ghost use Rattle.kb_cmd_automata.specs.Make.{CombineMeans, combine_may_store};
 
-    /// Runs the command. What it writes to `err` only shows that it lives.
-    pub fn run<F: Shelf, I: Source, O: Sink, E: Sink>(
+    /// Runs the command.
+    pub fn run<F: Shelf, I: Source, O: Sink>(
         self,
         alloc: Global,
         shelf: &mut F,
         input: &mut I,
         out: &mut O,
-        err: &mut E,
     ) -> Status
         ensures { IsRun (CombineMeans self) (combine_may_store self)
             (outside (F.state shelf.old) (I.state input.old) (O.state out.old))
             (outside (F.state shelf.new) (I.state input.new) (O.state out.new)) result }
     {
         let _ = input;
-        let _ = err;
         let kind = self.operation.kind();
         let first = match load_automaton(alloc, kind, self.one, shelf) {
             Ok(first) => first,

@@ -48,21 +48,19 @@ impl Enumerate {
     ghost use Rattle.kb_task.specs.Runs.{IsRun};
     ghost use Rattle.kb_cmd_automata.specs.Enumerate.{EnumerateMeans, enumerate_may_store};
 
-    /// Runs the command. What it writes to `err` only shows that it lives.
-    pub fn run<F: Shelf, I: Source, O: Sink, E: Sink>(
+    /// Runs the command.
+    pub fn run<F: Shelf, I: Source, O: Sink>(
         self,
         alloc: Global,
         shelf: &mut F,
         input: &mut I,
         out: &mut O,
-        err: &mut E,
     ) -> Status
         ensures { IsRun (EnumerateMeans self) (enumerate_may_store self)
             (outside (F.state shelf.old) (I.state input.old) (O.state out.old))
             (outside (F.state shelf.new) (I.state input.new) (O.state out.new)) result }
     {
         let _ = input;
-        let _ = err;
         match load_automaton(alloc, Kind::Words, self.file, shelf) {
             Ok(given) => list_words(alloc, &given, self.min, self.max, out),
             Err(status) => status,

@@ -45,14 +45,13 @@ impl Minimise {
     ghost use Rattle.kb_task.specs.Runs.{IsRun};
     ghost use Rattle.kb_cmd_automata.specs.Make.{MinimiseMeans, minimise_may_store};
 
-    /// Runs the command. What it writes to `err` only shows that it lives.
-    pub fn run<F: Shelf, I: Source, O: Sink, E: Sink>(
+    /// Runs the command.
+    pub fn run<F: Shelf, I: Source, O: Sink>(
         self,
         alloc: Global,
         shelf: &mut F,
         input: &mut I,
         out: &mut O,
-        err: &mut E,
     ) -> Status
         ensures { IsRun (MinimiseMeans self) (minimise_may_store self)
             (outside (F.state shelf.old) (I.state input.old) (O.state out.old))
@@ -60,7 +59,6 @@ impl Minimise {
     {
         let _ = input;
         let _ = out;
-        let _ = err;
         match load_automaton(alloc, Kind::WordsOrPairs, self.file, shelf) {
             Ok(given) => store_canonical(alloc, &given.names, &given.fsa, self.out, shelf),
             Err(status) => status,

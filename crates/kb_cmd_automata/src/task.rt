@@ -55,25 +55,24 @@ impl AutomataTask {
     ghost use Rattle.kb_task.specs.Runs.{IsRun};
     ghost use Rattle.kb_cmd_automata.specs.Tasks.{AutomataMeans, automata_may_store};
 
-    /// Runs the command. What it writes to `err` only shows that it lives.
-    pub fn run<F: Shelf, I: Source, O: Sink, E: Sink>(
+    /// Runs the command.
+    pub fn run<F: Shelf, I: Source, O: Sink>(
         self,
         alloc: Global,
         shelf: &mut F,
         input: &mut I,
         out: &mut O,
-        err: &mut E,
     ) -> Status
         ensures { IsRun (AutomataMeans self) (automata_may_store self)
             (outside (F.state shelf.old) (I.state input.old) (O.state out.old))
             (outside (F.state shelf.new) (I.state input.new) (O.state out.new)) result }
     {
         match self {
-            AutomataTask::Combine(task) => task.run(alloc, shelf, input, out, err),
-            AutomataTask::Transform(task) => task.run(alloc, shelf, input, out, err),
-            AutomataTask::Minimise(task) => task.run(alloc, shelf, input, out, err),
-            AutomataTask::Compare(task) => task.run(alloc, shelf, input, out, err),
-            AutomataTask::Enumerate(task) => task.run(alloc, shelf, input, out, err),
+            AutomataTask::Combine(task) => task.run(alloc, shelf, input, out),
+            AutomataTask::Transform(task) => task.run(alloc, shelf, input, out),
+            AutomataTask::Minimise(task) => task.run(alloc, shelf, input, out),
+            AutomataTask::Compare(task) => task.run(alloc, shelf, input, out),
+            AutomataTask::Enumerate(task) => task.run(alloc, shelf, input, out),
         }
     }
 }

@@ -76,21 +76,19 @@ impl Transform {
     ghost use Rattle.kb_task.specs.Runs.{IsRun};
     ghost use Rattle.kb_cmd_automata.specs.Make.{TransformMeans, transform_may_store};
 
-    /// Runs the command. What it writes to `err` only shows that it lives.
-    pub fn run<F: Shelf, I: Source, O: Sink, E: Sink>(
+    /// Runs the command.
+    pub fn run<F: Shelf, I: Source, O: Sink>(
         self,
         alloc: Global,
         shelf: &mut F,
         input: &mut I,
         out: &mut O,
-        err: &mut E,
     ) -> Status
         ensures { IsRun (TransformMeans self) (transform_may_store self)
             (outside (F.state shelf.old) (I.state input.old) (O.state out.old))
             (outside (F.state shelf.new) (I.state input.new) (O.state out.new)) result }
     {
         let _ = input;
-        let _ = err;
         let given = match load_automaton(alloc, self.operation.kind(), self.file, shelf) {
             Ok(given) => given,
             Err(status) => return status,

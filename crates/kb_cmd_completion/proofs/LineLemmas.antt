@@ -8,10 +8,11 @@ use Rattle.clap.specs.Words.{AddsSubcommand, App, Row, Text, app_of, with_subcom
 use Rattle.clap.specs.declared.builder.command.Command.{Command}
 use Rattle.clap.specs.declared.builder.command.Command.TheViews.{out-Command}
 use Rattle.kb_system.specs.Evidence.{Limits}
-use Rattle.kb_task.specs.Arguments.{Entered, GivesNumber, ReadsAs}
-use Rattle.kb_task.proofs.ArgumentLemmas.{added, text_given-at, number_given-at, own_name, own_rows}
+use Rattle.kb_task.specs.Arguments.{Entered, GivesNumber, GivesOption, ReadsAs}
+use Rattle.kb_task.specs.declared.arguments.NumberOption.TheVariants.{Workers, MaxRules, MaxLen, MaxStates}
+use Rattle.kb_task.proofs.ArgumentLemmas.{added, text_given-at, number_given-at, option_given-at, own_name, own_rows}
 use Rattle.kb_cmd_completion.specs.Given.{KbprogGiven, LogreadGiven, SelfTestGiven}
-use Rattle.kb_cmd_completion.specs.Line.{name_text, command_app, with_commands, all_names, command_names, name_of_task, GivesLimits, GivesTask, GivesKbprog, GivesLogread, GivesSelfTest, IsCompletionTask, IsRead}
+use Rattle.kb_cmd_completion.specs.Line.{name_text, command_app, with_commands, all_names, name_of_task, GivesLimits, GivesTask, GivesKbprog, GivesLogread, GivesSelfTest, IsCompletionTask, IsRead}
 use Rattle.kb_cmd_completion.specs.declared.line.name.Name.{Name}
 use Rattle.kb_cmd_completion.specs.declared.line.name.Name.TheVariants as names
 use Rattle.kb_cmd_completion.specs.declared.task.CompletionTask.{CompletionTask}
@@ -41,20 +42,20 @@ one_name name other is = sym (named_by_name name) ∙ ap named is ∙ named_by_n
 same_limits : (rows : List Row) (limits other : Limits) → GivesLimits rows limits → GivesLimits rows other → limits ≡ other
 same_limits rows limits other a b =
     let most_lines : limits.lines ≡ other.lines =
-    number_given-at rows (codes "max-rules") 1 1000000 limits.lines a.lines
-    ∙ sym (number_given-at rows (codes "max-rules") 1 1000000 other.lines b.lines) in
+    option_given-at rows MaxRules limits.lines a.lines
+    ∙ sym (option_given-at rows MaxRules other.lines b.lines) in
     let most_letters : limits.letters ≡ other.letters =
-    number_given-at rows (codes "max-len") 1 65535 limits.letters a.letters
-    ∙ sym (number_given-at rows (codes "max-len") 1 65535 other.letters b.letters) in
+    option_given-at rows MaxLen limits.letters a.letters
+    ∙ sym (option_given-at rows MaxLen other.letters b.letters) in
     let most_states : limits.states ≡ other.states =
-    number_given-at rows (codes "max-states") 1 4000000 limits.states a.states
-    ∙ sym (number_given-at rows (codes "max-states") 1 4000000 other.states b.states) in
+    option_given-at rows MaxStates limits.states a.states
+    ∙ sym (option_given-at rows MaxStates other.states b.states) in
     λ i. record { lines = most_lines i; letters = most_letters i; states = most_states i }
 
-same_workers : (rows : List Row) (workers other : ℕ) → GivesNumber rows (codes "workers") 1 64 workers
-    → GivesNumber rows (codes "workers") 1 64 other → workers ≡ other
+same_workers : (rows : List Row) (workers other : ℕ) → GivesOption rows Workers workers
+    → GivesOption rows Workers other → workers ≡ other
 same_workers rows workers other a b =
-    number_given-at rows (codes "workers") 1 64 workers a ∙ sym (number_given-at rows (codes "workers") 1 64 other b)
+    option_given-at rows Workers workers a ∙ sym (option_given-at rows Workers other b)
 
 same_file : (rows : List Row) (file other : Text) → GivesLogread rows (record { file = file }) → GivesLogread rows (record { file = other }) → file ≡ other
 same_file rows file other a b = text_given-at rows (codes "file") file a.file ∙ sym (text_given-at rows (codes "file") other b.file)
@@ -91,18 +92,6 @@ one_completion_task entered task other a b =
     let own = own_rows entered (name_text (name_of_task task)) (name_text (name_of_task other)) a.rows (GivesTask other) a.is b in
     same_task a.rows task other (one_name (name_of_task task) (name_of_task other) named_alike) a.so own
 
--- ---- a command that is entered has one of the names
-
-pub is_listed : (name : Name) → Contains command_names (name_text name)
-is_listed names.Kbprog = (0, lit< tt, refl)
-is_listed names.Logread = (1, lit< tt, refl)
-is_listed names.SelfTest = (2, lit< tt, refl)
-
-pub completion_task-named : (name : Text) (rows : List Row) (task : CompletionTask) → IsCompletionTask (Some (name, rows)) task → Contains command_names name
-completion_task-named name rows task is =
-    subst (Contains command_names) (sym (own_name (Some (name, rows)) name (name_text (name_of_task task)) rows (GivesTask task) refl is))
-    (is_listed (name_of_task task))
-
 -- ---- what is read of what was entered
 
 -- what is read of the arguments and options of a subcommand is read of it
@@ -115,21 +104,9 @@ read-entered entered name rows None is reads = λ task entered_task.
     reads task (sym (one_name name (name_of_task task) same))
     (own_rows entered (name_text name) (name_text (name_of_task task)) rows (GivesTask task) is entered_task)
 
--- a subcommand of no name of theirs is none of the commands
-pub unnamed-entered : (entered : Entered) (text : Text) (rows : List Row) → entered ≡ Some (text, rows) → ((name : Name) → text ≢ name_text name)
-    → (task : CompletionTask) → ¬ IsCompletionTask entered task
-unnamed-entered entered text rows is none task entered_task =
-    none (name_of_task task) (own_name entered text (name_text (name_of_task task)) rows (GivesTask task) is entered_task)
-
--- no subcommand is none of the commands
-pub none-entered : (entered : Entered) → entered ≡ None → (task : CompletionTask) → ¬ IsCompletionTask entered task
-none-entered entered none task entered_task =
-    let no : ◌≡◌ {A = Entered} (Some (name_text (name_of_task task), entered_task.rows)) None = sym entered_task.is ∙ none in
-    cc
-
 -- ---- arguments that give no command
 
-pub no_workers : (rows : List Row) → ((n : ℕ) → ¬ GivesNumber rows (codes "workers") 1 64 n)
+pub no_workers : (rows : List Row) → ((n : ℕ) → ¬ GivesOption rows Workers n)
     → (task : CompletionTask) → name_of_task task ≡ names.Kbprog → ¬ GivesTask task rows
 no_workers rows none (tasks.Kbprog task) is gives = none task.workers gives.workers
 no_workers rows none _ is gives = cc
@@ -152,7 +129,7 @@ module _ (rows : List Row) (read : Option CompletionTask) (is : read ≡ None) w
       without (tasks.SelfTest task) named gives = none task.rank gives.rank
       without _ named gives = cc
 
-  pub no_threads : ((n : ℕ) → ¬ GivesNumber rows (codes "workers") 1 64 n) → IsRead names.SelfTest rows read
+  pub no_threads : ((n : ℕ) → ¬ GivesOption rows Workers n) → IsRead names.SelfTest rows read
   no_threads none = reads_none without
     where
       without : (task : CompletionTask) → name_of_task task ≡ names.SelfTest → ¬ GivesTask task rows

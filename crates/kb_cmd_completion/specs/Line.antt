@@ -1,9 +1,10 @@
 -- The commands of completion on the command line, by clap's own definition of what a command takes.
-use Rattle.std.specs.Prelude.{◌≡◌, List, [], ◌∷◌, pos, Option, Some, None, codes, map}
+use Rattle.std.specs.Prelude.{◌≡◌, List, [], ◌∷◌, pos, Option, Some, None, codes}
 use Rattle.clap.specs.Words.{App, Row, Rule, Text, new_app, with_rule, with_subcommand}
 use Rattle.clap.specs.declared.builder.value_parser.ValueParser.TheVariants.{Signed}
 use Rattle.kb_system.specs.Evidence.{Limits}
-use Rattle.kb_task.specs.Arguments.{Entered, IsEntered, GivesNumber, GivesStates, GivesText, needed_rule, workers_rule, lines_rule, letters_rule, states_rule}
+use Rattle.kb_task.specs.Arguments.{Entered, IsEntered, GivesNumber, GivesOption, GivesText, needed_rule, option_rule}
+use Rattle.kb_task.specs.declared.arguments.NumberOption.TheVariants.{Workers, MaxRules, MaxLen, MaxStates}
 use Rattle.kb_cmd_completion.specs.Given.{KbprogGiven, LogreadGiven, SelfTestGiven}
 use Rattle.kb_cmd_completion.specs.declared.line.name.Name.{Name}
 use Rattle.kb_cmd_completion.specs.declared.line.name.Name.TheVariants as names
@@ -21,9 +22,6 @@ name_text names.SelfTest = codes "selftest"
 abbrev pub all_names : List Name
 all_names = names.Kbprog ∷ names.Logread ∷ names.SelfTest ∷ []
 
-abbrev pub command_names : List Text
-command_names = map name_text all_names
-
 -- ---- what the commands take
 
 -- the file of a presentation
@@ -37,8 +35,9 @@ rank_rule = record (needed_rule (codes "rank")) { parser = Some (Signed (pos 1) 
 -- the options of a completion: its workers and its limits
 abbrev pub with_limits : App → App
 with_limits app =
-    with_rule (with_rule (with_rule (with_rule app workers_rule) lines_rule) letters_rule)
-    states_rule
+    with_rule
+    (with_rule (with_rule (with_rule app (option_rule Workers)) (option_rule MaxRules))
+    (option_rule MaxLen)) (option_rule MaxStates)
 
 -- `kbprog FILE`, `logread FILE` and `selftest N`
 abbrev pub command_app : Name → App
@@ -60,14 +59,14 @@ with_completions app = with_commands app all_names
 
 -- the options give the limits
 pub record GivesLimits (rows : List Row) (limits : Limits) : Type 0 where
-  pub lines : GivesNumber rows (codes "max-rules") 1 1000000 limits.lines
-  pub letters : GivesNumber rows (codes "max-len") 1 65535 limits.letters
-  pub states : GivesStates rows limits.states
+  pub lines : GivesOption rows MaxRules limits.lines
+  pub letters : GivesOption rows MaxLen limits.letters
+  pub states : GivesOption rows MaxStates limits.states
 
 -- the arguments and options give the command
 pub record GivesKbprog (rows : List Row) (given : KbprogGiven) : Type 0 where
   pub file : GivesText rows (codes "file") given.file
-  pub workers : GivesNumber rows (codes "workers") 1 64 given.workers
+  pub workers : GivesOption rows Workers given.workers
   pub limits : GivesLimits rows given.limits
 
 pub record GivesLogread (rows : List Row) (given : LogreadGiven) : Type 0 where
@@ -75,7 +74,7 @@ pub record GivesLogread (rows : List Row) (given : LogreadGiven) : Type 0 where
 
 pub record GivesSelfTest (rows : List Row) (given : SelfTestGiven) : Type 0 where
   pub rank : GivesNumber rows (codes "rank") 1 40 given.rank
-  pub workers : GivesNumber rows (codes "workers") 1 64 given.workers
+  pub workers : GivesOption rows Workers given.workers
   pub limits : GivesLimits rows given.limits
 
 -- the name of a command, and what its arguments and options give

@@ -61,21 +61,19 @@ impl Task for Logread {
 impl Logread {
     ghost use Rattle.kb_cmd_completion.specs.Logread.{LogreadMeans, logread_may_store};
 
-    /// Runs the command. What it writes to `err` only shows that it lives.
-    pub fn run<F: Shelf, I: Source, O: Sink, E: Sink>(
+    /// Runs the command.
+    pub fn run<F: Shelf, I: Source, O: Sink>(
         self,
         alloc: Global,
         shelf: &mut F,
         input: &mut I,
         out: &mut O,
-        err: &mut E,
     ) -> Status
         ensures { IsRun (LogreadMeans self) (logread_may_store self)
             (outside (F.state shelf.old) (I.state input.old) (O.state out.old))
             (outside (F.state shelf.new) (I.state input.new) (O.state out.new)) result }
     {
         let _ = input;
-        let _ = err;
         let Ok(name) = log_file(alloc, &self.file) else {
             return Status::Memory;
         };

@@ -1,16 +1,15 @@
 -- The command on the command line, by clap's own definition of what a command takes.
 use Rattle.std.specs.Prelude.{List, [], ◌∷◌, codes, Option, Some, None}
 use Rattle.clap.specs.Words.{App, Row, Text, new_app, with_rule, with_subcommand}
-use Rattle.kb_task.specs.Arguments.{Entered, IsEntered, GivesNumber, GivesText, needed_rule, workers_rule}
+use Rattle.kb_task.specs.Arguments.{Entered, IsEntered, GivesOption, GivesText, needed_rule, option_rule}
+use Rattle.kb_task.specs.declared.arguments.NumberOption.TheVariants.{Workers}
 use Rattle.kb_cmd_words.specs.Given.{Given}
-
-abbrev pub command_names : List Text
-command_names = codes "wordreduce" ∷ []
 
 -- `wordreduce FILE`
 abbrev pub wordreduce_app : App
 wordreduce_app =
-    with_rule (with_rule (new_app (codes "wordreduce")) (needed_rule (codes "file"))) workers_rule
+    with_rule (with_rule (new_app (codes "wordreduce")) (needed_rule (codes "file")))
+    (option_rule Workers)
 
 -- a program with the command added
 abbrev pub with_wordreduce : App → App
@@ -19,7 +18,7 @@ with_wordreduce app = with_subcommand app wordreduce_app.top
 -- the argument and the option give the command
 pub record GivesWordReduce (rows : List Row) (given : Given) : Type 0 where
   pub file : GivesText rows (codes "file") given.file
-  pub workers : GivesNumber rows (codes "workers") 1 64 given.workers
+  pub workers : GivesOption rows Workers given.workers
 
 -- the subcommand that was entered is the command
 abbrev pub IsWordReduce : Entered → Given → Type 0

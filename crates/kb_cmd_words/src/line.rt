@@ -8,7 +8,7 @@ ghost use Rattle.kb_cmd_words.specs.Line.{with_wordreduce, wordreduce_app, IsWor
 
 use crate::word_reduce::WordReduce;
 use clap::{ArgMatches, Command};
-use kb_task::{help_end, needed_argument, number_given, text_given, workers_option};
+use kb_task::{NumberOption, help_end, needed_argument, number_option, option_given, text_given};
 use kb_word::{Memory, OwnedText};
 use std::alloc::{AllocError, Global};
 
@@ -50,7 +50,7 @@ fn wordreduce_given(alloc: Global, matches: &ArgMatches<'_>) -> Result<Option<Wo
     let Some(file) = text_given(matches, "file") else {
         return Ok(None);
     };
-    let Some(workers) = number_given(matches, "workers", 1, 64) else {
+    let Some(workers) = option_given(matches, NumberOption::Workers) else {
         return Ok(None);
     };
     Ok(Some(WordReduce {
@@ -78,5 +78,5 @@ fn definition<'a>(alloc: Global) -> Result<Command<'a>, AllocError>
             "Example: echo 'a*b*a*b' | kb wordreduce examples/symmetric-3"
         ))
         .arg(file)?
-        .arg(workers_option(alloc))
+        .arg(number_option(alloc, NumberOption::Workers))
 }

@@ -7,7 +7,8 @@ use Rattle.clap.specs.declared.builder.command.Command.{Command}
 use Rattle.clap.specs.declared.builder.command.Command.TheViews.{out-Command}
 use Rattle.clap.specs.declared.parser.matches.ArgMatches.{ArgMatches}
 use Rattle.clap.specs.declared.parser.matches.ArgMatches.TheViews.{out-ArgMatches}
-use Rattle.kb_task.specs.Arguments.{Entered, GivesNumber, GivesText, IsEntered}
+use Rattle.kb_task.specs.Arguments.{Entered, GivesNumber, GivesOption, GivesText, IsEntered, option_most, option_name}
+use Rattle.kb_task.specs.declared.arguments.NumberOption.{NumberOption}
 
 -- ---- what is given under a name
 
@@ -28,6 +29,10 @@ pub number_given-at : (rows : List Row) (name : Text) (low high n : ℕ) → Giv
 unfolding number_at
 number_given-at rows name low high n given =
     sym given.within.number.value ∙ ap (digits_value 10) (text_given-at rows name given.digits given.given)
+
+-- and so is the number of an option
+pub option_given-at : (rows : List Row) (option : NumberOption) (n : ℕ) → GivesOption rows option n → n ≡ number_at rows (option_name option)
+option_given-at rows option n given = number_given-at rows (option_name option) 1 (option_most option) n given
 
 -- ---- the subcommand that was entered
 

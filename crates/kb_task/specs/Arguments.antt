@@ -4,49 +4,40 @@ use Rattle.std.specs.Str.Parse.{IsNumeral, digits_value}
 use Rattle.clap.specs.Words.{Row, Rule, Text, first_of, new_rule}
 use Rattle.clap.specs.declared.builder.action.ArgAction.TheVariants.{Set}
 use Rattle.clap.specs.declared.builder.value_parser.ValueParser.TheVariants.{Signed}
+use Rattle.kb_task.specs.declared.arguments.NumberOption.{NumberOption}
+use Rattle.kb_task.specs.declared.arguments.NumberOption.TheVariants.{Workers, MaxRules, MaxLen, MaxStates}
 
 -- an argument that must be there
 abbrev pub needed_rule : Text → Rule
 needed_rule name = record (new_rule name) { value_names = 1; required = true; action = Some Set }
 
--- the option `--workers N`, from 1 to 64, and 4 where it isn't given
-abbrev pub workers_rule : Rule
-workers_rule = record (new_rule (codes "workers")) {
-  long = Some (codes "workers");
-  value_names = 1;
-  defaults = codes "4" ∷ [];
-  action = Some Set;
-  parser = Some (Signed (pos 1) (pos 64));
-}
+-- an option's name, the greatest number that it takes, and the number where it isn't given; the least is 1
+abbrev pub option_name : NumberOption → Text
+option_name Workers = codes "workers"
+option_name MaxRules = codes "max-rules"
+option_name MaxLen = codes "max-len"
+option_name MaxStates = codes "max-states"
 
--- the option `--max-states N`, from 1 to 4,000,000, and 262,144 where it isn't given
-abbrev pub states_rule : Rule
-states_rule = record (new_rule (codes "max-states")) {
-  long = Some (codes "max-states");
-  value_names = 1;
-  defaults = codes "262144" ∷ [];
-  action = Some Set;
-  parser = Some (Signed (pos 1) (pos 4000000));
-}
+abbrev pub option_most : NumberOption → ℕ
+option_most Workers = 64
+option_most MaxRules = 1000000
+option_most MaxLen = 65535
+option_most MaxStates = 4000000
 
--- the option `--max-rules N`, from 1 to 1,000,000, and 32,767 where it isn't given
-abbrev pub lines_rule : Rule
-lines_rule = record (new_rule (codes "max-rules")) {
-  long = Some (codes "max-rules");
-  value_names = 1;
-  defaults = codes "32767" ∷ [];
-  action = Some Set;
-  parser = Some (Signed (pos 1) (pos 1000000));
-}
+abbrev pub option_default : NumberOption → Text
+option_default Workers = codes "4"
+option_default MaxRules = codes "32767"
+option_default MaxLen = codes "1024"
+option_default MaxStates = codes "262144"
 
--- the option `--max-len N`, from 1 to 65,535, and 1,024 where it isn't given
-abbrev pub letters_rule : Rule
-letters_rule = record (new_rule (codes "max-len")) {
-  long = Some (codes "max-len");
+-- an option as a command takes it
+abbrev pub option_rule : NumberOption → Rule
+option_rule option = record (new_rule (option_name option)) {
+  long = Some (option_name option);
   value_names = 1;
-  defaults = codes "1024" ∷ [];
+  defaults = option_default option ∷ [];
   action = Some Set;
-  parser = Some (Signed (pos 1) (pos 65535));
+  parser = Some (Signed (pos 1) (pos (option_most option)));
 }
 
 -- an argument that is a length of words, from 0 to 65,535
@@ -75,9 +66,9 @@ pub record GivesNumber (rows : List Row) (name : Text) (low high n : ℕ) : Type
 abbrev pub GivesText : List Row → Text → Text → Type 0
 GivesText rows name text = first_of name rows ≡ Some text
 
--- the option `--max-states` gives this number
-abbrev pub GivesStates : List Row → ℕ → Type 0
-GivesStates rows n = GivesNumber rows (codes "max-states") 1 4000000 n
+-- the option gives this number
+abbrev pub GivesOption : List Row → NumberOption → ℕ → Type 0
+GivesOption rows option n = GivesNumber rows (option_name option) 1 (option_most option) n
 
 -- the subcommand that clap entered, with what its arguments and options give
 abbrev pub Entered : Type 0

@@ -2,7 +2,7 @@
 use Rattle.std.specs.Prelude.{◌≡◌, ℕ, ◌⊎◌, List, ◌++◌}
 use Rattle.kb_io.specs.Bytes.{AppendsPrefix}
 use Rattle.kb_io.specs.States.{SinkState}
-use Rattle.kb_task.specs.Limits.{undecided_line, undecided_words_line}
+use Rattle.kb_task.specs.Limits.{undecided_line}
 use Rattle.kb_task.specs.declared.status.Limit.{Limit}
 use Rattle.kb_task.specs.declared.status.Status.{Status}
 use Rattle.kb_task.specs.declared.status.Status.TheVariants.{Undecided, Memory, Fault}
@@ -18,11 +18,4 @@ LineIsWritten line status before after result =
 abbrev pub LimitIsPrinted : Limit → SinkState → SinkState → Status → Type 0
 LimitIsPrinted limit before after result =
     LineIsWritten (undecided_line limit) (Undecided limit) before after result
-    ⊎ ((result ≡ Memory) × (after.written ≡ before.written))
-
--- the line of the limit with these words was written, or a front of it; or memory ran out before
-abbrev pub WordsArePrinted : List (List ℕ) → Limit → List ℕ → List ℕ → SinkState → SinkState
-    → Status → Type 0
-WordsArePrinted names limit u v before after result =
-    LineIsWritten (undecided_words_line names limit u v) (Undecided limit) before after result
     ⊎ ((result ≡ Memory) × (after.written ≡ before.written))

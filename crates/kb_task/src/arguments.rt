@@ -2,7 +2,7 @@
 
 ghost use Rattle.std.specs.Prelude.{◌≡◌, ◌<◌, ◌^◌, ℕ, IfSome, None, option_map, false};
 ghost use Rattle.clap.specs.Words.{first_of, found_of, rows_of, rule_of};
-ghost use Rattle.kb_task.specs.Arguments.{GivesNumber, GivesStates, IsNumber, IsNumberWithin, needed_rule, length_rule, letters_rule, lines_rule, states_rule, workers_rule};
+ghost use Rattle.kb_task.specs.Arguments.{GivesNumber, GivesOption, IsNumber, IsNumberWithin, needed_rule, length_rule, option_rule};
 
 use clap::{Arg, ArgAction, ArgMatches, value_parser};
 use std::alloc::Global;
@@ -45,60 +45,84 @@ pub fn length_argument<'a>(
     needed_argument(alloc, id, value_name, help).value_parser(value_parser!(u16))
 }
 
-/// The option `--max-states N`.
-pub fn states_option<'a>(alloc: Global) -> Arg<'a>
-    ensures rule { rule_of result ≡ states_rule }
-    ensures local { result.global ≡ false }
-{
-    Arg::new(alloc, "max-states")
-        .long("max-states")
-        .value_name("N")
-        .default_value("262144")
-        .action(ArgAction::Set)
-        .value_parser(value_parser!(u32).range(1..=4_000_000))
-        .help("The most states that the construction may have, 1 to 4000000")
+/// An option that gives a number, of which the least is 1.
+#[derive(Clone, Copy)]
+pub enum NumberOption {
+    /// `--workers N`
+    Workers,
+    /// `--max-rules N`
+    MaxRules,
+    /// `--max-len N`
+    MaxLen,
+    /// `--max-states N`
+    MaxStates,
 }
 
-/// The option `--max-rules N`.
-pub fn lines_option<'a>(alloc: Global) -> Arg<'a>
-    ensures rule { rule_of result ≡ lines_rule }
-    ensures local { result.global ≡ false }
-{
-    Arg::new(alloc, "max-rules")
-        .long("max-rules")
-        .value_name("N")
-        .default_value("32767")
-        .action(ArgAction::Set)
-        .value_parser(value_parser!(u32).range(1..=1_000_000))
-        .help("The most lines that the log may have, 1 to 1000000")
+/// What an option is called, what it takes, and its help.
+#[derive(Clone, Copy)]
+struct OptionLabel<'a> {
+    /// Its name, behind two dashes.
+    name: &'a str,
+    /// The greatest number that it takes.
+    most: u32,
+    /// The number where it isn't given.
+    default: &'a str,
+    /// What help says of it.
+    help: &'a str,
 }
 
-/// The option `--max-len N`.
-pub fn letters_option<'a>(alloc: Global) -> Arg<'a>
-    ensures rule { rule_of result ≡ letters_rule }
-    ensures local { result.global ≡ false }
-{
-    Arg::new(alloc, "max-len")
-        .long("max-len")
-        .value_name("N")
-        .default_value("1024")
-        .action(ArgAction::Set)
-        .value_parser(value_parser!(u32).range(1..=65_535))
-        .help("The most letters that a left side may have, 1 to 65535")
+impl NumberOption {
+    ghost use Rattle.std.specs.Prelude.{◌≡◌};
+    ghost use Rattle.kb_task.specs.Arguments.{option_name, option_most, option_default};
+
+    /// What the option is called, what it takes, and its help.
+    fn label<'a>(self) -> OptionLabel<'a>
+        ensures name { result.name.now ≡ option_name self }
+        ensures most { result.most ≡ option_most self }
+        ensures default { result.default.now ≡ option_default self }
+    {
+        match self {
+            NumberOption::Workers => OptionLabel {
+                name: "workers",
+                most: 64,
+                default: "4",
+                help: "Number of threads, 1 to 64; no answer depends on it",
+            },
+            NumberOption::MaxRules => OptionLabel {
+                name: "max-rules",
+                most: 1_000_000,
+                default: "32767",
+                help: "The most lines that the log may have, 1 to 1000000",
+            },
+            NumberOption::MaxLen => OptionLabel {
+                name: "max-len",
+                most: 65_535,
+                default: "1024",
+                help: "The most letters that a left side may have, 1 to 65535",
+            },
+            NumberOption::MaxStates => OptionLabel {
+                name: "max-states",
+                most: 4_000_000,
+                default: "262144",
+                help: "The most states that the construction may have, 1 to 4000000",
+            },
+        }
+    }
 }
 
-/// The option `--workers N`.
-pub fn workers_option<'a>(alloc: Global) -> Arg<'a>
-    ensures rule { rule_of result ≡ workers_rule }
+/// The option as a command takes it.
+pub fn number_option<'a>(alloc: Global, option: NumberOption) -> Arg<'a>
+    ensures rule { rule_of result ≡ option_rule option }
     ensures local { result.global ≡ false }
 {
-    Arg::new(alloc, "workers")
-        .long("workers")
+    let label = option.label();
+    Arg::new(alloc, label.name)
+        .long(label.name)
         .value_name("N")
-        .default_value("4")
+        .default_value(label.default)
         .action(ArgAction::Set)
-        .value_parser(value_parser!(u32).range(1..=64))
-        .help("Number of threads, 1 to 64; no answer depends on it")
+        .value_parser(value_parser!(u32).range(1..=i64::from(label.most)))
+        .help(label.help)
 }
 
 /// The text that is given under the name.
@@ -109,12 +133,14 @@ pub fn text_given<'a>(matches: &ArgMatches<'a>, name: &str) -> Option<&'a str>
     matches.get_str(name)
 }
 
-/// The most states that a construction may have, as `--max-states` gives them.
-pub fn states_given(matches: &ArgMatches<'_>) -> Option<u32>
-    ensures some { IfSome result (GivesStates (rows_of (found_of matches.now))) }
-    ensures none { result ≡ None → (n : ℕ) → ¬ GivesStates (rows_of (found_of matches.now)) n }
+/// The number that the option gives.
+pub fn option_given(matches: &ArgMatches<'_>, option: NumberOption) -> Option<u32>
+    ensures some { IfSome result (GivesOption (rows_of (found_of matches.now)) option) }
+    ensures none { result ≡ None → (n : ℕ)
+        → ¬ GivesOption (rows_of (found_of matches.now)) option n }
 {
-    number_given(matches, "max-states", 1, 4_000_000)
+    let label = option.label();
+    number_given(matches, label.name, 1, label.most)
 }
 
 /// The number from `least` to `most` that is given under the name.

@@ -28,10 +28,10 @@ mod storing;
 mod task;
 
 pub use arguments::{
-    length_argument, length_given, letters_option, lines_option, needed_argument, number_given,
-    states_given, states_option, text_given, workers_option,
+    NumberOption, length_argument, length_given, needed_argument, number_given, number_option,
+    option_given, text_given,
 };
-pub use lines::{print_limit, print_limit_words, print_line, undecided_line, undecided_words_line};
+pub use lines::{print_limit, print_line, undecided_line, undecided_words_line};
 pub use loading::automata::{Kind, Loaded, load_automaton, load_second};
 pub use loading::logs::load_log;
 pub use loading::presentations::load_presentation;

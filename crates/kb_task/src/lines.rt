@@ -4,7 +4,7 @@ ghost use Rattle.std.specs.Prelude.{◌≡◌, ◌++◌, IsTrue, IfOk, OnOk};
 ghost use Rattle.kb_io.specs.Outside.{outside};
 ghost use Rattle.kb_io.specs.States.{ShelfState, SourceState, SinkGoesOn};
 ghost use Rattle.kb_task.specs.Limits.{limit_name, undecided_line, undecided_words_line};
-ghost use Rattle.kb_task.specs.Lines.{LineIsWritten, LimitIsPrinted, WordsArePrinted};
+ghost use Rattle.kb_task.specs.Lines.{LineIsWritten, LimitIsPrinted};
 ghost use Rattle.kb_task.specs.Runs.{FaultIsCounted};
 ghost use Rattle.kb_task.specs.Statuses.{IsFaultless};
 ghost use Rattle.kb_task.specs.declared.status.Limit.TheVariants.{States};
@@ -40,28 +40,6 @@ pub fn print_limit<O: Sink>(alloc: Global, limit: Limit, out: &mut O) -> Status
     ensures goes_on { SinkGoesOn (O.state out.old) (O.state out.new) }
 {
     match undecided_line(alloc, limit) {
-        Ok(line) => print_line(&line, Status::Undecided(limit), out),
-        Err(Memory) => Status::Memory,
-    }
-}
-
-/// Writes the line of a limit that was reached at two words, and returns its status.
-pub fn print_limit_words<O: Sink>(
-    alloc: Global,
-    names: &Names,
-    limit: Limit,
-    u: &Word,
-    v: &Word,
-    out: &mut O,
-) -> Status
-    ensures written { IsTrue (O.state out.old).told
-        → WordsArePrinted names.now limit u.now v.now (O.state out.old) (O.state out.new) result }
-    ensures fault { (shelf : ShelfState) (input : SourceState)
-        → FaultIsCounted (outside shelf input (O.state out.old))
-        (outside shelf input (O.state out.new)) result }
-    ensures goes_on { SinkGoesOn (O.state out.old) (O.state out.new) }
-{
-    match undecided_words_line(alloc, names, limit, u, v) {
         Ok(line) => print_line(&line, Status::Undecided(limit), out),
         Err(Memory) => Status::Memory,
     }

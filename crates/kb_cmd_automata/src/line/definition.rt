@@ -11,7 +11,7 @@ use super::name::Name;
 use crate::combine::Combination;
 use crate::transform::Transformation;
 use clap::{Arg, Command};
-use kb_task::{length_argument, needed_argument, states_option};
+use kb_task::{NumberOption, length_argument, needed_argument, number_option};
 use std::alloc::{AllocError, Global};
 
 /// The definition of a command.
@@ -37,7 +37,7 @@ fn combine_definition<'a>(alloc: Global, operation: Combination) -> Result<Comma
         .arg(first_argument(alloc))?
         .arg(second_argument(alloc))?
         .arg(out_argument(alloc))?
-        .arg(states_option(alloc))
+        .arg(number_option(alloc, NumberOption::MaxStates))
 }
 
 /// `fsanot A OUT`, `fsaexists A OUT`, `fsastar A OUT` and `fsareverse A OUT`.
@@ -52,7 +52,7 @@ fn transform_definition<'a>(
     labelled(alloc, Name::Transform(operation))
         .arg(first_argument(alloc))?
         .arg(out_argument(alloc))?
-        .arg(states_option(alloc))
+        .arg(number_option(alloc, NumberOption::MaxStates))
 }
 
 /// `fsamin A OUT`.
@@ -73,7 +73,7 @@ fn compare_definition<'a>(alloc: Global) -> Result<Command<'a>, AllocError>
     labelled(alloc, Name::Compare)
         .arg(first_argument(alloc))?
         .arg(second_argument(alloc))?
-        .arg(states_option(alloc))
+        .arg(number_option(alloc, NumberOption::MaxStates))
 }
 
 /// `fsaenumerate MIN MAX A`.

@@ -13,7 +13,7 @@ use crate::minimise::Minimise;
 use crate::task::AutomataTask;
 use crate::transform::{Transform, Transformation};
 use clap::ArgMatches;
-use kb_task::{length_given, states_given, text_given};
+use kb_task::{NumberOption, length_given, option_given, text_given};
 use kb_word::{Memory, OwnedText};
 use std::alloc::Global;
 
@@ -51,7 +51,7 @@ fn combine_given(
     let Some(out) = text_given(matches, "out") else {
         return Ok(None);
     };
-    let Some(max_states) = states_given(matches) else {
+    let Some(max_states) = option_given(matches, NumberOption::MaxStates) else {
         return Ok(None);
     };
     Ok(Some(AutomataTask::Combine(Combine {
@@ -77,7 +77,7 @@ fn transform_given(
     let Some(out) = text_given(matches, "out") else {
         return Ok(None);
     };
-    let Some(max_states) = states_given(matches) else {
+    let Some(max_states) = option_given(matches, NumberOption::MaxStates) else {
         return Ok(None);
     };
     Ok(Some(AutomataTask::Transform(Transform {
@@ -114,7 +114,7 @@ fn compare_given(alloc: Global, matches: &ArgMatches<'_>) -> Result<Option<Autom
     let Some(two) = text_given(matches, "second") else {
         return Ok(None);
     };
-    let Some(max_states) = states_given(matches) else {
+    let Some(max_states) = option_given(matches, NumberOption::MaxStates) else {
         return Ok(None);
     };
     Ok(Some(AutomataTask::Compare(Compare {

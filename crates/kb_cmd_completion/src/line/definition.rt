@@ -9,7 +9,7 @@ ghost use Rattle.kb_cmd_completion.specs.declared.line.name.Name.TheVariants as 
 
 use super::name::Name;
 use clap::{Arg, Command, value_parser};
-use kb_task::{letters_option, lines_option, needed_argument, states_option, workers_option};
+use kb_task::{NumberOption, needed_argument, number_option};
 use std::alloc::{AllocError, Global};
 
 /// The place of `selftest` in the program's list of commands: behind those of all families.
@@ -66,10 +66,10 @@ fn with_limits<'a>(alloc: Global, command: Command<'a>) -> Result<Command<'a>, A
     ensures local { IfOk result (λ added. (fields_of added).has_globals ≡ false) }
 {
     command
-        .arg(workers_option(alloc))?
-        .arg(lines_option(alloc))?
-        .arg(letters_option(alloc))?
-        .arg(states_option(alloc))
+        .arg(number_option(alloc, NumberOption::Workers))?
+        .arg(number_option(alloc, NumberOption::MaxRules))?
+        .arg(number_option(alloc, NumberOption::MaxLen))?
+        .arg(number_option(alloc, NumberOption::MaxStates))
 }
 
 /// A command with its name and its help, which takes nothing yet.

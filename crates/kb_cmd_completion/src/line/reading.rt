@@ -15,7 +15,7 @@ use crate::selftest::SelfTest;
 use crate::task::CompletionTask;
 use clap::ArgMatches;
 use kb_book::Limits;
-use kb_task::{number_given, states_given, text_given};
+use kb_task::{NumberOption, number_given, option_given, text_given};
 use kb_word::{Memory, OwnedText};
 use std::alloc::Global;
 
@@ -44,7 +44,7 @@ fn kbprog_given(alloc: Global, matches: &ArgMatches<'_>) -> Result<Option<Comple
     let Some(file) = text_given(matches, "file") else {
         return Ok(None);
     };
-    let Some(workers) = number_given(matches, "workers", 1, 64) else {
+    let Some(workers) = option_given(matches, NumberOption::Workers) else {
         return Ok(None);
     };
     let Some(limits) = limits_given(matches) else {
@@ -74,7 +74,7 @@ fn selftest_given(matches: &ArgMatches<'_>) -> Option<CompletionTask>
     ensures { IsRead names.SelfTest (rows_of (found_of matches.now)) result }
 {
     let rank = rank_given(matches)?;
-    let workers = number_given(matches, "workers", 1, 64)?;
+    let workers = option_given(matches, NumberOption::Workers)?;
     let limits = limits_given(matches)?;
     Some(CompletionTask::SelfTest(SelfTest {
         rank,
@@ -101,8 +101,8 @@ fn limits_given(matches: &ArgMatches<'_>) -> Option<Limits>
     ensures none { result ≡ None → (limits : LimitsGiven)
         → ¬ GivesLimits (rows_of (found_of matches.now)) limits }
 {
-    let lines = number_given(matches, "max-rules", 1, 1_000_000)?;
-    let letters = number_given(matches, "max-len", 1, 65_535)?;
-    let states = states_given(matches)?;
+    let lines = option_given(matches, NumberOption::MaxRules)?;
+    let letters = option_given(matches, NumberOption::MaxLen)?;
+    let states = option_given(matches, NumberOption::MaxStates)?;
     Some(Limits::new(lines, letters, MOST_DIFFERENCES, states))
 }

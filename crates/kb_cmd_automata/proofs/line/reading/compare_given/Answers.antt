@@ -3,7 +3,7 @@ use Rattle.clap.specs.Words.{found_of, rows_of}
 use Rattle.kb_cmd_automata.proofs.LineLemmas.{no_compare}
 use Rattle.kb_cmd_automata.proofs.line.reading.compare_given.Goals as goal
 
-pub returns-in_default-states_given : goal.returns-in_default-states_given
-returns-in_default-states_given c =
-    let none : c.states_given.result ≡ None = search rules in
-    no_compare (rows_of (found_of c.args.matches.now)) (c.states_given.ensures.none none)
+pub returns-in_default-option_given : goal.returns-in_default-option_given
+returns-in_default-option_given c =
+    let none : c.option_given.result ≡ None = search rules in
+    no_compare (rows_of (found_of c.args.matches.now)) (c.option_given.ensures.none none)

@@ -3,10 +3,10 @@ use Rattle.clap.specs.Words.{found_of, rows_of}
 use Rattle.kb_cmd_completion.proofs.LineLemmas.{no_workers, no_limits}
 use Rattle.kb_cmd_completion.proofs.line.reading.kbprog_given.Goals as goal
 
-pub returns-in_default-number_given : goal.returns-in_default-number_given
-returns-in_default-number_given c =
-    let none : c.number_given.result ≡ None = search rules in
-    no_workers (rows_of (found_of c.args.matches.now)) (c.number_given.ensures.none none)
+pub returns-in_default-option_given : goal.returns-in_default-option_given
+returns-in_default-option_given c =
+    let none : c.option_given.result ≡ None = search rules in
+    no_workers (rows_of (found_of c.args.matches.now)) (c.option_given.ensures.none none)
 
 pub returns-in_default-limits_given : goal.returns-in_default-limits_given
 returns-in_default-limits_given c =

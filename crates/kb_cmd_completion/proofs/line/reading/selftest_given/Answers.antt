@@ -11,9 +11,9 @@ returns-in_err-rank c =
 
 pub returns-in_err-workers : goal.returns-in_err-workers
 returns-in_err-workers c =
-    let none : c.number_given.result ≡ None = search rules in
+    let none : c.option_given.result ≡ None = search rules in
     let is : c.from_residual-in_err-workers.result ≡ None = search rules in
-    no_threads (rows_of (found_of c.args.matches.now)) c.from_residual-in_err-workers.result is (c.number_given.ensures.none none)
+    no_threads (rows_of (found_of c.args.matches.now)) c.from_residual-in_err-workers.result is (c.option_given.ensures.none none)
 
 pub returns-in_err-limits : goal.returns-in_err-limits
 returns-in_err-limits c =
