@@ -46,10 +46,10 @@ published_settled before after takes idle = record {
 -- a book that is settled without a halt, or with one
 pub settled_idles : (before after : Course) (end : Settled) → ((halt : Halt) → end ≢ settled.Halted halt) → SettleSays before after end
     → IsIdle after
-settled_idles before after settled.Nothing no says =
+settled_idles before after settled.Nothing differs says =
     record { settled = ap (λ (c : Course). c.state.pending) says.1 ∙ says.0; running = says.2 }
-settled_idles before after settled.Done no says = record { settled = says.1; running = says.2 }
-settled_idles before after (settled.Halted halt) no says = absurd (no halt refl)
+settled_idles before after settled.Done differs says = record { settled = says.1; running = says.2 }
+settled_idles before after (settled.Halted halt) differs says = absurd (differs halt refl)
 
 pub settled_halts : (before after : Course) (end : Settled) (halt : Halt) → end ≡ settled.Halted halt → SettleSays before after end
     → IsHalted after
@@ -59,8 +59,8 @@ settled_halts before after end halt same says =
 
 -- a book that was published
 pub stands_published : (course : Course) (standing : Standing) → standing ≢ standings.Halted → StandsAs course standing → IsSettled course
-stands_published course standings.Published no stands = stands
-stands_published course standings.Halted no stands = absurd (no refl)
+stands_published course standings.Published differs stands = stands
+stands_published course standings.Halted differs stands = absurd (differs refl)
 
 -- a making that halts the book
 pub make_halts : (before after : Course) (made : Make) (halt : Halt) → made ≡ makes.Halted halt → MakeSays before after (Ok made)

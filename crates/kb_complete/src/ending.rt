@@ -1,12 +1,13 @@
 //! The end of a completion: the live rules are confluent, or an overlap shows that they aren't.
 
-ghost use Rattle.std.specs.Prelude.{◌≡◌, ◌≤◌, IfOk, OnOk};
+ghost use Rattle.std.specs.Prelude.{◌≡◌, ◌≤◌, IfOk, IfNone, IfSome, OnOk};
 ghost use Rattle.kb_word.specs.Overlap.{IsConfluent};
 ghost use Rattle.kb_machine.specs.States.{live_rules as rules_that_live};
 ghost use Rattle.kb_machine.specs.Course.{Course, Takes};
 ghost use Rattle.kb_machine.specs.declared.event.Event.TheVariants.{Entered, Made};
-ghost use Rattle.kb_complete.specs.Completing.{GrowSays};
+ghost use Rattle.kb_complete.specs.Completing.{GrowSays, IsHalted};
 ghost use Rattle.kb_complete.specs.Working.{FirstIsApart, IsSettled, IsUnjoined};
+ghost use Rattle.kb_share.specs.Later.{IsLater};
 
 use crate::answers::Grown;
 use crate::publishing::{Standing, settle_and_publish};
@@ -92,9 +93,23 @@ fn grow_by_first<R: Reducer, W: Watch>(
     requires { FirstIsApart book.course }
     ensures { IfOk result (GrowSays book.course) }
 {
+    let Some(k) = make_line(alloc, &mut book)? else {
+        return Ok(Grown::Halted(book));
+    };
+    Ok(grow_by_line(alloc, book, k, watch)?)
+}
+
+/// Makes a line of the first pending pair, whose words have different normal forms, unless the book halts.
+fn make_line<R: Reducer>(alloc: Global, book: &mut Book<R>) -> Result<Option<u32>, Memory>
+    requires { FirstIsApart book.old.course }
+    ensures made { IfOk result
+        (λ made. IfSome made (λ k. Takes (Made k) book.old.course book.new.course)) }
+    ensures halted { IfOk result (λ made. IfNone made
+        (IsLater book.old.course book.new.course × IsHalted book.new.course)) }
+{
     match book.make(alloc)? {
-        Make::Made(k) => Ok(grow_by_line(alloc, book, k, watch)?),
-        Make::Halted(_) => Ok(Grown::Halted(book)),
+        Make::Made(k) => Ok(Some(k)),
+        Make::Halted(_) => Ok(None),
         Make::Dropped => unreachable!(),
         Make::Idle => unreachable!(),
     }

@@ -13,8 +13,8 @@ returns-in-Published g c = λ start takes.
     (later_then made c.line_made.new.book.course after c.line_made.ensures.goes_on.settles.later c.in_ok-settle_and_publish.ensures.later)
     (subst (λ (s : Standing). StandsAs after s) c.in-Published.is c.in_ok-settle_and_publish.ensures.stands)
 
-pub returns-in-Halted : goal.returns-in-Halted
-returns-in-Halted g c = λ start takes.
+pub returns : goal.returns
+returns g c = λ start takes.
     let made = c.args.book.course in
     let after = c.settle_and_publish.new.book.course in (
       later_by_line c.args.k start made after takes

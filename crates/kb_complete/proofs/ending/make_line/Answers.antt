@@ -1,0 +1,32 @@
+use Rattle.kb_book.specs.declared.answers.Make.TheVariants as makes
+use Rattle.kb_share.proofs.Stages.{make_settles, make_said}
+use Rattle.kb_complete.proofs.LastLines.{apart_stays, apart_pending}
+use Rattle.kb_complete.proofs.Rounds.{make_halts}
+use Rattle.kb_complete.proofs.ending.make_line.Goals as goal
+
+pub returns-in-Made-clause-made : goal.returns-in-Made-clause-made
+returns-in-Made-clause-made g c =
+    let before = c.args.book.now.course in
+    let after = c.make.new.self.course in
+    let says = make_said before after c.in_ok-k.field-0 (makes.Made c.in-Made.k) c.in-Made.is c.in_ok-k.ensures in
+    says.takes
+
+pub returns-in-Halted-clause-halted : goal.returns-in-Halted-clause-halted
+returns-in-Halted-clause-halted g c =
+    let before = c.args.book.now.course in
+    let after = c.make.new.self.course in
+    let made = make_settles before after c.make.result c.make.ensures in
+    (made.later, make_halts before after c.in_ok-k.field-0 c.in-Halted.field-0 c.in-Halted.is c.in_ok-k.ensures)
+
+pub unreachable-requires : goal.unreachable-requires
+unreachable-requires g c =
+    let before = c.args.book.now.course in
+    let after = c.make.new.self.course in
+    apart_stays before after c.requires (make_said before after c.in_ok-k.field-0 makes.Dropped c.in-Dropped.is c.in_ok-k.ensures)
+
+pub unreachable-requires-in-Idle : goal.unreachable-requires-in-Idle
+unreachable-requires-in-Idle g c =
+    let before = c.args.book.now.course in
+    let after = c.make.new.self.course in
+    let says = make_said before after c.in_ok-k.field-0 makes.Idle c.in-Idle.is c.in_ok-k.ensures in
+    apart_pending before c.requires says.0
