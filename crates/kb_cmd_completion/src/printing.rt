@@ -23,7 +23,11 @@ pub(crate) fn append_number(number: u64, line: &mut Vec<u8>) -> Result<(), Memor
 }
 
 /// Writes a text, and a number in decimal digits behind it.
-pub(crate) fn write_number<E: Sink>(before: &[u8], number: usize, err: &mut E) -> Result<(), Failed> {
+pub(crate) fn write_number<E: Sink>(
+    before: &[u8],
+    number: usize,
+    err: &mut E,
+) -> Result<(), Failed> {
     write_all(err, before)?;
     let mut buffer = Buffer::new();
     write_all(err, buffer.format(number).as_bytes())

@@ -67,7 +67,11 @@ impl<'a, E: Sink> Progress<'a, E> {
         write_number(b"kb: ", book.lines().len(), self.err)?;
         write_number(b" lines, ", book.live().len(), self.err)?;
         write_number(b" live, ", book.pending().len(), self.err)?;
-        write_number(b" pending, longest left side ", longest_left_side(book), self.err)?;
+        write_number(
+            b" pending, longest left side ",
+            longest_left_side(book),
+            self.err,
+        )?;
         write_all(self.err, b"\n")
     }
 }

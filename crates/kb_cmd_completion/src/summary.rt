@@ -37,7 +37,11 @@ impl Summary {
 
     /// Writes it as a line: the figures, or the option of the limit; and in which files that belong to this one that
     /// stands, or that it stands on standard output.
-    pub(crate) fn write<E: Sink>(self, file: Option<&OwnedText>, err: &mut E) -> Result<(), Failed> {
+    pub(crate) fn write<E: Sink>(
+        self,
+        file: Option<&OwnedText>,
+        err: &mut E,
+    ) -> Result<(), Failed> {
         match self {
             Summary::Completed { rules, states } => {
                 write_number(b"kb: ", rules, err)?;
@@ -49,7 +53,11 @@ impl Summary {
                 write_limit(limit, b" letters of a left side reached (--max-len)", err)?;
             }
             Summary::States(limit) => {
-                write_limit(limit, b" states of the word acceptor reached (--max-states)", err)?;
+                write_limit(
+                    limit,
+                    b" states of the word acceptor reached (--max-states)",
+                    err,
+                )?;
             }
         }
         match file {

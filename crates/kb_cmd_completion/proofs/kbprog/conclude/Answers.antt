@@ -45,7 +45,7 @@ returns-in-Completed g c = λ given parts concludes.
     let after : Outside =
     outside (g.F.Shelf.state c.answer.new.shelf) (g.I.Source.state c.answer.new.input) (g.O.Sink.state c.answer.new.out) in
     let P : PresentationParts → Type 0 = λ p. AreCompleted given.file p texts
-        → IsRun (AnswersMean given p) (kbprog_may_store given) before after c.answer.result in
+    → IsRun (AnswersMean given p) (kbprog_may_store given) before after c.answer.result in
     subst P says.1 (c.answer.ensures given) says.0
 
 pub returns-in-Limit : goal.returns-in-Limit
