@@ -1,21 +1,18 @@
 -- What shows a limit, and the names of the files that are stored.
-use Rattle.std.proofs.Common.{◌≡◌, ◌≢◌, ℕ, Result, Ok, Err, List, sym, subst}
-use Rattle.std.specs.Prelude.{Bool, IfOk}
+use Rattle.std.proofs.Common.{◌≡◌, ◌≢◌, ℕ, List, sym, subst}
 use Rattle.std.specs.List.{AllPairs}
 use Rattle.kb_word.specs.Words.{Pair}
 use Rattle.kb_word.specs.Presentations.{PresentationParts}
-use Rattle.kb_word.specs.declared.memory.Memory.{Memory}
 use Rattle.kb_machine.specs.declared.line.Line.{Line}
-use Rattle.kb_fsa.specs.Language.{Automaton}
 use Rattle.kb_task.specs.Limits.{undecided_line, undecided_words_line}
 use Rattle.kb_task.specs.Stores.{Text, names_of, texts_of}
 use Rattle.kb_task.specs.declared.status.Construction.TheVariants.{Acceptor}
 use Rattle.kb_task.specs.declared.status.Limit.{Limit}
 use Rattle.kb_task.specs.declared.status.Limit.TheVariants.{States}
-use Rattle.kb_system.specs.Evidence.{IsHalted, IsTooLarge}
+use Rattle.kb_system.specs.Evidence.{Limits, IsHalted, IsTooLarge}
 use Rattle.kb_system.specs.declared.ending.Reached.{Reached}
 use Rattle.kb_cmd_completion.specs.FileLaws.{both_differ, rules_beside_acceptor, log_beside_rules}
-use Rattle.kb_cmd_completion.specs.Files.{rules_file, acceptor_file, log_file, completed_texts, evidence_texts, halted_texts, too_large_texts, limit_of, ShowsLimit, halted, too_large}
+use Rattle.kb_cmd_completion.specs.Files.{rules_file, acceptor_file, log_file, halted_texts, too_large_texts, limit_of, AreCompleted, ShowsLimit, halted, too_large}
 use Rattle.kb_cmd_completion.specs.Given.{KbprogGiven}
 use Rattle.kb_cmd_completion.specs.declared.evidence.Evidence.{Evidence}
 
@@ -43,46 +40,45 @@ module _ (given : KbprogGiven) (parts : PresentationParts) where
       → ShowsLimit given.limits given.file parts limit texts line
   shows_too_large lines rules limit texts line is limit_is texts_are line_is = shows_same (too_large is) limit_is texts_are line_is
 
--- what shows that a completion reached a limit shows it, if there was memory for it
-module _ (given : KbprogGiven) (parts : PresentationParts) (own : List ℕ) (file : own ≡ given.file) where
-  abbrev pub IsShown : Evidence → Type 0
-  IsShown shown = ShowsLimit given.limits given.file parts shown.limit (texts_of shown.files.items) shown.line.items
+-- what shows that a completion reached a limit shows it
+module _ (given : KbprogGiven) (parts : PresentationParts) (own : List ℕ) (file : own ≡ given.file) (shown : Evidence) where
+  abbrev pub IsShown : Type 0
+  IsShown = ShowsLimit given.limits given.file parts shown.limit (texts_of shown.files.items) shown.line.items
 
-  pub shown-halted : (result : Result Evidence Memory) (lines : List Line) (waiting : Line) (rules : List Pair) (reached : Reached)
+  pub shown-halted : (lines : List Line) (waiting : Line) (rules : List Pair) (reached : Reached)
       → IsHalted given.limits parts lines waiting rules reached
-      → IfOk result (λ evidence. (evidence.limit ≡ limit_of reached)
-      × (texts_of evidence.files.items ≡ halted_texts own parts lines waiting rules)
-      × (evidence.line.items ≡ undecided_words_line parts.names (limit_of reached) waiting.left waiting.right))
-      → IfOk result IsShown
-  shown-halted (Ok shown) lines waiting rules reached is are =
+      → ((shown.limit ≡ limit_of reached)
+      × (texts_of shown.files.items ≡ halted_texts own parts lines waiting rules)
+      × (shown.line.items ≡ undecided_words_line parts.names (limit_of reached) waiting.left waiting.right))
+      → IsShown
+  shown-halted lines waiting rules reached is are =
       let Holds : List ℕ → Type 0 = λ name. texts_of shown.files.items ≡ halted_texts name parts lines waiting rules in
       shows_halted given parts lines waiting rules reached shown.limit (texts_of shown.files.items) shown.line.items is are.0
       (subst Holds file are.1) are.2
-  shown-halted (Err memory) lines waiting rules reached is are = tt
 
-  pub shown-too_large : (result : Result Evidence Memory) (lines : List Line) (rules : List Pair) → IsTooLarge given.limits parts lines rules
-      → IfOk result (λ evidence. (evidence.limit ≡ States Acceptor)
-      × (texts_of evidence.files.items ≡ too_large_texts own parts lines rules)
-      × (evidence.line.items ≡ undecided_line (States Acceptor)))
-      → IfOk result IsShown
-  shown-too_large (Ok shown) lines rules is are =
+  pub shown-too_large : (lines : List Line) (rules : List Pair) → IsTooLarge given.limits parts lines rules
+      → ((shown.limit ≡ States Acceptor)
+      × (texts_of shown.files.items ≡ too_large_texts own parts lines rules)
+      × (shown.line.items ≡ undecided_line (States Acceptor)))
+      → IsShown
+  shown-too_large lines rules is are =
       let Holds : List ℕ → Type 0 = λ name. texts_of shown.files.items ≡ too_large_texts name parts lines rules in
       shows_too_large given parts lines rules shown.limit (texts_of shown.files.items) shown.line.items is are.0
       (subst Holds file are.1) are.2
-  shown-too_large (Err memory) lines rules is are = tt
 
 -- ---- names
 
 -- the files that show a limit have different names
-pub evidence_differ : (file : List ℕ) (parts : PresentationParts) (log : List ℕ) (rules : List Pair) (confluent : Bool) (texts : List Text)
-    → texts ≡ evidence_texts file parts log rules confluent → AllPairs (λ (one other : List ℕ). one ≢ other) (names_of texts)
-evidence_differ file parts log rules confluent texts are =
-    subst (λ (t : List Text). AllPairs (λ (one other : List ℕ). one ≢ other) (names_of t)) (sym are)
-    (both_differ (log_file file) (rules_file file) (log_beside_rules file))
+pub shows_differ : (limits : Limits) (file : List ℕ) (parts : PresentationParts) (limit : Limit) (texts : List Text) (line : List ℕ)
+    → ShowsLimit limits file parts limit texts line → AllPairs (λ (one other : List ℕ). one ≢ other) (names_of texts)
+shows_differ limits file parts limit texts line (halted is) =
+    both_differ (log_file file) (rules_file file) (log_beside_rules file)
+shows_differ limits file parts limit texts line (too_large is) =
+    both_differ (log_file file) (rules_file file) (log_beside_rules file)
 
 -- and those of a completed presentation
-pub completed_differ : (file : List ℕ) (parts : PresentationParts) (rules : List Pair) (acceptor : Automaton) (texts : List Text)
-    → texts ≡ completed_texts file parts rules acceptor → AllPairs (λ (one other : List ℕ). one ≢ other) (names_of texts)
-completed_differ file parts rules acceptor texts are =
-    subst (λ (t : List Text). AllPairs (λ (one other : List ℕ). one ≢ other) (names_of t)) (sym are)
+pub completed_differ : (file : List ℕ) (parts : PresentationParts) (texts : List Text) → AreCompleted file parts texts
+    → AllPairs (λ (one other : List ℕ). one ≢ other) (names_of texts)
+completed_differ file parts texts completed =
+    subst (λ (t : List Text). AllPairs (λ (one other : List ℕ). one ≢ other) (names_of t)) (sym completed.are)
     (both_differ (rules_file file) (acceptor_file file) (rules_beside_acceptor file))

@@ -13,6 +13,8 @@ use Rattle.kb_reduce.specs.Stops.{stop_status}
 use Rattle.kb_reduce.proofs.StopLemmas.{stop-counted}
 use Rattle.kb_task.specs.Lines.{LineIsWritten}
 use Rattle.kb_task.specs.declared.loading.LoadStop.TheVariants as load_stops
+use Rattle.kb_task.specs.Loads.{OnlyLoads}
+use Rattle.kb_task.specs.Presentations.{HoldsPresentation}
 use Rattle.kb_task.specs.Runs.{FaultIsCounted, IsRun}
 use Rattle.kb_task.specs.Statuses.{IsYes}
 use Rattle.kb_task.specs.Stores.{Text, names_of, HoldsTexts, StoresTexts, StoresFirst, StopsAtText, StoresMean}
@@ -22,7 +24,7 @@ use Rattle.kb_task.specs.declared.status.Status.{Status}
 use Rattle.kb_task.specs.declared.status.Status.TheVariants.{Yes, Refused, Undecided, No, Memory, Fault, Usage}
 use Rattle.kb_task.specs.declared.status.Which.TheVariants.{Load, Store, Input, Output}
 use Rattle.kb_task.proofs.EffectLemmas.{unchanged-later, unchanged-printed}
-use Rattle.kb_task.proofs.RunLemmas.{goes_on-along, counted_after, told-later, run-prints}
+use Rattle.kb_task.proofs.RunLemmas.{goes_on-along, counted_after, told-later, run-prints, run-after_loads, unchanged-loads}
 use Rattle.kb_system.specs.Completed.{IsLeastIn}
 use Rattle.kb_cmd_completion.specs.Files.{rules_file, acceptor_file, log_file, AreCompleted, ShowsLimit, halted, too_large}
 use Rattle.kb_cmd_completion.specs.Given.{KbprogGiven}
@@ -267,6 +269,20 @@ module _ (given : KbprogGiven) (parts : PresentationParts) (one loaded : ShelfSt
   answers-later Memory (inr (inr stopped)) = inr (inr (completed-later stopped.0, stopped.1))
   answers-later (No cert) means = absurd means
   answers-later (Usage kind) means = absurd means
+
+-- what a run means that went on after the file was loaded
+pub run-loaded : (given : KbprogGiven) (parts : PresentationParts) (shelf loaded : ShelfState) (input : SourceState) (output : SinkState)
+    → OnlyLoads shelf loaded → (after : Outside) (status : Status)
+    → (IsTrue shelf.told → HoldsPresentation shelf.holds given.file parts)
+    → IsRun (AnswersMean given parts) (kbprog_may_store given) (outside loaded input output) after status
+    → IsRun (KbprogMeans given) (kbprog_may_store given) (outside shelf input output) after status
+run-loaded given parts shelf loaded input output loads after status holds run =
+    run-after_loads shelf loaded input output loads {Then = AnswersMean given parts} after status run (λ name stored. stored)
+    (λ told means. inr (
+      parts,
+      holds told.shelf,
+      answers-later given parts shelf loaded input output (unchanged-loads shelf loaded input output loads) after status means,
+    ))
 
 -- ---- how the stores ended
 

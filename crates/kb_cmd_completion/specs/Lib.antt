@@ -1,5 +1,6 @@
 pub mod Given
 pub mod Files
+pub mod Conclusions
 pub mod FileLaws
 pub mod CompletionLaws
 pub mod Kbprog

@@ -1,7 +1,7 @@
 //! `kbprog FILE`: a presentation is completed, its rules and its word acceptor are stored, and word
 //! lines are answered by the rules; or what shows that a limit was reached is stored.
 
-ghost use Rattle.std.specs.Prelude.{◌≡◌, ◌≢◌, List, ℕ, IfOk, IfErr, OnOk, OnErr};
+ghost use Rattle.std.specs.Prelude.{◌≢◌, List, ℕ, IfOk, IfErr, OnOk};
 ghost use Rattle.std.specs.List.{AllPairs, Contains};
 ghost use Rattle.kb_io.specs.Outside.{outside};
 ghost use Rattle.kb_io.specs.States.{ShelfState, SourceState, SinkState};
@@ -11,28 +11,24 @@ ghost use Rattle.kb_task.specs.Stores.{StoresMean, names_of, texts_of};
 ghost use Rattle.kb_task.specs.Statuses.{IsYes};
 ghost use Rattle.kb_task.specs.declared.status.Status.TheVariants.{Yes};
 ghost use Rattle.kb_reduced.specs.Reduced.{IsReducedComplete};
-ghost use Rattle.kb_system.specs.Completed.{IsCompletion, below, relations};
-ghost use Rattle.kb_system.specs.Ended.{EndsAs};
-ghost use Rattle.kb_cmd_completion.specs.Files.{ShowsLimit};
+ghost use Rattle.kb_system.specs.Completed.{below, relations};
+ghost use Rattle.kb_cmd_completion.specs.Conclusions.{ConcludesAs};
+ghost use Rattle.kb_cmd_completion.specs.Files.{AreCompleted, ShowsLimit};
 ghost use Rattle.kb_cmd_completion.specs.Kbprog.{AnswersMean, LinesMean, kbprog_may_store};
 ghost use Rattle.kb_cmd_completion.specs.Given.{KbprogGiven};
 
-use crate::evidence::{Evidence, halted, too_large};
-use crate::files::completed_files;
+use crate::conclusion::{Conclusion, conclusion_of};
+use crate::evidence::Evidence;
 use crate::progress::Progress;
 use kb_book::Limits;
-use kb_fsa::Fsa;
-use kb_index::Index;
 use kb_io::{Gate, Shelf, Sink, Source};
 use kb_lines::answer_lines;
 use kb_reduce::{NormalForms, status_of};
 use kb_reduced::reduced_complete_systems_are_complete;
-use kb_rules::{Reducer, Rules};
-use kb_system::{Ending, complete_presentation};
+use kb_system::complete_presentation;
 use kb_task::{Status, Task, TextFile, load_presentation, print_line, store_texts};
 use kb_threads::Workers;
 use kb_word::{Memory, OwnedText, Presentation};
-use kb_wordreader::WordReader;
 use std::alloc::Global;
 use std::marker::Model;
 use std::sync::Wait;
@@ -114,125 +110,89 @@ impl Kbprog {
         };
         match load_presentation(alloc, file, shelf) {
             Ok(presentation) => {
-                let workers = Workers::of(self.workers, gate);
-                complete(
-                    rt,
-                    alloc,
-                    &workers,
-                    &self,
-                    presentation,
-                    shelf,
-                    input,
-                    out,
-                    err,
-                )
+                let mut progress = Progress::on(err, Some(&self.file));
+                match complete(rt, alloc, gate, &self, presentation, &mut progress) {
+                    Ok(conclusion) => {
+                        conclude(alloc, conclusion, &mut progress, shelf, input, out)
+                    }
+                    Err(Memory) => Status::Memory,
+                }
             }
             Err(status) => status,
         }
     }
 }
 
-/// Completes the presentation, and answers by its rules or shows the limit.
-fn complete<T: Threads + Wait + Sync, G: Gate, F: Shelf, I: Source, O: Sink, E: Sink>(
+/// Completes the presentation, and makes what is stored and written of that.
+fn complete<T: Threads + Wait + Sync, G: Gate, E: Sink>(
     rt: &T,
     alloc: Global,
-    workers: &Workers<'_, G>,
+    gate: &G,
     task: &Kbprog,
     presentation: Presentation,
+    progress: &mut Progress<'_, E>,
+) -> Result<Conclusion, Memory>
+    ensures { IfOk result (ConcludesAs task.now (parts_of presentation)) }
+{
+    let limits = &task.limits;
+    let workers = Workers::of(task.workers, gate);
+    let ending = complete_presentation(rt, alloc, &presentation, limits, &workers, progress)?;
+    progress.ended(&ending, limits);
+    Ok(conclusion_of(alloc, task, presentation, ending)?)
+}
+
+/// Stores and writes what is to be stored and written.
+fn conclude<F: Shelf, I: Source, O: Sink, E: Sink>(
+    alloc: Global,
+    conclusion: Conclusion,
+    progress: &mut Progress<'_, E>,
     shelf: &mut F,
     input: &mut I,
     out: &mut O,
-    err: &mut E,
 ) -> Status
-    ensures { IsRun (AnswersMean task.now (parts_of presentation)) (kbprog_may_store task.now)
+    requires { (given : KbprogGiven) × (parts : PresentationParts)
+        × ConcludesAs given parts conclusion }
+    ensures { (given : KbprogGiven) (parts : PresentationParts)
+        → ConcludesAs given parts conclusion
+        → IsRun (AnswersMean given parts) (kbprog_may_store given)
         (outside (F.state shelf.old) (I.state input.old) (O.state out.old))
         (outside (F.state shelf.new) (I.state input.new) (O.state out.new)) result }
 {
-    let mut progress = Progress::on(err);
-    match complete_presentation(
-        rt,
-        alloc,
-        &presentation,
-        &task.limits,
-        workers,
-        &mut progress,
-    ) {
-        Ok(ending) => conclude(alloc, task, presentation, ending, shelf, input, out),
-        Err(Memory) => Status::Memory,
+    match conclusion {
+        Conclusion::Completed {
+            files,
+            normal_forms,
+        } => answer(alloc, files, &normal_forms, progress, shelf, input, out),
+        Conclusion::Limit(evidence) => show_limit(alloc, evidence, progress, shelf, out),
     }
 }
 
-/// Answers by the rules that a completion ended with, or shows the limit at which it ended.
-fn conclude<F: Shelf, I: Source, O: Sink>(
+/// Stores the files of a completed presentation, and answers the word lines by its rules.
+fn answer<F: Shelf, I: Source, O: Sink, E: Sink>(
     alloc: Global,
-    task: &Kbprog,
-    presentation: Presentation,
-    ending: Ending,
+    files: Vec<TextFile>,
+    normal_forms: &NormalForms,
+    progress: &mut Progress<'_, E>,
     shelf: &mut F,
     input: &mut I,
     out: &mut O,
 ) -> Status
-    requires { EndsAs task.now.limits (parts_of presentation) ending }
-    ensures { IsRun (AnswersMean task.now (parts_of presentation)) (kbprog_may_store task.now)
+    requires differ { AllPairs (λ (one other : List ℕ). one ≢ other)
+        (names_of (texts_of files.items)) }
+    requires complete { IsReducedComplete (below (parts_of normal_forms.now.reader.presentation))
+        (relations (parts_of normal_forms.now.reader.presentation)) normal_forms.now.index.rules }
+    ensures { (given : KbprogGiven) → AreCompleted given.file
+        (parts_of normal_forms.now.reader.presentation) (texts_of files.items)
+        → IsRun (AnswersMean given (parts_of normal_forms.now.reader.presentation))
+        (kbprog_may_store given)
         (outside (F.state shelf.old) (I.state input.old) (O.state out.old))
         (outside (F.state shelf.new) (I.state input.new) (O.state out.new)) result }
 {
-    let file = &task.file;
-    match ending {
-        Ending::Completed { rules, acceptor } => answer(
-            alloc,
-            task,
-            presentation,
-            &rules,
-            &acceptor,
-            shelf,
-            input,
-            out,
-        ),
-        Ending::Halted {
-            reached,
-            lines,
-            waiting,
-            rules,
-        } => {
-            let evidence = halted(alloc, &presentation, file, reached, lines, waiting, &rules);
-            show(alloc, evidence, shelf, out)
-        }
-        Ending::TooLarge { lines, rules } => {
-            let evidence = too_large(alloc, &presentation, file, lines, &rules);
-            show(alloc, evidence, shelf, out)
-        }
-    }
-}
-
-/// Stores the files of the completed presentation, and answers the word lines by its rules.
-fn answer<F: Shelf, I: Source, O: Sink>(
-    alloc: Global,
-    task: &Kbprog,
-    presentation: Presentation,
-    rules: &Rules,
-    acceptor: &Fsa,
-    shelf: &mut F,
-    input: &mut I,
-    out: &mut O,
-) -> Status
-    requires { IsCompletion (parts_of presentation) rules.now.rules acceptor.now }
-    ensures { IsRun (AnswersMean task.now (parts_of presentation)) (kbprog_may_store task.now)
-        (outside (F.state shelf.old) (I.state input.old) (O.state out.old))
-        (outside (F.state shelf.new) (I.state input.new) (O.state out.new)) result }
-{
-    let Ok(files) = completed_files(alloc, &presentation, &task.file, rules, acceptor) else {
-        return Status::Memory;
-    };
-    let Ok(index) = Index::of(alloc, rules) else {
-        return Status::Memory;
-    };
-    let Ok(reader) = WordReader::new(alloc, presentation) else {
-        return Status::Memory;
-    };
-    let normal_forms = NormalForms { reader, index };
     match store_all(alloc, files, shelf) {
-        Ok(()) => answer_words(alloc, &normal_forms, input, out),
+        Ok(()) => {
+            progress.finish();
+            answer_words(alloc, normal_forms, input, out)
+        }
         Err(status) => status,
     }
 }
@@ -277,32 +237,11 @@ fn answer_words<I: Source, O: Sink>(
     }
 }
 
-/// Shows a limit, if there was memory for what shows it.
-fn show<F: Shelf, O: Sink>(
-    alloc: Global,
-    evidence: Result<Evidence, Memory>,
-    shelf: &mut F,
-    out: &mut O,
-) -> Status
-    requires { IfOk evidence (λ shown. AllPairs (λ (one other : List ℕ). one ≢ other)
-        (names_of (texts_of shown.files.items))) }
-    ensures { (given : KbprogGiven) (parts : PresentationParts) (input : SourceState)
-        → IfOk evidence (λ shown. ShowsLimit given.limits given.file parts
-        shown.limit (texts_of shown.files.items) shown.line.items)
-        → IsRun (AnswersMean given parts) (kbprog_may_store given)
-        (outside (F.state shelf.old) input (O.state out.old))
-        (outside (F.state shelf.new) input (O.state out.new)) result }
-{
-    match evidence {
-        Ok(shown) => show_limit(alloc, shown, shelf, out),
-        Err(Memory) => Status::Memory,
-    }
-}
-
 /// Stores the files that show a limit, and writes the line that says so.
-fn show_limit<F: Shelf, O: Sink>(
+fn show_limit<F: Shelf, O: Sink, E: Sink>(
     alloc: Global,
     shown: Evidence,
+    progress: &mut Progress<'_, E>,
     shelf: &mut F,
     out: &mut O,
 ) -> Status
@@ -317,7 +256,10 @@ fn show_limit<F: Shelf, O: Sink>(
 {
     let Evidence { limit, files, line } = shown;
     match store_all(alloc, files, shelf) {
-        Ok(()) => print_line(&line, Status::Undecided(limit), out),
+        Ok(()) => {
+            progress.finish();
+            print_line(&line, Status::Undecided(limit), out)
+        }
         Err(status) => status,
     }
 }

@@ -11,7 +11,8 @@
 //! - `kbprog`, `logread` and `selftest` are the commands, and `task` has the enum of all three.
 //! - `line` is what the command line says of them.
 //! - `file_names` has the names of the files that belong to a presentation's file; `files` makes those of a completed
-//!   presentation, and `evidence` those that show a limit. `progress` shows how far a completion has come.
+//!   presentation, `evidence` those that show a limit, and `conclusion` either, by how a completion ended.
+//! - `progress` shows how far a completion has come, and `summary` how it ended.
 //! - `printing` appends the parts of lines.
 //! - `free_abelian` makes the presentations of free abelian groups.
 //!
@@ -19,6 +20,7 @@
 //! logs, and `kb_task`; above is `kb_cli`.
 #![tactic(auto)]
 
+mod conclusion;
 mod evidence;
 mod file_names;
 mod files;
@@ -29,6 +31,7 @@ mod logread;
 mod printing;
 mod progress;
 mod selftest;
+mod summary;
 mod task;
 
 pub use free_abelian::selftest_presentation;

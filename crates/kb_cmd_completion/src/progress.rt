@@ -1,48 +1,78 @@
-//! Lines that show how far a completion has come.
+//! Lines that show how far a completion has come, and a last one that says how it ended.
 
-use itoa::Buffer;
-use kb_book::Book;
+use crate::printing::write_number;
+use crate::summary::Summary;
+use kb_book::{Book, Limits};
 use kb_io::{Failed, Sink, write_all};
 use kb_rules::Reducer;
 use kb_share::Watch;
+use kb_system::Ending;
+use kb_word::OwnedText;
 
-/// The number of lines of a log at which progress is first told.
+/// The number of lines of a log at which progress is first shown.
 const FIRST: usize = 1000;
 
-/// Tells how far a completion has come, when its log has 1,000 lines and then each time it has
-/// twice as many as the last time. What fails in that is ignored.
+/// Of the versions that are published after that, progress is shown at each one whose number this divides.
+const VERSIONS: u64 = 10;
+
+/// Shows that a long completion lives: when its log has 1,000 lines, each time it has twice as many
+/// as the last time, and at every tenth version that is published after the first time. A run that
+/// showed it ends with a line on how the completion ended. What fails in that is ignored.
 #[derive(Drop)]
 pub(crate) struct Progress<'a, E: Sink> {
     err: &'a mut E,
+    /// The file of the presentation, if it has one.
+    file: Option<&'a OwnedText>,
+    /// At how many lines of the log progress is shown next.
     next: usize,
+    /// How many versions were published since it was shown first.
+    versions: u64,
+    /// How the completion ended, if it did.
+    summary: Option<Summary>,
 }
 
 impl<'a, E: Sink> Progress<'a, E> {
-    /// Tells it here.
-    pub(crate) fn on(err: &'a mut E) -> Progress<'a, E> {
-        Progress { err, next: FIRST }
+    /// Shows it here, of the completion of this file, or of no file.
+    pub(crate) fn on(err: &'a mut E, file: Option<&'a OwnedText>) -> Progress<'a, E> {
+        Progress {
+            err,
+            file,
+            next: FIRST,
+            versions: 0,
+            summary: None,
+        }
     }
 
-    /// Writes the line of these figures.
-    fn tell(
-        &mut self,
-        lines: usize,
-        live: usize,
-        pending: usize,
-        longest: usize,
-    ) -> Result<(), Failed> {
-        self.write(b"kb: ", lines)?;
-        self.write(b" lines, ", live)?;
-        self.write(b" live, ", pending)?;
-        self.write(b" pending, longest left side ", longest)?;
+    /// Takes note of how the completion ended.
+    pub(crate) fn ended(&mut self, ending: &Ending, limits: &Limits) {
+        self.summary = Some(Summary::of(ending, limits));
+    }
+
+    /// Writes the last line of a run that showed progress.
+    pub(crate) fn finish(&mut self) {
+        if self.is_shown() {
+            if let Some(summary) = self.summary {
+                let _ = summary.write(self.file, self.err);
+            }
+        }
+    }
+
+    /// Whether progress was shown.
+    fn is_shown(&self) -> bool {
+        self.next > FIRST
+    }
+
+    /// Writes how far the book has come.
+    fn show<R: Reducer>(&mut self, book: &Book<R>) -> Result<(), Failed> {
+        write_number(b"kb: ", book.lines().len(), self.err)?;
+        write_number(b" lines, ", book.live().len(), self.err)?;
+        write_number(b" live, ", book.pending().len(), self.err)?;
+        write_number(
+            b" pending, longest left side ",
+            longest_left_side(book),
+            self.err,
+        )?;
         write_all(self.err, b"\n")
-    }
-
-    /// Writes a text, and a number behind it.
-    fn write(&mut self, before: &[u8], number: usize) -> Result<(), Failed> {
-        write_all(self.err, before)?;
-        let mut buffer = Buffer::new();
-        write_all(self.err, buffer.format(number).as_bytes())
     }
 }
 
@@ -51,12 +81,7 @@ impl<'a, E: Sink> Watch for Progress<'a, E> {
         let lines = book.lines().len();
         if lines >= self.next {
             self.next = lines.saturating_mul(2);
-            let _ = self.tell(
-                lines,
-                book.live().len(),
-                book.pending().len(),
-                longest_left_side(book),
-            );
+            let _ = self.show(book);
         }
     }
 }

@@ -10,11 +10,11 @@ ghost use Rattle.kb_cmd_completion.specs.SelfTest.{IsCompletedReport, IsHaltedRe
 use crate::evidence::limit_reached;
 use crate::free_abelian::selftest_presentation;
 use crate::printing::{append, append_number};
+use crate::progress::Progress;
 use kb_book::Limits;
 use kb_io::{Gate, Shelf, Sink, Source};
 use kb_machine::Line;
 use kb_proof::{Log, Version, print_log};
-use kb_share::Silent;
 use kb_system::{Ending, Reached, complete_presentation};
 use kb_task::{
     Construction, Limit, Status, Task, print_line, undecided_line, undecided_words_line,
@@ -104,8 +104,12 @@ impl SelfTest {
         let _ = shelf;
         let _ = input;
         let workers = Workers::of(self.workers, gate);
-        match completion_report(rt, alloc, &workers, self.rank, &self.limits) {
-            Ok(Report { text, status }) => print_line(&text, status, out),
+        let mut progress = Progress::on(err, None);
+        match completion_report(rt, alloc, &workers, self.rank, &self.limits, &mut progress) {
+            Ok(Report { text, status }) => {
+                progress.finish();
+                print_line(&text, status, out)
+            }
             Err(Memory) => Status::Memory,
         }
     }
@@ -121,19 +125,21 @@ pub(crate) struct Report {
 }
 
 /// Completes the free abelian group of a rank.
-fn completion_report<T: Threads + Wait + Sync, G: Gate>(
+fn completion_report<T: Threads + Wait + Sync, G: Gate, E: Sink>(
     rt: &T,
     alloc: Global,
     workers: &Workers<'_, G>,
     rank: u16,
     limits: &Limits,
+    progress: &mut Progress<'_, E>,
 ) -> Result<Report, Memory>
     requires { (1 ≤ rank) × (rank ≤ 40) }
     ensures { (given : SelfTestGiven) → given.rank ≡ rank → given.limits ≡ limits_of limits.now
         → IfOk result (IsReport given) }
 {
     let presentation = selftest_presentation(alloc, rank)?;
-    let ending = complete_presentation(rt, alloc, &presentation, limits, workers, &mut Silent)?;
+    let ending = complete_presentation(rt, alloc, &presentation, limits, workers, progress)?;
+    progress.ended(&ending, limits);
     report_on(alloc, rank, &presentation, ending)
 }
 

@@ -1,21 +1,28 @@
 -- Rounds: settling, publishing, passes.
-use Rattle.std.proofs.Common.{◌≡◌, ℕ, ◌-◌, ◌<◌, ◌≤◌, List, [], ◌∷◌, ◌++◌, length, None, sym, ◌∙◌, ap, subst, arith, length-append}
+use Rattle.std.proofs.Common.{◌≡◌, ℕ, ◌-◌, ◌<◌, ◌≤◌, List, [], ◌∷◌, ◌++◌, length, None, Ok, refl, ◌≢◌, sym, ◌∙◌, ap, subst, arith, length-append}
 use Rattle.std.proofs.lemmas.List.{append-nil}
 use Rattle.kb_machine.specs.States.{Problem, State}
 use Rattle.kb_machine.specs.Course.{Course, Takes, IsSound}
-use Rattle.kb_machine.specs.declared.event.Event.TheVariants.{Published, Entered}
 use Rattle.kb_machine.specs.declared.halt.Halt.{Halt}
+use Rattle.kb_machine.specs.declared.event.Event.TheVariants.{Published, Entered, Made}
 use Rattle.kb_rules.specs.OrderedRules.{OrderedRules}
-use Rattle.kb_complete.specs.Completing.{Grows, GrowSays, IsCompleted}
-use Rattle.kb_complete.specs.Working.{IsSettled, AdvanceSays}
+use Rattle.kb_complete.specs.Completing.{Grows, GrowSays, IsCompleted, IsHalted}
+use Rattle.kb_complete.specs.Working.{IsIdle, IsSettled, StandsAs, AdvanceSays}
+use Rattle.kb_book.specs.Answers.{MakeSays}
 use Rattle.kb_book.specs.Books.{BookParts}
+use Rattle.kb_book.specs.declared.answers.Make.{Make}
+use Rattle.kb_book.specs.declared.answers.Make.TheVariants as makes
 use Rattle.kb_complete.specs.declared.growing.Round.{Round}
 use Rattle.kb_complete.specs.declared.growing.Round.TheVariants as rounds
+use Rattle.kb_complete.specs.declared.publishing.Standing.{Standing}
+use Rattle.kb_complete.specs.declared.publishing.Standing.TheVariants as standings
 use Rattle.kb_complete.specs.declared.answers.Grown.{Grown}
 use Rattle.kb_complete.specs.declared.answers.Grown.TheVariants as grown
-use Rattle.kb_share.proofs.Stages.{later_then}
+use Rattle.kb_share.proofs.Stages.{later_then, made_settles, made_more, halt_given, make_said}
 use Rattle.kb_share.specs.Later.{IsLater}
-use Rattle.kb_share.specs.Settling.{GivesHalt}
+use Rattle.kb_share.specs.Settling.{SettleSays}
+use Rattle.kb_share.specs.declared.settled.Settled.{Settled}
+use Rattle.kb_share.specs.declared.settled.Settled.TheVariants as settled
 
 -- later by an event that makes no line
 pub later_same : (before after : Course) → after.problem ≡ before.problem → after.state.lines ≡ before.state.lines → IsLater before after
@@ -25,17 +32,42 @@ later_same before after problem lines = record { problem = problem; made = []; l
 pub published_later : (before after : Course) → Takes Published before after → IsLater before after
 published_later before after takes = later_same before after takes.problem (ap (λ (t : State). t.lines) takes.step)
 
-pub published_settled : (before after : Course) → Takes Published before after → before.state.pending ≡ [] → before.state.halt ≡ None
-    → IsSettled after
-published_settled before after takes none running = record {
-  settled = ap (λ (t : State). t.pending) takes.step ∙ none;
-  running = ap (λ (t : State). t.halt) takes.step ∙ running;
+pub published_settled : (before after : Course) → Takes Published before after → IsIdle before → IsSettled after
+published_settled before after takes idle = record {
+  settled = ap (λ (t : State). t.pending) takes.step ∙ idle.settled;
+  running = ap (λ (t : State). t.halt) takes.step ∙ idle.running;
   published = record {
     earlier = before.state.versions;
     is = ap (λ (t : State). t.versions) takes.step
         ∙ ap (λ (k : List ℕ). before.state.versions ++ k ∷ []) (sym (ap (λ (t : State). t.live) takes.step));
   };
 }
+
+-- a book that is settled without a halt, or with one
+pub settled_idles : (before after : Course) (end : Settled) → ((halt : Halt) → end ≢ settled.Halted halt) → SettleSays before after end
+    → IsIdle after
+settled_idles before after settled.Nothing differs says =
+    record { settled = ap (λ (c : Course). c.state.pending) says.1 ∙ says.0; running = says.2 }
+settled_idles before after settled.Done differs says = record { settled = says.1; running = says.2 }
+settled_idles before after (settled.Halted halt) differs says = absurd (differs halt refl)
+
+pub settled_halts : (before after : Course) (end : Settled) (halt : Halt) → end ≡ settled.Halted halt → SettleSays before after end
+    → IsHalted after
+settled_halts before after end halt same says =
+    let own = subst (SettleSays before after) same says in
+    record { reason = own.1.own; is = own.1.is }
+
+-- a book that was published
+pub stands_published : (course : Course) (standing : Standing) → standing ≢ standings.Halted → StandsAs course standing → IsSettled course
+stands_published course standings.Published differs stands = stands
+stands_published course standings.Halted differs stands = absurd (differs refl)
+
+-- a making that halts the book
+pub make_halts : (before after : Course) (made : Make) (halt : Halt) → made ≡ makes.Halted halt → MakeSays before after (Ok made)
+    → IsHalted after
+make_halts before after made halt same says =
+    let given = halt_given before after halt (make_said before after made (makes.Halted halt) same says) in
+    record { reason = given.own; is = given.is }
 
 -- entering
 pub entered_later : (worker i j place : ℕ) (before after : Course) → Takes (Entered worker i j place) before after → IsLater before after
@@ -67,19 +99,22 @@ grow_later start before (grown.More after) later says =
       published = says.published;
     }
 grow_later start before (grown.Confluent rules after) later says = (later_then start before after.course later says.0, says.1)
-grow_later start before (grown.Halted after halt) later says = (later_then start before after.course later says.0, says.1)
+grow_later start before (grown.Halted after) later says = (later_then start before after.course later says.0, says.1)
 
 -- what is said of an answer, by the answer that it is
 pub grown_said : {R : Type 0} (before : Course) (given answer : Grown R) → given ≡ answer → GrowSays before given
     → GrowSays before answer
 grown_said {R = R} before given answer same says = subst (λ (a : Grown R). GrowSays before a) same says
 
+-- a stage after a line is made
+pub later_by_line : (k : ℕ) (start made after : Course) → Takes (Made k) start made → IsLater made after → IsLater start after
+later_by_line k start made after takes later = later_then start made after (made_settles k start made takes).later later
+
 -- after a line is made and the book is settled, it has grown
-pub grows_by_line : (start made after : Course) → IsLater start made → length start.state.lines < length made.state.lines
-    → IsLater made after → IsSettled after → Grows start after
-grows_by_line start made after makes more settles settled =
-    let many = later_lines made after settles in
-    grows start after (later_then start made after makes settles) settled (omega (arith, more, many))
+pub grows_by_line : (k : ℕ) (start made after : Course) → Takes (Made k) start made → IsLater made after → IsSettled after
+    → Grows start after
+grows_by_line k start made after takes later settled =
+    grows start after (later_by_line k start made after takes later) settled (made_more k start made after takes later)
 
 -- a book that has grown has room for fewer lines
 pub fewer_left : (before after : Course) → Grows before after → IsSound after.problem after.state
@@ -97,7 +132,7 @@ over_says start before given (grown.More after) later count says =
     let more = says.2 in
     grows start after.course (later_then start before after.course later says.0) says.1 (omega (arith, count, more))
 over_says start before given (grown.Confluent rules after) later count says = absurd says
-over_says start before given (grown.Halted after halt) later count says = (later_then start before after.course later says.0, says.1)
+over_says start before given (grown.Halted after) later count says = (later_then start before after.course later says.0, says.1)
 
 -- and so by the round that it is
 pub round_over : {R : Type 0} (start before : Course) (given : ℕ) (round : Round R) (answer : Grown R) → IsLater start before
@@ -117,6 +152,6 @@ pub end_is_completed : (problem : Problem) (before after : Course) (rules : Orde
     → IsCompleted after rules → (after.problem ≡ problem) × IsCompleted after rules
 end_is_completed problem before after rules same later completed = (later.problem ∙ same, completed)
 
-pub end_is_halt : (problem : Problem) (before after : Course) (halt : Halt) → before.problem ≡ problem → IsLater before after
-    → GivesHalt after halt → (after.problem ≡ problem) × GivesHalt after halt
-end_is_halt problem before after halt same later given = (later.problem ∙ same, given)
+pub end_is_halt : (problem : Problem) (before after : Course) → before.problem ≡ problem → IsLater before after
+    → IsHalted after → (after.problem ≡ problem) × IsHalted after
+end_is_halt problem before after same later halted = (later.problem ∙ same, halted)

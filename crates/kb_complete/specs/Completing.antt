@@ -1,11 +1,12 @@
 -- What completion answers.
-use Rattle.std.specs.Prelude.{◌≡◌, ◌<◌, [], length, None}
+use Rattle.std.specs.Prelude.{◌≡◌, ◌<◌, [], length, Some, None}
 use Rattle.kb_word.specs.Congruence.{SameCongruence}
 use Rattle.kb_word.specs.Overlap.{IsConfluent}
 use Rattle.kb_rules.specs.OrderedRules.{OrderedRules}
 use Rattle.kb_machine.specs.Lines.{rules_of}
 use Rattle.kb_machine.specs.States.{Problem, relations, below}
 use Rattle.kb_machine.specs.Course.{Course}
+use Rattle.kb_machine.specs.declared.halt.Halt.{Halt}
 use Rattle.kb_share.specs.Versions.{IsPublished}
 use Rattle.kb_reduced.specs.Reduced.{IsReducedComplete}
 use Rattle.kb_complete.specs.declared.answers.Grown.{Grown}
@@ -13,7 +14,6 @@ use Rattle.kb_complete.specs.declared.answers.Grown.TheVariants as grown
 use Rattle.kb_complete.specs.declared.answers.Outcome.{Outcome}
 use Rattle.kb_complete.specs.declared.answers.Outcome.TheVariants as outcomes
 use Rattle.kb_share.specs.Later.{IsLater}
-use Rattle.kb_share.specs.Settling.{GivesHalt}
 
 -- a later stage with a line more, at which nothing is pending and the live lines are published
 pub record Grows (before after : Course) : Type 0 where
@@ -33,17 +33,21 @@ pub record IsCompleted (course : Course) (list : OrderedRules) : Type 0 where
   pub confluent : IsConfluent (rules_of course.state.lines)
   pub same : SameCongruence (relations course.problem) (rules_of course.state.lines)
 
+-- the completion is halted: a pair waits, and this limit is reached
+pub record IsHalted (course : Course) : Type 0 where
+  pub reason : Halt
+  pub is : course.state.halt ≡ Some reason
+
 -- what `grow` answers
 abbrev pub GrowSays : {R : Type 0} → Course → Grown R → Type 0
 GrowSays before (grown.More after) = Grows before after.course
 GrowSays before (grown.Confluent rules after) =
     IsLater before after.course × IsCompleted after.course rules
-GrowSays before (grown.Halted after halt) =
-    IsLater before after.course × GivesHalt after.course halt
+GrowSays before (grown.Halted after) = IsLater before after.course × IsHalted after.course
 
 -- what `complete` answers
 abbrev pub CompleteSays : {R : Type 0} → Problem → Outcome R → Type 0
 CompleteSays problem (outcomes.Confluent rules after) =
     (after.course.problem ≡ problem) × IsCompleted after.course rules
-CompleteSays problem (outcomes.Halted after halt) =
-    (after.course.problem ≡ problem) × GivesHalt after.course halt
+CompleteSays problem (outcomes.Halted after) =
+    (after.course.problem ≡ problem) × IsHalted after.course

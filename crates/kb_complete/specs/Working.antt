@@ -11,8 +11,15 @@ use Rattle.kb_share.specs.Versions.{IsPublished}
 use Rattle.kb_complete.specs.declared.answers.Grown.TheVariants as grown
 use Rattle.kb_complete.specs.declared.growing.Round.{Round}
 use Rattle.kb_complete.specs.declared.growing.Round.TheVariants as rounds
+use Rattle.kb_complete.specs.declared.publishing.Standing.{Standing}
+use Rattle.kb_complete.specs.declared.publishing.Standing.TheVariants as standings
 use Rattle.kb_share.specs.Later.{IsLater}
-use Rattle.kb_share.specs.Settling.{GivesHalt}
+use Rattle.kb_complete.specs.Completing.{IsHalted}
+
+-- nothing is pending, and no limit is reached
+pub record IsIdle (course : Course) : Type 0 where
+  pub settled : course.state.pending ≡ []
+  pub running : course.state.halt ≡ None
 
 -- nothing is pending, and the live lines are published
 pub record IsSettled (course : Course) : Type 0 where
@@ -20,13 +27,18 @@ pub record IsSettled (course : Course) : Type 0 where
   pub running : course.state.halt ≡ None
   pub published : IsPublished course.state
 
+-- how a book stands after it was settled
+abbrev pub StandsAs : Course → Standing → Type 0
+StandsAs course standings.Published = IsSettled course
+StandsAs course standings.Halted = IsHalted course
+
 -- A round is over at a halt, or at a settled book with more lines than were given, or is still open at a settled book.
 abbrev pub AdvanceSays : {R : Type 0} → ℕ → Course → Round R → Type 0
 AdvanceSays given before (rounds.Over (grown.More after)) =
     IsLater before after.course × IsSettled after.course × (given < length after.course.state.lines)
 AdvanceSays given before (rounds.Over (grown.Confluent rules after)) = ⊥
-AdvanceSays given before (rounds.Over (grown.Halted after halt)) =
-    IsLater before after.course × GivesHalt after.course halt
+AdvanceSays given before (rounds.Over (grown.Halted after)) =
+    IsLater before after.course × IsHalted after.course
 AdvanceSays given before (rounds.Open after) = IsLater before after.course × IsSettled after.course
 
 -- the rules at these indices, from 1 on, overlap at the place, and the words of the critical pair

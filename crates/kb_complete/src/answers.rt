@@ -1,7 +1,6 @@
 //! What completion answers.
 
 use kb_book::Book;
-use kb_machine::Halt;
 use kb_rules::{Reducer, Rules};
 
 /// What a round of completion came to.
@@ -11,8 +10,8 @@ pub enum Grown<R: Reducer> {
     More(Book<R>),
     /// The completion is at its end: the reduced complete system.
     Confluent(Rules, Book<R>),
-    /// A limit is reached.
-    Halted(Book<R>, Halt),
+    /// A limit is reached, and the book is halted.
+    Halted(Book<R>),
 }
 
 /// What a completion came to.
@@ -20,6 +19,6 @@ pub enum Grown<R: Reducer> {
 pub enum Outcome<R: Reducer> {
     /// The reduced complete system.
     Confluent(Rules, Book<R>),
-    /// A limit is reached.
-    Halted(Book<R>, Halt),
+    /// A limit is reached, and the book is halted.
+    Halted(Book<R>),
 }

@@ -69,7 +69,7 @@ fn grow_all<R: Reducer + Send + Sync, G: Gate, W: Watch, T: Threads + Wait + Syn
         match grow(rt, alloc, book, workers, watch)? {
             Grown::More(next) => book = next,
             Grown::Confluent(rules, book) => return Ok(Outcome::Confluent(rules, book)),
-            Grown::Halted(book, halt) => return Ok(Outcome::Halted(book, halt)),
+            Grown::Halted(book) => return Ok(Outcome::Halted(book)),
         }
         book_is_sound(&book);
     }

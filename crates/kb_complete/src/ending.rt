@@ -1,20 +1,18 @@
 //! The end of a completion: the live rules are confluent, or an overlap shows that they aren't.
 
-ghost use Rattle.std.specs.Prelude.{◌≡◌, ◌≤◌, ◌<◌, IfOk, IfNone, IfSome, OnOk, Some, length};
+ghost use Rattle.std.specs.Prelude.{◌≡◌, ◌≤◌, IfOk, IfNone, IfSome, OnOk};
 ghost use Rattle.kb_word.specs.Overlap.{IsConfluent};
 ghost use Rattle.kb_machine.specs.States.{live_rules as rules_that_live};
-ghost use Rattle.kb_machine.specs.Course.{Takes};
-ghost use Rattle.kb_machine.specs.declared.event.Event.TheVariants.{Entered};
-ghost use Rattle.kb_complete.specs.Completing.{GrowSays};
+ghost use Rattle.kb_machine.specs.Course.{Course, Takes};
+ghost use Rattle.kb_machine.specs.declared.event.Event.TheVariants.{Entered, Made};
+ghost use Rattle.kb_complete.specs.Completing.{GrowSays, IsHalted};
 ghost use Rattle.kb_complete.specs.Working.{FirstIsApart, IsSettled, IsUnjoined};
 ghost use Rattle.kb_share.specs.Later.{IsLater};
-ghost use Rattle.kb_share.specs.Settling.{GivesHalt};
 
 use crate::answers::Grown;
-use crate::publishing::settle_and_publish;
+use crate::publishing::{Standing, settle_and_publish};
 use kb_book::{Book, Make};
 use kb_confluence::{Verdict, check};
-use kb_machine::Halt;
 use kb_reduced::{
     reduced_by_the_same_congruence, reduced_complete, rules_that_cover_are_confluent,
 };
@@ -95,13 +93,44 @@ fn grow_by_first<R: Reducer, W: Watch>(
     requires { FirstIsApart book.course }
     ensures { IfOk result (GrowSays book.course) }
 {
-    if let Some(halt) = make_line(alloc, &mut book, watch)? {
-        return Ok(Grown::Halted(book, halt));
+    let Some(k) = make_line(alloc, &mut book)? else {
+        return Ok(Grown::Halted(book));
+    };
+    Ok(grow_by_line(alloc, book, k, watch)?)
+}
+
+/// Makes a line of the first pending pair, whose words have different normal forms, unless the book halts.
+fn make_line<R: Reducer>(alloc: Global, book: &mut Book<R>) -> Result<Option<u32>, Memory>
+    requires { FirstIsApart book.old.course }
+    ensures made { IfOk result
+        (λ made. IfSome made (λ k. Takes (Made k) book.old.course book.new.course)) }
+    ensures halted { IfOk result (λ made. IfNone made
+        (IsLater book.old.course book.new.course × IsHalted book.new.course)) }
+{
+    match book.make(alloc)? {
+        Make::Made(k) => Ok(Some(k)),
+        Make::Halted(_) => Ok(None),
+        Make::Dropped => unreachable!(),
+        Make::Idle => unreachable!(),
     }
-    if let Some(halt) = settle_and_publish(alloc, &mut book, watch)? {
-        return Ok(Grown::Halted(book, halt));
+}
+
+/// Goes on after line k was made, and settles the book, or halts.
+fn grow_by_line<R: Reducer, W: Watch>(
+    alloc: Global,
+    mut book: Book<R>,
+    k: u32,
+    watch: &mut W,
+) -> Result<Grown<R>, Memory>
+    ensures { (start : Course) → Takes (Made k) start book.course
+        → IfOk result (GrowSays start) }
+{
+    let mut finder = Finder::new(alloc);
+    line_made(alloc, &mut book, k, &mut finder, watch)?;
+    match settle_and_publish(alloc, &mut book, watch)? {
+        Standing::Published => Ok(Grown::More(book)),
+        Standing::Halted => Ok(Grown::Halted(book)),
     }
-    Ok(Grown::More(book))
 }
 
 /// Enters an overlap that was found by no worker. It is one of two lines, so that nothing but memory can be wanting.
@@ -111,29 +140,5 @@ fn enter<R: Reducer>(book: &mut Book<R>, first: u32, second: u32, place: u64) ->
     match book.enter(0, first, second, place) {
         Ok(()) => Ok(()),
         Err(_) => Err(Memory),
-    }
-}
-
-/// Makes a line of the first pending pair, whose words have different normal forms, or answers the halt.
-fn make_line<R: Reducer, W: Watch>(
-    alloc: Global,
-    book: &mut Book<R>,
-    watch: &mut W,
-) -> Result<Option<Halt>, Memory>
-    requires { FirstIsApart book.old.course }
-    ensures later { OnOk result (IsLater book.old.course book.new.course) }
-    ensures more { IfOk result (λ halt. IfNone halt
-        (length book.old.course.state.lines < length book.new.course.state.lines)) }
-    ensures halted { IfOk result (λ halt. IfSome halt (GivesHalt book.new.course)) }
-{
-    let mut finder = Finder::new(alloc);
-    match book.make(alloc)? {
-        Make::Made(k) => {
-            line_made(alloc, book, k, &mut finder, watch)?;
-            Ok(None)
-        }
-        Make::Halted(halt) => Ok(Some(halt)),
-        Make::Dropped => unreachable!(),
-        Make::Idle => unreachable!(),
     }
 }

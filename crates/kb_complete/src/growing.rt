@@ -6,7 +6,7 @@ ghost use Rattle.kb_complete.specs.Working.{IsSettled, AdvanceSays};
 
 use crate::answers::Grown;
 use crate::ending::end;
-use crate::publishing::settle_and_publish;
+use crate::publishing::{Standing, settle_and_publish};
 use kb_book::Book;
 use kb_io::Gate;
 use kb_rules::Reducer;
@@ -73,8 +73,8 @@ fn advance<R: Reducer, W: Watch>(
 ) -> Result<Round<R>, Memory>
     ensures { IfOk result (AdvanceSays given book.course) }
 {
-    if let Some(halt) = settle_and_publish(alloc, &mut book, watch)? {
-        return Ok(Round::Over(Grown::Halted(book, halt)));
+    if let Standing::Halted = settle_and_publish(alloc, &mut book, watch)? {
+        return Ok(Round::Over(Grown::Halted(book)));
     }
     if book.lines().len() > given {
         return Ok(Round::Over(Grown::More(book)));

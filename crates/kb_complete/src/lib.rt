@@ -3,9 +3,9 @@
 //! # The public contract
 //!
 //! - [`complete`] answers `Confluent` with the reduced complete system of the presentation, by
-//!   which each word's normal form is the least word that is congruent to it, or `Halted` with the
-//!   limit that was reached and the pair that waits. Either carries the book, whose lines are the
-//!   log; with `Confluent` the rules of all its lines are confluent, and generate the congruence of
+//!   which each word's normal form is the least word that is congruent to it, or `Halted` with a
+//!   book that is halted at a limit, with a pair that waits. Either carries the book, whose lines are
+//!   the log; with `Confluent` the rules of all its lines are confluent, and generate the congruence of
 //!   the relations (`IsCompleted` of `specs/Completing.antt`).
 //! - [`grow`] is one round of it: it answers `More` as soon as there is a line more, and nothing is pending.
 //!
@@ -16,7 +16,7 @@
 //!
 //! Knuth, Bendix, Simple Word Problems in Universal Algebras; Holt, Eick, O'Brien, Handbook of
 //! Computational Group Theory, 12.2. The book is settled: lines are made until nothing is pending
-//! (`kb_share`). Then a pass of the workers enters the overlaps that are apart (`kb_share`), and
+//! (`kb_share`). Then a pass of the workers enters the overlaps that are apart (`kb_threads`), and
 //! may settle the book meanwhile. A pass in and after which no line is made is followed by the
 //! confluence check of the live rules; what it finds is entered as any overlap (`growing`). The
 //! check has as many workers.
@@ -25,7 +25,7 @@
 //! relations, whatever events led there (`kb_machine::courses_are_sound`), and where they are
 //! confluent besides, `kb_reduced` makes the reduced complete system of them.
 //!
-//! Below are `kb_book`, `kb_share`, `kb_share`, `kb_confluence` and `kb_reduced`; above are the
+//! Below are `kb_book`, `kb_share`, `kb_threads`, `kb_confluence` and `kb_reduced`; above are the
 //! commands that complete.
 #![tactic(auto)]
 

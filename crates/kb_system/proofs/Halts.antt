@@ -16,7 +16,7 @@ use Rattle.kb_machine.specs.declared.halt.Halt.{Halt}
 use Rattle.kb_machine.specs.declared.halt.Halt.TheVariants.{Rules, Length}
 use Rattle.kb_system.specs.Completed.{relations, below}
 use Rattle.kb_system.specs.Evidence.{Limits, AreLiveRules, WaitsIn, IsReached, IsHalted}
-use Rattle.kb_system.specs.Problems.{problem_of, limit_of}
+use Rattle.kb_system.specs.Problems.{problem_of, reached_by}
 use Rattle.kb_system.specs.Ended.{EndsAs}
 use Rattle.kb_system.specs.declared.ending.Ending.{Ending}
 use Rattle.kb_system.specs.declared.ending.Reached.{Reached}
@@ -60,11 +60,11 @@ same_first e = cc e
 module _ (limits : Limits) (parts : PresentationParts) (state : State) (halt : Halt) where
   -- the limit that the halt names is reached
   limit_reached : (origin : Origin) → HaltSays (problem_of limits parts) state halt
-      → IsReached limits state.lines (waiting_line origin halt) (limit_of halt)
+      → IsReached limits state.lines (waiting_line origin halt) (reached_by halt)
   limit_reached origin says = by_limit halt says
     where
       by_limit : (halt : Halt) → HaltSays (problem_of limits parts) state halt
-          → IsReached limits state.lines (waiting_line origin halt) (limit_of halt)
+          → IsReached limits state.lines (waiting_line origin halt) (reached_by halt)
       by_limit (Rules u v first second) says = says.0
       by_limit (Length u v first second) says = (says.0, says.1)
 
@@ -87,7 +87,7 @@ module _ (limits : Limits) (parts : PresentationParts) (state : State) (halt : H
   -- the evidence at a halt
   pub is_halted : (origin : Origin) (rest : List Origin) → IsSound (problem_of limits parts) state → state.halt ≡ Some halt
       → state.pending ≡ origin ∷ rest
-      → IsHalted limits parts state.lines (waiting_line origin halt) (live_rules state) (limit_of halt)
+      → IsHalted limits parts state.lines (waiting_line origin halt) (live_rules state) (reached_by halt)
   is_halted origin rest sound is pending =
       let says = halt_says state halt sound is in
       let waits = it_waits (problem_of limits parts) state halt says in
@@ -102,7 +102,7 @@ module _ (limits : Limits) (parts : PresentationParts) (state : State) (halt : H
 pub ends_halted : (limits : Limits) (parts : PresentationParts) (problem : Problem) (state : State) (halt : Halt) (origin : Origin)
     (rest : List Origin) (lines : List Line) (waiting : Line) (rules : List Pair) (reached : Reached)
     → problem ≡ problem_of limits parts → IsSound problem state → state.halt ≡ Some halt → state.pending ≡ origin ∷ rest
-    → lines ≡ state.lines → waiting ≡ waiting_line origin halt → rules ≡ live_rules state → reached ≡ limit_of halt
+    → lines ≡ state.lines → waiting ≡ waiting_line origin halt → rules ≡ live_rules state → reached ≡ reached_by halt
     → IsHalted limits parts lines waiting rules reached
 ends_halted limits parts problem state halt origin rest lines waiting rules reached same sound is pending are_lines is_waiting are_rules is_limit =
     let Sound : Problem → Type 0 = λ p. IsSound p state in

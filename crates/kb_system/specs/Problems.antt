@@ -18,6 +18,6 @@ problem_of limits parts =
     record { presentation = parts; most_lines = limits.lines; most_letters = limits.letters }
 
 -- the limit that a halt names
-abbrev pub limit_of : Halt → Reached
-limit_of (Rules u v first_steps second_steps) = Lines
-limit_of (Length u v first_steps second_steps) = Letters
+abbrev pub reached_by : Halt → Reached
+reached_by (Rules u v first_steps second_steps) = Lines
+reached_by (Length u v first_steps second_steps) = Letters

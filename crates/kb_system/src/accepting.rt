@@ -44,23 +44,23 @@ pub(crate) fn completed<R: Reducer>(
     }
 }
 
-/// The word acceptor of a presentation, made of its reduced complete system; none where more words than the limit begin
+/// The word acceptor of a presentation, made of its reduced complete system; none where more words than there may be states begin
 /// left sides.
 fn word_acceptor(
     alloc: Global,
     presentation: &Presentation,
     rules: &Rules,
-    limit: u32,
+    most_states: u32,
 ) -> Result<Option<Fsa>, Memory>
     requires { IsReducedSystem (parts_of presentation.now) rules.now.rules }
     ensures found { IfOk result
         (λ found. IfSome found (IsWordAcceptor (parts_of presentation.now))) }
-    ensures none { result ≡ Ok None → CountedPrefixes rules.now.rules limit }
+    ensures none { result ≡ Ok None → CountedPrefixes rules.now.rules most_states }
 {
     reduced_complete_systems_are_complete();
     reduced_left_sides_keep_the_letters();
     let _most = presentation.names.len();
-    match acceptor_of_rules(alloc, presentation.n, rules, limit) {
+    match acceptor_of_rules(alloc, presentation.n, rules, most_states) {
         Ok(fsa) => {
             let acceptor = canonical(alloc, &fsa)?;
             let _alphabet = acceptor.alphabet();

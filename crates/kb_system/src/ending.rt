@@ -66,6 +66,6 @@ pub fn complete_presentation<G: Gate, W: Watch, T: Threads + Wait + Sync>(
 {
     match complete_watched::<Index, G, W, T>(rt, alloc, presentation, limits, workers, watch)? {
         Outcome::Confluent(rules, book) => completed(alloc, presentation, limits, rules, book),
-        Outcome::Halted(book, _) => halted(alloc, book),
+        Outcome::Halted(book) => halted(alloc, book),
     }
 }

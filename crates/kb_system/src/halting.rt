@@ -3,10 +3,10 @@
 ghost use Rattle.std.specs.Prelude.{◌≡◌, List, ◌∷◌, Some, IfOk};
 ghost use Rattle.kb_word.specs.Presentations.{PresentationParts};
 ghost use Rattle.kb_machine.specs.declared.origin.Origin.{Origin as PairOrigin};
-ghost use Rattle.kb_machine.specs.declared.halt.Halt.{Halt as Reason};
 ghost use Rattle.kb_machine.specs.Course.{waiting_line as line_of};
+ghost use Rattle.kb_complete.specs.Completing.{IsHalted};
 ghost use Rattle.kb_system.specs.Evidence.{Limits};
-ghost use Rattle.kb_system.specs.Problems.{problem_of, limit_of};
+ghost use Rattle.kb_system.specs.Problems.{problem_of, reached_by};
 ghost use Rattle.kb_system.specs.Ended.{EndsAs};
 
 use crate::ending::{Ending, Reached};
@@ -19,7 +19,7 @@ use std::alloc::Global;
 
 /// The end of a completion that halted: its log, the line that waits, and its live rules.
 pub(crate) fn halted<R: Reducer>(alloc: Global, book: Book<R>) -> Result<Ending, Memory>
-    requires { (reason : Reason) × (book.course.state.halt ≡ Some reason) }
+    requires { IsHalted book.course }
     ensures { IfOk result (λ ending. (limits : Limits) (parts : PresentationParts)
         → book.course.problem ≡ problem_of limits parts → EndsAs limits parts ending) }
 {
@@ -27,7 +27,7 @@ pub(crate) fn halted<R: Reducer>(alloc: Global, book: Book<R>) -> Result<Ending,
     let rules = live_rules(alloc, &book)?;
     let origin = first_pending(&book);
     let (lines, halt) = log_and_halt(book);
-    let reached = limit_reached(&halt);
+    let reached = reached_by(&halt);
     let waiting = waiting_line(origin, halt);
     Ok(Ending::Halted {
         reached,
@@ -39,7 +39,7 @@ pub(crate) fn halted<R: Reducer>(alloc: Global, book: Book<R>) -> Result<Ending,
 
 /// The origin of the first pending pair. A completion that halted has one.
 fn first_pending<R: Reducer>(book: &Book<R>) -> Origin
-    requires { (reason : Reason) × (book.now.course.state.halt ≡ Some reason) }
+    requires { IsHalted book.now.course }
     ensures { (rest : List PairOrigin) × (book.now.course.state.pending ≡ result ∷ rest) }
 {
     book_is_sound(book);
@@ -51,7 +51,7 @@ fn first_pending<R: Reducer>(book: &Book<R>) -> Origin
 
 /// The lines of a completion that halted, and its halt.
 fn log_and_halt<R: Reducer>(book: Book<R>) -> (Vec<Line>, Halt)
-    requires { (reason : Reason) × (book.course.state.halt ≡ Some reason) }
+    requires { IsHalted book.course }
     ensures lines { result.0.items ≡ book.course.state.lines }
     ensures halt { book.course.state.halt ≡ Some result.1 }
 {
@@ -62,8 +62,8 @@ fn log_and_halt<R: Reducer>(book: Book<R>) -> (Vec<Line>, Halt)
 }
 
 /// The limit that a halt names.
-fn limit_reached(halt: &Halt) -> Reached
-    ensures { result ≡ limit_of halt.now }
+fn reached_by(halt: &Halt) -> Reached
+    ensures { result ≡ reached_by halt.now }
 {
     match halt {
         Halt::Rules { .. } => Reached::Lines,

@@ -1,56 +1,54 @@
-use Rattle.std.proofs.Common.{◌≡◌, Some, None, ap, subst}
-use Rattle.std.specs.Prelude.{true, false}
+use Rattle.std.proofs.Common.{sym, List, subst}
+use Rattle.kb_io.specs.Outside.{Outside, outside}
 use Rattle.kb_word.specs.Presentations.{PresentationParts, parts_of}
-use Rattle.kb_task.specs.Stores.{texts_of}
-use Rattle.kb_task.proofs.ArgumentLemmas.{if_ok}
-use Rattle.kb_system.specs.Ended.{EndsAs}
-use Rattle.kb_system.specs.declared.ending.Ending.{Ending}
-use Rattle.kb_cmd_completion.specs.Files.{log_text}
+use Rattle.kb_reduced.specs.Reduced.{IsReducedComplete}
+use Rattle.kb_system.specs.Completed.{below, relations}
+use Rattle.kb_task.specs.Runs.{IsRun}
+use Rattle.kb_task.specs.Stores.{Text, texts_of}
+use Rattle.kb_cmd_completion.specs.Conclusions.{ConcludesAs}
+use Rattle.kb_cmd_completion.specs.Files.{AreCompleted}
 use Rattle.kb_cmd_completion.specs.Given.{KbprogGiven}
-use Rattle.kb_cmd_completion.specs.declared.evidence.Evidence.{Evidence}
-use Rattle.kb_cmd_completion.proofs.LimitLemmas.{evidence_differ, shown-halted, shown-too_large}
+use Rattle.kb_cmd_completion.specs.Kbprog.{AnswersMean, kbprog_may_store}
+use Rattle.kb_cmd_completion.specs.declared.conclusion.Conclusion.{Conclusion}
+use Rattle.kb_cmd_completion.proofs.LimitLemmas.{completed_differ, shows_differ}
 use Rattle.kb_cmd_completion.proofs.kbprog.conclude.Goals as goal
 
-pub answer-requires : goal.answer-requires
-answer-requires g c =
-    let parts : PresentationParts = parts_of c.args.presentation in
-    let ends = subst (λ (e : Ending). EndsAs c.args.task.now.limits parts e) c.in-Completed.is c.requires in
-    ends.1
+pub answer-requires-clause-differ : goal.answer-requires-clause-differ
+answer-requires-clause-differ g c =
+    let given : KbprogGiven = c.requires.0 in
+    let parts : PresentationParts = c.requires.1 in
+    let says = subst (λ (it : Conclusion). ConcludesAs given parts it) c.in-Completed.is c.requires.2 in
+    completed_differ given.file parts (texts_of c.in-Completed.files.items) says.0
 
-pub show-requires : goal.show-requires
-show-requires g c =
-    let parts : PresentationParts = parts_of c.args.presentation in
-    let at = c.in-Halted in
-    if_ok c.halted-evidence.result c.halted-evidence.ensures (λ (shown : Evidence) are.
-    evidence_differ c.task.inside.file parts (log_text parts.names at.lines.items (Some at.waiting)) at.rules.rules false
-    (texts_of shown.files.items) are.1)
+pub answer-requires-clause-complete : goal.answer-requires-clause-complete
+answer-requires-clause-complete g c =
+    let given : KbprogGiven = c.requires.0 in
+    let parts : PresentationParts = c.requires.1 in
+    let says = subst (λ (it : Conclusion). ConcludesAs given parts it) c.in-Completed.is c.requires.2 in
+    let P : PresentationParts → Type 0 = λ p. IsReducedComplete (below p) (relations p) c.in-Completed.normal_forms.index.rules in
+    subst P (sym says.1) says.2
 
-pub show-requires-in-TooLarge : goal.show-requires-in-TooLarge
-show-requires-in-TooLarge g c =
-    let parts : PresentationParts = parts_of c.args.presentation in
-    let at = c.in-TooLarge in
-    if_ok c.too_large-evidence.result c.too_large-evidence.ensures (λ (shown : Evidence) are.
-    evidence_differ c.task.inside.file parts (log_text parts.names at.lines.items None) at.rules.rules true
-    (texts_of shown.files.items) are.1)
+pub show_limit-requires : goal.show_limit-requires
+show_limit-requires g c =
+    let given : KbprogGiven = c.requires.0 in
+    let parts : PresentationParts = c.requires.1 in
+    let shown = c.in-Limit.evidence in
+    let says = subst (λ (it : Conclusion). ConcludesAs given parts it) c.in-Limit.is c.requires.2 in
+    shows_differ given.limits given.file parts shown.limit (texts_of shown.files.items) shown.line.items says
 
-pub returns-in-Halted : goal.returns-in-Halted
-returns-in-Halted g c =
-    let given : KbprogGiven = c.args.task.now in
-    let parts : PresentationParts = parts_of c.args.presentation in
-    let at = c.in-Halted in
-    let ends = subst (λ (e : Ending). EndsAs given.limits parts e) at.is c.requires in
-    let file : c.task.inside.file ≡ given.file = ap (λ (it : KbprogGiven). it.file) c.task.view_is in
-    c.show.ensures given parts (g.I.Source.state c.args.input.now)
-    (shown-halted given parts c.task.inside.file file c.halted-evidence.result at.lines.items at.waiting at.rules.rules at.reached
-    ends.1 c.halted-evidence.ensures)
+pub returns-in-Completed : goal.returns-in-Completed
+returns-in-Completed g c = λ given parts concludes.
+    let says = subst (λ (it : Conclusion). ConcludesAs given parts it) c.in-Completed.is concludes in
+    let texts : List Text = texts_of c.in-Completed.files.items in
+    let before : Outside =
+    outside (g.F.Shelf.state c.args.shelf.now) (g.I.Source.state c.args.input.now) (g.O.Sink.state c.args.out.now) in
+    let after : Outside =
+    outside (g.F.Shelf.state c.answer.new.shelf) (g.I.Source.state c.answer.new.input) (g.O.Sink.state c.answer.new.out) in
+    let P : PresentationParts → Type 0 = λ p. AreCompleted given.file p texts
+    → IsRun (AnswersMean given p) (kbprog_may_store given) before after c.answer.result in
+    subst P says.1 (c.answer.ensures given) says.0
 
-pub returns-in-TooLarge : goal.returns-in-TooLarge
-returns-in-TooLarge g c =
-    let given : KbprogGiven = c.args.task.now in
-    let parts : PresentationParts = parts_of c.args.presentation in
-    let at = c.in-TooLarge in
-    let ends = subst (λ (e : Ending). EndsAs given.limits parts e) at.is c.requires in
-    let file : c.task.inside.file ≡ given.file = ap (λ (it : KbprogGiven). it.file) c.task.view_is in
-    c.show-in-TooLarge.ensures given parts (g.I.Source.state c.args.input.now)
-    (shown-too_large given parts c.task.inside.file file c.too_large-evidence.result at.lines.items at.rules.rules
-    ends.1 c.too_large-evidence.ensures)
+pub returns-in-Limit : goal.returns-in-Limit
+returns-in-Limit g c = λ given parts concludes.
+    c.show_limit.ensures given parts (g.I.Source.state c.args.input.now)
+    (subst (λ (it : Conclusion). ConcludesAs given parts it) c.in-Limit.is concludes)

@@ -28,7 +28,6 @@ returns-in-Confluent g c =
 pub returns-in-Halted : goal.returns-in-Halted
 returns-in-Halted g c =
     let says =
-    grown_said c.growing.book.course c.in_ok-next.field-0 (grown.Halted c.in-Halted.book c.in-Halted.halt) c.in-Halted.is
+    grown_said c.growing.book.course c.in_ok-next.field-0 (grown.Halted c.in-Halted.book) c.in-Halted.is
     c.in_ok-next.ensures in
-    end_is_halt c.args.book.course.problem c.growing.book.course c.in-Halted.book.course c.in-Halted.halt c.growing.invariant
-    says.0 says.1
+    end_is_halt c.args.book.course.problem c.growing.book.course c.in-Halted.book.course c.growing.invariant says.0 says.1

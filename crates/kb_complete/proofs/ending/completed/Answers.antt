@@ -1,6 +1,13 @@
+use Rattle.std.proofs.Common.{sym, ◌∙◌}
 use Rattle.kb_share.proofs.Stages.{later_itself}
 use Rattle.kb_complete.proofs.LastLines.{is_completed}
 use Rattle.kb_complete.proofs.ending.completed.Goals as goal
+
+pub reduced_complete-requires-clause-reducer : goal.reduced_complete-requires-clause-reducer
+reduced_complete-requires-clause-reducer g c = c.reducer.ensures.rules ∙ sym c.requires.rules
+
+pub reduced_complete-requires-clause-confluent : goal.reduced_complete-requires-clause-confluent
+reduced_complete-requires-clause-confluent g c = c.requires.confluent
 
 pub returns : goal.returns
 returns g c =

@@ -1,21 +1,28 @@
 use Rattle.std.proofs.Common.{◌<◌, List, length, subst}
 use Rattle.kb_machine.specs.declared.line.Line.{Line}
-use Rattle.kb_share.proofs.Halting.{none_is, some_is}
+use Rattle.kb_complete.specs.Working.{StandsAs}
+use Rattle.kb_complete.specs.declared.publishing.Standing.{Standing}
+use Rattle.kb_complete.specs.declared.publishing.Standing.TheVariants as standings
+use Rattle.kb_complete.proofs.Rounds.{stands_published}
 use Rattle.kb_complete.proofs.growing.advance.Goals as goal
-use Rattle.kb_share.specs.Settling.{GivesHalt}
 
-pub returns-in-Some : goal.returns-in-Some
-returns-in-Some g c = (
-  c.in_ok-halt.ensures.later,
-  some_is (GivesHalt c.settle_and_publish.new.book.course) c.in_ok-halt.field-0 c.in-Some.halt c.in-Some.is c.in_ok-halt.ensures.halted,
+pub returns-in-Halted : goal.returns-in-Halted
+returns-in-Halted g c = (
+  c.in_ok-settle_and_publish.ensures.later,
+  subst (λ (s : Standing). StandsAs c.settle_and_publish.new.book.course s) c.in-Halted.is c.in_ok-settle_and_publish.ensures.stands,
 )
 
 pub returns-then-lines-given : goal.returns-then-lines-given
 returns-then-lines-given g c = (
-  c.in_ok-halt.ensures.later,
-  none_is c.in_ok-halt.field-0 c.in_default.is c.in_ok-halt.ensures.settled,
+  c.in_ok-settle_and_publish.ensures.later,
+  stands_published c.settle_and_publish.new.book.course c.in_ok-settle_and_publish.field-0 c.in_default.not-Halted
+      c.in_ok-settle_and_publish.ensures.stands,
   subst (λ (lines : List Line). c.args.given < length lines) c.lines.ensures c.if-lines-given.true,
 )
 
 pub returns : goal.returns
-returns g c = (c.in_ok-halt.ensures.later, none_is c.in_ok-halt.field-0 c.in_default.is c.in_ok-halt.ensures.settled)
+returns g c = (
+  c.in_ok-settle_and_publish.ensures.later,
+  stands_published c.settle_and_publish.new.book.course c.in_ok-settle_and_publish.field-0 c.in_default.not-Halted
+      c.in_ok-settle_and_publish.ensures.stands,
+)

@@ -10,6 +10,6 @@ returns g c limits parts same =
     let rules = c.in_ok-rules.ensures in (
       rules.order ∙ ap (λ (problem : Problem). problem.presentation.order) same,
       ends_halted limits parts course.problem course.state c.log_and_halt-lines.result.1 c.first_pending-origin.result first.0 c.log_and_halt-lines.result.0.items
-          c.waiting_line-waiting.result c.in_ok-rules.rules.rules c.limit_reached-reached.result same c.book_is_sound.ensures c.log_and_halt-lines.ensures.halt first.1
-          c.log_and_halt-lines.ensures.lines c.waiting_line-waiting.ensures rules.rules c.limit_reached-reached.ensures,
+          c.waiting_line-waiting.result c.in_ok-rules.rules.rules c.reached_by-reached.result same c.book_is_sound.ensures c.log_and_halt-lines.ensures.halt first.1
+          c.log_and_halt-lines.ensures.lines c.waiting_line-waiting.ensures rules.rules c.reached_by-reached.ensures,
     )

@@ -4,34 +4,48 @@ use Rattle.kb_io.specs.States.{ShelfState, SourceState, SinkState}
 use Rattle.kb_word.specs.Presentations.{PresentationParts, parts_of}
 use Rattle.kb_task.specs.Loads.{EndsAtLoad}
 use Rattle.kb_task.specs.Presentations.{HoldsPresentation, IsPresentationFault}
-use Rattle.kb_task.proofs.RunLemmas.{unchanged-loads, run-after_loads, run-ends}
+use Rattle.kb_task.specs.declared.status.Status.TheVariants.{Memory}
+use Rattle.kb_task.proofs.RunLemmas.{unchanged-loads, run-ends}
 use Rattle.kb_cmd_completion.specs.Given.{KbprogGiven}
-use Rattle.kb_cmd_completion.specs.Kbprog.{AnswersMean}
-use Rattle.kb_cmd_completion.proofs.RunLemmas.{answers-later, run-unloaded}
+use Rattle.kb_cmd_completion.proofs.RunLemmas.{nothing-run, run-loaded, run-unloaded}
 use Rattle.kb_cmd_completion.proofs.kbprog.Kbprog.run.Goals as goal
 
 pub returns-in_default : goal.returns-in_default
 returns-in_default g c =
     run-unloaded c.args.self (g.F.Shelf.state c.args.shelf.now) (g.I.Source.state c.args.input.now) (g.O.Sink.state c.args.out.now)
 
-pub returns-in-Ok-load_presentation : goal.returns-in-Ok-load_presentation
-returns-in-Ok-load_presentation g c =
+pub conclude-requires : goal.conclude-requires
+conclude-requires g c = (c.args.self, parts_of c.in-Ok-load_presentation.presentation, c.in-Ok-complete.ensures)
+
+pub returns-in-Ok-complete : goal.returns-in-Ok-complete
+returns-in-Ok-complete g c =
     let given : KbprogGiven = c.args.self in
     let shelf : ShelfState = g.F.Shelf.state c.args.shelf.now in
     let loaded : ShelfState = g.F.Shelf.state c.load_presentation.new.shelf in
     let input : SourceState = g.I.Source.state c.args.input.now in
     let output : SinkState = g.O.Sink.state c.args.out.now in
     let after : Outside =
-    outside (g.F.Shelf.state c.complete.new.shelf) (g.I.Source.state c.complete.new.input) (g.O.Sink.state c.complete.new.out) in
+    outside (g.F.Shelf.state c.conclude.new.shelf) (g.I.Source.state c.conclude.new.input) (g.O.Sink.state c.conclude.new.out) in
     let parts : PresentationParts = parts_of c.in-Ok-load_presentation.presentation in
     let loads = c.load_presentation.ensures.only_loads in
     let file : c.in-Ok.file ≡ given.file = c.in-Ok.ensures ∙ ap (λ (it : KbprogGiven). it.file) c.self.view_is in
-    run-after_loads shelf loaded input output loads {Then = AnswersMean given parts} after c.complete.result c.complete.ensures (λ name stored. stored)
-    (λ told means. inr (
-      parts,
-      subst (λ (name : List ℕ). HoldsPresentation shelf.holds name parts) file (c.in-Ok-load_presentation.ensures.holds told.shelf),
-      answers-later given parts shelf loaded input output (unchanged-loads shelf loaded input output loads) after c.complete.result means,
-    ))
+    run-loaded given parts shelf loaded input output loads after c.conclude.result
+    (λ told. subst (λ (name : List ℕ). HoldsPresentation shelf.holds name parts) file (c.in-Ok-load_presentation.ensures.holds told))
+    (c.conclude.ensures given parts c.in-Ok-complete.ensures)
+
+pub returns-in-Err : goal.returns-in-Err
+returns-in-Err g c =
+    let given : KbprogGiven = c.args.self in
+    let shelf : ShelfState = g.F.Shelf.state c.args.shelf.now in
+    let loaded : ShelfState = g.F.Shelf.state c.load_presentation.new.shelf in
+    let input : SourceState = g.I.Source.state c.args.input.now in
+    let output : SinkState = g.O.Sink.state c.args.out.now in
+    let parts : PresentationParts = parts_of c.in-Ok-load_presentation.presentation in
+    let loads = c.load_presentation.ensures.only_loads in
+    let file : c.in-Ok.file ≡ given.file = c.in-Ok.ensures ∙ ap (λ (it : KbprogGiven). it.file) c.self.view_is in
+    run-loaded given parts shelf loaded input output loads (outside loaded input output) Memory
+    (λ told. subst (λ (name : List ℕ). HoldsPresentation shelf.holds name parts) file (c.in-Ok-load_presentation.ensures.holds told))
+    (nothing-run given parts loaded input output)
 
 pub returns : goal.returns
 returns g c =

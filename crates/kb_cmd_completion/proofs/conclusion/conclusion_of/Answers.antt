@@ -1,0 +1,33 @@
+use Rattle.std.proofs.Common.{◌≡◌, ap, subst}
+use Rattle.kb_word.specs.Presentations.{PresentationParts, parts_of}
+use Rattle.kb_system.specs.Ended.{EndsAs}
+use Rattle.kb_system.specs.declared.ending.Ending.{Ending}
+use Rattle.kb_cmd_completion.specs.Given.{KbprogGiven}
+use Rattle.kb_cmd_completion.proofs.LimitLemmas.{shown-halted, shown-too_large}
+use Rattle.kb_cmd_completion.proofs.conclusion.conclusion_of.Goals as goal
+
+pub completed-requires : goal.completed-requires
+completed-requires c =
+    let parts : PresentationParts = parts_of c.args.presentation in
+    let ends = subst (λ (e : Ending). EndsAs c.args.task.now.limits parts e) c.in-Completed.is c.requires in
+    ends.1
+
+pub returns-in_ok-halted-in-Halted : goal.returns-in_ok-halted-in-Halted
+returns-in_ok-halted-in-Halted c =
+    let given : KbprogGiven = c.args.task.now in
+    let parts : PresentationParts = parts_of c.args.presentation in
+    let at = c.in-Halted in
+    let ends = subst (λ (e : Ending). EndsAs given.limits parts e) at.is c.requires in
+    let file : c.task.inside.file ≡ given.file = ap (λ (it : KbprogGiven). it.file) c.task.view_is in
+    shown-halted given parts c.task.inside.file file c.in_ok-halted-in-Halted.field-0 at.lines.items at.waiting at.rules.rules at.reached
+    ends.1 c.in_ok-halted-in-Halted.ensures
+
+pub returns-in_ok-too_large-in-TooLarge : goal.returns-in_ok-too_large-in-TooLarge
+returns-in_ok-too_large-in-TooLarge c =
+    let given : KbprogGiven = c.args.task.now in
+    let parts : PresentationParts = parts_of c.args.presentation in
+    let at = c.in-TooLarge in
+    let ends = subst (λ (e : Ending). EndsAs given.limits parts e) at.is c.requires in
+    let file : c.task.inside.file ≡ given.file = ap (λ (it : KbprogGiven). it.file) c.task.view_is in
+    shown-too_large given parts c.task.inside.file file c.in_ok-too_large-in-TooLarge.field-0 at.lines.items at.rules.rules
+    ends.1 c.in_ok-too_large-in-TooLarge.ensures
