@@ -18,6 +18,6 @@ returns g c = λ start takes.
     let made = c.args.book.course in
     let after = c.settle_and_publish.new.book.course in (
       later_by_line c.args.k start made after takes
-      (later_then made c.line_made.new.book.course after c.line_made.ensures.goes_on.settles.later c.in_ok-settle_and_publish.ensures.later),
+          (later_then made c.line_made.new.book.course after c.line_made.ensures.goes_on.settles.later c.in_ok-settle_and_publish.ensures.later),
       subst (λ (s : Standing). StandsAs after s) c.in-Halted.is c.in_ok-settle_and_publish.ensures.stands,
     )
