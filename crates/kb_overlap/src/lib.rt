@@ -13,7 +13,7 @@
 //! - `meets` tells whether two words overlap at a place.
 //! - A `PairWorkspace` has two words, reduces them by a `kb_rules::Reducer`, and tells whether they are joined or apart:
 //!   whether their normal forms are one word or two (`specs/Joining.antt`). It is kept for one pair after another.
-//!   `PairWorkspace::join` does all that for the critical pair of two rules at a place, and
+//!   `PairWorkspace::join` does all that for the critical pair of two rules at a place; `pair_at` returns that pair, and
 //!   `overlaps_are_superpositions` says what that pair is: the superposition with one left side replaced.
 //!
 //! # How all overlaps are found
@@ -43,4 +43,4 @@ mod walk;
 
 pub use left_sides::{LeftSides, Overlap};
 pub use meeting::meets;
-pub use pair::{Joinability, PairWorkspace, overlaps_are_superpositions};
+pub use pair::{Joinability, PairWorkspace, overlaps_are_superpositions, pair_at};

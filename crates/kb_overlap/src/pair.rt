@@ -149,6 +149,24 @@ fn rest(letters: &[Letter], place: usize) -> &[Letter]
     letters.get(place..).unwrap_or(&[])
 }
 
+/// The critical pair of the rules `l -> r` and `m -> s`, whose left sides overlap at this place of `l`.
+/// Book, Otto, String-Rewriting Systems, 2.3.
+pub fn pair_at(
+    alloc: Global,
+    l: &Word,
+    r: &Word,
+    m: &Word,
+    s: &Word,
+    p: u64,
+) -> Result<(Word, Word), Memory>
+    requires { Overlaps l.now m.now p }
+    ensures { IfOk result (λ pair. pair ≡ critical_pair (l.now, r.now) (m.now, s.now) p) }
+{
+    let mut pair = PairWorkspace::new(alloc);
+    pair.put_critical_pair(l, r, m, s, p)?;
+    Ok(pair.take(alloc))
+}
+
 /// Where two left sides overlap, both words of the critical pair come from the superposition, which has
 /// both left sides, by one replacement each.
 pub fn overlaps_are_superpositions()

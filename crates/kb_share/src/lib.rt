@@ -56,6 +56,7 @@ mod watch;
 
 pub use finding::Finder;
 pub use found::Found;
+pub use kb_overlap::Joinability as Sift;
 pub use live::live_rules;
 pub use one_by_one::OneByOne;
 pub use row::apart_in_row;
