@@ -46,9 +46,19 @@ impl Jobs {
     {
         JobSeat { jobs: self, seat }
     }
+
+    /// Whether a line was live when the pass began, of those that are live at present.
+    pub(crate) fn had(&self, line: u32) -> bool {
+        self.lines.last().is_some_and(|last| line <= *last)
+    }
 }
 
 impl<'j> JobSeat<'j> {
+    /// The jobs.
+    pub(crate) fn jobs(&self) -> &'j Jobs {
+        self.jobs
+    }
+
     /// Draws the next job, if there is one: the number of its line.
     pub(crate) fn next(&mut self) -> Option<u32> {
         let job = self.jobs.draw.next(&mut self.seat)?;
@@ -62,10 +72,5 @@ impl<'j> JobSeat<'j> {
                 break;
             }
         }
-    }
-
-    /// Whether a line was live when the pass began, of those that are live at present.
-    pub(crate) fn has(&self, line: u32) -> bool {
-        self.jobs.lines.last().is_some_and(|last| line <= *last)
     }
 }

@@ -7,9 +7,9 @@
 //!   of the one given.
 //! - [`Shared`] is a book under a lock, whose workers hold a [`Pass`] each. [`Shared::enter`]
 //!   enters an overlap, and says so only where it did: the pass counts it. [`Shared::advance`]
-//!   settles the book and publishes a version, by a `kb_publish::Publisher`. [`Shared::finish`]
-//!   takes all passes back: the book is a later stage of the one that was given, and has just as
-//!   many entries more as the passes counted.
+//!   settles the book and publishes a version, by a `kb_publish::Publisher`, and lets a
+//!   `kb_share::Watch` see the book. [`Shared::finish`] takes all passes back: the book is a later
+//!   stage of the one that was given, and has just as many entries more as the passes counted.
 //!
 //! # How it is made
 //!
@@ -22,12 +22,13 @@
 //! A worker draws jobs from one counter (`kb_draw`), looks at the version that was published last
 //! without the lock (`kb_publish`), sifts by it, and takes the lock only to enter what is apart,
 //! which it keeps while the lock is held by another, to the end of its look at most.
-//! The caller's own thread is a worker too, and lets the book advance between its jobs, where
-//! enough is pending. Nothing is said of who does which job, or in which order: which overlaps are
-//! entered is left open, and the check for confluence in the end finds what was left out.
+//! The caller's own thread is a worker too, and lets the book advance between its looks, where
+//! enough is pending; it is the only one that the watch hears from. Nothing is said of who does
+//! which job, or in which order: which overlaps are entered is left open, and the check for
+//! confluence in the end finds what was left out.
 //!
-//! Below are `kb_book`, `kb_share`, `kb_share`, `kb_publish` and `kb_draw`; above are the commands
-//! that complete.
+//! Below are `kb_book`, `kb_share`, `kb_publish` and `kb_draw`; above is `kb_complete`, which
+//! completes.
 #![tactic(auto)]
 
 mod advancing;
@@ -38,8 +39,6 @@ mod pass;
 mod shared;
 mod sharing;
 mod sieve;
-#[cfg(test)]
-mod tests;
 mod threads;
 mod worker;
 mod workers;

@@ -11,7 +11,7 @@ use crate::pass::Pass;
 use crate::sharing::Sharing;
 use kb_book::{Book, EnterFault};
 use kb_rules::Reducer;
-use kb_share::Found;
+use kb_share::{Found, Watch};
 use kb_word::Memory;
 use std::alloc::Global;
 use std::marker::Model;
@@ -67,11 +67,15 @@ impl<R: Reducer, S: Sharing> Locked<R, S> {
 
     /// Settles the book, and publishes its live lines where something was pending and it isn't
     /// halted.
-    pub(crate) fn advance(&mut self, alloc: Global) -> Result<Advanced<R>, Memory>
+    pub(crate) fn advance<W: Watch>(
+        &mut self,
+        alloc: Global,
+        watch: &mut W,
+    ) -> Result<Advanced<R>, Memory>
         ensures advances { Advances self.old self.new }
         ensures says { IfOk result (AdvanceSays self.old.course self.new.course) }
     {
-        advance(alloc, &mut self.book)
+        advance(alloc, &mut self.book, watch)
     }
 
     /// The book, and what its workers entered.

@@ -13,7 +13,7 @@ use crate::sharing::Sharing;
 use kb_book::Book;
 use kb_publish::Publisher;
 use kb_rules::Reducer;
-use kb_share::{Found, Version};
+use kb_share::{Found, Version, Watch};
 use kb_word::Memory;
 use std::alloc::Global;
 use std::sync::ledger::{Blank, Share};
@@ -40,11 +40,8 @@ impl<R: Reducer, S: Sharing> Shared<R, S> {
         ensures count { IfOk result (λ made. length made.1.items ≡ S.parts) }
         ensures none { IfOk result (λ made. All (λ pass. pass.entered ≡ 0) made.1.items) }
     {
-        let (entered, mut rest) = blank.open::<S>();
-        let mut passes = Vec::new(alloc);
-        for worker in 0..workers {
-            passes.push(Pass::of(worker + 1, &mut rest))?;
-        }
+        let (entered, all) = blank.open::<S>();
+        let passes = passes_of(alloc, all, workers)?;
         let locked = Mutex::new(Locked::new(book, entered));
         Ok((Shared { locked }, passes))
     }
@@ -79,32 +76,46 @@ impl<R: Reducer, S: Sharing> Shared<R, S> {
         }
     }
 
-    /// Whether enough is pending for the book to advance now.
-    pub(crate) fn is_due<T: Wait>(&self, rt: &T) -> bool {
-        self.locked.lock(rt).is_due()
-    }
-
     /// Settles the book, and publishes its live lines where something was pending and no limit is
     /// reached. The lock is held while the book is settled, and free while the version is
     /// published.
-    pub fn advance<T: Wait>(
+    pub fn advance<T: Wait, W: Watch>(
         &self,
         rt: &T,
         alloc: Global,
         publisher: &mut Publisher<Version<R>>,
+        watch: &mut W,
     ) -> Result<Advance, Memory>
         ensures publishes { IfOk result (PublishesBy publisher.old publisher.new) }
         ensures nothing { OnErr result (publisher.new ≡ publisher.old) }
     {
-        let advanced = self.locked.lock(rt).advance(alloc)?;
-        match advanced {
-            Advanced::Settled(version) => {
-                let number = version.number();
-                publisher.publish(rt, version)?;
-                Ok(Advance::Published(number))
-            }
-            Advanced::Nothing => Ok(Advance::Nothing),
-            Advanced::Halted => Ok(Advance::Halted),
+        let advanced = self.locked.lock(rt).advance(alloc, watch)?;
+        shown(rt, publisher, advanced)
+    }
+
+    /// The same where the lock is free and enough is pending for that; `None` where it isn't so.
+    pub(crate) fn advance_if_due<T: Wait, W: Watch>(
+        &self,
+        rt: &T,
+        alloc: Global,
+        publisher: &mut Publisher<Version<R>>,
+        watch: &mut W,
+    ) -> Result<Option<Advance>, Memory> {
+        match self.settle_if_due(alloc, watch)? {
+            Some(advanced) => Ok(Some(shown(rt, publisher, advanced)?)),
+            None => Ok(None),
+        }
+    }
+
+    /// Settles the book where the lock is free and enough is pending for that.
+    fn settle_if_due<W: Watch>(
+        &self,
+        alloc: Global,
+        watch: &mut W,
+    ) -> Result<Option<Advanced<R>>, Memory> {
+        match self.locked.try_lock() {
+            Some(mut locked) if locked.is_due() => Ok(Some(locked.advance(alloc, watch)?)),
+            _ => Ok(None),
         }
     }
 
@@ -117,6 +128,43 @@ impl<R: Reducer, S: Sharing> Shared<R, S> {
         let mut all = gathered(passes);
         let Shared { locked } = self;
         locked.into_inner().into_book(&mut all)
+    }
+}
+
+/// Passes of so many workers that have entered nothing, numbered from 1 on.
+fn passes_of<S: Sharing>(
+    alloc: Global,
+    mut rest: Share<S>,
+    workers: u32,
+) -> Result<Vec<Pass<S>>, Memory>
+    requires { (rest.parts ≡ workers) × (rest.amount ≡ 0) }
+    ensures count { IfOk result (λ passes. length passes.items ≡ workers) }
+    ensures none { IfOk result (λ passes. All (λ pass. pass.entered ≡ 0) passes.items) }
+{
+    let mut passes = Vec::new(alloc);
+    for worker in 0..workers {
+        passes.push(Pass::of(worker + 1, &mut rest))?;
+    }
+    Ok(passes)
+}
+
+/// Shows readers the version that a book came to, if it came to one.
+fn shown<R: Reducer, T: Wait>(
+    rt: &T,
+    publisher: &mut Publisher<Version<R>>,
+    advanced: Advanced<R>,
+) -> Result<Advance, Memory>
+    ensures publishes { IfOk result (PublishesBy publisher.old publisher.new) }
+    ensures nothing { OnErr result (publisher.new ≡ publisher.old) }
+{
+    match advanced {
+        Advanced::Settled(version) => {
+            let number = version.number();
+            publisher.publish(rt, version)?;
+            Ok(Advance::Published(number))
+        }
+        Advanced::Nothing => Ok(Advance::Nothing),
+        Advanced::Halted => Ok(Advance::Halted),
     }
 }
 

@@ -2,7 +2,7 @@
 
 ghost use Rattle.std.specs.Prelude.{◌≡◌, ◌<◌, length, drop, IsSome, IfOk};
 
-use crate::jobs::JobSeat;
+use crate::jobs::Jobs;
 use kb_overlap::{LeftSides, Overlap};
 use kb_rules::Reducer;
 use kb_share::{Found, Sifter, Version, apart_in_row};
@@ -50,7 +50,7 @@ impl Sieve {
         version: &Version<R>,
         left_sides: &LeftSides<'_>,
         line: u32,
-        seat: &JobSeat<'_>,
+        jobs: &Jobs,
     ) -> Result<(), Memory>
         requires { left_sides.now ≡ version.now.rules }
     {
@@ -69,7 +69,7 @@ impl Sieve {
         apart.clear();
         apart_in_row(version, index, first, overlaps, sifter, apart)?;
         for one in apart.as_slice() {
-            if seat.has(one.second) {
+            if jobs.had(one.second) {
                 found.push_back(*one)?;
             }
         }

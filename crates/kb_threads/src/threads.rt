@@ -15,7 +15,7 @@ use kb_draw::Seat;
 use kb_io::Gate;
 use kb_publish::{Publisher, RuledGlass, VersionReader};
 use kb_rules::Reducer;
-use kb_share::Version;
+use kb_share::{Version, Watch};
 use kb_word::Memory;
 use std::alloc::Global;
 use std::marker::Brand;
@@ -50,18 +50,19 @@ impl<'g, G: Gate> Threads<'g, G> {
     }
 
     /// Makes a pass over a book whose last version has its live lines. Lines may be made meanwhile,
-    /// and the book may halt.
-    pub fn pass<R: Reducer + Send + Sync, T: thread::Threads + Wait + Sync>(
+    /// which the caller's own thread watches, and the book may halt.
+    pub fn pass<R: Reducer + Send + Sync, W: Watch, T: thread::Threads + Wait + Sync>(
         &self,
         rt: &T,
         alloc: Global,
         book: Book<R>,
+        watch: &mut W,
     ) -> Result<Book<R>, Memory>
         requires { IsPublished book.course.state }
         ensures { IfOk result (λ after. IsLater book.course after.course) }
     {
         let blank = Blank::new(self.workers as u64);
-        pass_shared::<Brand, R, G, T>(rt, alloc, self, blank, book)
+        pass_shared::<Brand, R, G, W, T>(rt, alloc, self, blank, book, watch)
     }
 }
 
@@ -70,6 +71,7 @@ fn pass_shared<
     S: Sharing + Send + Sync,
     R: Reducer + Send + Sync,
     G: Gate,
+    W: Watch,
     T: thread::Threads + Wait + Sync,
 >(
     rt: &T,
@@ -77,26 +79,51 @@ fn pass_shared<
     threads: &Threads<'_, G>,
     blank: Blank,
     book: Book<R>,
+    watch: &mut W,
 ) -> Result<Book<R>, Memory>
     requires name { blank.name ≡ S.name }
-    requires parts { (blank.parts ≡ S.parts) × (blank.parts ≡ threads.now.workers) }
+    requires parts { (blank.parts ≡ S.parts) × (S.parts ≡ threads.now.workers) }
     requires given { book.course ≡ S.given }
     requires published { IsPublished book.course.state }
     ensures { IfOk result (λ after. IsLater S.given after.course) }
 {
-    let workers = threads.workers;
-    let lines = Vec::from_slice(alloc, book.live())?;
-    let (jobs, seats) = Jobs::new(alloc, lines, workers)?;
     let version = Version::of(alloc, &book)?;
-    let (shared, passes) = Shared::<R, S>::new(alloc, book, blank, workers)?;
-    let (mut publisher, readers) = Publisher::new(rt, alloc, version, workers)?;
+    let (shared, passes) = Shared::<R, S>::new(alloc, book, blank, threads.workers)?;
+    let done = all_do_jobs(rt, alloc, &shared, threads, passes, version, watch)?;
+    Ok(shared.finish(done))
+}
+
+/// All workers do the jobs of a version's lines, and begin with a look at it. Their passes are given
+/// back.
+fn all_do_jobs<
+    S: Sharing + Send + Sync,
+    R: Reducer + Send + Sync,
+    G: Gate,
+    W: Watch,
+    T: thread::Threads + Wait + Sync,
+>(
+    rt: &T,
+    alloc: Global,
+    shared: &Shared<R, S>,
+    threads: &Threads<'_, G>,
+    passes: Vec<Pass<S>>,
+    version: Version<R>,
+    watch: &mut W,
+) -> Result<Vec<Pass<S>>, Memory>
+    requires parts { S.parts ≡ threads.now.workers }
+    requires passes { length passes.items ≡ S.parts }
+    ensures { IfOk result (λ done. length done.items ≡ S.parts) }
+{
+    let lines = Vec::from_slice(alloc, version.numbers())?;
+    let (jobs, seats) = Jobs::new(alloc, lines, threads.workers)?;
+    let (mut publisher, readers) = Publisher::new(rt, alloc, version, threads.workers)?;
     let crew = crew_of(alloc, &jobs, seats, passes, readers);
     let done = match crew {
-        Ok(crew) => all_work(rt, alloc, &shared, threads.gate, crew, &mut publisher),
+        Ok(crew) => all_work(rt, alloc, shared, threads.gate, crew, &mut publisher, watch),
         Err(Memory) => Err(Memory),
     };
     publisher.close(rt);
-    Ok(shared.finish(done?))
+    done
 }
 
 /// All workers, each with its seat at the jobs.
@@ -140,6 +167,7 @@ fn all_work<
     S: Sharing + Send + Sync,
     R: Reducer + Send + Sync,
     G: Gate,
+    W: Watch,
     T: thread::Threads + Wait + Sync,
 >(
     rt: &T,
@@ -148,6 +176,7 @@ fn all_work<
     gate: &G,
     mut crew: Vec<Worker<'_, R, S>>,
     publisher: &mut Publisher<Version<R>>,
+    watch: &mut W,
 ) -> Result<Vec<Pass<S>>, Memory>
     requires { 0 < length crew.items }
     ensures { IfOk result (λ passes. length passes.items ≡ length crew.entry.items) }
@@ -160,7 +189,7 @@ fn all_work<
         move || -> Result<Vec<Pass<S>>, Memory>
             ensures { IfOk result (λ passes. length passes.items ≡ length crew.entry.items) }
         { others_work(rt, alloc, shared, gate, crew) },
-        move || lead(rt, alloc, shared, gate, owner, publisher),
+        move || lead(rt, alloc, shared, gate, owner, publisher, watch),
     );
     let mut passes = others?;
     passes.push(own?)?;

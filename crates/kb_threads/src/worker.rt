@@ -9,7 +9,7 @@ use crate::sieve::Sieve;
 use kb_io::{Gate, Point};
 use kb_publish::{Publisher, RuledGlass, VersionReader};
 use kb_rules::Reducer;
-use kb_share::Version;
+use kb_share::{Version, Watch};
 use kb_word::Memory;
 use std::alloc::Global;
 use std::sync::Wait;
@@ -19,13 +19,13 @@ use std::sync::Wait;
 /// of the rules that were made meanwhile it knows.
 const MOST_JOBS: usize = 32;
 
-/// Whether jobs may be left.
+/// What a worker does after a look.
 #[derive(Clone, Copy, Debug, PartialEq, Eq)]
-enum Left {
-    /// The worker's seat is dry.
-    None,
-    /// There may be some.
-    Some,
+enum Then {
+    /// It goes on: jobs may be left.
+    GoOn,
+    /// It ends: its seat is dry, or it got no look.
+    End,
 }
 
 /// A worker: its seat at the jobs, its pass, and its reader of versions.
@@ -46,42 +46,36 @@ pub(crate) fn work<R: Reducer, S: Sharing, G: Gate, T: Wait>(
 ) -> Result<Pass<S>, Memory> {
     let mut sieve = Sieve::new(alloc);
     for _ in rt.forever() {
-        let (left, next) = worker.do_some(rt, shared, gate, &mut sieve)?;
+        let (then, next) = worker.do_some(rt, shared, gate, &mut sieve)?;
         worker = next;
-        if left == Left::None {
+        if then == Then::End {
             break;
         }
     }
     Ok(worker.pass)
 }
 
-/// Does jobs as any worker, and after them lets the completion advance where enough is pending. At
-/// a halt the jobs that are left are left out.
-pub(crate) fn lead<R: Reducer, S: Sharing, G: Gate, T: Wait>(
+/// Does jobs as any worker, and after each look lets the completion advance.
+pub(crate) fn lead<R: Reducer, S: Sharing, G: Gate, W: Watch, T: Wait>(
     rt: &T,
     alloc: Global,
     shared: &Shared<R, S>,
     gate: &G,
     mut worker: Worker<'_, R, S>,
     publisher: &mut Publisher<Version<R>>,
+    watch: &mut W,
 ) -> Result<Pass<S>, Memory> {
     let mut sieve = Sieve::new(alloc);
     for _ in rt.forever() {
-        let (left, next) = worker.do_some(rt, shared, gate, &mut sieve)?;
+        let (then, next) = worker.do_some(rt, shared, gate, &mut sieve)?;
         worker = next;
-        if left == Left::None {
+        if then == Then::End {
             break;
         }
-        if !shared.is_due(rt) {
-            continue;
-        }
-        match shared.advance(rt, alloc, publisher)? {
-            Advance::Published(_) => worker = worker.told(publisher),
-            Advance::Nothing => {}
-            Advance::Halted => {
-                worker.seat.skip_rest(rt);
-                break;
-            }
+        let (then, next) = worker.let_advance(rt, alloc, shared, publisher, watch)?;
+        worker = next;
+        if then == Then::End {
+            break;
         }
     }
     Ok(worker.pass)
@@ -95,6 +89,26 @@ impl<'j, R: Reducer, S: Sharing> Worker<'j, R, S> {
         Worker { seat, pass, reader }
     }
 
+    /// Lets the completion advance, where enough is pending for that and nobody holds the lock. At a
+    /// halt it draws the jobs that are left, so that all workers end.
+    fn let_advance<W: Watch, T: Wait>(
+        mut self,
+        rt: &T,
+        alloc: Global,
+        shared: &Shared<R, S>,
+        publisher: &mut Publisher<Version<R>>,
+        watch: &mut W,
+    ) -> Result<(Then, Worker<'j, R, S>), Memory> {
+        match shared.advance_if_due(rt, alloc, publisher, watch)? {
+            Some(Advance::Published(_)) => Ok((Then::GoOn, self.told(publisher))),
+            Some(Advance::Nothing) | None => Ok((Then::GoOn, self)),
+            Some(Advance::Halted) => {
+                self.seat.skip_rest(rt);
+                Ok((Then::End, self))
+            }
+        }
+    }
+
     /// Does jobs by one look at the version that was published last. A worker that gets no look
     /// leaves the jobs to the others.
     fn do_some<G: Gate, T: Wait>(
@@ -103,7 +117,7 @@ impl<'j, R: Reducer, S: Sharing> Worker<'j, R, S> {
         shared: &Shared<R, S>,
         gate: &G,
         sieve: &mut Sieve,
-    ) -> Result<(Left, Worker<'j, R, S>), Memory> {
+    ) -> Result<(Then, Worker<'j, R, S>), Memory> {
         let Worker {
             mut seat,
             mut pass,
@@ -124,7 +138,7 @@ impl<'j, R: Reducer, S: Sharing> Worker<'j, R, S> {
                 let reader = look.leave();
                 Ok((done?, Worker { seat, pass, reader }))
             }
-            Err(reader) => Ok((Left::None, Worker { seat, pass, reader })),
+            Err(reader) => Ok((Then::End, Worker { seat, pass, reader })),
         }
     }
 }
@@ -140,21 +154,21 @@ fn do_jobs<R: Reducer, S: Sharing, G: Gate, T: Wait>(
     seat: &mut JobSeat<'_>,
     pass: &mut Pass<S>,
     sieve: &mut Sieve,
-) -> Result<Left, Memory> {
+) -> Result<Then, Memory> {
     let left_sides = sieve.sorted(version)?;
-    let mut left = Left::Some;
+    let mut then = Then::GoOn;
     for _ in 0..MOST_JOBS {
         gate.at(pass.worker(), Point::Draw);
         let Some(line) = seat.next() else {
-            left = Left::None;
+            then = Then::End;
             break;
         };
         gate.at(pass.worker(), Point::Sift);
-        sieve.sift(version, &left_sides, line, seat)?;
+        sieve.sift(version, &left_sides, line, seat.jobs())?;
         enter_if_free(shared, gate, pass, sieve)?;
     }
     enter_all(rt, shared, gate, pass, sieve)?;
-    Ok(left)
+    Ok(then)
 }
 
 /// Enters what was found, one after another, while the lock is free.

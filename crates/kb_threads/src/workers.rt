@@ -9,7 +9,7 @@ use crate::threads::Threads;
 use kb_book::Book;
 use kb_io::Gate;
 use kb_rules::Reducer;
-use kb_share::OneByOne;
+use kb_share::{OneByOne, Watch};
 use kb_word::Memory;
 use std::alloc::Global;
 use std::sync::Wait;
@@ -53,19 +53,20 @@ impl<'g, G: Gate> Workers<'g, G> {
     }
 
     /// Makes a pass over a book whose last version has its live lines. Lines may be made meanwhile,
-    /// and the book may halt.
-    pub fn pass<R: Reducer + Send + Sync, T: Threading + Wait + Sync>(
+    /// which is watched, and the book may halt.
+    pub fn pass<R: Reducer + Send + Sync, W: Watch, T: Threading + Wait + Sync>(
         &self,
         rt: &T,
         alloc: Global,
         book: Book<R>,
+        watch: &mut W,
     ) -> Result<Book<R>, Memory>
         requires { IsPublished book.course.state }
         ensures { IfOk result (λ after. IsLater book.course after.course) }
     {
         match self {
             Workers::Many(threads) if book.live().len() >= MANY_LINES => {
-                threads.pass(rt, alloc, book)
+                threads.pass(rt, alloc, book, watch)
             }
             _ => OneByOne.pass(alloc, book),
         }

@@ -1,21 +1,17 @@
-use Rattle.std.proofs.Common.{◌≡◌, sym, subst, arith}
-use Rattle.std.specs.List.{All}
-use Rattle.std.proofs.lemmas.List.Elements.{All-push}
-use Rattle.kb_threads.specs.Shared.{PassParts}
+use Rattle.std.proofs.Common.{◌∙◌, sym}
 use Rattle.kb_threads.proofs.shared.Shared.new.Goals as goal
 
-pub loop-worker-preserved : goal.loop-worker-preserved
-loop-worker-preserved g c =
-    let before = c.loop-worker.invariant in
-    let own = c.of.ensures.pass in
-    let rest = c.of.ensures.rest in
-    let more = c.in_ok-push.ensures.len in
-    let parts = before.1 in
-    let few = before.3 in (
-      before.0,
-      omega (arith, parts, rest.0),
-      rest.1,
-      omega (arith, few, more),
-      subst (All (λ (pass : PassParts). pass.entered ≡ 0)) (sym c.in_ok-push.ensures.items)
-          (All-push (λ (pass : PassParts). pass.entered ≡ 0) c.loop-worker.passes.items c.of.result before.4 own.1),
-    )
+pub passes_of-requires : goal.passes_of-requires
+passes_of-requires g c =
+    let parts = c.requires.parts in
+    let all = c.open-entered.ensures in
+    (all.parts ∙ (sym parts.0 ∙ parts.1), all.amount)
+
+pub new-requires : goal.new-requires
+new-requires g c = record { given = c.requires.given; none = c.open-entered.ensures.total }
+
+pub returns : goal.returns
+returns g c =
+    let parts = c.requires.parts in
+    let passes = c.in_ok-passes.ensures in
+    record { count = passes.count ∙ (sym parts.1 ∙ parts.0); none = passes.none }
