@@ -8,13 +8,17 @@
 //! time that the canonical form of many states takes, `exploration` the least text that a machine
 //! accepts, `branching` the states of a machine with several moves by one symbol, `least` the least
 //! text of a nondeterministic automaton, and `outside` the adapters over real files and streams.
-//! `drawing` has threads that draw from one counter, and `publishing` readers of what is published.
+//! `drawing` has threads that draw from one counter, `publishing` readers of what is published,
+//! `workers` the workers of a pass, and `sharing` a book that advances under its lock; `books` has
+//! the books that these two begin from.
 //!
 //! Below are the libraries that are tested; nothing is above.
 #![tactic(auto)]
 
 #[cfg(test)]
 mod automata;
+#[cfg(test)]
+mod books;
 #[cfg(test)]
 mod branching;
 #[cfg(test)]
@@ -30,4 +34,8 @@ mod publishing;
 #[cfg(test)]
 mod records;
 #[cfg(test)]
+mod sharing;
+#[cfg(test)]
 mod words;
+#[cfg(test)]
+mod workers;

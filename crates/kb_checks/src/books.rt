@@ -1,0 +1,32 @@
+//! Books that tests begin from.
+
+ghost use Rattle.std.specs.Prelude.{IfOk};
+ghost use Rattle.kb_share.specs.Versions.{IsPublished};
+
+use kb_book::{Book, Limits};
+use kb_presfile::read;
+use kb_rules::Scan;
+use kb_share::{Silent, settle};
+use kb_word::Memory;
+use std::alloc::Global;
+
+/// The book of a presentation after its relations are settled and their lines published.
+pub(crate) fn published(alloc: Global, text: &str) -> Result<Book<Scan>, Memory>
+    ensures { IfOk result (λ book. IsPublished book.course.state) }
+{
+    let Ok(presentation) = read(alloc, text.as_bytes()) else {
+        return Err(Memory);
+    };
+    let limits = Limits::new(1000, 100, 100, 100);
+    let book = Book::new(alloc, &presentation, &limits)?;
+    settled(alloc, book)
+}
+
+/// A book after it is settled and its live lines published.
+fn settled(alloc: Global, mut book: Book<Scan>) -> Result<Book<Scan>, Memory>
+    ensures { IfOk result (λ book. IsPublished book.course.state) }
+{
+    settle(alloc, &mut book, &mut Silent)?;
+    book.publish()?;
+    Ok(book)
+}
