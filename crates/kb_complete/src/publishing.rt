@@ -27,5 +27,6 @@ pub(crate) fn settle_and_publish<R: Reducer, W: Watch>(
         return Ok(Some(halt));
     }
     book.publish()?;
+    watch.published(book);
     Ok(None)
 }
