@@ -11,7 +11,6 @@ use kb_word::Memory;
 use std::alloc::Global;
 
 /// The book of a presentation after its relations are settled and their lines published.
-#[tactic(auto, using(kb_threads::proofs::Stages::published_is))]
 pub(crate) fn published(alloc: Global, text: &str) -> Result<Book<Scan>, Memory>
     ensures { IfOk result (λ book. IsPublished book.course.state) }
 {
@@ -24,7 +23,6 @@ pub(crate) fn published(alloc: Global, text: &str) -> Result<Book<Scan>, Memory>
 }
 
 /// A book after it is settled and its live lines published.
-#[tactic(auto, using(kb_threads::proofs::Stages::published_is))]
 fn settled(alloc: Global, mut book: Book<Scan>) -> Result<Book<Scan>, Memory>
     ensures { IfOk result (λ book. IsPublished book.course.state) }
 {

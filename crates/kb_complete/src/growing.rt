@@ -56,7 +56,7 @@ fn look_for_more<R: Reducer + Send + Sync, G: Gate, W: Watch, T: Threads + Wait 
     ensures { IfOk result (GrowSays book.course) }
 {
     let given = book.lines().len();
-    let passed = workers.pass(rt, alloc, book)?;
+    let passed = workers.pass(rt, alloc, book, watch)?;
     match advance(alloc, passed, given, watch)? {
         Round::Over(grown) => Ok(grown),
         Round::Open(settled) => Ok(end(rt, alloc, settled, workers.count(), watch)?),

@@ -32,5 +32,6 @@ pub(crate) fn settle_and_publish<R: Reducer, W: Watch>(
         return Ok(Standing::Halted);
     }
     book.publish()?;
+    watch.published(book);
     Ok(Standing::Published)
 }
