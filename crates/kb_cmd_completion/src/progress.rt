@@ -84,6 +84,16 @@ impl<'a, E: Sink> Watch for Progress<'a, E> {
             let _ = self.show(book);
         }
     }
+
+    fn published<R: Reducer>(&mut self, book: &Book<R>) {
+        if !self.is_shown() {
+            return;
+        }
+        self.versions = self.versions.saturating_add(1);
+        if self.versions % VERSIONS == 0 {
+            let _ = self.show(book);
+        }
+    }
 }
 
 /// How many letters the longest left side of a live line has.
