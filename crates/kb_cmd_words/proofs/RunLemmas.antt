@@ -10,7 +10,7 @@ use Rattle.kb_word.specs.Presentations.{PresentationParts}
 use Rattle.kb_word.specs.Relations.{relations_of, inverse_relations, AreOriented, Orients, none_left, equal_sides, repeated, added}
 use Rattle.kb_word.proofs.PathLemmas.{congruent_covered}
 use Rattle.kb_confluence.specs.Answers.{MatchVerdict}
-use Rattle.kb_confluence.specs.Unjoined.{IsCounterexample}
+use Rattle.kb_confluence.specs.FirstApart.{IsCounterexample}
 use Rattle.kb_confluence.specs.declared.confluence.Verdict.TheVariants as verdicts
 use Rattle.kb_lines.specs.Streams.{Streams, AreTold, StreamsGoOn}
 use Rattle.kb_lines.specs.Answered.{AllAnswered, Stops, StopIsCounted}

@@ -8,7 +8,7 @@ use Rattle.kb_word.specs.Overlap.{IsConfluent}
 use Rattle.kb_word.specs.WordOrders.{Below}
 use Rattle.kb_word.specs.Presentations.{PresentationParts}
 use Rattle.kb_word.specs.Printed.{text_of_word}
-use Rattle.kb_confluence.specs.Unjoined.{IsFirstUnjoined, IsCounterexample}
+use Rattle.kb_confluence.specs.FirstApart.{IsFirstApart, IsCounterexample}
 
 -- the defining relations of the presentation
 abbrev pub relations : PresentationParts → List Pair
@@ -24,7 +24,7 @@ pub record OrientedAreConfluent (parts : PresentationParts) : Type 0 where
   pub oriented : AreOriented (Below parts.order) (relations parts) rules
   pub confluent : IsConfluent rules
 
--- The oriented relations of the presentation aren't confluent: the first overlap that doesn't join leads to
+-- The oriented relations of the presentation aren't confluent: the first overlap that is apart leads to
 -- u and v, which are different, irreducible and congruent in the presentation.
 pub record OrientedAreNotConfluent (parts : PresentationParts) (u v : List ℕ) : Type 0 where
   pub rules : List Pair
@@ -32,7 +32,7 @@ pub record OrientedAreNotConfluent (parts : PresentationParts) (u v : List ℕ) 
   pub i : ℕ
   pub j : ℕ
   pub place : ℕ
-  pub first : IsFirstUnjoined rules i j place u v
+  pub first : IsFirstApart rules i j place u v
   pub counterexample : IsCounterexample rules u v
   pub congruent : Congruent (OneOf (relations parts)) u v
 

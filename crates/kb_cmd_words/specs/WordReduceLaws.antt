@@ -8,7 +8,7 @@ use Rattle.kb_word.specs.Rewriting.{NormalForm}
 use Rattle.kb_word.specs.Presentations.{PresentationParts}
 use Rattle.kb_word.specs.WordOrderLaws.{word_orders}
 use Rattle.kb_rules.proofs.Unique.{normal_form_unique}
-use Rattle.kb_confluence.specs.Unjoined.{ComesBefore, IsFirstUnjoined}
+use Rattle.kb_confluence.specs.FirstApart.{ComesBefore, IsFirstApart}
 use Rattle.kb_record.specs.Tree.{TextTree}
 use Rattle.kb_presfile.specs.Holds.{PresentationOf, HoldsPresentation as TreeHoldsPresentation}
 use Rattle.kb_presfile.proofs.UniqueParts.{one_presentation}
@@ -29,12 +29,12 @@ use Rattle.kb_cmd_words.specs.OrientationLaws.{one_orienting}
 
 -- ---- confluent or not
 
--- what joins doesn't part
-not_parted : {rules : List Pair} {pair : Pair} {u v : List ℕ} → IsResolved rules pair
+-- what is joined isn't apart
+not_apart : {rules : List Pair} {pair : Pair} {u v : List ℕ} → IsResolved rules pair
     → ¬ IsUnresolved rules pair u v
-not_parted joins parted =
-    parted.different
-    (normal_form_unique parted.left joins.left ∙ normal_form_unique joins.right parted.right)
+not_apart joined apart =
+    apart.different
+    (normal_form_unique apart.left joined.left ∙ normal_form_unique joined.right apart.right)
 
 -- no presentation's oriented relations are confluent and not
 pub confluent-not_refuted : (parts : PresentationParts) (u v : List ℕ) → OrientedAreConfluent parts
@@ -46,16 +46,16 @@ confluent-not_refuted parts u v holds refuted =
     refuted.oriented)
     holds.confluent in
     let first = refuted.first in
-    not_parted (confluent refuted.i refuted.j refuted.place first.first first.second first.overlap)
+    not_apart (confluent refuted.i refuted.j refuted.place first.first first.second first.overlap)
     first.parts
 
--- no overlap that doesn't join comes before the first
+-- no overlap that is apart comes before the first
 not_before : {rules : List Pair} {i j p k l q : ℕ} {u v w x : List ℕ}
-    → IsFirstUnjoined rules i j p u v
-    → IsFirstUnjoined rules k l q w x
+    → IsFirstApart rules i j p u v
+    → IsFirstApart rules k l q w x
     → ¬ ComesBefore i j p k l q
 not_before {i = i} {j = j} {p = p} one other before =
-    not_parted (other.earlier i j p one.first one.second before one.overlap) one.parts
+    not_apart (other.earlier i j p one.first one.second before one.overlap) one.parts
 
 one_place : (i j p k l q : ℕ) → ¬ ComesBefore i j p k l q → ¬ ComesBefore k l q i j p
     → (i ≡ k) × (j ≡ l) × (p ≡ q)
@@ -70,12 +70,12 @@ one_place i j p k l q none_before none_after =
     let place_not_more : q < p → ⊥ = λ more. none_after (inr (sym first, inr (sym second, more))) in
     (first, second, omega arith)
 
--- the first overlap that doesn't join has one pair of normal forms
-one_unjoined : {rules : List Pair} {i j p k l q : ℕ} {u v w x : List ℕ}
-    → IsFirstUnjoined rules i j p u v
-    → IsFirstUnjoined rules k l q w x
+-- the first overlap that is apart has one pair of normal forms
+one_first_apart : {rules : List Pair} {i j p k l q : ℕ} {u v w x : List ℕ}
+    → IsFirstApart rules i j p u v
+    → IsFirstApart rules k l q w x
     → (u ≡ w) × (v ≡ x)
-one_unjoined {rules} {i} {j} {p} {k} {l} {q} {u} {v} {w} {x} one other =
+one_first_apart {rules} {i} {j} {p} {k} {l} {q} {u} {v} {w} {x} one other =
     let places = one_place i j p k l q (not_before one other) (not_before other one) in
     let first : one.first ≡ other.first =
     same_Some _ _ (sym one.overlap.is_first ∙ ap (slice_get rules) places.0
@@ -96,8 +96,8 @@ one_counterexample : (parts : PresentationParts) (u v w x : List ℕ)
 one_counterexample parts u v w x one other =
     let rules : other.rules ≡ one.rules =
     one_orienting (word_orders parts.order) _ _ other.rules one.rules other.oriented one.oriented in
-    let words = one_unjoined one.first
-    (subst (λ r. IsFirstUnjoined r other.i other.j other.place w x) rules other.first) in
+    let words = one_first_apart one.first
+    (subst (λ r. IsFirstApart r other.i other.j other.place w x) rules other.first) in
     ap (λ a. NotConfluent a v) words.0 ∙ ap (NotConfluent w) words.1
 
 -- a word has one least word

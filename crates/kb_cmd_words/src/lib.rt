@@ -8,7 +8,7 @@
 //! two words that show why the rules aren't confluent.
 //!
 //! - `word_reduce` is the command, `run` a run of it, and `line` the command on the command line.
-//! - `orienting` orients the relations; `rule_key` is a rule as it is looked up.
+//! - `orienting` orients the relations.
 //! - By the law of `laws` no presentation's oriented relations are confluent and not.
 //!
 //! Below are kb_task, kb_lines, kb_reduce and kb_confluence; above is kb_cli.
@@ -17,7 +17,6 @@
 mod laws;
 mod line;
 mod orienting;
-mod rule_key;
 mod run;
 mod word_reduce;
 

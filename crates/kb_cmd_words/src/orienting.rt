@@ -8,7 +8,6 @@ ghost use Rattle.kb_word.specs.Congruence.{SameCongruence};
 ghost use Rattle.kb_word.specs.Rewriting.{AreDecreasing};
 ghost use Rattle.kb_word.specs.Relations.{relations_of, IsOrientation, Orients, AreOriented};
 
-use crate::rule_key::RuleKey;
 use indexmap::IndexSet;
 use kb_rules::{Rule, Rules};
 use kb_word::{Memory, Order, Presentation, Word, WordOrder};
@@ -21,50 +20,50 @@ pub fn oriented(alloc: Global, presentation: &Presentation) -> Result<Rules, Mem
         (relations_of presentation.now.inv presentation.now.eqs) rules.rules) }
     ensures order { IfOk result (λ rules. rules.order ≡ presentation.now.order) }
 {
-    let keys = oriented_keys(alloc, presentation)?;
+    let set = oriented_set(alloc, presentation)?;
     let order = presentation.order.copy(alloc)?;
     oriented_rules_decrease();
-    rules_of(alloc, order, keys)
+    rules_of(alloc, order, set)
 }
 
 /// The rules that the relations give, each once, in order.
-fn oriented_keys(alloc: Global, presentation: &Presentation) -> Result<IndexSet<RuleKey>, Memory>
-    ensures { IfOk result (λ keys. AreOriented (Below presentation.now.order)
-        (relations_of presentation.now.inv presentation.now.eqs) keys.keys) }
+fn oriented_set(alloc: Global, presentation: &Presentation) -> Result<IndexSet<Rule>, Memory>
+    ensures { IfOk result (λ set. AreOriented (Below presentation.now.order)
+        (relations_of presentation.now.inv presentation.now.eqs) set.keys) }
 {
-    let mut keys = IndexSet::new(alloc);
+    let mut set = IndexSet::new(alloc);
     for (left, right) in presentation.relations(alloc)? {
-        insert_relation(&presentation.order, &mut keys, left, right)?;
+        insert_relation(&presentation.order, &mut set, left, right)?;
     }
-    Ok(keys)
+    Ok(set)
 }
 
 /// Adds the rule that a relation gives by an order, unless it is there.
 fn insert_relation(
     order: &WordOrder,
-    keys: &mut IndexSet<RuleKey>,
+    set: &mut IndexSet<Rule>,
     left: Word,
     right: Word,
 ) -> Result<(), Memory>
     ensures { OnOk result ((added : List Pair)
-        × Orients (Below order.now) keys.old.keys ((left, right) ∷ []) added
-        × (keys.new.keys ≡ keys.old.keys ++ added)) }
+        × Orients (Below order.now) set.old.keys ((left, right) ∷ []) added
+        × (set.new.keys ≡ set.old.keys ++ added)) }
 {
     if let Some(rule) = orientation(order, left, right) {
-        keys.insert(RuleKey::new(rule))?;
+        set.insert(rule)?;
     }
     Ok(())
 }
 
 /// The rules of a set, in the order in which they were inserted.
-fn rules_of(alloc: Global, order: WordOrder, keys: IndexSet<RuleKey>) -> Result<Rules, Memory>
-    requires { AreDecreasing (Below order) keys.keys }
+fn rules_of(alloc: Global, order: WordOrder, set: IndexSet<Rule>) -> Result<Rules, Memory>
+    requires { AreDecreasing (Below order) set.keys }
     ensures order { IfOk result (λ rules. rules.order ≡ order) }
-    ensures rules { IfOk result (λ rules. rules.rules ≡ keys.keys) }
+    ensures rules { IfOk result (λ rules. rules.rules ≡ set.keys) }
 {
     let mut rules = Rules::new(alloc, order);
-    for key in keys {
-        rules.push(key.into_rule())?;
+    for rule in set {
+        rules.push(rule)?;
     }
     Ok(rules)
 }
