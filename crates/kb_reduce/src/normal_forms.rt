@@ -2,7 +2,7 @@
 
 use kb_index::Index;
 use kb_lines::Answerer;
-use kb_rules::Reducer;
+use kb_rules::{Reducer, Workspace};
 use kb_word::{Memory, Word};
 use kb_wordreader::WordReader;
 use std::alloc::Global;
@@ -20,6 +20,8 @@ impl Answerer for NormalForms {
     ghost use Rattle.kb_word.specs.Presentations.{parts_of};
     ghost use Rattle.kb_word.specs.Rewriting.{NormalForm};
 
+    type Workspace = Workspace;
+
     ghost parts = { λ it. parts_of it.reader.presentation };
 
     ghost answers = { λ it. NormalForm it.index.rules };
@@ -28,7 +30,11 @@ impl Answerer for NormalForms {
         &self.reader
     }
 
-    fn answer(&self, alloc: Global, word: &Word) -> Result<Word, Memory> {
-        self.index.nf(alloc, word)
+    fn workspace(&self, alloc: Global) -> Workspace {
+        Workspace::new(alloc)
+    }
+
+    fn answer(&self, word: &mut Word, workspace: &mut Workspace) -> Result<(), Memory> {
+        self.index.reduce(word, workspace)
     }
 }
