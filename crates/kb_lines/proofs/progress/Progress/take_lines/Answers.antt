@@ -1,4 +1,4 @@
-use Rattle.std.proofs.Common.{refl, arith, length, ap, ◌∷◌, length-append}
+use Rattle.std.proofs.Common.{arith, length, ap, ◌∷◌, length-append}
 use Rattle.std.proofs.lemmas.Result.{err_from_is_err_and}
 use Rattle.kb_lines.proofs.ProgressLemmas.{advances-line, advances-stops}
 use Rattle.kb_lines.proofs.ReadingLemmas.{sink-goes-on-then}
