@@ -9,8 +9,8 @@ use Rattle.kb_lines.specs.Streams.{Streams, AreTold, StreamsGoOn}
 use Rattle.kb_lines.specs.Answered.{AllAnswered, Stops, StopIsCounted}
 use Rattle.kb_lines.specs.declared.stop.Stop.{Stop}
 use Rattle.kb_lines.specs.declared.stop.Stop.TheVariants as stops
-use Rattle.kb_reduce.specs.Stops.{stop_status}
-use Rattle.kb_reduce.proofs.StopLemmas.{stop-counted}
+use Rattle.kb_task.specs.Stops.{stop_status}
+use Rattle.kb_task.proofs.StopLemmas.{stop-counted}
 use Rattle.kb_task.specs.Lines.{LineIsWritten}
 use Rattle.kb_task.specs.declared.loading.LoadStop.TheVariants as load_stops
 use Rattle.kb_task.specs.Loads.{OnlyLoads}

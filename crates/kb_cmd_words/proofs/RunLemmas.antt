@@ -25,8 +25,8 @@ use Rattle.kb_task.specs.declared.status.Status.TheVariants.{Yes, Refused, No, M
 use Rattle.kb_task.specs.declared.status.Which.TheVariants.{Input, Output}
 use Rattle.kb_task.proofs.EffectLemmas.{unchanged-later, writes-later, front-later, writes-printed, front-printed, unchanged-printed}
 use Rattle.kb_task.proofs.RunLemmas.{run-prints}
-use Rattle.kb_reduce.specs.Stops.{stop_status}
-use Rattle.kb_reduce.proofs.StopLemmas.{stop-counted}
+use Rattle.kb_task.specs.Stops.{stop_status}
+use Rattle.kb_task.proofs.StopLemmas.{stop-counted}
 use Rattle.kb_cmd_words.specs.Confluence.{relations, IsLeastIn, OrientedAreConfluent, OrientedAreNotConfluent, no_line}
 use Rattle.kb_cmd_words.specs.WordReduce.{streams_of, AnswersMean, StoresNothing}
 use Rattle.kb_cmd_words.proofs.OrientLemmas.{rules_covered}

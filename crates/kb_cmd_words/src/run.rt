@@ -20,9 +20,9 @@ use kb_confluence::{
 use kb_index::Index;
 use kb_io::{Shelf, Sink, Source};
 use kb_lines::answer_lines;
-use kb_reduce::{NormalForms, status_of};
+use kb_reduce::NormalForms;
 use kb_rules::{Reducer, Rules};
-use kb_task::{Cert, Status, Task, load_presentation, print_line};
+use kb_task::{Cert, Status, Task, load_presentation, print_line, status_of};
 use kb_word::{Memory, Names, Presentation, Word, print_word};
 use kb_wordreader::WordReader;
 use std::alloc::Global;

@@ -4,4 +4,5 @@ pub mod EquationLemmas
 pub mod LoadEnds
 pub mod LoadLemmas
 pub mod RunLemmas
+pub mod StopLemmas
 mod StoreLemmas

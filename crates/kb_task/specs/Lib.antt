@@ -10,3 +10,4 @@ pub mod Stores
 pub mod Limits
 pub mod Lines
 pub mod Arguments
+pub mod Stops

@@ -13,7 +13,8 @@
 //!
 //! - `status` is how a run ends, with its exit status and its messages.
 //! - `loading` loads files, and the presentations, automata and logs that they hold; `storing` stores files, and an
-//!   automaton in its canonical form; `lines` prints the line of an answer.
+//!   automaton in its canonical form; `lines` prints the line of an answer, and `stopping` is how a run ends where the
+//!   word lines stop.
 //! - `arguments` is what commands take of the command line in the same way.
 //!
 //! Below are the readers of files and the canonical form of automata; above are the families of commands, and
@@ -24,6 +25,7 @@ mod arguments;
 mod lines;
 mod loading;
 mod status;
+mod stopping;
 mod storing;
 mod task;
 
@@ -37,5 +39,6 @@ pub use loading::logs::load_log;
 pub use loading::presentations::load_presentation;
 pub use loading::{LoadStop, load_text};
 pub use status::{Cert, Construction, FileFault, Limit, Refusal, Status, Which};
+pub use stopping::status_of;
 pub use storing::{TextFile, canonical_text, store_canonical, store_texts};
 pub use task::Task;

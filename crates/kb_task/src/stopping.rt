@@ -1,10 +1,10 @@
 //! The status of a run that a stop ends.
 
 ghost use Rattle.std.specs.Prelude.{◌≡◌};
-ghost use Rattle.kb_reduce.specs.Stops.{stop_status};
+ghost use Rattle.kb_task.specs.Stops.{stop_status};
 
+use crate::status::{Refusal, Status, Which};
 use kb_lines::Stop;
-use kb_task::{Refusal, Status, Which};
 
 /// The status of a run that a stop ends.
 pub fn status_of(stop: Stop) -> Status

@@ -5,7 +5,7 @@ use Rattle.kb_lines.specs.Streams.{streams}
 use Rattle.kb_lines.specs.declared.stop.Stop.{Stop}
 use Rattle.kb_lines.specs.declared.stop.Stop.TheVariants as stops
 use Rattle.kb_task.specs.Runs.{FaultIsCounted}
-use Rattle.kb_reduce.specs.Stops.{stop_status}
+use Rattle.kb_task.specs.Stops.{stop_status}
 
 pub stop-counted : (before after : Outside) (stop : Stop)
     → StopIsCounted (streams before.input before.output) (streams after.input after.output) stop
