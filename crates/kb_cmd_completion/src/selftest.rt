@@ -86,9 +86,9 @@ impl SelfTest {
     ghost use Rattle.kb_task.specs.Runs.{IsRun};
     ghost use Rattle.kb_cmd_completion.specs.SelfTest.{SelfTestMeans, selftest_may_store};
 
-    /// Runs the command. Workers are threads of `rt`, and
+    /// Runs the command. What it writes to `err` only shows that it lives. Workers are threads of `rt`, and
     /// pass the gate.
-    pub fn run<T: Threads + Wait + Sync, G: Gate, F: Shelf, I: Source, O: Sink>(
+    pub fn run<T: Threads + Wait + Sync, G: Gate, F: Shelf, I: Source, O: Sink, E: Sink>(
         self,
         rt: &T,
         alloc: Global,
@@ -96,6 +96,7 @@ impl SelfTest {
         shelf: &mut F,
         input: &mut I,
         out: &mut O,
+        err: &mut E,
     ) -> Status
         ensures { IsRun (SelfTestMeans self) (selftest_may_store self)
             (outside (F.state shelf.old) (I.state input.old) (O.state out.old))

@@ -50,7 +50,7 @@ impl CompletionTask {
     ghost use Rattle.kb_task.specs.Runs.{IsRun};
     ghost use Rattle.kb_cmd_completion.specs.Tasks.{CompletionMeans, completion_may_store};
 
-    /// Runs the command. What `kbprog` writes to `err` only shows that it lives. Workers are threads of `rt`, and
+    /// Runs the command. What is written to `err` only shows that it lives. Workers are threads of `rt`, and
     /// pass the gate.
     pub fn run<T: Threads + Wait + Sync, G: Gate, F: Shelf, I: Source, O: Sink, E: Sink>(
         self,
@@ -69,7 +69,7 @@ impl CompletionTask {
         match self {
             CompletionTask::Kbprog(task) => task.run(rt, alloc, gate, shelf, input, out, err),
             CompletionTask::Logread(task) => task.run(alloc, shelf, input, out),
-            CompletionTask::SelfTest(task) => task.run(rt, alloc, gate, shelf, input, out),
+            CompletionTask::SelfTest(task) => task.run(rt, alloc, gate, shelf, input, out, err),
         }
     }
 }
