@@ -2,6 +2,8 @@
 //!
 //! What a run means by its exit status is the contract of `kb_cli::run`. Here are only the adapters, and the arguments,
 //! which the system gives as bytes. Arguments that aren't UTF-8 are a usage error.
+//!
+//! Below are `kb_cli` and `kb_io`.
 #![tactic(auto)]
 
 use clap::error::ErrorKind;

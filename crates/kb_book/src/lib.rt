@@ -28,9 +28,8 @@
 //! are. In proofs/, `Courses` has what is kept along every course, by which the other lemmas know that lines decrease
 //! and live numbers ascend.
 //!
-//! Below are `kb_rules`, whose `Reducer` computes normal forms by the live rules, `kb_overlap`, which knows overlaps
-//! and their pairs, and `kb_machine`; above are `kb_share`, where workers look for overlaps, and `kb_complete`, which
-//! completes.
+//! Below are `kb_rules`, whose `Reducer` computes normal forms by the live rules, `kb_overlap`, which knows
+//! overlaps and their pairs, and `kb_machine`.
 #![tactic(auto)]
 
 mod answers;

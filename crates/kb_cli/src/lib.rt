@@ -13,8 +13,7 @@
 //!   command line, made of the families' parts, and `arguments` reads it.
 //! - `program` is [`run`], and `report` the messages to err, of which no clause speaks.
 //!
-//! Below are the families of commands and what they have in common, `kb_task`; above are the program `kb`, which makes
-//! the real outside and calls `run`, and `kb_cases`, which runs worked cases over memory.
+//! Below are the families of commands and what they have in common, `kb_task`.
 #![tactic(auto)]
 
 mod arguments;

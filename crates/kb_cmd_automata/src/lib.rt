@@ -9,8 +9,9 @@
 //! files.
 //!
 //! Each kind of command is a struct in a file of its own; `task` has the enum of all five kinds, and `line` is what
-//! the command line says of them. Below are the operations on automata, their files and their canonical form, and
-//! `kb_task`; above is `kb_cli`.
+//! the command line says of them.
+//!
+//! Below are the operations on automata, their files and their canonical form, and `kb_task`.
 #![tactic(auto)]
 
 mod combine;

@@ -16,8 +16,8 @@
 //! - `printing` appends the parts of lines.
 //! - `free_abelian` makes the presentations of free abelian groups.
 //!
-//! Below are `kb_system`, which completes presentations, `kb_proof`, which prints and reads
-//! logs, and `kb_task`; above is `kb_cli`.
+//! Below are `kb_system`, which completes presentations, `kb_proof`, which prints and reads logs, and
+//! `kb_task`.
 #![tactic(auto)]
 
 mod conclusion;

@@ -11,7 +11,7 @@
 //! - `orienting` orients the relations.
 //! - By the law of `laws` no presentation's oriented relations are confluent and not.
 //!
-//! Below are kb_task, kb_lines, kb_reduce and kb_confluence; above is kb_cli.
+//! Below are `kb_task`, `kb_lines`, `kb_reduce` and `kb_confluence`.
 #![tactic(auto)]
 
 mod laws;

@@ -39,12 +39,40 @@ pub(crate) fn end<R: Reducer + Sync, W: Watch, T: Threads + Wait + Sync>(
     ensures { IfOk result (GrowSays book.course) }
 {
     let rules = live_rules(alloc, &book)?;
+    match first_unjoined(rt, alloc, &rules, book.reducer(), workers)? {
+        None => Ok(completed(alloc, book, &rules)?),
+        Some(Unjoined { i, j, place }) => Ok(add_unjoined(alloc, book, i, j, place, watch)?),
+    }
+}
+
+/// An overlap that isn't joined, of the rules at these indices from 1 on.
+#[derive(Clone, Copy)]
+struct Unjoined {
+    i: u32,
+    j: u32,
+    place: u64,
+}
+
+/// The first overlap of the rules that isn't joined; none where they are confluent.
+fn first_unjoined<R: Reducer + Sync, T: Threads + Wait + Sync>(
+    rt: &T,
+    alloc: Global,
+    rules: &Rules,
+    reducer: &R,
+    workers: u32,
+) -> Result<Option<Unjoined>, Memory>
+    requires reducer { R.rules reducer.now ≡ rules.now.rules }
+    requires workers { (1 ≤ workers) × (workers ≤ 64) }
+    ensures some { IfOk result
+        (λ found. IfSome found (λ at. IsUnjoined rules.now.rules at.i at.j at.place)) }
+    ensures none { IfOk result (λ found. IfNone found (IsConfluent rules.now.rules)) }
+{
     if rules.len() >= TOO_MANY_RULES {
         return Err(Memory);
     }
-    match check(rt, alloc, &rules, book.reducer(), workers)? {
-        Verdict::Yes => Ok(completed(alloc, book, &rules)?),
-        Verdict::No { i, j, place, .. } => Ok(add_unjoined(alloc, book, i, j, place, watch)?),
+    match check(rt, alloc, rules, reducer, workers)? {
+        Verdict::Yes => Ok(None),
+        Verdict::No { i, j, place, .. } => Ok(Some(Unjoined { i, j, place })),
     }
 }
 

@@ -25,8 +25,7 @@
 //! relations, whatever events led there (`kb_machine::courses_are_sound`), and where they are
 //! confluent besides, `kb_reduced` makes the reduced complete system of them.
 //!
-//! Below are `kb_book`, `kb_share`, `kb_threads`, `kb_confluence` and `kb_reduced`; above are the
-//! commands that complete.
+//! Below are `kb_book`, `kb_share`, `kb_threads`, `kb_confluence` and `kb_reduced`.
 #![tactic(auto)]
 
 mod answers;

@@ -18,7 +18,7 @@
 //! `specs/Rows.antt` says what a verdict on some of the rows is, `proofs/RowVerdicts.antt` puts such verdicts
 //! together, and `proofs/Drawing.antt` follows a worker from one row that it draws to the next.
 //!
-//! Below are `kb_word`, `kb_rules`, `kb_overlap` and `kb_draw`; above are the commands that work with confluent rules.
+//! Below are `kb_word`, `kb_rules`, `kb_overlap` and `kb_draw`.
 #![tactic(auto)]
 
 mod confluence;

@@ -25,11 +25,11 @@
 //! The definitions are in `specs`: `Differences` has the difference of two words at a place,
 //! `Keeping` what is kept and answered, `Steps` the difference machine, whose states are the
 //! differences, `Tables` the table that holds its steps, and `Languages` the words that the
-//! acceptor and the multipliers of these differences accept. Of the proofs, `StepRuns` is for the
-//! crates above: words lead alike by differences and by their numbers.
+//! acceptor and the multipliers of these differences accept. Of the proofs, `StepRuns` is for
+//! other crates: words lead alike by differences and by their numbers.
 //!
-//! Below are `kb_word`, with words and their inverses, and `kb_rules`, with the contract of all programs that reduce
-//! words: differences are the same by each of them. Above is `kb_diffwa`.
+//! Below are `kb_word`, with words and their inverses, and `kb_rules`, with the contract of all programs that
+//! reduce words: differences are the same by each of them.
 #![tactic(auto)]
 
 mod adding;

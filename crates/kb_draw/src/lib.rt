@@ -22,7 +22,7 @@
 //!
 //! The seats may draw numbers past the end, one each at most. So the counter never comes to the end of its 64 bits.
 //!
-//! Below stands `kb_word`, for want of memory. Above stand the crates whose workers share jobs.
+//! Below is `kb_word`, for want of memory.
 #![tactic(auto)]
 
 mod counter;

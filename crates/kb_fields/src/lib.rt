@@ -30,7 +30,7 @@
 //!
 //! # Where the proofs are
 //!
-//! These serve the crates above too.
+//! These serve other crates too.
 //!
 //! - `proofs/ViewLemmas.antt`: the trees of words of one factor.
 //! - `proofs/PlaceLemmas.antt`, `proofs/ListingLemmas.antt`, `proofs/NumberLemmas.antt`: places of lists, and lists
@@ -39,8 +39,7 @@
 //! - `proofs/NameFaults.antt`: names of generators have no fault.
 //! - `proofs/Outcomes.antt`: what follows from a clause on an outcome.
 //!
-//! Below stand `kb_record`, which reads trees, and `kb_word`, whose names are the answers. Above stand the crates
-//! that read and write files of presentations and of automata.
+//! Below are `kb_record`, which reads trees, and `kb_word`, whose names are the answers.
 #![tactic(auto)]
 
 mod error;

@@ -44,8 +44,8 @@
 //! `Holds`, what each refusal means in `Faults`; what the functions
 //! for fields and rows return in `Reading` and `RowsRead`. In `proofs/`, `UniqueAutomaton` and `NoFault` have the laws.
 //!
-//! `kb_record` (trees), `kb_fields` (fields), `kb_fsa` (automata) and `kb_padding` (moves that no padded text takes) are
-//! below; `kb_fsaprint`, which writes what is read here again, and the commands that load automata are above.
+//! Below are `kb_record` (trees), `kb_fields` (fields), `kb_fsa` (automata) and `kb_padding` (moves that no
+//! padded text takes).
 #![tactic(auto)]
 
 mod accepting;

@@ -13,8 +13,8 @@
 //! In `specs/`, `Printed` has the tree and its text, and `Writing` rows on their way. In `proofs/`, `Writings` has the
 //! text piece by piece, `WrittenTrees` the tree, and `WrittenAutomata` what the tree says.
 //!
-//! `kb_layout` (printed texts), `kb_fsafile`, which reads what is written, with `kb_record` (trees) and `kb_fields`,
-//! and `kb_fsa` (automata) are below; the commands that store automata are above.
+//! Below are `kb_layout` (printed texts), `kb_fsafile`, which reads what is written, with `kb_record` (trees)
+//! and `kb_fields`, and `kb_fsa` (automata).
 #![tactic(auto)]
 
 mod format;

@@ -22,9 +22,8 @@
 //!   `SpelledTrees`: the trees of texts can be spelled.
 //! - `WrittenLists`, `SpelledValues`: lists of names and of numbers, names and strings that can be spelled.
 //!
-//! Below stand `kb_record`, whose grammar says what a text of a tree is, with `kb_lexing` and its tokens, and
-//! `kb_fields` with lists of names. Above stand the printers of presentations and of automata. No reader stands on
-//! what is printed.
+//! Below are `kb_record`, whose grammar says what a text of a tree is, with `kb_lexing` and its tokens, and
+//! `kb_fields` with lists of names. No reader stands on what is printed.
 #![tactic(auto)]
 
 mod laws;

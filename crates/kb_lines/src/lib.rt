@@ -13,7 +13,7 @@
 //! - `answerer` is what answers a word, with the reader of words, and `stop` why the lines aren't answered to the end.
 //! - `line` is one line and the memory for it, `progress` what is held between two reads, and `lines` the reading.
 //!
-//! Below are kb_word, kb_record, kb_wordreader and kb_io; above are the commands that answer word lines.
+//! Below are `kb_word`, `kb_record`, `kb_wordreader` and `kb_io`.
 #![tactic(auto)]
 
 mod answerer;

@@ -32,8 +32,7 @@
 //! overlaps with rules. `proofs/Superposed.antt` has the equations of critical pairs, and `proofs/Joined.antt` what the
 //! normal forms of a pair's words say of it.
 //!
-//! Below are `kb_word`, with the definitions of overlap and critical pair, and `kb_rules`; above are `kb_confluence`
-//! and what completes, from `kb_machine` on.
+//! Below are `kb_word`, with the definitions of overlap and critical pair, and `kb_rules`.
 #![tactic(auto)]
 
 mod left_sides;

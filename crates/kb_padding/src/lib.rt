@@ -24,7 +24,7 @@
 //! `PaddedTexts` has padded texts symbol by symbol, `EdgeLemmas` the edges forwards and backwards, `PaddingReach` what
 //! the marks say of texts, and `Cleanings` the table without those moves.
 //!
-//! `kb_fsa` (tables, symbols of pairs, and what moves lead to) is below; `kb_fsafile`, which reads tables, is above.
+//! Below is `kb_fsa`: tables, symbols of pairs, and what moves lead to.
 #![tactic(auto)]
 
 mod error;

@@ -44,12 +44,11 @@
 //! - `proofs/EquationLemmas.antt`: faults of sides, of equations and of lists of equations.
 //! - `proofs/OverLemmas.antt`: the letters of a word's meaning are generators.
 //! - `proofs/WeightLemmas.antt`: numbers that are weights.
-//! - `proofs/RefusalLemmas.antt`: what the crates below refuse is a fault of the file.
+//! - `proofs/RefusalLemmas.antt`: what lower crates refuse is a fault of the file.
 //! - `proofs/UniqueParts.antt`, `proofs/NoFault.antt`: a text's fields say one presentation, which has no fault.
 //!
-//! Below stand `kb_fields`, which looks up fields and reads names of generators, `kb_record`, which reads trees and
-//! evaluates words, and `kb_word`, whose presentations are the answers. Above stand `kb_presprint`, which writes what
-//! is read here again, and the commands that load a presentation.
+//! Below are `kb_fields`, which looks up fields and reads names of generators, `kb_record`, which reads trees
+//! and evaluates words, and `kb_word`, whose presentations are the answers.
 #![tactic(auto)]
 
 mod equations;

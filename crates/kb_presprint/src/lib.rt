@@ -23,8 +23,8 @@
 //! `WrittenTrees` the tree, `WrittenWords` and `WrittenPresentations` what the tree says: a printed word means the
 //! word. `ReadPresentations`: names that were read are Names.
 //!
-//! `kb_layout` (printed texts), `kb_presfile`, which reads what is written, with `kb_record` (trees) and `kb_fields`,
-//! `kb_word` (presentations) and `kb_rules` are below; the commands that store a presentation are above.
+//! Below are `kb_layout` (printed texts), `kb_presfile`, which reads what is written, with `kb_record` (trees)
+//! and `kb_fields`, `kb_word` (presentations) and `kb_rules`.
 #![tactic(auto)]
 
 mod laws;

@@ -33,7 +33,7 @@
 //! free, which may happen where more readers are told than were made, the glass has a note of what was published
 //! instead: it refuses each look until it is told again. `src/notes.rt` has the notes, which are for contracts alone.
 //!
-//! Below stands `kb_word`, for want of memory. Above stand the crates whose workers read what another thread writes.
+//! Below is `kb_word`, for want of memory.
 #![tactic(auto)]
 
 mod glass;

@@ -51,9 +51,7 @@
 //! - `proofs/ReadRows.antt`, `PassedMarks`, `Depths`, `Views`: one step of the functions and of the
 //!   trees. `Taken`: lists that are gone through place by place.
 //!
-//! Below stand `kb_lexing`, `kb_ragged`, and `kb_word`, whose words and presentations are the
-//! answers. Above stand the crates that read files of presentations and of automata, and the lines
-//! of words of the command `wordreduce`, and `kb_layout`, which says how a tree is printed.
+//! Below are `kb_lexing`, `kb_ragged`, and `kb_word`, whose words and presentations are the answers.
 #![tactic(auto)]
 
 mod cursor;

@@ -5,6 +5,7 @@ ghost use Rattle.kb_word.specs.Words.{IsFactor, Pair};
 ghost use Rattle.kb_fsa.specs.declared.alphabet.Alphabet.TheVariants.{Plain};
 ghost use Rattle.kb_wa.specs.Prefixes.{AreLeftSidesApart};
 
+use crate::figures::Figures;
 use crate::round::{MOST_STATES, made};
 use crate::system::System;
 use crate::texts::{print_automata, text_of_automaton};
@@ -35,17 +36,26 @@ pub(crate) fn compare<R: Files + AllocGlobal + Print>(rt: &R) -> anyhow::Result<
     Ok(())
 }
 
-/// Prints how large the automata of a group are, and whether its acceptor is that of its rules, which is the result. Of
-/// the first group the automata are printed too.
+/// Prints how large the automata of a group are, and whether its acceptor is that of its rules, which is the result.
 fn compare_group<R: Files + AllocGlobal + Print>(rt: &R, name: &str) -> anyhow::Result<bool> {
     let file = format!(in rt.alloc(); "{name}.kbprog")?;
     let system = System::load(rt, file.as_str())?;
-    let (round, figures) = made(rt.alloc(), &system)?;
+    compare_system(rt, name, &system)
+}
+
+/// The same of a system. Of the first group the automata are printed too.
+fn compare_system<R: AllocGlobal + Print>(
+    rt: &R,
+    name: &str,
+    system: &System,
+) -> anyhow::Result<bool> {
+    let round = made(rt.alloc(), system)?;
     if name == GROUPS[0] {
-        print_automata(rt, &system, &round)?;
+        print_automata(rt, system, &round)?;
     }
-    let same = is_acceptor_of_rules(rt.alloc(), &system, &round.acceptor)?;
+    let same = is_acceptor_of_rules(rt.alloc(), system, &round.acceptor)?;
     let verdict = if same { "the same" } else { "another" };
+    let figures = Figures::of(system, &round);
     println!(rt; "{name}: {figures}; the acceptor of its rules is {verdict}")?;
     Ok(same)
 }

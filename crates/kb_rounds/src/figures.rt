@@ -2,9 +2,7 @@
 
 use crate::round::Round;
 use crate::system::System;
-use kb_diff::Differences;
 use kb_fsa::Fsa;
-use kb_index::Index;
 use std::fmt;
 
 /// How large the automata of a system are, and what they are made of.
@@ -26,13 +24,13 @@ pub(crate) struct Figures {
 
 impl Figures {
     /// Those of a round.
-    pub(crate) fn of(system: &System, differences: &Differences<Index>, round: &Round) -> Figures {
-        let generators = differences.generators();
+    pub(crate) fn of(system: &System, round: &Round) -> Figures {
+        let generators = system.group.n;
         Figures {
             generators,
             rules: system.rules.len(),
-            differences: differences.len(),
-            normal_forms: normal_forms(generators, differences.len()),
+            differences: round.differences,
+            normal_forms: normal_forms(generators, round.differences),
             states: (round.acceptor.len(), round.explored.len()),
             places: places(&round.multipliers),
         }

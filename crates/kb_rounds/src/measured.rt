@@ -1,5 +1,6 @@
 //! The run that is timed.
 
+use crate::figures::Figures;
 use crate::round::made;
 use crate::system::System;
 use anyhow::{Context, bail};
@@ -20,7 +21,13 @@ pub(crate) fn measure<R: Files + AllocGlobal + Print>(
 /// Makes one round for the complete system in a file, and prints how large it is.
 fn measure_round<R: Files + AllocGlobal + Print>(rt: &R, file: &str) -> anyhow::Result<()> {
     let system = System::load(rt, file)?;
-    let (_, figures) = made(rt.alloc(), &system)?;
+    measure_system(rt, &system)
+}
+
+/// Makes one round for a system, and prints how large it is.
+fn measure_system<R: AllocGlobal + Print>(rt: &R, system: &System) -> anyhow::Result<()> {
+    let round = made(rt.alloc(), system)?;
+    let figures = Figures::of(system, &round);
     println!(rt; "{figures}")?;
     Ok(())
 }

@@ -5,7 +5,6 @@ ghost use Rattle.kb_word.specs.declared.word_order.WordOrder.TheVariants.{ShortL
 ghost use Rattle.kb_fsa.specs.declared.alphabet.Alphabet.TheVariants.{Pair, Plain};
 ghost use Rattle.kb_diff.specs.Groups.{group_of};
 
-use crate::figures::Figures;
 use crate::system::System;
 use anyhow::ensure;
 use kb_diff::Differences;
@@ -24,6 +23,8 @@ pub(crate) const MOST_STATES: u32 = 1 << 28;
 /// The automata of a group by word differences.
 #[derive(Drop)]
 pub(crate) struct Round {
+    /// How many word differences they are made of.
+    pub(crate) differences: usize,
     /// The word acceptor as it was explored.
     pub(crate) explored: Fsa,
     /// The canonical word acceptor.
@@ -32,16 +33,14 @@ pub(crate) struct Round {
     pub(crate) multipliers: Vec<Fsa>,
 }
 
-/// The automata of a system, and how large they are.
-pub(crate) fn made(alloc: Global, system: &System) -> anyhow::Result<(Round, Figures)>
-    ensures acceptor { IfOk result (λ made. made.0.acceptor.alphabet ≡ Plain system.now.group.n) }
-    ensures multipliers { IfOk result (λ made.
-        All (λ fsa. fsa.alphabet ≡ Pair system.now.group.n) made.0.multipliers.items) }
+/// The automata of a system.
+pub(crate) fn made(alloc: Global, system: &System) -> anyhow::Result<Round>
+    ensures acceptor { IfOk result (λ round. round.acceptor.alphabet ≡ Plain system.now.group.n) }
+    ensures multipliers { IfOk result (λ round.
+        All (λ fsa. fsa.alphabet ≡ Pair system.now.group.n) round.multipliers.items) }
 {
     let differences = differences_of(alloc, system)?;
-    let round = round_of(alloc, &differences)?;
-    let figures = Figures::of(system, &differences, &round);
-    Ok((round, figures))
+    Ok(round_of(alloc, &differences)?)
 }
 
 /// The word differences of a system's rules.
@@ -75,6 +74,7 @@ fn round_of(alloc: Global, differences: &Differences<Index>) -> Result<Round, De
     let acceptor = canonical(alloc, &explored)?;
     let multipliers = multipliers(alloc, differences, &machine, &acceptor, MOST_STATES)?;
     Ok(Round {
+        differences: differences.len(),
         explored,
         acceptor,
         multipliers,

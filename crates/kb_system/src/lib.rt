@@ -12,8 +12,7 @@
 //! `halting` reads the evidence from the book of a completion that halted, for which
 //! `kb_machine::courses_are_sound` has said all along that it holds.
 //!
-//! Below are `kb_complete`, which completes, `kb_wa` and `kb_fsamin`, which make the acceptor;
-//! above are the commands of completion.
+//! Below are `kb_complete`, which completes, and `kb_wa` and `kb_fsamin`, which make the acceptor.
 #![tactic(auto)]
 
 mod accepting;

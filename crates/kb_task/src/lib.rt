@@ -17,8 +17,7 @@
 //!   word lines stop.
 //! - `arguments` is what commands take of the command line in the same way.
 //!
-//! Below are the readers of files and the canonical form of automata; above are the families of commands, and
-//! `kb_cli`, which runs them.
+//! Below are the readers and printers of files and the canonical form of automata.
 #![tactic(auto)]
 
 mod arguments;

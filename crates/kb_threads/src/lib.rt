@@ -27,8 +27,7 @@
 //! which job, or in which order: which overlaps are entered is left open, and the check for
 //! confluence in the end finds what was left out.
 //!
-//! Below are `kb_book`, `kb_share`, `kb_publish` and `kb_draw`; above is `kb_complete`, which
-//! completes.
+//! Below are `kb_book`, `kb_share`, `kb_publish` and `kb_draw`.
 #![tactic(auto)]
 
 mod advancing;

@@ -31,7 +31,7 @@
 //! - `proofs/FactorLemmas.antt`: names, powers, groups and products of factors at the front of a text.
 //!   `PowerLemmas`: a word whose end is repeated, letter by letter.
 //!
-//! Below stand `kb_lexing`, `kb_record` and `kb_word`; above stands `kb_lines`.
+//! Below are `kb_lexing`, `kb_record` and `kb_word`.
 #![tactic(auto)]
 
 mod byte_letters;
