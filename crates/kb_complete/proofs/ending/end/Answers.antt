@@ -4,7 +4,7 @@ use Rattle.kb_complete.specs.Working.{IsUnjoined}
 use Rattle.kb_complete.proofs.ending.end.Goals as goal
 
 pub first_unjoined-requires-clause-reducer : goal.first_unjoined-requires-clause-reducer
-first_unjoined-requires-clause-reducer g c = c.reducer.ensures.rules ∙ sym c.in_ok-rules.ensures.rules
+first_unjoined-requires-clause-reducer g c = λ _ _. c.reducer.ensures.rules ∙ sym c.in_ok-rules.ensures.rules
 
 pub completed-requires-clause-settled : goal.completed-requires-clause-settled
 completed-requires-clause-settled g c = c.requires.settled

@@ -3,20 +3,28 @@ use Rattle.kb_share.proofs.Stages.{make_settles, make_said}
 use Rattle.kb_complete.proofs.LastLines.{apart_stays, apart_pending}
 use Rattle.kb_complete.proofs.Rounds.{make_halts}
 use Rattle.kb_complete.proofs.ending.make_line.Goals as goal
+use Rattle.kb_complete.proofs.ending.make_line.Goals.{in-Made, in-Halted}
 
-pub returns-in-Made-clause-made : goal.returns-in-Made-clause-made
-returns-in-Made-clause-made g c =
+pub returns-clause-made : goal.returns-clause-made
+returns-clause-made g c =
     let before = c.args.book.now.course in
     let after = c.make.new.self.course in
-    let says = make_said before after c.in_ok-k.field-0 (makes.Made c.in-Made.k) c.in-Made.is c.in_ok-k.ensures in
-    says.takes
+    elim c.match-branch-2.branch [
+      in-Made w ↦ rw w.result-is
+      (make_said before after c.in_ok-k.field-0 (makes.Made w.in-Made.k) w.in-Made.is c.in_ok-k.ensures).takes
+    | in-Halted w ↦ rw w.result-is tt
+    ]
 
-pub returns-in-Halted-clause-halted : goal.returns-in-Halted-clause-halted
-returns-in-Halted-clause-halted g c =
+pub returns-clause-halted : goal.returns-clause-halted
+returns-clause-halted g c =
     let before = c.args.book.now.course in
     let after = c.make.new.self.course in
     let made = make_settles before after c.make.result c.make.ensures in
-    (made.later, make_halts before after c.in_ok-k.field-0 c.in-Halted.field-0 c.in-Halted.is c.in_ok-k.ensures)
+    elim c.match-branch-2.branch [
+      in-Made w ↦ rw w.result-is tt
+    | in-Halted w ↦ rw w.result-is
+      (made.later, make_halts before after c.in_ok-k.field-0 w.in-Halted.field-0 w.in-Halted.is c.in_ok-k.ensures)
+    ]
 
 pub unreachable-requires : goal.unreachable-requires
 unreachable-requires g c =
