@@ -14,6 +14,7 @@
 //! - `least`: the least text of a nondeterministic automaton.
 //! - `outside`: the adapters over real files and streams.
 //! - `publishing`: versions that one thread publishes and others look at.
+//! - `records`: printed records.
 //! - `reducers`: both reducers, by a list of rules that changes.
 //! - `sharing`: a book that workers share.
 //! - `words`: words, presentations and a copied reducer.
@@ -40,6 +41,8 @@ mod least;
 mod outside;
 #[cfg(test)]
 mod publishing;
+#[cfg(test)]
+mod records;
 #[cfg(test)]
 mod reducers;
 #[cfg(test)]

@@ -1,4 +1,5 @@
 pub mod PrintedPieces
+pub mod PrintedTrees
 pub mod Numerals
 pub mod SpelledTrees
 pub mod TokenTexts

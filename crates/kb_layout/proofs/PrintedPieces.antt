@@ -1,6 +1,7 @@
 -- Texts that are printed piece by piece, and the printed texts as pieces.
 use Rattle.std.proofs.Common.{◌≡◌, ℕ, suc, ◌+◌, ◌<◌, ◌≤◌, ◌*◌, List, [], ◌∷◌, ◌++◌, length, get_or, drop, replicate, Option, Some, None, map, true, false, Result, Ok, Err, OnOk, OnErr, refl, sym, ap, ◌∙◌, arith, append_assoc}
-use Rattle.std.specs.Prelude.{codes}
+use Rattle.std.specs.Prelude.{codes, slice_get}
+use Rattle.std.proofs.lemmas.Option.{slice_get_within, get_or_from_slice_get}
 use Rattle.std.proofs.lemmas.List.{drop_more, drop_all, replicate-append-replicate}
 use Rattle.kb_record.specs.Tree.{Value as ValueTree, number_value, string_value, record_value, list_value, range_value, word_value, Places, no_places, place, empty_place}
 use Rattle.kb_record.specs.View.{places_of}
@@ -15,10 +16,33 @@ pub ok_then : {T E P Q : Type 0} (r : Result T E) → OnOk r P → (P → Q) →
 ok_then (Ok x) p f = f p
 ok_then (Err e) p f = tt
 
+pub err_then : {T E P Q : Type 0} (r : Result T E) → OnErr r P → (P → Q) → OnErr r Q
+err_then (Ok x) p f = tt
+err_then (Err e) p f = f p
+
+-- one text and then another
+pub both_behind : (a b c x y : List ℕ) → b ≡ a ++ x → c ≡ b ++ y → c ≡ a ++ (x ++ y)
+both_behind a b c x y e f = f ∙ ap (λ t. t ++ y) e ∙ append_assoc a x y
+
+pub kept_behind : (a b c x : List ℕ) → b ≡ a ++ x → (more : List ℕ) × (c ≡ b ++ more) → (more : List ℕ) × (c ≡ a ++ more)
+kept_behind a b c x e kept = (x ++ kept.0, both_behind a b c x kept.0 e kept.1)
+
 -- before the first piece
 pub pieces_start : {A : Type 0} (text : A → List ℕ) (before between ending : List ℕ) (xs : List A) (old opening now : List ℕ) → now ≡ old ++ opening
     → IsPrintedUpTo text between ending xs (opening ++ (pieces text before between xs ++ ending)) old 0 before now
 pieces_start text before between ending xs old opening now e = record { done = opening; so_far = e; to_come = refl }
+
+-- what is printed keeps what stood there
+pub pieces_kept : {A : Type 0} (text : A → List ℕ) (between ending : List ℕ) (xs : List A) (whole old before now : List ℕ) (index : ℕ) (more mid : List ℕ)
+    → IsPrintedUpTo text between ending xs whole old index before now → mid ≡ now ++ more → (all : List ℕ) × (mid ≡ old ++ all)
+pieces_kept text between ending xs whole old before now index more mid h e =
+    (h.done ++ more, e ∙ ap (λ t. t ++ more) h.so_far ∙ append_assoc old h.done more)
+
+-- the same where a piece is printed in part
+pub pieces_kept_within : {A : Type 0} (text : A → List ℕ) (between ending : List ℕ) (xs : List A) (whole old before now : List ℕ) (index : ℕ) (half mid : List ℕ)
+    → IsPrintedUpTo text between ending xs whole old index before now → half ≡ now ++ before → (more : List ℕ) × (mid ≡ half ++ more) → (all : List ℕ) × (mid ≡ old ++ all)
+pieces_kept_within text between ending xs whole old before now index half mid h e kept =
+    pieces_kept text between ending xs whole old before now index (before ++ kept.0) mid h (kept.1 ∙ ap (λ t. t ++ kept.0) e ∙ append_assoc now before kept.0)
 
 -- one piece more
 pub pieces_go : {A : Type 0} (text : A → List ℕ) (between ending : List ℕ) (xs : List A) (whole old before now : List ℕ) (index : ℕ) (x : A) (mid next : List ℕ)
@@ -34,6 +58,13 @@ pieces_go text between ending xs whole old before now index x mid next h inside 
           ∙ ap (λ t. h.done ++ t) (append_assoc before (text x ++ left) ending ∙ ap (λ t. before ++ t) (append_assoc (text x) left ending) ∙ sym (append_assoc before (text x) (left ++ ending)))
           ∙ sym (append_assoc h.done (before ++ text x) (left ++ ending));
     }
+
+-- the same where the piece was read at its place
+pub pieces_go_at : {A : Type 0} (text : A → List ℕ) (between ending : List ℕ) (xs : List A) (whole old before now : List ℕ) (index : ℕ) (x : A) (mid next : List ℕ)
+    → IsPrintedUpTo text between ending xs whole old index before now → slice_get xs index ≡ Some x → mid ≡ now ++ before → next ≡ mid ++ text x
+    → IsPrintedUpTo text between ending xs whole old (index + 1) between next
+pieces_go_at text between ending xs whole old before now index x mid next h is =
+    pieces_go text between ending xs whole old before now index x mid next h (slice_get_within xs index x is) (sym (get_or_from_slice_get xs index x x is))
 
 -- behind the last piece
 pub pieces_end : {A : Type 0} (text : A → List ℕ) (between ending : List ℕ) (xs : List A) (whole old before now : List ℕ) (index : ℕ) (mid : List ℕ)
@@ -69,6 +100,9 @@ list_pieces seen xs = ap (λ t. codes "[" ++ (t ++ codes "]")) (place_pieces see
 abbrev pub IsListUpTo : {A : Type 0} → (A → Option ValueTree) → List A → List ℕ → ℕ → List ℕ → List ℕ → Type 0
 IsListUpTo seen xs old index before now =
     IsPrintedUpTo (line_of_place seen) (codes ",") (codes "]") xs (codes "[" ++ (pieces (line_of_place seen) [] (codes ",") xs ++ codes "]")) old index before now
+
+pub list_start : {A : Type 0} (seen : A → Option ValueTree) (xs : List A) (old now : List ℕ) → now ≡ old ++ codes "[" → IsListUpTo seen xs old 0 [] now
+list_start seen xs old now e = pieces_start (line_of_place seen) [] (codes ",") (codes "]") xs old (codes "[") now e
 
 pub list_end : {A : Type 0} (seen : A → Option ValueTree) (xs : List A) (old before now : List ℕ) (index : ℕ) (mid : List ℕ)
     → IsListUpTo seen xs old index before now → length xs ≤ index → mid ≡ now ++ codes "]" → mid ≡ old ++ line_of (list_of seen xs)
@@ -133,6 +167,14 @@ abbrev pub IsTableUpTo : {A : Type 0} → ℕ → (A → Option ValueTree) → L
 IsTableUpTo level seen xs old index before now =
     IsPrintedUpTo (row_of_place (suc level) seen) (codes ",\n") (codes "\n" ++ (indent level ++ codes "]")) xs
     (codes "[" ++ (pieces (row_of_place (suc level) seen) (codes "\n") (codes ",\n") xs ++ (codes "\n" ++ (indent level ++ codes "]")))) old index before now
+
+pub table_start : {A : Type 0} (level : ℕ) (seen : A → Option ValueTree) (xs : List A) (old now : List ℕ) → now ≡ old ++ codes "[" → IsTableUpTo level seen xs old 0 (codes "\n") now
+table_start level seen xs old now e =
+    pieces_start (row_of_place (suc level) seen) (codes "\n") (codes ",\n") (codes "\n" ++ (indent level ++ codes "]")) xs old (codes "[") now e
+
+pub table_go : {A : Type 0} (level : ℕ) (seen : A → Option ValueTree) (xs : List A) (old before now : List ℕ) (index : ℕ) (x : A) (mid next : List ℕ)
+    → IsTableUpTo level seen xs old index before now → slice_get xs index ≡ Some x → mid ≡ now ++ before → next ≡ mid ++ row_of_place (suc level) seen x → IsTableUpTo level seen xs old (index + 1) (codes ",\n") next
+table_go level seen xs old before now index x mid next h is e f = pieces_go_at _ _ _ _ _ _ _ _ index x mid next h is e f
 
 pub table_end : {A : Type 0} (level : ℕ) (seen : A → Option ValueTree) (xs : List A) (old before now : List ℕ) (index : ℕ) (mid : List ℕ)
     → is_table (places_of (map seen xs)) ≡ true → IsTableUpTo level seen xs old index before now → length xs ≤ index

@@ -1,8 +1,10 @@
 -- Texts that are printed piece by piece.
-use Rattle.std.specs.Prelude.{◌≡◌, ℕ, List, [], ◌∷◌, ◌++◌, drop, map, Option, Some, None}
+use Rattle.std.specs.Prelude.{◌≡◌, ℕ, List, [], ◌∷◌, ◌++◌, drop, codes, map, Bool, true, false, Option, Some, None}
+use Rattle.std.specs.Borrow.{Bor}
 use Rattle.kb_record.specs.Tree.{Value as ValueTree, list_value}
-use Rattle.kb_record.specs.View.{places_of}
-use Rattle.kb_layout.specs.Layout.{line_of, indent}
+use Rattle.kb_record.specs.View.{value_view, places_of}
+use Rattle.kb_record.specs.declared.tree.Value.{Value}
+use Rattle.kb_layout.specs.Layout.{line_of, text_of_value, indent}
 
 -- something, or nothing, stands behind what was there
 abbrev pub Appended : List ℕ → List ℕ → Type 0
@@ -19,6 +21,15 @@ pub record IsPrintedUpTo {A : Type 0} (text : A → List ℕ) (between ending : 
   pub done : List ℕ
   pub so_far : now ≡ old ++ done
   pub to_come : whole ≡ done ++ (pieces text before between (drop index xs) ++ ending)
+
+-- `NAME := ` and a value on one line
+abbrev pub line_of_field : Bor (List ℕ) × Value → List ℕ
+line_of_field f = f.0.now ++ codes " := " ++ line_of (value_view f.1)
+
+-- the same at a level, on a line of its own
+abbrev pub text_of_field : ℕ → Bor (List ℕ) × Value → List ℕ
+text_of_field level f =
+    indent level ++ f.0.now ++ codes " := " ++ text_of_value level (value_view f.1)
 
 -- what stands at a place on one line, or nothing
 abbrev pub line_at : Option ValueTree → List ℕ
@@ -40,3 +51,12 @@ row_of_place level seen x = row_at level (seen x)
 -- a list of items, each of which is seen as a place
 abbrev pub list_of : {A : Type 0} → (A → Option ValueTree) → List A → ValueTree
 list_of seen xs = list_value (places_of (map seen xs))
+
+-- and that list at a place
+abbrev pub list_place : {A : Type 0} → (A → Option ValueTree) → List A → Option ValueTree
+list_place seen xs = Some (list_of seen xs)
+
+-- the place has a value, a list
+abbrev pub holds_list : Option ValueTree → Bool
+holds_list (Some (list_value _)) = true
+holds_list _ = false

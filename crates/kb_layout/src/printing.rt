@@ -24,7 +24,7 @@ pub fn print_indent(level: usize, out: &mut Vec<u8>) -> Result<(), Memory>
 }
 
 /// Appends two blanks for each level. Where memory runs out, it may have appended a part of them.
-fn print_blanks(level: usize, out: &mut Vec<u8>) -> Result<(), Memory>
+pub(crate) fn print_blanks(level: usize, out: &mut Vec<u8>) -> Result<(), Memory>
     ensures printed { OnOk result (out.new.items ≡ out.old.items ++ indent level) }
     ensures kept { OnErr result (Appended out.old.items out.new.items) }
 {

@@ -1,0 +1,305 @@
+//! The printing of a whole tree.
+
+ghost use Rattle.std.specs.Prelude.{◌≡◌, ◌++◌, OnOk, OnErr, IfOk, suc, codes, [], ◌∷◌};
+ghost use Rattle.kb_record.specs.Tree.{string_value, record_value, list_value, range_value};
+ghost use Rattle.kb_record.specs.View.{text_view, value_view, fields_view, places_view, factor_view, factors_view};
+ghost use Rattle.kb_layout.specs.Layout.{printed, power_text, word_text, factor_text, line_of, indent, text_of_value};
+ghost use Rattle.kb_layout.specs.Layout as layout;
+ghost use Rattle.std.specs.Option.{option_map};
+ghost use Rattle.kb_layout.specs.Printing.{Appended, row_of_place, holds_list};
+
+use crate::printing::{print_blanks, print_number};
+use crate::rows::{print_items, print_lists, print_lists_on_line};
+use kb_record::{Factor, Rec, Value};
+use kb_word::Memory;
+
+/// Appends the printed text of a record: a line for each field, and for each place of a list of lists.
+pub fn print(text: &Rec<'_>, out: &mut Vec<u8>) -> Result<(), Memory>
+    ensures printed { OnOk result (out.new.items ≡ out.old.items ++ printed (text_view text.now)) }
+    ensures kept { OnErr result (out.new.items ≡ out.old.items) }
+{
+    let length = out.len();
+    let appended = print_text(text, out);
+    if appended.is_err() {
+        out.truncate(length);
+    }
+    appended
+}
+
+/// Appends the printed text of a record. Like the private functions below, it may have appended a part of
+/// the text where memory runs out.
+fn print_text(text: &Rec<'_>, out: &mut Vec<u8>) -> Result<(), Memory>
+    ensures printed { OnOk result (out.new.items ≡ out.old.items ++ printed (text_view text.now)) }
+    ensures kept { OnErr result (Appended out.old.items out.new.items) }
+{
+    print_name(text.name, out)?;
+    print_record(0, text.fields.as_slice(), out)?;
+    out.extend_from_slice(b";\n")?;
+    Ok(())
+}
+
+/// Appends a value at a level: a record has a line for each field, a list of lists one for each place.
+#[cycle(levels)]
+fn print_value(level: usize, value: &Value<'_>, out: &mut Vec<u8>) -> Result<(), Memory>
+    ensures printed { OnOk result
+        (out.new.items ≡ out.old.items ++ text_of_value level (value_view value.now)) }
+    ensures kept { OnErr result (Appended out.old.items out.new.items) }
+{
+    match value {
+        Value::Record(fields) => print_record(level, fields.as_slice(), out),
+        Value::List(places) => print_list(level, places.as_slice(), out),
+        Value::Numbers(numbers) => print_items(numbers.as_slice(), out),
+        Value::Rows(rows) => print_lists(level, rows, out),
+        Value::Entries(rows) => print_lists(level, rows, out),
+        _ => print_on_line(value, out),
+    }
+}
+
+/// Appends a record at a level, each field on a line of its own.
+#[cycle(levels)]
+fn print_record(level: usize, fields: &[(&str, Value<'_>)], out: &mut Vec<u8>) -> Result<(), Memory>
+    ensures printed { OnOk result (out.new.items
+        ≡ out.old.items ++ text_of_value level (record_value (fields_view fields.now))) }
+    ensures kept { OnErr result (Appended out.old.items out.new.items) }
+{
+    let inside = one_level_in(level)?;
+    out.extend_from_slice(b"rec(")?;
+    let mut before: &[u8] = b"\n";
+    for (name, value) in fields {
+        out.extend_from_slice(before)?;
+        print_field(inside, name, value, out)?;
+        before = b",\n";
+    }
+    print_close(level, b')', out)
+}
+
+/// Appends a field at a level, without what ends its line.
+#[cycle(levels)]
+fn print_field(level: usize, name: &str, value: &Value<'_>, out: &mut Vec<u8>) -> Result<(), Memory>
+    ensures printed { OnOk result (out.new.items
+        ≡ out.old.items
+        ++ (indent level ++ name.now ++ codes " := "
+        ++ text_of_value level (value_view value.now))) }
+    ensures kept { OnErr result (Appended out.old.items out.new.items) }
+{
+    print_blanks(level, out)?;
+    print_name(name, out)?;
+    print_value(level, value, out)
+}
+
+/// Appends a list at a level: where each place holds a list, each is on a line of its own.
+fn print_list(level: usize, places: &[Option<Value<'_>>], out: &mut Vec<u8>) -> Result<(), Memory>
+    ensures printed { OnOk result (out.new.items
+        ≡ out.old.items ++ text_of_value level (list_value (places_view places.now))) }
+    ensures kept { OnErr result (Appended out.old.items out.new.items) }
+{
+    if !is_table(places) {
+        return print_list_on_line(places, out);
+    }
+    let inside = one_level_in(level)?;
+    out.push(b'[')?;
+    let mut before: &[u8] = b"\n";
+    for place in places {
+        out.extend_from_slice(before)?;
+        print_row(inside, place, out)?;
+        before = b",\n";
+    }
+    print_close(level, b']', out)
+}
+
+/// Appends the value of a place at a level, on one line.
+fn print_row(level: usize, place: &Option<Value<'_>>, out: &mut Vec<u8>) -> Result<(), Memory>
+    ensures printed { OnOk result (out.new.items
+        ≡ out.old.items ++ row_of_place level (option_map value_view) place.now) }
+    ensures kept { OnErr result (Appended out.old.items out.new.items) }
+{
+    print_blanks(level, out)?;
+    match place {
+        Some(value) => print_on_line(value, out),
+        None => Ok(()),
+    }
+}
+
+/// Whether there is a place, and each place holds a list.
+fn is_table(places: &[Option<Value<'_>>]) -> bool
+    ensures { result ≡ layout.is_table (places_view places.now) }
+{
+    for place in places {
+        if !is_list(place) {
+            return false;
+        }
+    }
+    !places.is_empty()
+}
+
+/// Whether the place holds a list.
+fn is_list(place: &Option<Value<'_>>) -> bool
+    ensures { result ≡ holds_list (option_map value_view place.now) }
+{
+    matches!(
+        place,
+        Some(Value::List(_) | Value::Numbers(_) | Value::Rows(_) | Value::Entries(_))
+    )
+}
+
+/// The level of what stands within a value. Beyond the last level no memory has room for the text.
+pub(crate) fn one_level_in(level: usize) -> Result<usize, Memory>
+    ensures { IfOk result (λ inside. inside ≡ suc level) }
+{
+    level.checked_add(1).ok_or(Memory)
+}
+
+/// Appends a name and the `:=` behind it.
+fn print_name(name: &str, out: &mut Vec<u8>) -> Result<(), Memory>
+    ensures printed { OnOk result (out.new.items ≡ out.old.items ++ (name.now ++ codes " := ")) }
+    ensures kept { OnErr result (Appended out.old.items out.new.items) }
+{
+    out.extend_from_slice(name.as_bytes())?;
+    out.extend_from_slice(b" := ")?;
+    Ok(())
+}
+
+/// Ends the last line, and appends a closing bracket on a line of its own.
+pub(crate) fn print_close(level: usize, bracket: u8, out: &mut Vec<u8>) -> Result<(), Memory>
+    ensures printed { OnOk result
+        (out.new.items ≡ out.old.items ++ (codes "\n" ++ indent level ++ bracket ∷ [])) }
+    ensures kept { OnErr result (Appended out.old.items out.new.items) }
+{
+    out.push(b'\n')?;
+    print_blanks(level, out)?;
+    out.push(bracket)?;
+    Ok(())
+}
+
+/// Appends a value on one line.
+#[cycle(lines)]
+fn print_on_line(value: &Value<'_>, out: &mut Vec<u8>) -> Result<(), Memory>
+    ensures printed { OnOk result
+        (out.new.items ≡ out.old.items ++ line_of (value_view value.now)) }
+    ensures kept { OnErr result (Appended out.old.items out.new.items) }
+{
+    match value {
+        Value::Number(number) => print_number(*number, out),
+        Value::String(text) => print_string(text, out),
+        Value::Record(fields) => print_record_on_line(fields.as_slice(), out),
+        Value::List(places) => print_list_on_line(places.as_slice(), out),
+        Value::Numbers(numbers) => print_items(numbers.as_slice(), out),
+        Value::Rows(rows) => print_lists_on_line(rows, out),
+        Value::Entries(rows) => print_lists_on_line(rows, out),
+        Value::Range(from, to) => print_range(*from, *to, out),
+        Value::Word(word) => print_word(word.factors.as_slice(), out),
+    }
+}
+
+/// Appends a record on one line.
+#[cycle(lines)]
+fn print_record_on_line(fields: &[(&str, Value<'_>)], out: &mut Vec<u8>) -> Result<(), Memory>
+    ensures printed { OnOk result (out.new.items
+        ≡ out.old.items ++ line_of (record_value (fields_view fields.now))) }
+    ensures kept { OnErr result (Appended out.old.items out.new.items) }
+{
+    out.extend_from_slice(b"rec(")?;
+    let mut before: &[u8] = b"";
+    for (name, value) in fields {
+        out.extend_from_slice(before)?;
+        print_name(name, out)?;
+        print_on_line(value, out)?;
+        before = b",";
+    }
+    out.push(b')')?;
+    Ok(())
+}
+
+/// Appends a list on one line.
+#[cycle(lines)]
+fn print_list_on_line(places: &[Option<Value<'_>>], out: &mut Vec<u8>) -> Result<(), Memory>
+    ensures printed { OnOk result (out.new.items
+        ≡ out.old.items ++ line_of (list_value (places_view places.now))) }
+    ensures kept { OnErr result (Appended out.old.items out.new.items) }
+{
+    out.push(b'[')?;
+    let mut before: &[u8] = b"";
+    for place in places {
+        out.extend_from_slice(before)?;
+        if let Some(value) = place {
+            print_on_line(value, out)?;
+        }
+        before = b",";
+    }
+    out.push(b']')?;
+    Ok(())
+}
+
+/// Appends a range.
+fn print_range(from: i64, to: i64, out: &mut Vec<u8>) -> Result<(), Memory>
+    ensures printed { OnOk result (out.new.items ≡ out.old.items ++ line_of (range_value from to)) }
+    ensures kept { OnErr result (Appended out.old.items out.new.items) }
+{
+    out.push(b'[')?;
+    print_number(from, out)?;
+    out.extend_from_slice(b"..")?;
+    print_number(to, out)?;
+    out.push(b']')?;
+    Ok(())
+}
+
+/// Appends a string between its quotes.
+fn print_string(text: &str, out: &mut Vec<u8>) -> Result<(), Memory>
+    ensures printed { OnOk result
+        (out.new.items ≡ out.old.items ++ line_of (string_value text.now)) }
+    ensures kept { OnErr result (Appended out.old.items out.new.items) }
+{
+    out.push(b'"')?;
+    out.extend_from_slice(text.as_bytes())?;
+    out.push(b'"')?;
+    Ok(())
+}
+
+/// Appends factors with `*` between them.
+#[cycle(factors)]
+fn print_word(factors: &[Factor<'_>], out: &mut Vec<u8>) -> Result<(), Memory>
+    ensures printed { OnOk result
+        (out.new.items ≡ out.old.items ++ word_text (factors_view factors.now)) }
+    ensures kept { OnErr result (Appended out.old.items out.new.items) }
+{
+    let mut before: &[u8] = b"";
+    for factor in factors {
+        out.extend_from_slice(before)?;
+        print_factor(factor, out)?;
+        before = b"*";
+    }
+    Ok(())
+}
+
+/// Appends a name or a group in brackets, and its power.
+#[cycle(factors)]
+fn print_factor(factor: &Factor<'_>, out: &mut Vec<u8>) -> Result<(), Memory>
+    ensures printed { OnOk result
+        (out.new.items ≡ out.old.items ++ factor_text (factor_view factor.now)) }
+    ensures kept { OnErr result (Appended out.old.items out.new.items) }
+{
+    match factor {
+        Factor::Name(name, power) => {
+            out.extend_from_slice(name.as_bytes())?;
+            print_power(*power, out)
+        }
+        Factor::Group(factors, power) => {
+            out.push(b'(')?;
+            print_word(factors.as_slice(), out)?;
+            out.push(b')')?;
+            print_power(*power, out)
+        }
+    }
+}
+
+/// Appends `^` and a power, if there is one.
+fn print_power(power: Option<i64>, out: &mut Vec<u8>) -> Result<(), Memory>
+    ensures printed { OnOk result (out.new.items ≡ out.old.items ++ power_text power) }
+    ensures kept { OnErr result (Appended out.old.items out.new.items) }
+{
+    let Some(power) = power else {
+        return Ok(());
+    };
+    out.push(b'^')?;
+    print_number(power, out)
+}
