@@ -30,7 +30,7 @@
 //!   `SpelledTrees`: the trees of texts can be spelled.
 //! - `WrittenLists`, `SpelledValues`: lists of names and of numbers, names and strings that can be spelled.
 //!
-//! Below stand `kb_record`, whose grammar says what a text of a tree is, with `kb_lexing` and its tokens, `kb_ragged`
+//! Below are `kb_record`, whose grammar says what a text of a tree is, with `kb_lexing` and its tokens, `kb_ragged`
 //! with lists of lists, `kb_fields` with lists of names, and `kb_word`. No reader stands on what is printed.
 #![tactic(auto)]
 
