@@ -18,8 +18,8 @@ returns-in-Ok g c = λ given completed.
     run-answers given parts texts completed old new before after c.answer_words.result
     (c.in-Ok.ensures.ok before.input before.output) (c.answer_words.ensures new)
 
-pub returns : goal.returns
-returns g c = λ given completed.
+pub returns-in-Err : goal.returns-in-Err
+returns-in-Err g c = λ given completed.
     let parts : PresentationParts = parts_of c.args.normal_forms.now.reader.presentation in
     let texts : List Text = texts_of c.args.files.items in
     let input : SourceState = g.I.Source.state c.args.input.now in
