@@ -1,10 +1,10 @@
 //! Confluence of rules: the test, and what it is good for.
 //!
 //! The public contract: `check` answers `Yes` exactly where the critical pair of each overlap is joined, and
-//! otherwise names the first overlap whose pair is apart, with its two normal forms; 1 to 64 workers share the test, and
-//! come to the same verdict whatever their number. By the law `normal_forms_by_confluent_rules_are_least` each word's
-//! normal form is then the least word that is congruent to it; `least_by_the_same_congruence` carries that over to
-//! any other list of pairs that generates the same congruence, such as a presentation's relations.
+//! otherwise names the first overlap whose pair is apart, with its two normal forms; 1 to 64 workers share the test,
+//! and come to the same verdict whatever their number. By the law `normal_forms_by_confluent_rules_are_least` each
+//! word's normal form is then the least word that is congruent to it; `least_by_the_same_congruence` carries that
+//! over to any other list of pairs that generates the same congruence, such as a presentation's relations.
 //!
 //! The test goes over the rules in list order. For each one `kb_overlap` finds all overlaps of its left side,
 //! ascending by the second rule and then by the place, without trying the rules one by one; a rule with itself at

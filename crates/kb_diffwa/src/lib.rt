@@ -44,12 +44,12 @@
 //! `RivalMoves` the nondeterministic automaton; `Tracks` has where the track of a word stands, `Pairs` the machine and
 //! its moves, and `Multipliers` what is returned and counted.
 //!
-//! In `proofs/`, `RivalMoveLemmas` has the moves from a rival as they are added, and `RivalStates` the numbers of states
-//! and the rows of all rivals; `ComparisonRuns` has how words compare letter by letter, `RivalRuns` and `RivalWords` that
-//! the automaton leads to the rivals that a word has, and `Acceptance` the language and the counts. `Crossing` has the
-//! crossing of two rows and `TrackMoves` the moves of a place; `TrackRuns` and `PairRuns` have where a word's track and
-//! the machine lead along a pair of words; `Multiplying` has the language and the counts, and `AllGenerators` the one
-//! exploration for all generators.
+//! In `proofs/`, `RivalMoveLemmas` has the moves from a rival as they are added, and `RivalStates` the numbers of
+//! states and the rows of all rivals; `ComparisonRuns` has how words compare letter by letter, `RivalRuns` and
+//! `RivalWords` that the automaton leads to the rivals that a word has, and `Acceptance` the language and the counts.
+//! `Crossing` has the crossing of two rows and `TrackMoves` the moves of a place; `TrackRuns` and `PairRuns` have
+//! where a word's track and the machine lead along a pair of words; `Multiplying` has the language and the counts,
+//! and `AllGenerators` the one exploration for all generators.
 //!
 //! Below are `kb_diff`, with the differences and their machine, and `kb_fsadet`, with the subset construction.
 #![tactic(auto)]

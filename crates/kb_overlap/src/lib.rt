@@ -11,10 +11,11 @@
 //!   that they are exactly the overlaps, strictly ascending by the rule's index and then by the place. A caller
 //!   leaves out a rule with itself at place 0.
 //! - `meets` tells whether two words overlap at a place.
-//! - A `PairWorkspace` has two words, reduces them by a `kb_rules::Reducer`, and tells whether they are joined or apart:
-//!   whether their normal forms are one word or two (`specs/Joining.antt`). It is kept for one pair after another.
-//!   `PairWorkspace::join` does all that for the critical pair of two rules at a place; `pair_at` returns that pair, and
-//!   `overlaps_are_superpositions` says what that pair is: the superposition with one left side replaced.
+//! - A `PairWorkspace` has two words, reduces them by a `kb_rules::Reducer`, and tells whether they are joined or
+//!   apart: whether their normal forms are one word or two (`specs/Joining.antt`). It is kept for one pair after
+//!   another. `PairWorkspace::join` does all that for the critical pair of two rules at a place; `pair_at` returns
+//!   that pair, and `overlaps_are_superpositions` says what that pair is: the superposition with one left side
+//!   replaced.
 //!
 //! # How all overlaps are found
 //!

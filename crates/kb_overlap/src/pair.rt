@@ -72,8 +72,8 @@ impl PairWorkspace {
         self.second.assign(second)
     }
 
-    /// Puts the critical pair of the rules `l -> r` and `m -> s` in place of its words, whose left sides overlap at this
-    /// place of `l`: the superposition of both left sides with the first rule applied, and with the second.
+    /// Puts the critical pair of the rules `l -> r` and `m -> s` in place of its words, whose left sides overlap at
+    /// this place of `l`: the superposition of both left sides with the first rule applied, and with the second.
     pub fn put_critical_pair(
         &mut self,
         l: &Word,

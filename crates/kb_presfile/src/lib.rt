@@ -35,7 +35,8 @@
 //!
 //! Definitions speak of the tree of the text (`specs/Tree.antt` of `kb_record`) and of its fields and names of
 //! generators (`specs/` of `kb_fields`): `specs/Kinds.antt` of the kinds of values, `specs/Holds.antt` of what a
-//! text says, and `specs/Faults.antt` of what each refusal means. Where a field's name stands twice, "the value of the field" is that of the first.
+//! text says, and `specs/Faults.antt` of what each refusal means. Where a field's name stands twice, "the value of
+//! the field" is that of the first.
 //!
 //! # Where the proofs are
 //!

@@ -44,8 +44,8 @@ pub(crate) fn completed<R: Reducer>(
     }
 }
 
-/// The word acceptor of a presentation, made of its reduced complete system; none where more words than there may be states begin
-/// left sides.
+/// The word acceptor of a presentation, made of its reduced complete system; none where more words than there may be
+/// states begin left sides.
 fn word_acceptor(
     alloc: Global,
     presentation: &Presentation,

@@ -32,8 +32,8 @@ impl WordReader {
         })
     }
 
-    /// Reads a word: the word becomes that which the bytes stand for, and keeps its memory. Or the refusal of the bytes,
-    /// or of the first fault of the word that is met from the left; the word is of no use then.
+    /// Reads a word: the word becomes that which the bytes stand for, and keeps its memory. Or the refusal of the
+    /// bytes, or of the first fault of the word that is met from the left; the word is of no use then.
     ///
     /// By `a_word_that_is_read_has_no_fault` the bytes are refused exactly where they have a fault, but for want of
     /// memory. No clause says which of two faults of the bytes is named, nor what `at` is.
