@@ -33,8 +33,8 @@ returns-in-Ok-complete g c =
     (λ told. subst (λ (name : List ℕ). HoldsPresentation shelf.holds name parts) file (c.in-Ok-load_presentation.ensures.holds told))
     (c.conclude.ensures given parts c.in-Ok-complete.ensures)
 
-pub returns-in-Err : goal.returns-in-Err
-returns-in-Err g c =
+pub returns-in-Ok-load_presentation : goal.returns-in-Ok-load_presentation
+returns-in-Ok-load_presentation g c =
     let given : KbprogGiven = c.args.self in
     let shelf : ShelfState = g.F.Shelf.state c.args.shelf.now in
     let loaded : ShelfState = g.F.Shelf.state c.load_presentation.new.shelf in
