@@ -10,9 +10,9 @@ returns-clause-made g c =
     let before = c.args.book.now.course in
     let after = c.make.new.self.course in
     elim c.match-branch-2.branch [
-      in-Made w ↦ rw w.result-is
-      (make_said before after c.in_ok-k.field-0 (makes.Made w.in-Made.k) w.in-Made.is c.in_ok-k.ensures).takes
-    | in-Halted w ↦ rw w.result-is tt
+      | in-Made w ↦ rw w.result-is
+          (make_said before after c.in_ok-k.field-0 (makes.Made w.in-Made.k) w.in-Made.is c.in_ok-k.ensures).takes
+      | in-Halted w ↦ rw w.result-is tt
     ]
 
 pub returns-clause-halted : goal.returns-clause-halted
@@ -21,9 +21,9 @@ returns-clause-halted g c =
     let after = c.make.new.self.course in
     let made = make_settles before after c.make.result c.make.ensures in
     elim c.match-branch-2.branch [
-      in-Made w ↦ rw w.result-is tt
-    | in-Halted w ↦ rw w.result-is
-      (made.later, make_halts before after c.in_ok-k.field-0 w.in-Halted.field-0 w.in-Halted.is c.in_ok-k.ensures)
+      | in-Made w ↦ rw w.result-is tt
+      | in-Halted w ↦ rw w.result-is
+          (made.later, make_halts before after c.in_ok-k.field-0 w.in-Halted.field-0 w.in-Halted.is c.in_ok-k.ensures)
     ]
 
 pub unreachable-requires : goal.unreachable-requires
