@@ -1,25 +1,19 @@
 -- The commands of the families are apart, and what is read of what was entered.
 use Rattle.std.proofs.Common.{◌≡◌, ap, codes}
 use Rattle.kb_task.specs.Arguments.{Entered}
-use Rattle.kb_task.specs.Statuses.{IsConclusive, IsYes}
-use Rattle.kb_task.specs.declared.status.Status.{Status}
-use Rattle.kb_task.specs.declared.status.Status.TheVariants.{Yes, Memory}
 use Rattle.kb_task.proofs.ArgumentLemmas.{own_name}
 use Rattle.kb_cmd_words.specs.Given.{Given}
 use Rattle.kb_cmd_words.specs.Line.{IsWordReduce}
 use Rattle.kb_cmd_words.proofs.LineLemmas.{one_wordreduce}
 use Rattle.kb_cmd_automata.specs.Line.{IsAutomataTask, GivesTask, name_text, name_of_task}
 use Rattle.kb_cmd_automata.specs.declared.task.AutomataTask.{AutomataTask}
-use Rattle.kb_cmd_automata.specs.declared.task.AutomataTask.TheVariants as tasks
 use Rattle.kb_cmd_automata.proofs.LineLemmas.{one_automata_task}
 use Rattle.kb_cmd_automata.proofs.NameLemmas.{begins_otherwise}
 use Rattle.kb_cmd_completion.specs.Line.{IsCompletionTask, GivesTask as GivesCompletion, name_text as completion_text, name_of_task as completion_name}
 use Rattle.kb_cmd_completion.specs.declared.task.CompletionTask.{CompletionTask}
-use Rattle.kb_cmd_completion.specs.declared.task.CompletionTask.TheVariants as completions
 use Rattle.kb_cmd_completion.proofs.LineLemmas.{one_completion_task}
 use Rattle.kb_cli.proofs.NameLemmas.{not_wordreduce, not_automata}
 use Rattle.kb_cli.specs.CommandLine.{IsCommand}
-use Rattle.kb_cli.specs.Commands.{command_answers, command_settles}
 use Rattle.kb_cli.specs.declared.command.Command.{Command}
 use Rattle.kb_cli.specs.declared.command.Command.TheVariants.{WordReduce, Automata, Completion}
 
@@ -54,25 +48,3 @@ pub no_command : (entered : Entered) → ((given : Given) → ¬ IsWordReduce en
 no_command entered no_wordreduce no_task no_completion (WordReduce task) = no_wordreduce task
 no_command entered no_wordreduce no_task no_completion (Automata task) = no_task task
 no_command entered no_wordreduce no_task no_completion (Completion task) = no_completion task
-
-yes-conclusive : (status : Status) → IsYes status → IsConclusive status
-yes-conclusive Yes is_yes = tt
-yes-conclusive _ is_yes = absurd is_yes
-
--- a status that the files settle is yes, no or a limit
-pub settled-conclusive : (command : Command) (status : Status) → command_settles command status → IsConclusive status
-settled-conclusive (WordReduce task) status settled = settled
-settled-conclusive (Automata task) status settled = settled
-settled-conclusive (Completion task) status settled = yes-conclusive status settled
-
--- want of memory is an answer of every command
-pub memory_answers : (command : Command) → command_answers command Memory
-memory_answers (WordReduce task) = tt
-memory_answers (Automata (tasks.Combine task)) = tt
-memory_answers (Automata (tasks.Transform task)) = tt
-memory_answers (Automata (tasks.Minimise task)) = tt
-memory_answers (Automata (tasks.Compare task)) = tt
-memory_answers (Automata (tasks.Enumerate task)) = tt
-memory_answers (Completion (completions.Kbprog task)) = tt
-memory_answers (Completion (completions.Logread task)) = tt
-memory_answers (Completion (completions.SelfTest task)) = tt

@@ -14,7 +14,7 @@ use Rattle.kb_io.specs.Outside.{Outside, IsUnchanged}
 use Rattle.kb_task.specs.declared.status.Status.{Status}
 use Rattle.kb_task.specs.declared.status.Status.TheVariants.{Memory, Usage}
 use Rattle.kb_cli.specs.CommandLine.{IsLine, IsNoLine}
-use Rattle.kb_cli.specs.Commands.{CommandMeans, command_may_store}
+use Rattle.kb_cli.specs.Commands.{command_promise}
 use Rattle.kb_cli.specs.declared.command.Command.{Command}
 
 -- what ends a run before its command is known
@@ -30,10 +30,10 @@ pub data Headline (arguments : List (List ℕ)) (before after : Outside)
   no_command : ArgumentsStop arguments status → IsUnchanged before after
       → Headline arguments before after status
   a_command : (command : Command) → IsLine arguments command
-      → CommandMeans command before after status
+      → (command_promise command).means before after status
       → Headline arguments before after status
 
 -- a run on these arguments may store under the name
 abbrev pub MayStore : List (List ℕ) → List ℕ → Type 0
 MayStore arguments name =
-    (command : Command) × IsLine arguments command × command_may_store command name
+    (command : Command) × IsLine arguments command × (command_promise command).may_store name

@@ -21,34 +21,18 @@ pub enum Command {
 }
 
 impl Task for Command {
-    ghost use Rattle.kb_cli.specs.Commands.{CommandMeans, command_may_store, command_reads, command_is_unrefused, command_answers, command_settles, CommandsDifferInOptions};
-    ghost use Rattle.kb_cli.specs.CommandLaws.{commands_complete, commands_settled, commands_one_function};
+    ghost use Rattle.kb_cli.specs.Commands.{command_promise};
+    ghost use Rattle.kb_cli.specs.CommandLaws.{commands_lawful};
 
-    ghost means = { CommandMeans };
+    ghost promise = { command_promise };
 
-    ghost may_store = { command_may_store };
-
-    ghost reads = { command_reads };
-
-    ghost is_unrefused = { command_is_unrefused };
-
-    ghost answers = { command_answers };
-
-    ghost settles = { command_settles };
-
-    ghost differs_in_options = { CommandsDifferInOptions };
-
-    ghost complete = { commands_complete };
-
-    ghost settled = { commands_settled };
-
-    ghost one_function = { commands_one_function };
+    ghost lawful = { commands_lawful };
 }
 
 impl Command {
     ghost use Rattle.kb_io.specs.Outside.{outside};
-    ghost use Rattle.kb_task.specs.Runs.{IsRun};
-    ghost use Rattle.kb_cli.specs.Commands.{CommandMeans, command_may_store};
+    ghost use Rattle.kb_task.specs.Promises.{Keeps};
+    ghost use Rattle.kb_cli.specs.Commands.{command_promise};
 
     /// Runs the command. What it writes to `err` only shows that it lives. Workers are threads of `rt`, and
     /// pass the gate.
@@ -62,7 +46,7 @@ impl Command {
         out: &mut O,
         err: &mut E,
     ) -> Status
-        ensures { IsRun (CommandMeans self) (command_may_store self)
+        ensures { Keeps (command_promise self)
             (outside (F.state shelf.old) (I.state input.old) (O.state out.old))
             (outside (F.state shelf.new) (I.state input.new) (O.state out.new)) result }
     {

@@ -7,7 +7,7 @@ ghost use Rattle.kb_task.specs.Runs.{ReadsSame, HasSameEffect};
 ghost use Rattle.kb_task.specs.Statuses.{IsYes, IsFaultless};
 ghost use Rattle.kb_task.specs.declared.status.Status.{Status};
 ghost use Rattle.kb_cli.specs.CommandLine.{IsLine, IsNoLine};
-ghost use Rattle.kb_cli.specs.Commands.{command_may_store, command_reads, command_is_unrefused, command_answers, command_settles, CommandsDifferInOptions};
+ghost use Rattle.kb_cli.specs.Commands.{command_promise};
 ghost use Rattle.kb_cli.specs.Headline.{Headline};
 ghost use Rattle.kb_cli.specs.declared.command.Command.{Command};
 
@@ -30,9 +30,9 @@ pub fn where_nothing_is_refused_there_is_an_answer()
         (status : Status)
         → IsLine arguments command
         → Headline arguments before after status
-        → command_is_unrefused command before
+        → (command_promise command).is_unrefused before
         → IsFaultless status
-        → command_answers command status }
+        → (command_promise command).answers status }
 {}
 
 /// The answer depends only on the arguments and on the files that the command reads: two runs that end with statuses
@@ -43,9 +43,9 @@ pub fn one_answer_by_the_files()
         → IsLine arguments command
         → Headline arguments before after status
         → Headline arguments other_before other_after other
-        → ReadsSame (command_reads command) before other_before
-        → command_settles command status
-        → command_settles command other
+        → ReadsSame (command_promise command).reads before other_before
+        → (command_promise command).settles status
+        → (command_promise command).settles other
         → status ≡ other }
 {}
 
@@ -56,12 +56,12 @@ pub fn status_0_is_one_function()
         (before after other_before other_after : Outside) (status other : Status)
         → IsLine arguments command
         → IsLine other_arguments other_command
-        → CommandsDifferInOptions command other_command
+        → (command_promise command).differs_in_options other_command
         → Headline arguments before after status
         → Headline other_arguments other_before other_after other
         → IsYes status
         → IsYes other
-        → ReadsSame (command_reads command) before other_before
+        → ReadsSame (command_promise command).reads before other_before
         → before.input.left ≡ other_before.input.left
-        → HasSameEffect (command_may_store command) before after other_before other_after }
+        → HasSameEffect (command_promise command).may_store before after other_before other_after }
 {}

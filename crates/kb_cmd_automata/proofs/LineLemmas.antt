@@ -1,24 +1,24 @@
 -- The command that is read of a subcommand's arguments and options.
-use Rattle.std.proofs.Common.{◌≡◌, ◌≢◌, ◌∙◌, ℕ, Option, Some, None, List, ◌∷◌, sym, ap, refl, subst, codes, lit<, if◌then◌else◌, suc, ◌+◌, ◌<◌, ◌≤◌, get_or, drop, false, arith}
+use Rattle.std.proofs.Common.{◌≡◌, ◌∙◌, ℕ, Option, Some, None, List, [], ◌∷◌, length, sym, ap, refl, codes, if◌then◌else◌, suc, ◌+◌, ◌<◌, ◌≤◌, get_or, drop, false, arith}
 use Rattle.std.proofs.Math.Seq.{drop-cons}
 use Rattle.std.proofs.lemmas.List.{drop_all}
 use Rattle.std.specs.Str.{bytes_eq}
-use Rattle.std.specs.List.{Contains}
 use Rattle.clap.specs.Words.{AddsSubcommand, App, Row, Text, app_of, with_subcommand}
 use Rattle.clap.specs.declared.builder.command.Command.{Command}
 use Rattle.clap.specs.declared.builder.command.Command.TheViews.{out-Command}
 use Rattle.kb_task.specs.Arguments.{Entered, GivesNumber, GivesOption, ReadsAs}
 use Rattle.kb_task.specs.declared.arguments.NumberOption.TheVariants.{MaxStates}
 use Rattle.kb_task.proofs.ArgumentLemmas.{added, text_given-at, number_given-at, option_given-at, own_name, own_rows}
-use Rattle.kb_cmd_automata.specs.Line.{name_text, command_app, with_commands, all_names, name_of_task, GivesTask, GivesCombine, GivesTransform, GivesMinimise, GivesCompare, GivesEnumerate, IsAutomataTask, IsRead}
+use Rattle.kb_cmd_automata.specs.Line.{name_text, command_app, with_commands, all_names, name_of_task, GivesTask, GivesCombine, GivesTransform, GivesFiles, GivesCompare, GivesEnumerate, IsAutomataTask, IsRead}
 use Rattle.kb_cmd_automata.specs.declared.combine.Combination.{Combination}
 use Rattle.kb_cmd_automata.specs.declared.combine.Combination.TheVariants.{And, Or, Concat}
 use Rattle.kb_cmd_automata.specs.declared.combine.Combine.{Combine}
 use Rattle.kb_cmd_automata.specs.declared.compare.Compare.{Compare}
 use Rattle.kb_cmd_automata.specs.declared.enumerate.Enumerate.{Enumerate}
+use Rattle.kb_cmd_automata.specs.declared.files.FileToOut.{FileToOut}
 use Rattle.kb_cmd_automata.specs.declared.line.name.Name.{Name}
 use Rattle.kb_cmd_automata.specs.declared.line.name.Name.TheVariants as names
-use Rattle.kb_cmd_automata.specs.declared.minimise.Minimise.{Minimise}
+use Rattle.kb_cmd_automata.specs.declared.line.name.Unlimited.TheVariants.{Minimise}
 use Rattle.kb_cmd_automata.specs.declared.task.AutomataTask.{AutomataTask}
 use Rattle.kb_cmd_automata.specs.declared.task.AutomataTask.TheVariants as tasks
 use Rattle.kb_cmd_automata.specs.declared.transform.Transform.{Transform}
@@ -27,22 +27,16 @@ use Rattle.kb_cmd_automata.specs.declared.transform.Transformation.TheVariants.{
 
 -- ---- names
 
--- the command of a name
+-- the first of the commands that is called so
+first_named : List Name → Text → Name
+first_named [] text = names.Enumerate
+first_named (name ∷ others) text = if bytes_eq text (name_text name) then name else first_named others text
+
 named : Text → Name
-named name =
-    if bytes_eq name (codes "fsaand") then names.Combine And
-    else (if bytes_eq name (codes "fsaor") then names.Combine Or
-    else (if bytes_eq name (codes "fsaconcat") then names.Combine Concat
-    else (if bytes_eq name (codes "fsanot") then names.Transform Not
-    else (if bytes_eq name (codes "fsaexists") then names.Transform Exists
-    else (if bytes_eq name (codes "fsastar") then names.Transform Star
-    else (if bytes_eq name (codes "fsareverse") then names.Transform Reverse
-    else (if bytes_eq name (codes "fsamin") then names.Minimise
-    else (if bytes_eq name (codes "fsalequal") then names.Compare
-    else names.Enumerate))))))))
+named = first_named all_names
 
 named_by_name : (name : Name) → named (name_text name) ≡ name
-unfolding named
+unfolding named first_named
 named_by_name (names.Combine And) = refl
 named_by_name (names.Combine Or) = refl
 named_by_name (names.Combine Concat) = refl
@@ -50,7 +44,7 @@ named_by_name (names.Transform Not) = refl
 named_by_name (names.Transform Exists) = refl
 named_by_name (names.Transform Star) = refl
 named_by_name (names.Transform Reverse) = refl
-named_by_name names.Minimise = refl
+named_by_name (names.Unlimited Minimise) = refl
 named_by_name names.Compare = refl
 named_by_name names.Enumerate = refl
 
@@ -79,11 +73,11 @@ same_transform rows task other same a b =
     ∙ sym (option_given-at rows MaxStates other.max_states b.max_states) in
     λ i. record { operation = same i; file = files i; out = outs i; max_states = mosts i }
 
-same_minimise : (rows : List Row) (task other : Minimise) → GivesMinimise rows task → GivesMinimise rows other → task ≡ other
-same_minimise rows task other a b =
-    let files : task.file ≡ other.file = text_given-at rows (codes "first") task.file a.file ∙ sym (text_given-at rows (codes "first") other.file b.file) in
-    let outs : task.out ≡ other.out = text_given-at rows (codes "out") task.out a.out ∙ sym (text_given-at rows (codes "out") other.out b.out) in
-    λ i. record { file = files i; out = outs i }
+same_files : (rows : List Row) (files other : FileToOut) → GivesFiles rows files → GivesFiles rows other → files ≡ other
+same_files rows files other a b =
+    let ones : files.file ≡ other.file = text_given-at rows (codes "first") files.file a.file ∙ sym (text_given-at rows (codes "first") other.file b.file) in
+    let outs : files.out ≡ other.out = text_given-at rows (codes "out") files.out a.out ∙ sym (text_given-at rows (codes "out") other.out b.out) in
+    λ i. record { file = ones i; out = outs i }
 
 same_compare : (rows : List Row) (task other : Compare) → GivesCompare rows task → GivesCompare rows other → task ≡ other
 same_compare rows task other a b =
@@ -113,7 +107,7 @@ same_task : (rows : List Row) (task other : AutomataTask) → name_of_task task 
 same_task rows (tasks.Combine task) (tasks.Combine other) is a b = ap tasks.Combine (same_combine rows task other (same_operation task other is) a b)
 same_task rows (tasks.Transform task) (tasks.Transform other) is a b =
     ap tasks.Transform (same_transform rows task other (same_transformation task other is) a b)
-same_task rows (tasks.Minimise task) (tasks.Minimise other) is a b = ap tasks.Minimise (same_minimise rows task other a b)
+same_task rows (tasks.Minimise task) (tasks.Minimise other) is a b = ap (λ f. tasks.Minimise (record { files = f })) (same_files rows task.files other.files a b)
 same_task rows (tasks.Compare task) (tasks.Compare other) is a b = ap tasks.Compare (same_compare rows task other a b)
 same_task rows (tasks.Enumerate task) (tasks.Enumerate other) is a b = ap tasks.Enumerate (same_enumerate rows task other a b)
 same_task rows _ _ is a b = cc
@@ -167,7 +161,7 @@ no_most rows none _ is gives = cc
 -- ---- commands that are added one after another
 
 -- one more command is added
-pub one_added : (index : ℕ) (program sub next : Command) (whole : App) → index < 10
+pub one_added : (index : ℕ) (program sub next : Command) (whole : App) → index < length all_names
     → AddsSubcommand program sub next → (out-Command sub).has_globals ≡ false → app_of sub ≡ command_app (get_or all_names index (names.Combine And))
     → with_commands (app_of program) (drop index all_names) ≡ whole → with_commands (app_of next) (drop (index + 1) all_names) ≡ whole
 one_added index program sub next whole within adds local is_app rest =
@@ -180,6 +174,6 @@ one_added index program sub next whole within adds local is_app rest =
     ∙ ap (λ app. with_commands app (drop (suc index) all_names)) (added program sub next (app_of program) (command_app name) adds local is_app refl) ∙ first
 
 -- all commands are added
-pub all_added : (index : ℕ) (program : Command) (whole : App) → 10 ≤ index → with_commands (app_of program) (drop index all_names) ≡ whole
+pub all_added : (index : ℕ) (program : Command) (whole : App) → length all_names ≤ index → with_commands (app_of program) (drop index all_names) ≡ whole
     → app_of program ≡ whole
 all_added index program whole past rest = sym (ap (with_commands (app_of program)) (drop_all index all_names past)) ∙ rest

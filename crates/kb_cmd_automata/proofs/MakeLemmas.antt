@@ -1,11 +1,8 @@
 -- What a run means that makes an automaton, from what its parts mean.
-use Rattle.std.proofs.Common.{◌≡◌, ◌↔◌, ◌⊎◌, inl, inr, ℕ, List, sym, ◌∙◌, subst, reverse}
+use Rattle.std.proofs.Common.{◌≡◌, inl, inr, ℕ, List, sym, ◌∙◌, subst}
 use Rattle.kb_io.specs.Outside.{Outside, outside, IsUnchanged}
 use Rattle.kb_io.specs.States.{ShelfState, SourceState, SinkState}
-use Rattle.kb_fsa.specs.Language.{Automaton, AcceptsText, SameLanguage, IsTextOf}
-use Rattle.kb_fsa.specs.Counted.{IsProduct}
-use Rattle.kb_fsadet.specs.Projection.{HasSecond}
-use Rattle.kb_fsarat.specs.Products.{IsSplit}
+use Rattle.kb_fsa.specs.Language.{Automaton, SameLanguage}
 use Rattle.kb_task.specs.Effects.{Stores}
 use Rattle.kb_task.specs.Limits.{undecided_line}
 use Rattle.kb_task.specs.Lines.{LimitIsPrinted}
@@ -15,40 +12,19 @@ use Rattle.kb_task.specs.declared.status.Status.{Status}
 use Rattle.kb_task.specs.declared.status.Status.TheVariants.{Yes, Undecided, Memory, Fault}
 use Rattle.kb_task.specs.declared.status.Which.TheVariants.{Store, Output}
 use Rattle.kb_task.proofs.EffectLemmas.{unchanged-later, writes-later, front-later, stores-later, leaves_unknown-later, writes-printed, front-printed, unchanged-printed}
-use Rattle.kb_cmd_automata.specs.Make.{MakeMeans, IsWithin, IsCombined, IsMadeOfTwo, IsTransformed, IsMinimised}
-use Rattle.kb_cmd_automata.specs.declared.combine.Combination.{Combination}
-use Rattle.kb_cmd_automata.specs.declared.combine.Combination.TheVariants as combinations
-use Rattle.kb_cmd_automata.specs.declared.transform.Transformation.{Transformation}
-use Rattle.kb_cmd_automata.specs.declared.transform.Transformation.TheVariants as transformations
+use Rattle.kb_cmd_automata.specs.Make.{MakeMeans, IsWithin}
+use Rattle.kb_cmd_automata.specs.MakeLaws.{IsKnown}
 
 -- ---- another automaton of the same alphabet and language is made of the same ones
 
--- what describes the texts of an automaton describes those of another of the same language
-same_texts : (made stored : Automaton) (P : List ℕ → Type 0) → SameLanguage made stored
-    → ((text : List ℕ) → AcceptsText made text ↔ P text) → (text : List ℕ) → AcceptsText stored text ↔ P text
-same_texts made stored P same is text = ((λ accepts. (is text).0 ((same text).1 accepts)), (λ fact. (same text).0 ((is text).1 fact)))
-
-combined-same : (operation : Combination) (one two made stored : Automaton) → SameLanguage made stored
-    → IsCombined operation one two made → IsCombined operation one two stored
-combined-same combinations.And one two made stored same is = same_texts made stored (λ text. AcceptsText one text × AcceptsText two text) same is
-combined-same combinations.Or one two made stored same is = same_texts made stored (λ text. AcceptsText one text ⊎ AcceptsText two text) same is
-combined-same combinations.Concat one two made stored same is = same_texts made stored (IsSplit one two) same is
-
-pub made_of_two-same : (operation : Combination) (one two made : Automaton) → made.alphabet ≡ one.alphabet → IsCombined operation one two made
-    → (stored : Automaton) → stored.alphabet ≡ made.alphabet → SameLanguage made stored → IsMadeOfTwo operation one two stored
-made_of_two-same operation one two made over is stored alphabet same = (alphabet ∙ over, combined-same operation one two made stored same is)
-
-pub transformed-same : (operation : Transformation) (one made : Automaton) → IsTransformed operation one made
-    → (stored : Automaton) → stored.alphabet ≡ made.alphabet → SameLanguage made stored → IsTransformed operation one stored
-transformed-same transformations.Not one made is stored alphabet same =
-    (alphabet ∙ is.0, same_texts made stored (λ text. IsTextOf one.alphabet text × ¬ AcceptsText one text) same is.1)
-transformed-same transformations.Exists one made is stored alphabet same = (alphabet ∙ is.0, same_texts made stored (HasSecond one) same is.1)
-transformed-same transformations.Star one made is stored alphabet same = (alphabet ∙ is.0, same_texts made stored (IsProduct one) same is.1)
-transformed-same transformations.Reverse one made is stored alphabet same =
-    (alphabet ∙ is.0, same_texts made stored (λ text. AcceptsText one (reverse text)) same is.1)
-
-pub minimised-same : (one stored : Automaton) → stored.alphabet ≡ one.alphabet → SameLanguage one stored → IsMinimised one stored
-minimised-same one stored alphabet same = (alphabet, same)
+pub made-same : {IsMade : Automaton → Type 0} → IsKnown IsMade → (made : Automaton) → IsMade made
+    → (stored : Automaton) → stored.alphabet ≡ made.alphabet → SameLanguage made stored → IsMade stored
+made-same is_known made is_made stored alphabet same =
+    let first = (is_known.is made).0 is_made in
+    (is_known.is stored).1 (
+      alphabet ∙ first.0,
+      (λ text. ((λ accepts. (first.1 text).0 ((same text).1 accepts)), (λ fact. (same text).0 ((first.1 text).1 fact)))),
+    )
 
 -- ---- what a run means
 

@@ -5,6 +5,7 @@ use Rattle.kb_cmd_automata.specs.Line.{name_text, name_of_task}
 use Rattle.kb_cmd_automata.specs.declared.combine.Combination.TheVariants.{And, Or, Concat}
 use Rattle.kb_cmd_automata.specs.declared.line.name.Name.{Name}
 use Rattle.kb_cmd_automata.specs.declared.line.name.Name.TheVariants as names
+use Rattle.kb_cmd_automata.specs.declared.line.name.Unlimited.TheVariants.{Minimise}
 use Rattle.kb_cmd_automata.specs.declared.task.AutomataTask.{AutomataTask}
 use Rattle.kb_cmd_automata.specs.declared.transform.Transformation.TheVariants.{Not, Exists, Star, Reverse}
 
@@ -21,7 +22,7 @@ begins_with_f (names.Transform Not) = refl
 begins_with_f (names.Transform Exists) = refl
 begins_with_f (names.Transform Star) = refl
 begins_with_f (names.Transform Reverse) = refl
-begins_with_f names.Minimise = refl
+begins_with_f (names.Unlimited Minimise) = refl
 begins_with_f names.Compare = refl
 begins_with_f names.Enumerate = refl
 

@@ -2,7 +2,6 @@
 use Rattle.std.specs.Prelude.{◌≡◌, ℕ, ◌⊎◌, List, [], ◌∷◌, ◌++◌, codes}
 use Rattle.kb_word.specs.Printed.{text_of_word}
 use Rattle.kb_io.specs.Bytes.{AppendsPrefix, newline}
-use Rattle.kb_io.specs.Outside.{Outside}
 use Rattle.kb_fsa.specs.declared.alphabet.Alphabet.{Alphabet}
 use Rattle.kb_fsa.specs.declared.alphabet.Alphabet.TheVariants.{Plain, Pair}
 use Rattle.kb_fsa.specs.Padding.{IsPadded}
@@ -10,6 +9,8 @@ use Rattle.kb_fsa.specs.Language.{Automaton, SameLanguage}
 use Rattle.kb_fsa.specs.Counted.{CountedOr}
 use Rattle.kb_fsabool.specs.Answers.{IsLeastDifference}
 use Rattle.kb_task.specs.Limits.{undecided_line}
+use Rattle.kb_task.specs.Promises.{Promise}
+use Rattle.kb_task.specs.Statuses.{IsAnswer, IsConclusive}
 use Rattle.kb_task.specs.declared.loading.automata.Kind.TheVariants.{WordsOrPairs}
 use Rattle.kb_task.specs.declared.status.Cert.TheVariants.{NotEqual}
 use Rattle.kb_task.specs.declared.status.Construction.TheVariants.{Equal}
@@ -65,21 +66,15 @@ DifferenceIsPrinted names alphabet text before after status =
     ⊎ ((status ≡ Fault Output) × AppendsPrefix before after line)))
     ⊎ ((status ≡ Memory) × (after ≡ before))
 
-abbrev pub CompareMeans : Compare → Outside → Outside → Status → Type 0
-CompareMeans task =
-    TwoMean WordsOrPairs task.one task.two
-    (λ names one two. OnlyPrints (ComparisonIsPrinted names one two task.max_states))
-
--- it stores nothing
-abbrev pub compare_may_store : Compare → List ℕ → Type 0
-compare_may_store task name = ⊥
-
-abbrev pub compare_reads : Compare → List ℕ → Type 0
-compare_reads task name = (name ≡ task.one) ⊎ (name ≡ task.two)
-
-abbrev pub compare_is_unrefused : Compare → Outside → Type 0
-compare_is_unrefused task = AreBothUnrefused WordsOrPairs task.one task.two
-
--- the other is the same command but for its limit
-abbrev pub ComparesDifferInOptions : Compare → Compare → Type 0
-ComparesDifferInOptions task other = other ≡ record task { max_states = other.max_states }
+-- It stores nothing. Another is the same but for its limit.
+abbrev pub compare_promise : Compare → Promise Compare
+compare_promise task = record {
+  means = TwoMean WordsOrPairs task.one task.two
+      (λ names one two. OnlyPrints (ComparisonIsPrinted names one two task.max_states));
+  may_store = λ name. ⊥;
+  reads = λ name. (name ≡ task.one) ⊎ (name ≡ task.two);
+  is_unrefused = AreBothUnrefused WordsOrPairs task.one task.two;
+  answers = IsAnswer;
+  settles = IsConclusive;
+  differs_in_options = λ other. other ≡ record task { max_states = other.max_states };
+}

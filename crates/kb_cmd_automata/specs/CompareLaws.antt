@@ -3,14 +3,17 @@ use Rattle.std.proofs.Common.{◌≡◌, inl, inr, ℕ, List, ◌++◌, codes, r
 use Rattle.kb_word.specs.ShortlexLaws.{shortlex_total}
 use Rattle.kb_fsa.specs.Language.{Automaton, SameLanguage}
 use Rattle.kb_fsabool.specs.Answers.{IsInOne, IsLeastDifference}
-use Rattle.kb_task.specs.Runs.{HasSameEffect, IsComplete, IsSettledByFiles, IsFunctionOfInputs}
+use Rattle.kb_task.specs.PromiseLaws.{yes-conclusive}
+use Rattle.kb_task.specs.Promises.{IsLawful}
+use Rattle.kb_task.specs.Runs.{HasSameEffect}
 use Rattle.kb_task.specs.Statuses.{IsAnswer, IsConclusive, IsFaultless, IsYes}
 use Rattle.kb_task.specs.declared.loading.automata.Kind.TheVariants.{WordsOrPairs}
 use Rattle.kb_task.specs.declared.status.Cert.TheVariants.{NotEqual}
 use Rattle.kb_task.specs.declared.status.Status.{Status}
 use Rattle.kb_task.specs.declared.status.Status.TheVariants.{No}
-use Rattle.kb_cmd_automata.specs.Compare.{IsComparisonLine, same, differ, undecided, ComparisonIsPrinted, printed, failed, no_memory, CompareMeans, compare_may_store, compare_reads, compare_is_unrefused, ComparesDifferInOptions}
-use Rattle.kb_cmd_automata.specs.LoadedLaws.{two_answer, over_two, yes-conclusive}
+use Rattle.kb_cmd_automata.specs.Compare.{IsComparisonLine, same, differ, undecided, ComparisonIsPrinted, printed, failed, no_memory, compare_promise}
+use Rattle.kb_cmd_automata.specs.LoadedLaws.{two_answer, over_two}
+use Rattle.kb_cmd_automata.specs.declared.compare.Compare.{Compare}
 
 -- what is in exactly one of two languages refutes that they are the same
 in_one-differs : (one two : Automaton) (text : List ℕ) → IsInOne one two text
@@ -91,47 +94,44 @@ module _ (names : List (List ℕ)) (one two : Automaton) where
   yes_written most before after status is_yes (failed is_line front) = absurd is_yes
   yes_written most before after status is_yes (no_memory unwritten) = absurd is_yes
 
-pub compare_complete : IsComplete CompareMeans compare_is_unrefused (λ task. IsAnswer)
-compare_complete = λ task before after status means unrefused faultless.
-    two_answer IsAnswer tt before after status faultless WordsOrPairs task.one task.two _
-    (λ names one two prints. comparison_answers names one two task.max_states before.output.written
-    after.output.written status faultless prints.so)
-    unrefused means
-
-pub compare_settled : IsSettledByFiles CompareMeans compare_reads (λ task. IsConclusive)
-compare_settled =
-    λ task before after other_before other_after status other means others alike conclusive also.
-    over_two before after other_before other_after status other conclusive also
-    (status ≡ other) WordsOrPairs
-    task.one task.two _ _
-    (λ names one two prints print.
-    let first = comparison_line names one two task.max_states before.output.written
-    after.output.written status
-    conclusive prints.so in
-    let second =
-    comparison_line names one two task.max_states other_before.output.written
-    other_after.output.written
-    other also print.so in
-    one_status names one two task.max_states first.0 second.0 status other first.1 second.1)
-    (alike task.one (inl refl)) (alike task.two (inr refl)) means others
-
-pub compare_one_function : IsFunctionOfInputs CompareMeans ComparesDifferInOptions compare_reads
-    compare_may_store
-compare_one_function =
-    λ task other_task before after other_before other_after status other means others is_yes also differs alike input.
-    over_two before after other_before other_after status other (yes-conclusive status is_yes)
-    (yes-conclusive other also)
-    (HasSameEffect (compare_may_store task) before after other_before other_after) WordsOrPairs
-    task.one task.two _ _
-    (λ names one two prints print. record {
-      bytes = codes "yes\n";
-      written = yes_written names one two task.max_states before.output.written
-          after.output.written status
-          is_yes prints.so;
-      other_written =
-          yes_written names one two other_task.max_states other_before.output.written
-          other_after.output.written other also print.so;
-      stored = λ name none. absurd none;
-    })
-    (alike task.one (inl refl)) (alike task.two (inr refl)) means
-    (subst (λ t. CompareMeans t other_before other_after other) differs others)
+pub compare_lawful : (task : Compare) → IsLawful compare_promise (compare_promise task)
+compare_lawful task = record {
+  complete = λ before after status means unrefused faultless.
+      two_answer IsAnswer tt before after status faultless WordsOrPairs task.one task.two _
+      (λ names one two prints. comparison_answers names one two task.max_states
+      before.output.written after.output.written status faultless prints.so)
+      unrefused means;
+  memory = tt;
+  settled = λ before after other_before other_after status other means others alike conclusive also.
+      over_two before after other_before other_after status other conclusive also
+      (status ≡ other) WordsOrPairs
+      task.one task.two _ _
+      (λ names one two prints print.
+      let first = comparison_line names one two task.max_states before.output.written
+      after.output.written status
+      conclusive prints.so in
+      let second =
+      comparison_line names one two task.max_states other_before.output.written
+      other_after.output.written
+      other also print.so in
+      one_status names one two task.max_states first.0 second.0 status other first.1 second.1)
+      (alike task.one (inl refl)) (alike task.two (inr refl)) means others;
+  conclusive = λ status settles. settles;
+  one_function = λ other_task before after other_before other_after status other means others is_yes also differs alike input.
+      over_two before after other_before other_after status other (yes-conclusive status is_yes)
+      (yes-conclusive other also)
+      (HasSameEffect (λ name. ⊥) before after other_before other_after) WordsOrPairs
+      task.one task.two _ _
+      (λ names one two prints print. record {
+        bytes = codes "yes\n";
+        written = yes_written names one two task.max_states before.output.written
+            after.output.written status
+            is_yes prints.so;
+        other_written =
+            yes_written names one two other_task.max_states other_before.output.written
+            other_after.output.written other also print.so;
+        stored = λ name none. absurd none;
+      })
+      (alike task.one (inl refl)) (alike task.two (inr refl)) means
+      (subst (λ t. (compare_promise t).means other_before other_after other) differs others);
+}

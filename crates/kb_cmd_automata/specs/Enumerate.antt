@@ -3,8 +3,9 @@ use Rattle.std.specs.Prelude.{◌≡◌, ℕ, ◌≤◌, List, [], ◌∷◌, �
 use Rattle.kb_word.specs.Printed.{text_of_word}
 use Rattle.kb_word.specs.Words.{Less}
 use Rattle.kb_io.specs.Bytes.{AppendsPrefix, newline}
-use Rattle.kb_io.specs.Outside.{Outside}
 use Rattle.kb_fsa.specs.Language.{Automaton, Accepts}
+use Rattle.kb_task.specs.Promises.{Promise}
+use Rattle.kb_task.specs.Statuses.{AnswersYes, IsConclusive}
 use Rattle.kb_task.specs.declared.loading.automata.Kind.TheVariants.{Words}
 use Rattle.kb_task.specs.declared.status.Status.{Status}
 use Rattle.kb_task.specs.declared.status.Status.TheVariants.{Yes, Memory, Fault}
@@ -58,21 +59,15 @@ pub data WordsArePrinted (names : List (List ℕ)) (automaton : Automaton) (leas
   no_memory : IsFrontOfWords names automaton least most before after
       → WordsArePrinted names automaton least most before after Memory
 
-abbrev pub EnumerateMeans : Enumerate → Outside → Outside → Status → Type 0
-EnumerateMeans task =
-    OneMeans Words task.file
-    (λ names automaton. OnlyPrints (WordsArePrinted names automaton task.min task.max))
-
--- it stores nothing
-abbrev pub enumerate_may_store : Enumerate → List ℕ → Type 0
-enumerate_may_store task name = ⊥
-
-abbrev pub enumerate_reads : Enumerate → List ℕ → Type 0
-enumerate_reads task name = name ≡ task.file
-
-abbrev pub enumerate_is_unrefused : Enumerate → Outside → Type 0
-enumerate_is_unrefused task = IsUnrefusedAs Words task.file
-
--- it has no options
-abbrev pub EnumeratesDifferInOptions : Enumerate → Enumerate → Type 0
-EnumeratesDifferInOptions task other = other ≡ task
+-- It stores nothing, and has no options.
+abbrev pub enumerate_promise : Enumerate → Promise Enumerate
+enumerate_promise task = record {
+  means = OneMeans Words task.file
+      (λ names automaton. OnlyPrints (WordsArePrinted names automaton task.min task.max));
+  may_store = λ name. ⊥;
+  reads = λ name. name ≡ task.file;
+  is_unrefused = IsUnrefusedAs Words task.file;
+  answers = AnswersYes;
+  settles = IsConclusive;
+  differs_in_options = λ other. other ≡ task;
+}

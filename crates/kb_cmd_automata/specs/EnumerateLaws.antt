@@ -6,13 +6,16 @@ use Rattle.kb_word.specs.Words.{Less}
 use Rattle.kb_word.specs.ShortlexLaws.{shortlex_irreflexive, shortlex_transitive, shortlex_total}
 use Rattle.kb_io.specs.Outside.{Outside}
 use Rattle.kb_fsa.specs.Language.{Automaton}
-use Rattle.kb_task.specs.Runs.{HasSameEffect, IsComplete, IsSettledByFiles, IsFunctionOfInputs}
+use Rattle.kb_task.specs.PromiseLaws.{yes-conclusive}
+use Rattle.kb_task.specs.Promises.{IsLawful}
+use Rattle.kb_task.specs.Runs.{HasSameEffect}
 use Rattle.kb_task.specs.Statuses.{AnswersYes, IsConclusive, IsFaultless, IsYes}
 use Rattle.kb_task.specs.declared.loading.automata.Kind.TheVariants.{Words}
 use Rattle.kb_task.specs.declared.status.Status.{Status}
 use Rattle.kb_task.specs.declared.status.Status.TheVariants.{Yes}
-use Rattle.kb_cmd_automata.specs.Enumerate.{AreAllAsked, lines_of_words, WordsArePrinted, printed, failed, no_memory, EnumerateMeans, enumerate_may_store, enumerate_reads, enumerate_is_unrefused, EnumeratesDifferInOptions}
-use Rattle.kb_cmd_automata.specs.LoadedLaws.{one_answers, over_one, yes-conclusive}
+use Rattle.kb_cmd_automata.specs.Enumerate.{AreAllAsked, lines_of_words, WordsArePrinted, printed, failed, no_memory, enumerate_promise}
+use Rattle.kb_cmd_automata.specs.LoadedLaws.{one_answers, over_one}
+use Rattle.kb_cmd_automata.specs.declared.enumerate.Enumerate.{Enumerate}
 
 -- ---- two ascending lists with the same elements are one list
 
@@ -148,41 +151,37 @@ module _ (names : List (List ℕ)) (automaton : Automaton) (least most : ℕ) wh
         stored = λ name none. absurd none;
       }
 
-pub enumerate_complete : IsComplete EnumerateMeans enumerate_is_unrefused (λ task. AnswersYes)
-enumerate_complete = λ task before after status means unrefused faultless.
-    one_answers AnswersYes tt before after status faultless Words task.file _
-    (λ names automaton prints. words_answer names automaton task.min task.max before.output.written
-    after.output.written status faultless prints.so)
-    unrefused means
-
-pub enumerate_settled : IsSettledByFiles EnumerateMeans enumerate_reads (λ task. IsConclusive)
-enumerate_settled =
-    λ task before after other_before other_after status other means others alike conclusive also.
-    over_one before after other_before other_after status other conclusive also (status ≡ other)
-    Words task.file _ _
-    (λ names automaton prints print.
-    words_yes names automaton task.min task.max before.output.written after.output.written status
-    conclusive prints.so
-    ∙ sym (words_yes names automaton task.min task.max other_before.output.written
-    other_after.output.written
-    other also print.so))
-    (alike task.file refl) means others
-
-pub enumerate_one_function : IsFunctionOfInputs EnumerateMeans
-    EnumeratesDifferInOptions enumerate_reads
-    enumerate_may_store
-enumerate_one_function =
-    λ task other_task before after other_before other_after status other means others is_yes also differs alike input.
-    over_one before after other_before other_after status other (yes-conclusive status is_yes)
-    (yes-conclusive other also)
-    (HasSameEffect (enumerate_may_store task) before after other_before other_after)
-    Words task.file _ _
-    (λ names automaton prints print.
-    one_text names automaton task.min task.max before after other_before other_after
-    (wrote_all names automaton task.min task.max before.output.written after.output.written status
-    is_yes prints.so)
-    (wrote_all names automaton task.min task.max other_before.output.written
-    other_after.output.written other
-    also print.so))
-    (alike task.file refl) means
-    (subst (λ t. EnumerateMeans t other_before other_after other) differs others)
+pub enumerate_lawful : (task : Enumerate) → IsLawful enumerate_promise (enumerate_promise task)
+enumerate_lawful task = record {
+  complete = λ before after status means unrefused faultless.
+      one_answers AnswersYes tt before after status faultless Words task.file _
+      (λ names automaton prints. words_answer names automaton task.min task.max
+      before.output.written after.output.written status faultless prints.so)
+      unrefused means;
+  memory = tt;
+  settled = λ before after other_before other_after status other means others alike conclusive also.
+      over_one before after other_before other_after status other conclusive also (status ≡ other)
+      Words task.file _ _
+      (λ names automaton prints print.
+      words_yes names automaton task.min task.max before.output.written after.output.written status
+      conclusive prints.so
+      ∙ sym (words_yes names automaton task.min task.max other_before.output.written
+      other_after.output.written
+      other also print.so))
+      (alike task.file refl) means others;
+  conclusive = λ status settles. settles;
+  one_function = λ other_task before after other_before other_after status other means others is_yes also differs alike input.
+      over_one before after other_before other_after status other (yes-conclusive status is_yes)
+      (yes-conclusive other also)
+      (HasSameEffect (λ name. ⊥) before after other_before other_after)
+      Words task.file _ _
+      (λ names automaton prints print.
+      one_text names automaton task.min task.max before after other_before other_after
+      (wrote_all names automaton task.min task.max before.output.written after.output.written status
+      is_yes prints.so)
+      (wrote_all names automaton task.min task.max other_before.output.written
+      other_after.output.written other
+      also print.so))
+      (alike task.file refl) means
+      (subst (λ t. (enumerate_promise t).means other_before other_after other) differs others);
+}

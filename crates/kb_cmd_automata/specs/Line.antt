@@ -7,9 +7,10 @@ use Rattle.kb_cmd_automata.specs.declared.combine.Combination.TheVariants.{And, 
 use Rattle.kb_cmd_automata.specs.declared.combine.Combine.{Combine}
 use Rattle.kb_cmd_automata.specs.declared.compare.Compare.{Compare}
 use Rattle.kb_cmd_automata.specs.declared.enumerate.Enumerate.{Enumerate}
+use Rattle.kb_cmd_automata.specs.declared.files.FileToOut.{FileToOut}
 use Rattle.kb_cmd_automata.specs.declared.line.name.Name.{Name}
 use Rattle.kb_cmd_automata.specs.declared.line.name.Name.TheVariants as names
-use Rattle.kb_cmd_automata.specs.declared.minimise.Minimise.{Minimise}
+use Rattle.kb_cmd_automata.specs.declared.line.name.Unlimited.TheVariants.{Minimise}
 use Rattle.kb_cmd_automata.specs.declared.task.AutomataTask.{AutomataTask}
 use Rattle.kb_cmd_automata.specs.declared.task.AutomataTask.TheVariants as tasks
 use Rattle.kb_cmd_automata.specs.declared.transform.Transform.{Transform}
@@ -25,16 +26,16 @@ name_text (names.Transform Not) = codes "fsanot"
 name_text (names.Transform Exists) = codes "fsaexists"
 name_text (names.Transform Star) = codes "fsastar"
 name_text (names.Transform Reverse) = codes "fsareverse"
-name_text names.Minimise = codes "fsamin"
+name_text (names.Unlimited Minimise) = codes "fsamin"
 name_text names.Compare = codes "fsalequal"
 name_text names.Enumerate = codes "fsaenumerate"
 
 -- the commands, in the order in which the program lists them
 abbrev pub all_names : List Name
 all_names =
-    names.Combine And ∷ names.Combine Or ∷ names.Transform Not ∷ names.Minimise ∷ names.Compare
-    ∷ names.Transform Exists
-    ∷ names.Combine Concat ∷ names.Transform Star ∷ names.Transform Reverse ∷ names.Enumerate ∷ []
+    names.Combine And ∷ names.Combine Or ∷ names.Transform Not ∷ names.Unlimited Minimise
+    ∷ names.Compare ∷ names.Transform Exists ∷ names.Combine Concat ∷ names.Transform Star
+    ∷ names.Transform Reverse ∷ names.Enumerate ∷ []
 
 -- ---- what the commands take
 
@@ -57,7 +58,8 @@ command_app (names.Combine operation) =
 command_app (names.Transform operation) =
     with_rule (with_out (with_first (new_app (name_text (names.Transform operation)))))
     (option_rule MaxStates)
-command_app names.Minimise = with_out (with_first (new_app (name_text names.Minimise)))
+command_app (names.Unlimited command) =
+    with_out (with_first (new_app (name_text (names.Unlimited command))))
 command_app names.Compare =
     with_rule (with_second (with_first (new_app (name_text names.Compare))))
     (option_rule MaxStates)
@@ -78,6 +80,11 @@ with_automata app = with_commands app all_names
 
 -- ---- what is read of them
 
+-- the arguments give the files
+pub record GivesFiles (rows : List Row) (files : FileToOut) : Type 0 where
+  pub file : GivesText rows (codes "first") files.file
+  pub out : GivesText rows (codes "out") files.out
+
 -- the arguments and options give the command
 pub record GivesCombine (rows : List Row) (task : Combine) : Type 0 where
   pub one : GivesText rows (codes "first") task.one
@@ -89,10 +96,6 @@ pub record GivesTransform (rows : List Row) (task : Transform) : Type 0 where
   pub file : GivesText rows (codes "first") task.file
   pub out : GivesText rows (codes "out") task.out
   pub max_states : GivesOption rows MaxStates task.max_states
-
-pub record GivesMinimise (rows : List Row) (task : Minimise) : Type 0 where
-  pub file : GivesText rows (codes "first") task.file
-  pub out : GivesText rows (codes "out") task.out
 
 pub record GivesCompare (rows : List Row) (task : Compare) : Type 0 where
   pub one : GivesText rows (codes "first") task.one
@@ -108,14 +111,14 @@ pub record GivesEnumerate (rows : List Row) (task : Enumerate) : Type 0 where
 abbrev pub name_of_task : AutomataTask → Name
 name_of_task (tasks.Combine task) = names.Combine task.operation
 name_of_task (tasks.Transform task) = names.Transform task.operation
-name_of_task (tasks.Minimise task) = names.Minimise
+name_of_task (tasks.Minimise task) = names.Unlimited Minimise
 name_of_task (tasks.Compare task) = names.Compare
 name_of_task (tasks.Enumerate task) = names.Enumerate
 
 abbrev pub GivesTask : AutomataTask → List Row → Type 0
 GivesTask (tasks.Combine task) rows = GivesCombine rows task
 GivesTask (tasks.Transform task) rows = GivesTransform rows task
-GivesTask (tasks.Minimise task) rows = GivesMinimise rows task
+GivesTask (tasks.Minimise task) rows = GivesFiles rows task.files
 GivesTask (tasks.Compare task) rows = GivesCompare rows task
 GivesTask (tasks.Enumerate task) rows = GivesEnumerate rows task
 

@@ -3,17 +3,12 @@
 use Rattle.std.proofs.Common.{◌≡◌, ℕ, List, sym, subst}
 use Rattle.kb_io.specs.Outside.{Outside}
 use Rattle.kb_fsa.specs.Language.{Automaton}
-use Rattle.kb_task.specs.Statuses.{IsConclusive, IsFaultless, IsYes}
+use Rattle.kb_task.specs.Statuses.{IsConclusive, IsFaultless}
 use Rattle.kb_task.specs.declared.loading.automata.Kind.{Kind}
 use Rattle.kb_task.specs.declared.status.Status.{Status}
-use Rattle.kb_task.specs.declared.status.Status.TheVariants.{Yes, Memory}
+use Rattle.kb_task.specs.declared.status.Status.TheVariants.{Memory}
 use Rattle.kb_task.proofs.LoadEnds.{memory_at_load, load_inconclusive, one_held}
 use Rattle.kb_cmd_automata.specs.Loaded.{MeaningOfOne, MeaningOfTwo, OneMeans, TwoMean, at_load, loaded, at_first, at_second, both, IsUnrefusedAs, AreBothUnrefused}
-
--- a run that answered yes answered
-pub yes-conclusive : (status : Status) → IsYes status → IsConclusive status
-yes-conclusive Yes is_yes = tt
-yes-conclusive _ is_yes = absurd is_yes
 
 -- where nothing is refused, the status is one of those after the load
 module _ (Answers : Status → Type 0) (on_memory : Answers Memory) (before after : Outside)

@@ -1,8 +1,9 @@
 -- What the commands mean that make an automaton and store it.
-use Rattle.std.specs.Prelude.{◌≡◌, ℕ, ◌⊎◌, List}
+use Rattle.std.specs.Prelude.{◌≡◌, ◌↔◌, ℕ, ◌⊎◌, List}
 use Rattle.kb_io.specs.Outside.{Outside, IsUnchanged}
+use Rattle.kb_fsa.specs.declared.alphabet.Alphabet.{Alphabet}
 use Rattle.kb_fsa.specs.declared.alphabet.Alphabet.TheVariants.{Plain}
-use Rattle.kb_fsa.specs.Language.{Automaton, IsAutomaton, SameLanguage, generators}
+use Rattle.kb_fsa.specs.Language.{Automaton, AcceptsText, IsAutomaton, generators}
 use Rattle.kb_fsa.specs.Canonical.{IsCanonical}
 use Rattle.kb_fsa.specs.Counted.{CountedAnd, CountedOr, CountedNot, CountedExists, CountedConcat, CountedStar, CountedReverse}
 use Rattle.kb_fsabool.specs.Answers.{IsIntersection, IsUnion, IsComplement}
@@ -11,6 +12,8 @@ use Rattle.kb_fsarat.specs.Products.{IsConcatenation, IsStar, IsReversal}
 use Rattle.kb_fsaprint.specs.Printed.{text_of_automaton}
 use Rattle.kb_task.specs.Effects.{Writes, WritesFront, Stores, LeavesUnknown}
 use Rattle.kb_task.specs.Limits.{undecided_line}
+use Rattle.kb_task.specs.Promises.{Promise}
+use Rattle.kb_task.specs.Statuses.{AnswersYes, AnswersYesOrLimit, IsConclusive}
 use Rattle.kb_task.specs.declared.loading.automata.Kind.{Kind}
 use Rattle.kb_task.specs.declared.loading.automata.Kind.TheVariants.{WordsOrPairs, Words, Pairs}
 use Rattle.kb_task.specs.declared.status.Construction.{Construction}
@@ -61,6 +64,41 @@ MakeMeans IsMade Exceeds out names before after (Fault Output) =
 MakeMeans IsMade Exceeds out names before after Memory = IsUnchanged before after
 MakeMeans IsMade Exceeds out names before after _ = ⊥
 
+-- the automaton is over the alphabet and accepts these texts
+abbrev pub IsMadeOf : Alphabet → (List ℕ → Type 0) → Automaton → Type 0
+IsMadeOf alphabet Accepted made =
+    (made.alphabet ≡ alphabet) × ((text : List ℕ) → AcceptsText made text ↔ Accepted text)
+
+-- What a command makes of the automaton in a file, of which kind that has to be, and where it stores it.
+pub record Making : Type 1 where
+  pub kind : Kind
+  pub file : List ℕ
+  pub out : List ℕ
+  pub IsMade : Automaton → Automaton → Type 0
+
+-- what a run of it means, by the limits that are exceeded
+abbrev pub MakingMeans : Making → (Automaton → Limit → Type 0) → Outside → Outside → Status → Type 0
+MakingMeans making Exceeds = OneMeans making.kind making.file
+    (λ names one. MakeMeans (making.IsMade one) (Exceeds one) making.out names)
+
+-- what it then promises, by these limits, its answers, and the commands that differ in options alone
+abbrev pub make_promise : {Task : Type 0} → Making → (Automaton → Limit → Type 0)
+    → (Status → Type 0) → (Task → Type 0) → Promise Task
+make_promise making Exceeds Answers DiffersInOptions = record {
+  means = MakingMeans making Exceeds;
+  may_store = λ name. name ≡ making.out;
+  reads = λ name. name ≡ making.file;
+  is_unrefused = IsUnrefusedAs making.kind making.file;
+  answers = Answers;
+  settles = IsConclusive;
+  differs_in_options = DiffersInOptions;
+}
+
+-- what commands promise that have no limit and no options
+abbrev pub unlimited_promise : {Task : Type 0} → (Task → Making) → Task → Promise Task
+unlimited_promise making task =
+    make_promise (making task) (λ one limit. ⊥) AnswersYes (λ other. other ≡ task)
+
 -- ---- `fsaand`, `fsaor`, `fsaconcat`
 
 -- what an operation needs its automata to read, and its construction
@@ -96,24 +134,20 @@ abbrev pub ExceedsCombined : Combination → ℕ → Automaton → Automaton →
 ExceedsCombined operation most one two limit =
     (limit ≡ States (combined_by operation)) × HasMoreCombined operation one two most
 
-abbrev pub CombineMeans : Combine → Outside → Outside → Status → Type 0
-CombineMeans task = TwoMean (combined_kind task.operation) task.one task.two (λ names one two.
-    MakeMeans (IsMadeOfTwo task.operation one two)
-    (ExceedsCombined task.operation task.max_states one two)
-    task.out names)
-
-abbrev pub combine_may_store : Combine → List ℕ → Type 0
-combine_may_store task name = name ≡ task.out
-
-abbrev pub combine_reads : Combine → List ℕ → Type 0
-combine_reads task name = (name ≡ task.one) ⊎ (name ≡ task.two)
-
-abbrev pub combine_is_unrefused : Combine → Outside → Type 0
-combine_is_unrefused task = AreBothUnrefused (combined_kind task.operation) task.one task.two
-
--- the other is the same command but for its limit
-abbrev pub CombinesDifferInOptions : Combine → Combine → Type 0
-CombinesDifferInOptions task other = other ≡ record task { max_states = other.max_states }
+-- another is the same but for its limit
+abbrev pub combine_promise : Combine → Promise Combine
+combine_promise task = record {
+  means = TwoMean (combined_kind task.operation) task.one task.two (λ names one two.
+      MakeMeans (IsMadeOfTwo task.operation one two)
+      (ExceedsCombined task.operation task.max_states one two)
+      task.out names);
+  may_store = λ name. name ≡ task.out;
+  reads = λ name. (name ≡ task.one) ⊎ (name ≡ task.two);
+  is_unrefused = AreBothUnrefused (combined_kind task.operation) task.one task.two;
+  answers = AnswersYesOrLimit;
+  settles = IsConclusive;
+  differs_in_options = λ other. other ≡ record task { max_states = other.max_states };
+}
 
 -- ---- `fsanot`, `fsaexists`, `fsastar`, `fsareverse`
 
@@ -148,44 +182,30 @@ abbrev pub ExceedsTransformed : Transformation → ℕ → Automaton → Limit �
 ExceedsTransformed operation most one limit =
     (limit ≡ States (transformed_by operation)) × HasMoreTransformed operation one most
 
-abbrev pub TransformMeans : Transform → Outside → Outside → Status → Type 0
-TransformMeans task = OneMeans (transformed_kind task.operation) task.file (λ names one.
-    MakeMeans (IsTransformed task.operation one)
-    (ExceedsTransformed task.operation task.max_states one) task.out names)
+abbrev pub transform_making : Transform → Making
+transform_making task = record {
+  kind = transformed_kind task.operation;
+  file = task.file;
+  out = task.out;
+  IsMade = IsTransformed task.operation;
+}
 
-abbrev pub transform_may_store : Transform → List ℕ → Type 0
-transform_may_store task name = name ≡ task.out
-
-abbrev pub transform_reads : Transform → List ℕ → Type 0
-transform_reads task name = name ≡ task.file
-
-abbrev pub transform_is_unrefused : Transform → Outside → Type 0
-transform_is_unrefused task = IsUnrefusedAs (transformed_kind task.operation) task.file
-
-abbrev pub TransformsDifferInOptions : Transform → Transform → Type 0
-TransformsDifferInOptions task other = other ≡ record task { max_states = other.max_states }
+-- another is the same but for its limit
+abbrev pub transform_promise : Transform → Promise Transform
+transform_promise task =
+    make_promise (transform_making task) (ExceedsTransformed task.operation task.max_states)
+    AnswersYesOrLimit (λ other. other ≡ record task { max_states = other.max_states })
 
 -- ---- `fsamin`
 
--- the automaton has the alphabet and the language of another
-abbrev pub IsMinimised : Automaton → Automaton → Type 0
-IsMinimised one made = (made.alphabet ≡ one.alphabet) × SameLanguage one made
+-- an automaton of the same alphabet and language
+abbrev pub minimise_making : Minimise → Making
+minimise_making task = record {
+  kind = WordsOrPairs;
+  file = task.files.file;
+  out = task.files.out;
+  IsMade = λ one. IsMadeOf one.alphabet (AcceptsText one);
+}
 
--- it has no limit
-abbrev pub MinimiseMeans : Minimise → Outside → Outside → Status → Type 0
-MinimiseMeans task =
-    OneMeans WordsOrPairs task.file
-    (λ names one. MakeMeans (IsMinimised one) (λ limit. ⊥) task.out names)
-
-abbrev pub minimise_may_store : Minimise → List ℕ → Type 0
-minimise_may_store task name = name ≡ task.out
-
-abbrev pub minimise_reads : Minimise → List ℕ → Type 0
-minimise_reads task name = name ≡ task.file
-
-abbrev pub minimise_is_unrefused : Minimise → Outside → Type 0
-minimise_is_unrefused task = IsUnrefusedAs WordsOrPairs task.file
-
--- it has no options
-abbrev pub MinimisesDifferInOptions : Minimise → Minimise → Type 0
-MinimisesDifferInOptions task other = other ≡ task
+abbrev pub minimise_promise : Minimise → Promise Minimise
+minimise_promise = unlimited_promise minimise_making

@@ -1,92 +1,95 @@
 -- The laws of the commands that make an automaton and store it.
 use Rattle.std.proofs.Common.{◌≡◌, ◌↔◌, ◌⊎◌, inl, inr, ℕ, List, [], Some, refl, sym, ◌∙◌, ap, subst, append-nil, reverse}
 use Rattle.kb_io.specs.Outside.{Outside}
-use Rattle.kb_fsa.specs.Language.{Automaton, AcceptsText, SameLanguage, IsTextOf}
+use Rattle.kb_fsa.specs.declared.alphabet.Alphabet.{Alphabet}
+use Rattle.kb_fsa.specs.declared.alphabet.Alphabet.TheVariants.{Plain}
+use Rattle.kb_fsa.specs.Language.{Automaton, AcceptsText, SameLanguage, IsTextOf, generators}
 use Rattle.kb_fsa.specs.Counted.{IsProduct}
 use Rattle.kb_fsadet.specs.Projection.{HasSecond}
 use Rattle.kb_fsaprint.specs.Printed.{text_of_automaton}
 use Rattle.kb_fsamin.proofs.Uniqueness.{one_canonical}
 use Rattle.kb_fsarat.specs.Products.{IsSplit}
-use Rattle.kb_task.specs.Runs.{HasSameEffect, IsComplete, IsSettledByFiles, IsFunctionOfInputs}
+use Rattle.kb_task.specs.PromiseLaws.{yes-conclusive}
+use Rattle.kb_task.specs.Promises.{Promise, IsLawful}
+use Rattle.kb_task.specs.Runs.{HasSameEffect}
 use Rattle.kb_task.specs.Statuses.{AnswersYes, AnswersYesOrLimit, IsConclusive, IsFaultless, IsYes}
-use Rattle.kb_task.specs.declared.loading.automata.Kind.TheVariants.{WordsOrPairs}
 use Rattle.kb_task.specs.declared.status.Limit.{Limit}
 use Rattle.kb_task.specs.declared.status.Status.{Status}
 use Rattle.kb_task.specs.declared.status.Status.TheVariants.{Yes, Undecided, No, Memory, Fault}
-use Rattle.kb_cmd_automata.specs.LoadedLaws.{one_answers, two_answer, over_one, over_two, yes-conclusive}
-use Rattle.kb_cmd_automata.specs.Make.{MakeMeans, StoresMade, IsCombined, IsMadeOfTwo, ExceedsCombined, IsTransformed, ExceedsTransformed, IsMinimised, combined_kind, CombineMeans, combine_may_store, combine_reads, combine_is_unrefused, CombinesDifferInOptions, transformed_kind, TransformMeans, transform_may_store, transform_reads, transform_is_unrefused, TransformsDifferInOptions, MinimiseMeans, minimise_may_store, minimise_reads, minimise_is_unrefused, MinimisesDifferInOptions}
+use Rattle.kb_cmd_automata.specs.LoadedLaws.{one_answers, two_answer, over_one, over_two}
+use Rattle.kb_cmd_automata.specs.Make.{MakeMeans, StoresMade, Making, IsMadeOf, MakingMeans, make_promise, unlimited_promise, IsMadeOfTwo, ExceedsCombined, IsTransformed, ExceedsTransformed, combined_kind, combine_promise, transform_making, transform_promise, minimise_making, minimise_promise}
 use Rattle.kb_cmd_automata.specs.declared.combine.Combination.{Combination}
 use Rattle.kb_cmd_automata.specs.declared.combine.Combination.TheVariants as combinations
+use Rattle.kb_cmd_automata.specs.declared.combine.Combine.{Combine}
+use Rattle.kb_cmd_automata.specs.declared.minimise.Minimise.{Minimise}
+use Rattle.kb_cmd_automata.specs.declared.transform.Transform.{Transform}
 use Rattle.kb_cmd_automata.specs.declared.transform.Transformation.{Transformation}
 use Rattle.kb_cmd_automata.specs.declared.transform.Transformation.TheVariants as transformations
 
 -- ---- what is made has one language
 
--- two automata whose accepted texts are described alike accept the same
-alike : (made other : Automaton) (P : List ℕ → Type 0)
-    → ((text : List ℕ) → AcceptsText made text ↔ P text)
-    → ((text : List ℕ) → AcceptsText other text ↔ P text) → SameLanguage made other
-alike made other P one two text = (
-  (λ accepts. (two text).1 ((one text).0 accepts)),
-  (λ accepts. (one text).1 ((two text).0 accepts)),
-)
+-- what is made is known by its alphabet and the texts that it accepts
+pub record IsKnown (IsMade : Automaton → Type 0) : Type 1 where
+  pub alphabet : Alphabet
+  pub Accepted : List ℕ → Type 0
+  pub is : (made : Automaton) → IsMade made ↔ IsMadeOf alphabet Accepted made
 
-combined-alike : (operation : Combination) (one two made other : Automaton)
-    → IsCombined operation one two made
-    → IsCombined operation one two other → SameLanguage made other
-combined-alike combinations.And one two made other =
-    alike made other (λ text. AcceptsText one text × AcceptsText two text)
-combined-alike combinations.Or one two made other =
-    alike made other (λ text. AcceptsText one text ⊎ AcceptsText two text)
-combined-alike combinations.Concat one two made other = alike made other (IsSplit one two)
+-- what is stated by its alphabet and its texts is known by them
+pub known : (alphabet : Alphabet) (Accepted : List ℕ → Type 0) → IsKnown (IsMadeOf alphabet Accepted)
+known alphabet Accepted = record {
+  alphabet = alphabet;
+  Accepted = Accepted;
+  is = λ made. ((λ is. is), (λ is. is));
+}
 
 -- two automata have one alphabet and one language
 abbrev AreAlike : Automaton → Automaton → Type 0
 AreAlike made other = (made.alphabet ≡ other.alphabet) × SameLanguage made other
 
-made_of_two-alike : (operation : Combination) (one two made other : Automaton)
-    → IsMadeOfTwo operation one two made
-    → IsMadeOfTwo operation one two other → AreAlike made other
-made_of_two-alike operation one two made other a b =
-    (a.0 ∙ sym b.0, combined-alike operation one two made other a.1 b.1)
+alike : {IsMade : Automaton → Type 0} → IsKnown IsMade → (made other : Automaton) → IsMade made
+    → IsMade other → AreAlike made other
+alike is_known made other a b =
+    let one = (is_known.is made).0 a in
+    let two = (is_known.is other).0 b in (
+      one.0 ∙ sym two.0,
+      (λ text. (
+        (λ accepts. (two.1 text).1 ((one.1 text).0 accepts)),
+        (λ accepts. (one.1 text).1 ((two.1 text).0 accepts)),
+      )),
+    )
 
-transformed-alike : (operation : Transformation) (one made other : Automaton)
-    → IsTransformed operation one made
-    → IsTransformed operation one other → AreAlike made other
-transformed-alike transformations.Not one made other a b = (
-  a.0 ∙ sym b.0,
-  alike made other
-      (λ text. IsTextOf one.alphabet text × ¬ AcceptsText one text) a.1 b.1,
-)
-transformed-alike transformations.Exists one made other a b =
-    (a.0 ∙ sym b.0, alike made other (HasSecond one) a.1 b.1)
-transformed-alike transformations.Star one made other a b =
-    (a.0 ∙ sym b.0, alike made other (IsProduct one) a.1 b.1)
-transformed-alike transformations.Reverse one made other a b =
-    (a.0 ∙ sym b.0, alike made other (λ text. AcceptsText one (reverse text)) a.1 b.1)
+pub combined-known : (operation : Combination) (one two : Automaton)
+    → IsKnown (IsMadeOfTwo operation one two)
+combined-known combinations.And one two =
+    known one.alphabet (λ text. AcceptsText one text × AcceptsText two text)
+combined-known combinations.Or one two =
+    known one.alphabet (λ text. AcceptsText one text ⊎ AcceptsText two text)
+combined-known combinations.Concat one two = known one.alphabet (IsSplit one two)
 
-minimised-alike : (one made other : Automaton) → IsMinimised one made → IsMinimised one other
-    → AreAlike made other
-minimised-alike one made other a b = (
-  a.0 ∙ sym b.0,
-  (λ text. (
-    (λ accepts. (b.1 text).0 ((a.1 text).1 accepts)),
-    (λ accepts. (a.1 text).0 ((b.1 text).1 accepts)),
-  )),
-)
+pub transformed-known : (operation : Transformation) (one : Automaton)
+    → IsKnown (IsTransformed operation one)
+transformed-known transformations.Not one =
+    known one.alphabet (λ text. IsTextOf one.alphabet text × ¬ AcceptsText one text)
+transformed-known transformations.Exists one =
+    known (Plain (generators one.alphabet)) (HasSecond one)
+transformed-known transformations.Star one = known one.alphabet (IsProduct one)
+transformed-known transformations.Reverse one =
+    known one.alphabet (λ text. AcceptsText one (reverse text))
 
 -- ---- what is made and stored
 
 module _ (IsMade : Automaton → Type 0) (out : List ℕ) (names : List (List ℕ)) where
   -- where no device failed there is an answer
-  make_answers : (Exceeds : Limit → Type 0) (before after : Outside) (status : Status)
-      → IsFaultless status
-      → MakeMeans IsMade Exceeds out names before after status → AnswersYesOrLimit status
-  make_answers Exceeds before after Yes faultless means = tt
-  make_answers Exceeds before after (Undecided limit) faultless means = tt
-  make_answers Exceeds before after Memory faultless means = tt
-  make_answers Exceeds before after (Fault which) faultless means = cc
-  make_answers Exceeds before after _ faultless means = means
+  make_answers : (Exceeds : Limit → Type 0) (Answers : Status → Type 0) → Answers Yes → Answers Memory
+      → ((limit : Limit) → Exceeds limit → Answers (Undecided limit))
+      → (before after : Outside) (status : Status) → IsFaultless status
+      → MakeMeans IsMade Exceeds out names before after status → Answers status
+  make_answers Exceeds Answers on_yes on_memory limits before after Yes faultless means = on_yes
+  make_answers Exceeds Answers on_yes on_memory limits before after (Undecided limit) faultless means =
+      limits limit means.0
+  make_answers Exceeds Answers on_yes on_memory limits before after Memory faultless means = on_memory
+  make_answers Exceeds Answers on_yes on_memory limits before after (Fault which) faultless means = cc
+  make_answers Exceeds Answers on_yes on_memory limits before after _ faultless means = absurd means
 
   -- one status answers
   make_settled : (Exceeds : Limit → Type 0)
@@ -153,124 +156,119 @@ module _ (IsMade : Automaton → Type 0) (out : List ℕ) (names : List (List �
       other is_yes also
       means others = absurd is_yes
 
--- ---- `fsaand`, `fsaor`, `fsaconcat`
+-- ---- of one automaton
 
-pub combine_complete : IsComplete CombineMeans combine_is_unrefused (λ task. AnswersYesOrLimit)
-combine_complete = λ task before after status means unrefused faultless.
-    two_answer AnswersYesOrLimit tt before after status faultless (combined_kind task.operation)
-    task.one task.two _
-    (λ names one two made. make_answers (IsMadeOfTwo task.operation one two) task.out names
-    (ExceedsCombined task.operation task.max_states one two)
-    before after status faultless made)
-    unrefused means
+module _ {Task : Type 0} (making : Task → Making) (Exceeds : Task → Automaton → Limit → Type 0)
+    (Answers : Status → Type 0) (DiffersInOptions : Task → Task → Type 0) where
+  abbrev promise : Task → Promise Task
+  promise task = make_promise (making task) (Exceeds task) Answers (DiffersInOptions task)
 
-pub combine_settled : IsSettledByFiles CombineMeans combine_reads (λ task. IsConclusive)
-combine_settled =
-    λ task before after other_before other_after status other means others same conclusive also.
-    over_two before after other_before other_after status other conclusive also (status ≡ other)
-    (combined_kind task.operation) task.one task.two _ _
-    (λ names one two made mades. make_settled (IsMadeOfTwo task.operation one two) task.out names
-    (ExceedsCombined task.operation task.max_states one two) (λ limit found a b. a.0 ∙ sym b.0)
-    before after other_before other_after status other conclusive also made mades)
-    (same task.one (inl refl)) (same task.two (inr refl)) means others
+  -- commands that differ in options alone make the same
+  abbrev pub MakesSame : Type 1
+  MakesSame = (task other : Task) → DiffersInOptions task other → (P : Making → Type 0)
+      → P (making other) → P (making task)
 
-pub combine_one_function : IsFunctionOfInputs CombineMeans CombinesDifferInOptions combine_reads
-    combine_may_store
-combine_one_function =
-    λ task other_task before after other_before other_after status other means others is_yes also differ same input.
-    over_two before after other_before other_after status other (yes-conclusive status is_yes)
-    (yes-conclusive other also)
-    (HasSameEffect (combine_may_store task) before after other_before other_after)
-    (combined_kind task.operation) task.one task.two _ _
-    (λ names one two made mades. make_function (IsMadeOfTwo task.operation one two) task.out names
-    (ExceedsCombined task.operation task.max_states one two)
-    (ExceedsCombined task.operation other_task.max_states one two)
-    (made_of_two-alike task.operation one two) before after other_before other_after status
-    other is_yes also
-    made mades)
-    (same task.one (inl refl)) (same task.two (inr refl)) means
-    (subst (λ t. CombineMeans t other_before other_after other) differ others)
+  -- what a command makes of an automaton is known
+  abbrev pub MakesKnown : Type 1
+  MakesKnown = (task : Task) (one : Automaton) → IsKnown ((making task).IsMade one)
 
--- ---- `fsanot`, `fsaexists`, `fsastar`, `fsareverse`
+  -- one limit is exceeded, and is an answer
+  pub record HasOneLimit : Type 0 where
+    pub one : (task : Task) (one : Automaton) (limit other : Limit) → Exceeds task one limit
+        → Exceeds task one other → limit ≡ other
+    pub answers : (task : Task) (one : Automaton) (limit : Limit) → Exceeds task one limit
+        → Answers (Undecided limit)
 
-pub transform_complete : IsComplete TransformMeans transform_is_unrefused
-    (λ task. AnswersYesOrLimit)
-transform_complete = λ task before after status means unrefused faultless.
-    one_answers AnswersYesOrLimit tt before after status faultless
-    (transformed_kind task.operation) task.file _
-    (λ names one made. make_answers (IsTransformed task.operation one) task.out names
-    (ExceedsTransformed task.operation task.max_states one)
-    before after status faultless made)
-    unrefused means
+  pub make_lawful : MakesKnown → MakesSame → HasOneLimit → Answers Yes → Answers Memory
+      → (task : Task) → IsLawful promise (promise task)
+  make_lawful is_known same limits on_yes on_memory task =
+      let own = making task in
+      record {
+        complete = λ before after status means unrefused faultless.
+            one_answers Answers on_memory before after status faultless own.kind own.file _
+            (λ names one made. make_answers (own.IsMade one) own.out names (Exceeds task one) Answers
+            on_yes on_memory (limits.answers task one) before after status faultless made)
+            unrefused means;
+        memory = on_memory;
+        settled = λ before after other_before other_after status other means others same_files conclusive also.
+            over_one before after other_before other_after status other conclusive also
+            (status ≡ other) own.kind own.file _ _
+            (λ names one made mades. make_settled (own.IsMade one) own.out names (Exceeds task one)
+            (limits.one task one) before after other_before other_after status other conclusive
+            also made mades)
+            (same_files own.file refl) means others;
+        conclusive = λ status settles. settles;
+        one_function = λ other_task before after other_before other_after status other means others is_yes also differs same_files input.
+            over_one before after other_before other_after status other
+            (yes-conclusive status is_yes) (yes-conclusive other also)
+            (HasSameEffect (λ name. name ≡ own.out) before after other_before other_after)
+            own.kind own.file _ _
+            (λ names one made mades. make_function (own.IsMade one) own.out names
+            (Exceeds task one) (Exceeds other_task one) (alike (is_known task one))
+            before after other_before other_after status other is_yes also made mades)
+            (same_files own.file refl) means
+            (same task other_task differs
+            (λ m. MakingMeans m (Exceeds other_task) other_before other_after other) others);
+      }
 
-pub transform_settled : IsSettledByFiles TransformMeans transform_reads (λ task. IsConclusive)
-transform_settled =
-    λ task before after other_before other_after status other means others same conclusive also.
-    over_one before after other_before other_after status other conclusive also (status ≡ other)
-    (transformed_kind task.operation) task.file _ _
-    (λ names one made mades. make_settled (IsTransformed task.operation one) task.out names
-    (ExceedsTransformed task.operation task.max_states one) (λ limit found a b. a.0 ∙ sym b.0)
-    before after other_before other_after status other conclusive also made mades)
-    (same task.file refl) means others
+pub transform_lawful : (task : Transform) → IsLawful transform_promise (transform_promise task)
+transform_lawful =
+    make_lawful transform_making (λ task. ExceedsTransformed task.operation task.max_states)
+    AnswersYesOrLimit (λ task other. other ≡ record task { max_states = other.max_states })
+    (λ task. transformed-known task.operation)
+    (λ task other is P. subst (λ t. P (transform_making t)) is)
+    (record {
+      one = λ task one limit found a b. a.0 ∙ sym b.0;
+      answers = λ task one limit exceeds. tt;
+    })
+    tt tt
 
-pub transform_one_function : IsFunctionOfInputs TransformMeans
-    TransformsDifferInOptions transform_reads
-    transform_may_store
-transform_one_function =
-    λ task other_task before after other_before other_after status other means others is_yes also differ same input.
-    over_one before after other_before other_after status other (yes-conclusive status is_yes)
-    (yes-conclusive other also)
-    (HasSameEffect (transform_may_store task) before after other_before other_after)
-    (transformed_kind task.operation) task.file _ _
-    (λ names one made mades. make_function (IsTransformed task.operation one) task.out names
-    (ExceedsTransformed task.operation task.max_states one)
-    (ExceedsTransformed task.operation other_task.max_states one)
-    (transformed-alike task.operation one) before after other_before other_after status other
-    is_yes also made mades)
-    (same task.file refl) means
-    (subst (λ t. TransformMeans t other_before other_after other) differ others)
+-- commands that have no limit and no options are lawful where what they make is known
+pub unlimited_lawful : {Task : Type 0} (making : Task → Making)
+    → ((task : Task) (one : Automaton) → IsKnown ((making task).IsMade one))
+    → (task : Task) → IsLawful (unlimited_promise making) (unlimited_promise making task)
+unlimited_lawful making is_known =
+    make_lawful making (λ task one limit. ⊥) AnswersYes (λ task other. other ≡ task) is_known
+    (λ task other is P. subst (λ t. P (making t)) is)
+    (record {
+      one = λ task one limit found a b. absurd a;
+      answers = λ task one limit exceeds. absurd exceeds;
+    })
+    tt tt
 
--- ---- `fsamin`
+pub minimise_lawful : (task : Minimise) → IsLawful minimise_promise (minimise_promise task)
+minimise_lawful = unlimited_lawful minimise_making (λ task one. known one.alphabet (AcceptsText one))
 
--- a run without a limit has no answer but yes
-within_answers : (IsMade : Automaton → Type 0) (out : List ℕ) (names : List (List ℕ))
-    (before after : Outside)
-    (status : Status) → IsFaultless status
-    → MakeMeans IsMade (λ limit. ⊥) out names before after status → AnswersYes status
-within_answers IsMade out names before after Yes faultless means = tt
-within_answers IsMade out names before after Memory faultless means = tt
-within_answers IsMade out names before after (Undecided limit) faultless means = means.0
-within_answers IsMade out names before after (Fault which) faultless means = cc
-within_answers IsMade out names before after _ faultless means = means
+-- ---- of two: `fsaand`, `fsaor`, `fsaconcat`
 
-pub minimise_complete : IsComplete MinimiseMeans minimise_is_unrefused (λ task. AnswersYes)
-minimise_complete = λ task before after status means unrefused faultless.
-    one_answers AnswersYes tt before after status faultless WordsOrPairs task.file _
-    (λ names one made.
-    within_answers (IsMinimised one) task.out names before after status faultless made)
-    unrefused means
-
-pub minimise_settled : IsSettledByFiles MinimiseMeans minimise_reads (λ task. IsConclusive)
-minimise_settled =
-    λ task before after other_before other_after status other means others same conclusive also.
-    over_one before after other_before other_after status other conclusive also
-    (status ≡ other) WordsOrPairs
-    task.file _ _
-    (λ names one made mades.
-    make_settled (IsMinimised one) task.out names (λ limit. ⊥) (λ limit found a b. absurd a)
-    before after other_before other_after status other conclusive also made mades)
-    (same task.file refl) means others
-
-pub minimise_one_function : IsFunctionOfInputs MinimiseMeans MinimisesDifferInOptions minimise_reads
-    minimise_may_store
-minimise_one_function =
-    λ task other_task before after other_before other_after status other means others is_yes also differ same input.
-    over_one before after other_before other_after status other (yes-conclusive status is_yes)
-    (yes-conclusive other also)
-    (HasSameEffect (minimise_may_store task) before after other_before other_after)
-    WordsOrPairs task.file _ _
-    (λ names one made mades.
-    make_function (IsMinimised one) task.out names (λ limit. ⊥) (λ limit. ⊥)
-    (minimised-alike one) before after other_before other_after status other is_yes also made mades)
-    (same task.file refl) means
-    (subst (λ t. MinimiseMeans t other_before other_after other) differ others)
+pub combine_lawful : (task : Combine) → IsLawful combine_promise (combine_promise task)
+combine_lawful task = record {
+  complete = λ before after status means unrefused faultless.
+      two_answer AnswersYesOrLimit tt before after status faultless
+      (combined_kind task.operation) task.one task.two _
+      (λ names one two made. make_answers (IsMadeOfTwo task.operation one two) task.out names
+      (ExceedsCombined task.operation task.max_states one two) AnswersYesOrLimit tt tt
+      (λ limit exceeds. tt) before after status faultless made)
+      unrefused means;
+  memory = tt;
+  settled = λ before after other_before other_after status other means others same conclusive also.
+      over_two before after other_before other_after status other conclusive also (status ≡ other)
+      (combined_kind task.operation) task.one task.two _ _
+      (λ names one two made mades. make_settled (IsMadeOfTwo task.operation one two) task.out names
+      (ExceedsCombined task.operation task.max_states one two) (λ limit found a b. a.0 ∙ sym b.0)
+      before after other_before other_after status other conclusive also made mades)
+      (same task.one (inl refl)) (same task.two (inr refl)) means others;
+  conclusive = λ status settles. settles;
+  one_function = λ other_task before after other_before other_after status other means others is_yes also differs same input.
+      over_two before after other_before other_after status other (yes-conclusive status is_yes)
+      (yes-conclusive other also)
+      (HasSameEffect (λ name. name ≡ task.out) before after other_before other_after)
+      (combined_kind task.operation) task.one task.two _ _
+      (λ names one two made mades. make_function (IsMadeOfTwo task.operation one two) task.out names
+      (ExceedsCombined task.operation task.max_states one two)
+      (ExceedsCombined task.operation other_task.max_states one two)
+      (alike (combined-known task.operation one two)) before after other_before other_after status
+      other is_yes also made mades)
+      (same task.one (inl refl)) (same task.two (inr refl)) means
+      (subst (λ t. (combine_promise t).means other_before other_after other) differs others);
+}

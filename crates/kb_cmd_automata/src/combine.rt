@@ -44,35 +44,18 @@ pub struct Combine {
 }
 
 impl Task for Combine {
-    ghost use Rattle.kb_task.specs.Statuses.{AnswersYesOrLimit, IsConclusive};
-    ghost use Rattle.kb_cmd_automata.specs.Make.{CombineMeans, combine_may_store, combine_reads, combine_is_unrefused, CombinesDifferInOptions};
-    ghost use Rattle.kb_cmd_automata.specs.MakeLaws.{combine_complete, combine_settled, combine_one_function};
+    ghost use Rattle.kb_cmd_automata.specs.Make.{combine_promise};
+    ghost use Rattle.kb_cmd_automata.specs.MakeLaws.{combine_lawful};
 
-    ghost means = { CombineMeans };
+    ghost promise = { combine_promise };
 
-    ghost may_store = { combine_may_store };
-
-    ghost reads = { combine_reads };
-
-    ghost is_unrefused = { combine_is_unrefused };
-
-    ghost answers = { λ task. AnswersYesOrLimit };
-
-    ghost settles = { λ task. IsConclusive };
-
-    ghost differs_in_options = { CombinesDifferInOptions };
-
-    ghost complete = { combine_complete };
-
-    ghost settled = { combine_settled };
-
-    ghost one_function = { combine_one_function };
+    ghost lawful = { combine_lawful };
 }
 
 impl Combine {
     ghost use Rattle.kb_io.specs.Outside.{outside};
-    ghost use Rattle.kb_task.specs.Runs.{IsRun};
-    ghost use Rattle.kb_cmd_automata.specs.Make.{CombineMeans, combine_may_store};
+    ghost use Rattle.kb_task.specs.Promises.{Keeps};
+    ghost use Rattle.kb_cmd_automata.specs.Make.{combine_promise};
 
     /// Runs the command.
     pub fn run<F: Shelf, I: Source, O: Sink>(
@@ -82,7 +65,7 @@ impl Combine {
         input: &mut I,
         out: &mut O,
     ) -> Status
-        ensures { IsRun (CombineMeans self) (combine_may_store self)
+        ensures { Keeps (combine_promise self)
             (outside (F.state shelf.old) (I.state input.old) (O.state out.old))
             (outside (F.state shelf.new) (I.state input.new) (O.state out.new)) result }
     {

@@ -29,34 +29,17 @@ pub struct Compare {
 }
 
 impl Task for Compare {
-    ghost use Rattle.kb_task.specs.Statuses.{IsAnswer, IsConclusive};
-    ghost use Rattle.kb_cmd_automata.specs.Compare.{CompareMeans, compare_may_store, compare_reads, compare_is_unrefused, ComparesDifferInOptions};
-    ghost use Rattle.kb_cmd_automata.specs.CompareLaws.{compare_complete, compare_settled, compare_one_function};
+    ghost use Rattle.kb_cmd_automata.specs.Compare.{compare_promise};
+    ghost use Rattle.kb_cmd_automata.specs.CompareLaws.{compare_lawful};
 
-    ghost means = { CompareMeans };
+    ghost promise = { compare_promise };
 
-    ghost may_store = { compare_may_store };
-
-    ghost reads = { compare_reads };
-
-    ghost is_unrefused = { compare_is_unrefused };
-
-    ghost answers = { λ task. IsAnswer };
-
-    ghost settles = { λ task. IsConclusive };
-
-    ghost differs_in_options = { ComparesDifferInOptions };
-
-    ghost complete = { compare_complete };
-
-    ghost settled = { compare_settled };
-
-    ghost one_function = { compare_one_function };
+    ghost lawful = { compare_lawful };
 }
 
 impl Compare {
-    ghost use Rattle.kb_task.specs.Runs.{IsRun};
-    ghost use Rattle.kb_cmd_automata.specs.Compare.{CompareMeans, compare_may_store};
+    ghost use Rattle.kb_task.specs.Promises.{Keeps};
+    ghost use Rattle.kb_cmd_automata.specs.Compare.{compare_promise};
 
     /// Runs the command.
     pub fn run<F: Shelf, I: Source, O: Sink>(
@@ -66,7 +49,7 @@ impl Compare {
         input: &mut I,
         out: &mut O,
     ) -> Status
-        ensures { IsRun (CompareMeans self) (compare_may_store self)
+        ensures { Keeps (compare_promise self)
             (outside (F.state shelf.old) (I.state input.old) (O.state out.old))
             (outside (F.state shelf.new) (I.state input.new) (O.state out.new)) result }
     {

@@ -18,35 +18,18 @@ pub struct Enumerate {
 }
 
 impl Task for Enumerate {
-    ghost use Rattle.kb_task.specs.Statuses.{AnswersYes, IsConclusive};
-    ghost use Rattle.kb_cmd_automata.specs.Enumerate.{EnumerateMeans, enumerate_may_store, enumerate_reads, enumerate_is_unrefused, EnumeratesDifferInOptions};
-    ghost use Rattle.kb_cmd_automata.specs.EnumerateLaws.{enumerate_complete, enumerate_settled, enumerate_one_function};
+    ghost use Rattle.kb_cmd_automata.specs.Enumerate.{enumerate_promise};
+    ghost use Rattle.kb_cmd_automata.specs.EnumerateLaws.{enumerate_lawful};
 
-    ghost means = { EnumerateMeans };
+    ghost promise = { enumerate_promise };
 
-    ghost may_store = { enumerate_may_store };
-
-    ghost reads = { enumerate_reads };
-
-    ghost is_unrefused = { enumerate_is_unrefused };
-
-    ghost answers = { λ task. AnswersYes };
-
-    ghost settles = { λ task. IsConclusive };
-
-    ghost differs_in_options = { EnumeratesDifferInOptions };
-
-    ghost complete = { enumerate_complete };
-
-    ghost settled = { enumerate_settled };
-
-    ghost one_function = { enumerate_one_function };
+    ghost lawful = { enumerate_lawful };
 }
 
 impl Enumerate {
     ghost use Rattle.kb_io.specs.Outside.{outside};
-    ghost use Rattle.kb_task.specs.Runs.{IsRun};
-    ghost use Rattle.kb_cmd_automata.specs.Enumerate.{EnumerateMeans, enumerate_may_store};
+    ghost use Rattle.kb_task.specs.Promises.{Keeps};
+    ghost use Rattle.kb_cmd_automata.specs.Enumerate.{enumerate_promise};
 
     /// Runs the command.
     pub fn run<F: Shelf, I: Source, O: Sink>(
@@ -56,7 +39,7 @@ impl Enumerate {
         input: &mut I,
         out: &mut O,
     ) -> Status
-        ensures { IsRun (EnumerateMeans self) (enumerate_may_store self)
+        ensures { Keeps (enumerate_promise self)
             (outside (F.state shelf.old) (I.state input.old) (O.state out.old))
             (outside (F.state shelf.new) (I.state input.new) (O.state out.new)) result }
     {

@@ -17,6 +17,7 @@
 mod combine;
 mod compare;
 mod enumerate;
+mod files;
 mod line;
 mod listing;
 mod minimise;

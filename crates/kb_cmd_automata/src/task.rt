@@ -25,35 +25,18 @@ pub enum AutomataTask {
 }
 
 impl Task for AutomataTask {
-    ghost use Rattle.kb_task.specs.Statuses.{IsConclusive};
-    ghost use Rattle.kb_cmd_automata.specs.Tasks.{AutomataMeans, automata_may_store, automata_reads, automata_is_unrefused, automata_answers, AutomataDifferInOptions};
-    ghost use Rattle.kb_cmd_automata.specs.TaskLaws.{automata_complete, automata_settled, automata_one_function};
+    ghost use Rattle.kb_cmd_automata.specs.Tasks.{automata_promise};
+    ghost use Rattle.kb_cmd_automata.specs.TaskLaws.{automata_lawful};
 
-    ghost means = { AutomataMeans };
+    ghost promise = { automata_promise };
 
-    ghost may_store = { automata_may_store };
-
-    ghost reads = { automata_reads };
-
-    ghost is_unrefused = { automata_is_unrefused };
-
-    ghost answers = { automata_answers };
-
-    ghost settles = { λ task. IsConclusive };
-
-    ghost differs_in_options = { AutomataDifferInOptions };
-
-    ghost complete = { automata_complete };
-
-    ghost settled = { automata_settled };
-
-    ghost one_function = { automata_one_function };
+    ghost lawful = { automata_lawful };
 }
 
 impl AutomataTask {
     ghost use Rattle.kb_io.specs.Outside.{outside};
-    ghost use Rattle.kb_task.specs.Runs.{IsRun};
-    ghost use Rattle.kb_cmd_automata.specs.Tasks.{AutomataMeans, automata_may_store};
+    ghost use Rattle.kb_task.specs.Promises.{Keeps};
+    ghost use Rattle.kb_cmd_automata.specs.Tasks.{automata_promise};
 
     /// Runs the command.
     pub fn run<F: Shelf, I: Source, O: Sink>(
@@ -63,7 +46,7 @@ impl AutomataTask {
         input: &mut I,
         out: &mut O,
     ) -> Status
-        ensures { IsRun (AutomataMeans self) (automata_may_store self)
+        ensures { Keeps (automata_promise self)
             (outside (F.state shelf.old) (I.state input.old) (O.state out.old))
             (outside (F.state shelf.new) (I.state input.new) (O.state out.new)) result }
     {

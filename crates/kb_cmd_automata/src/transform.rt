@@ -46,35 +46,18 @@ pub struct Transform {
 }
 
 impl Task for Transform {
-    ghost use Rattle.kb_task.specs.Statuses.{AnswersYesOrLimit, IsConclusive};
-    ghost use Rattle.kb_cmd_automata.specs.Make.{TransformMeans, transform_may_store, transform_reads, transform_is_unrefused, TransformsDifferInOptions};
-    ghost use Rattle.kb_cmd_automata.specs.MakeLaws.{transform_complete, transform_settled, transform_one_function};
+    ghost use Rattle.kb_cmd_automata.specs.Make.{transform_promise};
+    ghost use Rattle.kb_cmd_automata.specs.MakeLaws.{transform_lawful};
 
-    ghost means = { TransformMeans };
+    ghost promise = { transform_promise };
 
-    ghost may_store = { transform_may_store };
-
-    ghost reads = { transform_reads };
-
-    ghost is_unrefused = { transform_is_unrefused };
-
-    ghost answers = { λ task. AnswersYesOrLimit };
-
-    ghost settles = { λ task. IsConclusive };
-
-    ghost differs_in_options = { TransformsDifferInOptions };
-
-    ghost complete = { transform_complete };
-
-    ghost settled = { transform_settled };
-
-    ghost one_function = { transform_one_function };
+    ghost lawful = { transform_lawful };
 }
 
 impl Transform {
     ghost use Rattle.kb_io.specs.Outside.{outside};
-    ghost use Rattle.kb_task.specs.Runs.{IsRun};
-    ghost use Rattle.kb_cmd_automata.specs.Make.{TransformMeans, transform_may_store};
+    ghost use Rattle.kb_task.specs.Promises.{Keeps};
+    ghost use Rattle.kb_cmd_automata.specs.Make.{transform_promise};
 
     /// Runs the command.
     pub fn run<F: Shelf, I: Source, O: Sink>(
@@ -84,7 +67,7 @@ impl Transform {
         input: &mut I,
         out: &mut O,
     ) -> Status
-        ensures { IsRun (TransformMeans self) (transform_may_store self)
+        ensures { Keeps (transform_promise self)
             (outside (F.state shelf.old) (I.state input.old) (O.state out.old))
             (outside (F.state shelf.new) (I.state input.new) (O.state out.new)) result }
     {

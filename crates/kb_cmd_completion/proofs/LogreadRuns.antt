@@ -19,7 +19,7 @@ use Rattle.kb_task.proofs.LoadEnds.{same_files}
 use Rattle.kb_task.proofs.RunLemmas.{counted_after, goes_on-loads, loads-along, run-after_loads, run-ends, run-prints, told-later, unchanged-loads}
 use Rattle.kb_cmd_completion.specs.Files.{log_file}
 use Rattle.kb_cmd_completion.specs.Given.{LogreadGiven}
-use Rattle.kb_cmd_completion.specs.Logread.{LogMeans, LogreadMeans, StoresNothing, logread_line, logread_may_store}
+use Rattle.kb_cmd_completion.specs.Logread.{LogMeans, LogreadMeans, StoresNothing, logread_line}
 
 -- what a status means where nothing but loads came before
 pub log-later : (log : Log) {before between : Outside} (after : Outside) → IsUnchanged before between → (status : Status)
@@ -54,9 +54,9 @@ module _ (log : Log) (shelf : ShelfState) (input : SourceState) (before after : 
 
 -- memory ran out before anything was done
 pub run-memory : (given : LogreadGiven) (shelf : ShelfState) (input : SourceState) (output : SinkState)
-    → IsRun (LogreadMeans given) (logread_may_store given) (outside shelf input output) (outside shelf input output) Memory
+    → IsRun (LogreadMeans given) StoresNothing (outside shelf input output) (outside shelf input output) Memory
 run-memory given shelf input output =
-    run-prints {Means = LogreadMeans given} {MayStore = logread_may_store given} shelf input output output Memory
+    run-prints {Means = LogreadMeans given} {MayStore = StoresNothing} shelf input output output Memory
     (record { told = refl; faults = omega arith }) tt
     (λ told. inl (record { stop = stops.Memory; is = refl; cause = tt }, unchanged-printed shelf input output output refl))
 
@@ -64,7 +64,7 @@ module _ (given : LogreadGiven) (shelf presented loaded : ShelfState) (input : S
   -- the run ended at the presentation
   pub run-unpresented : (status : Status) → (IsTrue shelf.told → EndsAtLoad (IsPresentationFault shelf.holds given.file) given.file status)
       → FaultIsCounted (outside shelf input output) (outside presented input output) status
-      → IsRun (LogreadMeans given) (logread_may_store given) (outside shelf input output) (outside presented input output) status
+      → IsRun (LogreadMeans given) StoresNothing (outside shelf input output) (outside presented input output) status
   run-unpresented status ends fault =
       run-ends shelf presented input output loads status fault
       (λ told. inl (ends told.shelf, unchanged-loads shelf presented input output loads))
@@ -75,7 +75,7 @@ module _ (given : LogreadGiven) (shelf presented loaded : ShelfState) (input : S
     pub run-unread : (status : Status)
         → (IsTrue presented.told → EndsAtLoad (IsLogFault parts.names presented.holds (log_file given.file)) (log_file given.file) status)
         → FaultIsCounted (outside presented input output) (outside loaded input output) status
-        → IsRun (LogreadMeans given) (logread_may_store given) (outside shelf input output) (outside loaded input output) status
+        → IsRun (LogreadMeans given) StoresNothing (outside shelf input output) (outside loaded input output) status
     run-unread status ends fault =
         let both = loads-along loads reads in
         let goes_on = goes_on-loads shelf presented input output loads in
@@ -94,7 +94,7 @@ module _ (given : LogreadGiven) (shelf presented loaded : ShelfState) (input : S
     -- the log was read
     pub run-read : (log : Log) → (IsTrue presented.told → HoldsLog presented.holds (log_file given.file) parts.names log)
         → (written : SinkState) (status : Status) → IsRun (LogMeans log) StoresNothing (outside loaded input output) (outside loaded input written) status
-        → IsRun (LogreadMeans given) (logread_may_store given) (outside shelf input output) (outside loaded input written) status
+        → IsRun (LogreadMeans given) StoresNothing (outside shelf input output) (outside loaded input written) status
     run-read log holds written status run =
         let both = loads-along loads reads in
         let goes_on = goes_on-loads shelf presented input output loads in

@@ -21,7 +21,7 @@ use Rattle.kb_system.specs.Evidence.{IsHalted, IsTooLarge}
 use Rattle.kb_system.specs.declared.ending.Reached.{Reached}
 use Rattle.kb_cmd_completion.specs.FreeAbelian.{free_abelian}
 use Rattle.kb_cmd_completion.specs.Given.{SelfTestGiven}
-use Rattle.kb_cmd_completion.specs.SelfTest.{Reports, completed, halted, too_large, IsReport, summary_line, IsCompletedReport, IsHaltedReport, IsTooLargeReport, SelfTestMeans, selftest_may_store}
+use Rattle.kb_cmd_completion.specs.SelfTest.{Reports, completed, halted, too_large, IsReport, summary_line, IsCompletedReport, IsHaltedReport, IsTooLargeReport, SelfTestMeans, selftest_promise}
 use Rattle.kb_cmd_completion.specs.declared.selftest.Report.{Report}
 
 -- the line of a completion, made part by part
@@ -94,7 +94,7 @@ module _ (given : SelfTestGiven) (shelf : ShelfState) (input : SourceState) (bef
   pub run-report : (about : Status) (bytes : List ℕ) → Reports given about bytes → (status : Status)
       → (IsTrue before.told → LineIsWritten bytes about before after status)
       → FaultIsCounted (outside shelf input before) (outside shelf input after) status → SinkGoesOn before after
-      → IsRun (SelfTestMeans given) (selftest_may_store given) (outside shelf input before) (outside shelf input after) status
+      → IsRun (SelfTestMeans given) (selftest_promise given).may_store (outside shelf input before) (outside shelf input after) status
   run-report about bytes reports status written fault goes_on =
-      run-prints {Means = SelfTestMeans given} {MayStore = selftest_may_store given} shelf input before after status goes_on fault
+      run-prints {Means = SelfTestMeans given} {MayStore = (selftest_promise given).may_store} shelf input before after status goes_on fault
       (λ told. report-means about bytes reports status (written told.output))

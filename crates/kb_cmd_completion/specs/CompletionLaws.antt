@@ -10,17 +10,12 @@ use Rattle.kb_presfile.specs.Holds.{PresentationOf, HoldsPresentation as TreeHol
 use Rattle.kb_presfile.proofs.UniqueParts.{one_presentation}
 use Rattle.kb_task.specs.Loads.{Files}
 use Rattle.kb_task.specs.Presentations.{HoldsPresentation}
-use Rattle.kb_task.specs.Statuses.{IsConclusive, IsYes}
+use Rattle.kb_task.specs.Statuses.{IsYes}
 use Rattle.kb_task.specs.declared.status.Status.{Status}
 use Rattle.kb_task.specs.declared.status.Status.TheVariants.{Yes}
 use Rattle.kb_task.proofs.LoadEnds.{same_bytes, one_tree}
 use Rattle.kb_system.specs.Completed.{IsCompletion, below}
 use Rattle.kb_reduced.proofs.Sorted.{sorted_same}
-
--- a run that answered yes answered
-pub yes-conclusive : (status : Status) → IsYes status → IsConclusive status
-yes-conclusive Yes is_yes = tt
-yes-conclusive _ is_yes = absurd is_yes
 
 -- there is one yes
 pub one_yes : (status other : Status) → IsYes status → IsYes other → status ≡ other

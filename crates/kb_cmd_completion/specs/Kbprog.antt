@@ -12,6 +12,8 @@ use Rattle.kb_lines.specs.declared.stop.Stop.TheVariants as stops
 use Rattle.kb_task.specs.Automata.{IsUnrefused}
 use Rattle.kb_task.specs.Loads.{EndsAtLoad}
 use Rattle.kb_task.specs.Presentations.{HoldsPresentation, IsPresentationFault}
+use Rattle.kb_task.specs.Promises.{Promise}
+use Rattle.kb_task.specs.Statuses.{AnswersYesOrLimit, IsYes}
 use Rattle.kb_task.specs.Stores.{Text, HoldsTexts, StoresFirst, StopsAtText}
 use Rattle.kb_task.specs.declared.status.Limit.{Limit}
 use Rattle.kb_task.specs.declared.status.Refusal.TheVariants.{Line as RefusedLine, InputTooLong}
@@ -117,18 +119,24 @@ kbprog_may_store given name =
     (name ≡ rules_file given.file)
     ⊎ ((name ≡ acceptor_file given.file) ⊎ (name ≡ log_file given.file))
 
-abbrev pub kbprog_reads : KbprogGiven → List ℕ → Type 0
-kbprog_reads given name = name ≡ given.file
-
 -- The file of the presentation isn't refused, nor a line of the input by the presentation that the file holds, and the
 -- input isn't too long.
-pub record kbprog_is_unrefused (given : KbprogGiven) (before : Outside) : Type 0 where
+pub record IsKbprogUnrefused (given : KbprogGiven) (before : Outside) : Type 0 where
   pub file : IsUnrefused (IsPresentationFault before.shelf.holds given.file)
   pub lines : (parts : PresentationParts) (number : ℕ) (fault : WordError)
       → HoldsPresentation before.shelf.holds given.file parts
       → ¬ IsFirstRefused parts (IsLeastIn parts) before.input.left number fault
   pub short : length before.input.left ≤ most_input
 
--- two commands on one file
-abbrev pub KbprogsDifferInOptions : KbprogGiven → KbprogGiven → Type 0
-KbprogsDifferInOptions one other = one.file ≡ other.file
+-- Which limit is reached may depend on the course of the completion. Another on the same file is the same but for
+-- its workers and its limits.
+abbrev pub kbprog_promise : KbprogGiven → Promise KbprogGiven
+kbprog_promise given = record {
+  means = KbprogMeans given;
+  may_store = kbprog_may_store given;
+  reads = λ name. name ≡ given.file;
+  is_unrefused = IsKbprogUnrefused given;
+  answers = AnswersYesOrLimit;
+  settles = IsYes;
+  differs_in_options = λ other. given.file ≡ other.file;
+}

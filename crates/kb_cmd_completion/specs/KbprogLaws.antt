@@ -8,6 +8,8 @@ use Rattle.kb_lines.proofs.UniqueLemmas.{one-answered}
 use Rattle.kb_fsaprint.specs.Printed.{text_of_automaton}
 use Rattle.kb_presprint.specs.Printed.{text_of_presentation}
 use Rattle.kb_task.specs.Presentations.{HoldsPresentation, IsPresentationFault}
+use Rattle.kb_task.specs.PromiseLaws.{yes-conclusive}
+use Rattle.kb_task.specs.Promises.{IsLawful}
 use Rattle.kb_task.specs.Runs.{HasSameEffect, LeavesSame, ReadsSame}
 use Rattle.kb_task.specs.Statuses.{AnswersYesOrLimit, IsFaultless, IsYes}
 use Rattle.kb_task.specs.Stores.{Text, HoldsTexts, names_of}
@@ -16,10 +18,10 @@ use Rattle.kb_task.specs.declared.status.Status.{Status}
 use Rattle.kb_task.specs.declared.status.Status.TheVariants.{Yes, Refused, Undecided, No, Memory, Fault, Usage}
 use Rattle.kb_task.proofs.LoadEnds.{memory_at_load, load_inconclusive}
 use Rattle.kb_system.specs.Completed.{IsLeastIn}
-use Rattle.kb_cmd_completion.specs.CompletionLaws.{one_held, one_rules, one_acceptor, one_yes, yes-conclusive}
+use Rattle.kb_cmd_completion.specs.CompletionLaws.{one_held, one_rules, one_acceptor, one_yes}
 use Rattle.kb_cmd_completion.specs.Files.{rules_file, acceptor_file, completed_texts, AreCompleted}
 use Rattle.kb_cmd_completion.specs.Given.{KbprogGiven}
-use Rattle.kb_cmd_completion.specs.Kbprog.{streams_of, HasCompleted, AnswersMean, KbprogMeans, kbprog_may_store, kbprog_reads, kbprog_is_unrefused, KbprogsDifferInOptions}
+use Rattle.kb_cmd_completion.specs.Kbprog.{streams_of, HasCompleted, AnswersMean, KbprogMeans, kbprog_may_store, IsKbprogUnrefused, kbprog_promise}
 use Rattle.kb_cmd_completion.specs.FileLaws.{first_contained, second_contained, contained_cases, log_beside_rules, log_beside_acceptor}
 
 -- ---- what is unique
@@ -46,7 +48,7 @@ one_completed file parts texts others one other =
 
 lines_answer : (given : KbprogGiven) (parts : PresentationParts) (before after : Outside)
     (status : Status)
-    → HoldsPresentation before.shelf.holds given.file parts → kbprog_is_unrefused given before
+    → HoldsPresentation before.shelf.holds given.file parts → IsKbprogUnrefused given before
     → IsFaultless status
     → AnswersMean given parts before after status → AnswersYesOrLimit status
 lines_answer given parts before after Yes holds unrefused faultless means = tt
@@ -72,26 +74,16 @@ lines_answer given parts before after (Fault which) holds unrefused faultless me
 lines_answer given parts before after (No cert) holds unrefused faultless means = means
 lines_answer given parts before after (Usage kind) holds unrefused faultless means = means
 
-pub kbprog_complete : (given : KbprogGiven) (before after : Outside) (status : Status)
+complete : (given : KbprogGiven) (before after : Outside) (status : Status)
     → KbprogMeans given before after status
-    → kbprog_is_unrefused given before → IsFaultless status → AnswersYesOrLimit status
-kbprog_complete given before after status (inl means) unrefused faultless =
+    → IsKbprogUnrefused given before → IsFaultless status → AnswersYesOrLimit status
+complete given before after status (inl means) unrefused faultless =
     subst AnswersYesOrLimit
     (sym (memory_at_load (IsPresentationFault before.shelf.holds given.file) given.file
     status unrefused.file
     faultless means.0)) tt
-kbprog_complete given before after status (inr means) unrefused faultless =
+complete given before after status (inr means) unrefused faultless =
     lines_answer given means.0 before after status means.1 unrefused faultless means.2
-
--- ---- settled
-
-pub kbprog_settled : (given : KbprogGiven) (before after other_before other_after : Outside)
-    (status other : Status)
-    → KbprogMeans given before after status → KbprogMeans given other_before other_after other
-    → ReadsSame (kbprog_reads given) before other_before → IsYes status → IsYes other
-    → status ≡ other
-kbprog_settled given before after other_before other_after status other means others same one also =
-    one_yes status other one also
 
 -- ---- one function
 
@@ -167,26 +159,26 @@ lines_same given other_given parts before after other_before other_after status 
     is_yes also means
     others same = absurd is_yes
 
-pub kbprog_one_function : (given other_given : KbprogGiven)
+one_function : (given other_given : KbprogGiven)
     (before after other_before other_after : Outside)
     (status other : Status)
     → KbprogMeans given before after status → KbprogMeans other_given other_before other_after other
     → IsYes status → IsYes other
-    → KbprogsDifferInOptions given other_given → ReadsSame (kbprog_reads given) before other_before
+    → given.file ≡ other_given.file → ReadsSame (kbprog_promise given).reads before other_before
     → before.input.left ≡ other_before.input.left
     → HasSameEffect (kbprog_may_store given) before after other_before other_after
-kbprog_one_function given other_given before after other_before other_after status other
+one_function given other_given before after other_before other_after status other
     (inl means) others
     is_yes also file same input =
     absurd (load_inconclusive (IsPresentationFault before.shelf.holds given.file)
     given.file status means.0
     (yes-conclusive status is_yes))
-kbprog_one_function given other_given before after other_before other_after status other (inr means)
+one_function given other_given before after other_before other_after status other (inr means)
     (inl others) is_yes also file same input =
     absurd (load_inconclusive
     (IsPresentationFault other_before.shelf.holds other_given.file) other_given.file
     other others.0 (yes-conclusive other also))
-kbprog_one_function given other_given before after other_before other_after status other (inr means)
+one_function given other_given before after other_before other_after status other (inr means)
     (inr others) is_yes also file same input =
     let held = subst (λ name. HoldsPresentation other_before.shelf.holds name others.0)
     (sym file) others.1 in
@@ -194,3 +186,13 @@ kbprog_one_function given other_given before after other_before other_after stat
     lines_same given other_given others.0 before after other_before other_after status
     other file is_yes also
     (subst (λ p. AnswersMean given p before after status) parts means.2) others.2 input
+
+pub kbprog_lawful : (given : KbprogGiven) → IsLawful kbprog_promise (kbprog_promise given)
+kbprog_lawful given = record {
+  complete = complete given;
+  memory = tt;
+  settled = λ before after other_before other_after status other means others same one also.
+      one_yes status other one also;
+  conclusive = yes-conclusive;
+  one_function = one_function given;
+}

@@ -13,6 +13,8 @@ use Rattle.kb_task.specs.Effects.{Writes, WritesFront}
 use Rattle.kb_task.specs.Loads.{EndsAtLoad}
 use Rattle.kb_task.specs.Logs.{HoldsLog, IsLogFault}
 use Rattle.kb_task.specs.Presentations.{HoldsPresentation, IsPresentationFault}
+use Rattle.kb_task.specs.Promises.{Promise}
+use Rattle.kb_task.specs.Statuses.{AnswersYes, IsYes}
 use Rattle.kb_task.specs.declared.status.Status.{Status}
 use Rattle.kb_task.specs.declared.status.Status.TheVariants.{Yes, Memory, Fault}
 use Rattle.kb_task.specs.declared.status.Which.TheVariants.{Output}
@@ -65,18 +67,20 @@ LogreadMeans given before after status =
     ⊎ ((parts : PresentationParts) × HoldsPresentation before.shelf.holds given.file parts
     × LogFileMeans given parts before after status)
 
-abbrev pub logread_may_store : LogreadGiven → List ℕ → Type 0
-logread_may_store given name = ⊥
-
-abbrev pub logread_reads : LogreadGiven → List ℕ → Type 0
-logread_reads given name = (name ≡ given.file) ⊎ (name ≡ log_file given.file)
-
 -- neither the presentation nor the log is refused
-pub record logread_is_unrefused (given : LogreadGiven) (before : Outside) : Type 0 where
+pub record IsLogreadUnrefused (given : LogreadGiven) (before : Outside) : Type 0 where
   pub file : IsUnrefused (IsPresentationFault before.shelf.holds given.file)
   pub log : (parts : PresentationParts) → HoldsPresentation before.shelf.holds given.file parts
       → IsUnrefused (IsLogFault parts.names before.shelf.holds (log_file given.file))
 
--- it has no options
-abbrev pub LogreadsDifferInOptions : LogreadGiven → LogreadGiven → Type 0
-LogreadsDifferInOptions one other = one.file ≡ other.file
+-- it stores nothing, and has no options
+abbrev pub logread_promise : LogreadGiven → Promise LogreadGiven
+logread_promise given = record {
+  means = LogreadMeans given;
+  may_store = StoresNothing;
+  reads = λ name. (name ≡ given.file) ⊎ (name ≡ log_file given.file);
+  is_unrefused = IsLogreadUnrefused given;
+  answers = AnswersYes;
+  settles = IsYes;
+  differs_in_options = λ other. given.file ≡ other.file;
+}

@@ -5,15 +5,17 @@ use Rattle.kb_word.specs.Presentations.{PresentationParts}
 use Rattle.kb_proof.specs.declared.log.Log.{Log}
 use Rattle.kb_task.specs.Logs.{HoldsLog, IsLogFault}
 use Rattle.kb_task.specs.Presentations.{HoldsPresentation, IsPresentationFault}
-use Rattle.kb_task.specs.Runs.{HasSameEffect, IsComplete, IsSettledByFiles, IsFunctionOfInputs}
+use Rattle.kb_task.specs.PromiseLaws.{yes-conclusive}
+use Rattle.kb_task.specs.Promises.{IsLawful}
+use Rattle.kb_task.specs.Runs.{HasSameEffect}
 use Rattle.kb_task.specs.Statuses.{AnswersYes, IsFaultless, IsYes}
 use Rattle.kb_task.specs.declared.status.Status.{Status}
 use Rattle.kb_task.specs.declared.status.Status.TheVariants.{Yes, Refused, Undecided, No, Memory, Fault, Usage}
 use Rattle.kb_task.proofs.LoadEnds.{memory_at_load, load_inconclusive}
-use Rattle.kb_cmd_completion.specs.CompletionLaws.{one_held, one_yes, yes-conclusive}
+use Rattle.kb_cmd_completion.specs.CompletionLaws.{one_held, one_yes}
 use Rattle.kb_cmd_completion.specs.Files.{log_file}
 use Rattle.kb_cmd_completion.specs.Given.{LogreadGiven}
-use Rattle.kb_cmd_completion.specs.Logread.{LogMeans, LogFileMeans, LogreadMeans, logread_line, logread_may_store, logread_reads, logread_is_unrefused, LogreadsDifferInOptions}
+use Rattle.kb_cmd_completion.specs.Logread.{LogMeans, LogFileMeans, LogreadMeans, IsLogreadUnrefused, StoresNothing, logread_line, logread_promise}
 use Rattle.kb_cmd_completion.specs.LogLaws.{names_apart, one_logread}
 
 -- ---- an answer
@@ -30,7 +32,7 @@ log_answers log before after (Usage kind) faultless means = means
 
 file_answers : (given : LogreadGiven) (parts : PresentationParts) (before after : Outside)
     (status : Status)
-    → HoldsPresentation before.shelf.holds given.file parts → logread_is_unrefused given before
+    → HoldsPresentation before.shelf.holds given.file parts → IsLogreadUnrefused given before
     → IsFaultless status
     → LogFileMeans given parts before after status → AnswersYes status
 file_answers given parts before after status holds unrefused faultless (inl ends) =
@@ -44,7 +46,7 @@ file_answers given parts before after status holds unrefused faultless (inr read
 
 answers : (given : LogreadGiven) (before after : Outside) (status : Status)
     → LogreadMeans given before after status
-    → logread_is_unrefused given before → IsFaultless status → AnswersYes status
+    → IsLogreadUnrefused given before → IsFaultless status → AnswersYes status
 answers given before after status (inl ends) unrefused faultless =
     let is_memory =
     memory_at_load (IsPresentationFault before.shelf.holds given.file) given.file
@@ -53,15 +55,6 @@ answers given before after status (inl ends) unrefused faultless =
     subst AnswersYes (sym is_memory) tt
 answers given before after status (inr read) unrefused faultless =
     file_answers given read.0 before after status read.1 unrefused faultless read.2
-
-pub logread_complete : IsComplete LogreadMeans logread_is_unrefused (λ given. AnswersYes)
-logread_complete = answers
-
-pub logread_settled : IsSettledByFiles LogreadMeans logread_reads (λ given. IsYes)
-logread_settled =
-    λ given before after other_before other_after status other means others same is_yes also.
-    one_yes status
-    other is_yes also
 
 -- ---- one line
 
@@ -119,7 +112,7 @@ same_effect : (given : LogreadGiven) (before after other_before other_after : Ou
     → HasReadBoth given before after → HasReadBoth given other_before other_after
     → before.shelf.holds given.file ≡ other_before.shelf.holds given.file
     → before.shelf.holds (log_file given.file) ≡ other_before.shelf.holds (log_file given.file)
-    → HasSameEffect (logread_may_store given) before after other_before other_after
+    → HasSameEffect StoresNothing before after other_before other_after
 same_effect given before after other_before other_after one other file log =
     let parts = one_held file one.presents other.presents in
     let held = subst
@@ -135,14 +128,19 @@ same_effect given before after other_before other_after one other file log =
       stored = λ name none. absurd none;
     }
 
-pub logread_one_function : IsFunctionOfInputs LogreadMeans LogreadsDifferInOptions logread_reads
-    logread_may_store
-logread_one_function =
-    λ given other_given before after other_before other_after status other means others is_yes also file same input.
-    let means_given =
-    subst (λ name. LogreadMeans (record { file = name }) other_before other_after other)
-    (sym file) others in
-    same_effect given before after other_before other_after
-    (read_both given before after status is_yes means)
-    (read_both given other_before other_after other also means_given)
-    (same given.file (inl refl)) (same (log_file given.file) (inr refl))
+pub logread_lawful : (given : LogreadGiven) → IsLawful logread_promise (logread_promise given)
+logread_lawful given = record {
+  complete = answers given;
+  memory = tt;
+  settled = λ before after other_before other_after status other means others same is_yes also.
+      one_yes status other is_yes also;
+  conclusive = yes-conclusive;
+  one_function = λ other_given before after other_before other_after status other means others is_yes also file same input.
+      let means_given =
+      subst (λ name. LogreadMeans (record { file = name }) other_before other_after other)
+      (sym file) others in
+      same_effect given before after other_before other_after
+      (read_both given before after status is_yes means)
+      (read_both given other_before other_after other also means_given)
+      (same given.file (inl refl)) (same (log_file given.file) (inr refl));
+}

@@ -7,6 +7,8 @@ use Rattle.kb_machine.specs.declared.line.Line.{Line}
 use Rattle.kb_fsa.specs.Language.{Automaton}
 use Rattle.kb_task.specs.Effects.{Writes, WritesFront}
 use Rattle.kb_task.specs.Limits.{undecided_line, undecided_words_line}
+use Rattle.kb_task.specs.Promises.{Promise}
+use Rattle.kb_task.specs.Statuses.{AnswersYesOrLimit, IsYes}
 use Rattle.kb_task.specs.declared.status.Construction.TheVariants.{Acceptor}
 use Rattle.kb_task.specs.declared.status.Limit.TheVariants.{States}
 use Rattle.kb_task.specs.declared.status.Status.{Status}
@@ -79,16 +81,14 @@ SelfTestMeans given before after Memory =
     × WritesFront bytes before after)
 SelfTestMeans given before after _ = ⊥
 
--- nothing is stored or read
-abbrev pub selftest_may_store : SelfTestGiven → List ℕ → Type 0
-selftest_may_store given name = ⊥
-
-abbrev pub selftest_reads : SelfTestGiven → List ℕ → Type 0
-selftest_reads given name = ⊥
-
-abbrev pub selftest_is_unrefused : SelfTestGiven → Outside → Type 0
-selftest_is_unrefused given before = Unit {0}
-
--- two commands of one rank
-abbrev pub SelfTestsDifferInOptions : SelfTestGiven → SelfTestGiven → Type 0
-SelfTestsDifferInOptions one other = one.rank ≡ other.rank
+-- Nothing is stored or read. Another of the same rank is the same but for its workers and its limits.
+abbrev pub selftest_promise : SelfTestGiven → Promise SelfTestGiven
+selftest_promise given = record {
+  means = SelfTestMeans given;
+  may_store = λ name. ⊥;
+  reads = λ name. ⊥;
+  is_unrefused = λ before. Unit {0};
+  answers = AnswersYesOrLimit;
+  settles = IsYes;
+  differs_in_options = λ other. given.rank ≡ other.rank;
+}

@@ -3,7 +3,9 @@ use Rattle.std.proofs.Common.{◌≡◌, ◌∙◌, ℕ, List, ◌++◌, length,
 use Rattle.kb_io.specs.Outside.{Outside}
 use Rattle.kb_word.specs.Words.{Pair}
 use Rattle.kb_fsa.specs.Language.{Automaton}
-use Rattle.kb_task.specs.Runs.{HasSameEffect, IsComplete, IsSettledByFiles, IsFunctionOfInputs}
+use Rattle.kb_task.specs.PromiseLaws.{yes-conclusive}
+use Rattle.kb_task.specs.Promises.{IsLawful}
+use Rattle.kb_task.specs.Runs.{HasSameEffect}
 use Rattle.kb_task.specs.Statuses.{AnswersYesOrLimit, IsFaultless, IsYes}
 use Rattle.kb_task.specs.declared.status.Status.{Status}
 use Rattle.kb_task.specs.declared.status.Status.TheVariants.{Yes, Refused, Undecided, No, Memory, Fault, Usage}
@@ -11,11 +13,11 @@ use Rattle.kb_system.specs.Completed.{IsCompletion}
 use Rattle.kb_cmd_completion.specs.CompletionLaws.{one_acceptor, one_rules, one_yes}
 use Rattle.kb_cmd_completion.specs.FreeAbelian.{free_abelian}
 use Rattle.kb_cmd_completion.specs.Given.{SelfTestGiven}
-use Rattle.kb_cmd_completion.specs.SelfTest.{Reports, completed, halted, too_large, summary_line, SelfTestMeans, selftest_may_store, selftest_reads, selftest_is_unrefused, SelfTestsDifferInOptions}
+use Rattle.kb_cmd_completion.specs.SelfTest.{Reports, completed, halted, too_large, summary_line, SelfTestMeans, selftest_promise}
 
 answers : (given : SelfTestGiven) (before after : Outside) (status : Status)
     → SelfTestMeans given before after status
-    → selftest_is_unrefused given before → IsFaultless status → AnswersYesOrLimit status
+    → (selftest_promise given).is_unrefused before → IsFaultless status → AnswersYesOrLimit status
 answers given before after Yes means unrefused faultless = tt
 answers given before after (Undecided limit) means unrefused faultless = tt
 answers given before after Memory means unrefused faultless = tt
@@ -23,15 +25,6 @@ answers given before after (Refused refusal) means unrefused faultless = means
 answers given before after (No cert) means unrefused faultless = means
 answers given before after (Fault which) means unrefused faultless = cc
 answers given before after (Usage kind) means unrefused faultless = means
-
-pub selftest_complete : IsComplete SelfTestMeans selftest_is_unrefused (λ given. AnswersYesOrLimit)
-selftest_complete = answers
-
-pub selftest_settled : IsSettledByFiles SelfTestMeans selftest_reads (λ given. IsYes)
-selftest_settled =
-    λ given before after other_before other_after status other means others same is_yes also.
-    one_yes status
-    other is_yes also
 
 -- ---- one line
 
@@ -82,7 +75,7 @@ wrote given before after _ is_yes means = absurd is_yes
 
 same_effect : (given : SelfTestGiven) (rank : ℕ) (before after other_before other_after : Outside)
     → Wrote rank before after → Wrote rank other_before other_after
-    → HasSameEffect (selftest_may_store given) before after other_before other_after
+    → HasSameEffect (selftest_promise given).may_store before after other_before other_after
 same_effect given rank before after other_before other_after one other =
     record {
       bytes = one.bytes;
@@ -93,11 +86,16 @@ same_effect given rank before after other_before other_after one other =
       stored = λ name none. absurd none;
     }
 
-pub selftest_one_function : IsFunctionOfInputs SelfTestMeans SelfTestsDifferInOptions selftest_reads
-    selftest_may_store
-selftest_one_function =
-    λ given other_given before after other_before other_after status other means others is_yes also rank same input.
-    same_effect given given.rank before after other_before other_after
-    (wrote given before after status is_yes means)
-    (subst (λ n. Wrote n other_before other_after) (sym rank)
-    (wrote other_given other_before other_after other also others))
+pub selftest_lawful : (given : SelfTestGiven) → IsLawful selftest_promise (selftest_promise given)
+selftest_lawful given = record {
+  complete = answers given;
+  memory = tt;
+  settled = λ before after other_before other_after status other means others same is_yes also.
+      one_yes status other is_yes also;
+  conclusive = yes-conclusive;
+  one_function = λ other_given before after other_before other_after status other means others is_yes also rank same input.
+      same_effect given given.rank before after other_before other_after
+      (wrote given before after status is_yes means)
+      (subst (λ n. Wrote n other_before other_after) (sym rank)
+      (wrote other_given other_before other_after other also others));
+}

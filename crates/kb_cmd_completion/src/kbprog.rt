@@ -61,33 +61,17 @@ impl Model for Kbprog {
 }
 
 impl Task for Kbprog {
-    ghost use Rattle.kb_task.specs.Statuses.{AnswersYesOrLimit, IsYes};
-    ghost use Rattle.kb_cmd_completion.specs.Kbprog.{KbprogMeans, kbprog_may_store, kbprog_reads, kbprog_is_unrefused, KbprogsDifferInOptions};
-    ghost use Rattle.kb_cmd_completion.specs.KbprogLaws.{kbprog_complete, kbprog_settled, kbprog_one_function};
+    ghost use Rattle.kb_cmd_completion.specs.Kbprog.{kbprog_promise};
+    ghost use Rattle.kb_cmd_completion.specs.KbprogLaws.{kbprog_lawful};
 
-    ghost means = { KbprogMeans };
+    ghost promise = { kbprog_promise };
 
-    ghost may_store = { kbprog_may_store };
-
-    ghost reads = { kbprog_reads };
-
-    ghost is_unrefused = { kbprog_is_unrefused };
-
-    ghost answers = { λ task. AnswersYesOrLimit };
-
-    ghost settles = { λ task. IsYes };
-
-    ghost differs_in_options = { KbprogsDifferInOptions };
-
-    ghost complete = { kbprog_complete };
-
-    ghost settled = { kbprog_settled };
-
-    ghost one_function = { kbprog_one_function };
+    ghost lawful = { kbprog_lawful };
 }
 
 impl Kbprog {
-    ghost use Rattle.kb_cmd_completion.specs.Kbprog.{KbprogMeans};
+    ghost use Rattle.kb_task.specs.Promises.{Keeps};
+    ghost use Rattle.kb_cmd_completion.specs.Kbprog.{kbprog_promise};
 
     /// Runs the command. What it writes to `err` only shows that it lives. Workers are threads of `rt`, and
     /// pass the gate.
@@ -101,7 +85,7 @@ impl Kbprog {
         out: &mut O,
         err: &mut E,
     ) -> Status
-        ensures { IsRun (KbprogMeans self) (kbprog_may_store self)
+        ensures { Keeps (kbprog_promise self)
             (outside (F.state shelf.old) (I.state input.old) (O.state out.old))
             (outside (F.state shelf.new) (I.state input.new) (O.state out.new)) result }
     {

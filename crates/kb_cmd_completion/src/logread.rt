@@ -33,33 +33,17 @@ impl Model for Logread {
 }
 
 impl Task for Logread {
-    ghost use Rattle.kb_task.specs.Statuses.{AnswersYes, IsYes};
-    ghost use Rattle.kb_cmd_completion.specs.Logread.{LogreadMeans, logread_may_store, logread_reads, logread_is_unrefused, LogreadsDifferInOptions};
-    ghost use Rattle.kb_cmd_completion.specs.LogreadLaws.{logread_complete, logread_settled, logread_one_function};
+    ghost use Rattle.kb_cmd_completion.specs.Logread.{logread_promise};
+    ghost use Rattle.kb_cmd_completion.specs.LogreadLaws.{logread_lawful};
 
-    ghost means = { LogreadMeans };
+    ghost promise = { logread_promise };
 
-    ghost may_store = { logread_may_store };
-
-    ghost reads = { logread_reads };
-
-    ghost is_unrefused = { logread_is_unrefused };
-
-    ghost answers = { λ task. AnswersYes };
-
-    ghost settles = { λ task. IsYes };
-
-    ghost differs_in_options = { LogreadsDifferInOptions };
-
-    ghost complete = { logread_complete };
-
-    ghost settled = { logread_settled };
-
-    ghost one_function = { logread_one_function };
+    ghost lawful = { logread_lawful };
 }
 
 impl Logread {
-    ghost use Rattle.kb_cmd_completion.specs.Logread.{LogreadMeans, logread_may_store};
+    ghost use Rattle.kb_task.specs.Promises.{Keeps};
+    ghost use Rattle.kb_cmd_completion.specs.Logread.{logread_promise};
 
     /// Runs the command.
     pub fn run<F: Shelf, I: Source, O: Sink>(
@@ -69,7 +53,7 @@ impl Logread {
         input: &mut I,
         out: &mut O,
     ) -> Status
-        ensures { IsRun (LogreadMeans self) (logread_may_store self)
+        ensures { Keeps (logread_promise self)
             (outside (F.state shelf.old) (I.state input.old) (O.state out.old))
             (outside (F.state shelf.new) (I.state input.new) (O.state out.new)) result }
     {

@@ -56,35 +56,18 @@ impl Model for SelfTest {
 }
 
 impl Task for SelfTest {
-    ghost use Rattle.kb_task.specs.Statuses.{AnswersYesOrLimit, IsYes};
-    ghost use Rattle.kb_cmd_completion.specs.SelfTest.{SelfTestMeans, selftest_may_store, selftest_reads, selftest_is_unrefused, SelfTestsDifferInOptions};
-    ghost use Rattle.kb_cmd_completion.specs.SelfTestLaws.{selftest_complete, selftest_settled, selftest_one_function};
+    ghost use Rattle.kb_cmd_completion.specs.SelfTest.{selftest_promise};
+    ghost use Rattle.kb_cmd_completion.specs.SelfTestLaws.{selftest_lawful};
 
-    ghost means = { SelfTestMeans };
+    ghost promise = { selftest_promise };
 
-    ghost may_store = { selftest_may_store };
-
-    ghost reads = { selftest_reads };
-
-    ghost is_unrefused = { selftest_is_unrefused };
-
-    ghost answers = { λ task. AnswersYesOrLimit };
-
-    ghost settles = { λ task. IsYes };
-
-    ghost differs_in_options = { SelfTestsDifferInOptions };
-
-    ghost complete = { selftest_complete };
-
-    ghost settled = { selftest_settled };
-
-    ghost one_function = { selftest_one_function };
+    ghost lawful = { selftest_lawful };
 }
 
 impl SelfTest {
     ghost use Rattle.kb_io.specs.Outside.{outside};
-    ghost use Rattle.kb_task.specs.Runs.{IsRun};
-    ghost use Rattle.kb_cmd_completion.specs.SelfTest.{SelfTestMeans, selftest_may_store};
+    ghost use Rattle.kb_task.specs.Promises.{Keeps};
+    ghost use Rattle.kb_cmd_completion.specs.SelfTest.{selftest_promise};
 
     /// Runs the command. What it writes to `err` only shows that it lives. Workers are threads of `rt`, and
     /// pass the gate.
@@ -98,7 +81,7 @@ impl SelfTest {
         out: &mut O,
         err: &mut E,
     ) -> Status
-        ensures { IsRun (SelfTestMeans self) (selftest_may_store self)
+        ensures { Keeps (selftest_promise self)
             (outside (F.state shelf.old) (I.state input.old) (O.state out.old))
             (outside (F.state shelf.new) (I.state input.new) (O.state out.new)) result }
     {

@@ -21,34 +21,18 @@ pub enum CompletionTask {
 }
 
 impl Task for CompletionTask {
-    ghost use Rattle.kb_cmd_completion.specs.Tasks.{CompletionMeans, completion_may_store, completion_reads, completion_is_unrefused, completion_answers, completion_settles, CompletionsDifferInOptions};
-    ghost use Rattle.kb_cmd_completion.specs.TaskLaws.{completion_complete, completion_settled, completion_one_function};
+    ghost use Rattle.kb_cmd_completion.specs.Tasks.{completion_promise};
+    ghost use Rattle.kb_cmd_completion.specs.TaskLaws.{completion_lawful};
 
-    ghost means = { CompletionMeans };
+    ghost promise = { completion_promise };
 
-    ghost may_store = { completion_may_store };
-
-    ghost reads = { completion_reads };
-
-    ghost is_unrefused = { completion_is_unrefused };
-
-    ghost answers = { completion_answers };
-
-    ghost settles = { completion_settles };
-
-    ghost differs_in_options = { CompletionsDifferInOptions };
-
-    ghost complete = { completion_complete };
-
-    ghost settled = { completion_settled };
-
-    ghost one_function = { completion_one_function };
+    ghost lawful = { completion_lawful };
 }
 
 impl CompletionTask {
     ghost use Rattle.kb_io.specs.Outside.{outside};
-    ghost use Rattle.kb_task.specs.Runs.{IsRun};
-    ghost use Rattle.kb_cmd_completion.specs.Tasks.{CompletionMeans, completion_may_store};
+    ghost use Rattle.kb_task.specs.Promises.{Keeps};
+    ghost use Rattle.kb_cmd_completion.specs.Tasks.{completion_promise};
 
     /// Runs the command. What is written to `err` only shows that it lives. Workers are threads of `rt`, and
     /// pass the gate.
@@ -62,7 +46,7 @@ impl CompletionTask {
         out: &mut O,
         err: &mut E,
     ) -> Status
-        ensures { IsRun (CompletionMeans self) (completion_may_store self)
+        ensures { Keeps (completion_promise self)
             (outside (F.state shelf.old) (I.state input.old) (O.state out.old))
             (outside (F.state shelf.new) (I.state input.new) (O.state out.new)) result }
     {

@@ -1,10 +1,9 @@
 -- What is read of the command line.
-use Rattle.std.proofs.Common.{◌≡◌, ◌≢◌, ◌∙◌, Option, Some, None, List, sym, refl, subst, codes, lit<}
-use Rattle.std.specs.List.{Contains}
-use Rattle.clap.specs.Words.{Row, Text}
+use Rattle.std.proofs.Common.{◌≡◌, ◌∙◌, Option, Some, None, List, sym, codes}
+use Rattle.clap.specs.Words.{Row}
 use Rattle.kb_task.specs.Arguments.{Entered, ReadsAs}
 use Rattle.kb_task.specs.declared.arguments.NumberOption.TheVariants.{Workers}
-use Rattle.kb_task.proofs.ArgumentLemmas.{text_given-at, option_given-at, own_name, own_rows}
+use Rattle.kb_task.proofs.ArgumentLemmas.{text_given-at, option_given-at, own_rows}
 use Rattle.kb_cmd_words.specs.Given.{Given}
 use Rattle.kb_cmd_words.specs.Line.{GivesWordReduce, GivenAs, IsWordReduce}
 

@@ -1,6 +1,6 @@
 -- The command on the command line, by clap's own definition of what a command takes.
-use Rattle.std.specs.Prelude.{List, [], ◌∷◌, codes, Option, Some, None}
-use Rattle.clap.specs.Words.{App, Row, Text, new_app, with_rule, with_subcommand}
+use Rattle.std.specs.Prelude.{List, codes, Option, Some, None}
+use Rattle.clap.specs.Words.{App, Row, new_app, with_rule, with_subcommand}
 use Rattle.kb_task.specs.Arguments.{Entered, IsEntered, GivesOption, GivesText, needed_rule, option_rule}
 use Rattle.kb_task.specs.declared.arguments.NumberOption.TheVariants.{Workers}
 use Rattle.kb_cmd_words.specs.Given.{Given}

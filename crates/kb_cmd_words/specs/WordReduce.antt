@@ -7,6 +7,8 @@ use Rattle.kb_task.specs.Automata.{IsUnrefused}
 use Rattle.kb_task.specs.Effects.{Writes, WritesFront}
 use Rattle.kb_task.specs.Loads.{EndsAtLoad}
 use Rattle.kb_task.specs.Presentations.{HoldsPresentation, IsPresentationFault}
+use Rattle.kb_task.specs.Promises.{Promise}
+use Rattle.kb_task.specs.Statuses.{AnswersYesOrNo, IsConclusive}
 use Rattle.kb_task.specs.declared.status.Cert.TheVariants.{NotConfluent}
 use Rattle.kb_task.specs.declared.status.Refusal.TheVariants.{Line, InputTooLong}
 use Rattle.kb_task.specs.declared.status.Status.{Status}
@@ -62,25 +64,26 @@ WordReduceMeans given before after status =
     ⊎ ((parts : PresentationParts) × HoldsPresentation before.shelf.holds given.file parts
     × AnswersMean parts before after status)
 
--- nothing is stored, and one file is read
-abbrev pub StoresNothing : List ℕ → Type 0
-StoresNothing name = ⊥
-
-abbrev pub wordreduce_may_store : Given → List ℕ → Type 0
-wordreduce_may_store given = StoresNothing
-
-abbrev pub wordreduce_reads : Given → List ℕ → Type 0
-wordreduce_reads given name = name ≡ given.file
-
 -- The file of the presentation isn't refused, nor a line of the input by the presentation that the file holds, and the
 -- input isn't too long.
-pub record wordreduce_is_unrefused (given : Given) (before : Outside) : Type 0 where
+pub record IsWordReduceUnrefused (given : Given) (before : Outside) : Type 0 where
   pub file : IsUnrefused (IsPresentationFault before.shelf.holds given.file)
   pub lines : (parts : PresentationParts) (number : ℕ) (fault : WordError)
       → HoldsPresentation before.shelf.holds given.file parts
       → ¬ IsFirstRefused parts (IsLeastIn parts) before.input.left number fault
   pub short : length before.input.left ≤ most_input
 
--- two commands on one file
-abbrev pub WordReducesDifferInOptions : Given → Given → Type 0
-WordReducesDifferInOptions one other = one.file ≡ other.file
+abbrev pub StoresNothing : List ℕ → Type 0
+StoresNothing name = ⊥
+
+-- One file is read, and nothing is stored. Another is the same but for its workers.
+abbrev pub wordreduce_promise : Given → Promise Given
+wordreduce_promise given = record {
+  means = WordReduceMeans given;
+  may_store = StoresNothing;
+  reads = λ name. name ≡ given.file;
+  is_unrefused = IsWordReduceUnrefused given;
+  answers = AnswersYesOrNo;
+  settles = IsConclusive;
+  differs_in_options = λ other. given.file ≡ other.file;
+}

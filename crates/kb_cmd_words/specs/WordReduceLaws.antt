@@ -14,6 +14,8 @@ use Rattle.kb_presfile.specs.Holds.{PresentationOf, HoldsPresentation as TreeHol
 use Rattle.kb_presfile.proofs.UniqueParts.{one_presentation}
 use Rattle.kb_task.specs.Loads.{Files}
 use Rattle.kb_task.specs.Presentations.{HoldsPresentation, IsPresentationFault}
+use Rattle.kb_task.specs.PromiseLaws.{yes-conclusive}
+use Rattle.kb_task.specs.Promises.{IsLawful}
 use Rattle.kb_task.specs.Runs.{HasSameEffect, ReadsSame}
 use Rattle.kb_task.specs.Statuses.{AnswersYesOrNo, IsConclusive, IsFaultless, IsYes}
 use Rattle.kb_task.specs.declared.status.Cert.TheVariants.{NotConfluent}
@@ -24,7 +26,7 @@ use Rattle.kb_task.proofs.LoadEnds.{memory_at_load, load_inconclusive, same_byte
 use Rattle.kb_lines.proofs.UniqueLemmas.{one-answered}
 use Rattle.kb_cmd_words.specs.Confluence.{IsLeastIn, OrientedAreConfluent, OrientedAreNotConfluent}
 use Rattle.kb_cmd_words.specs.Given.{Given}
-use Rattle.kb_cmd_words.specs.WordReduce.{streams_of, AnswersMean, WordReduceMeans, wordreduce_may_store, wordreduce_reads, wordreduce_is_unrefused, WordReducesDifferInOptions}
+use Rattle.kb_cmd_words.specs.WordReduce.{streams_of, AnswersMean, WordReduceMeans, IsWordReduceUnrefused, StoresNothing, wordreduce_promise}
 use Rattle.kb_cmd_words.specs.OrientationLaws.{one_orienting}
 
 -- ---- confluent or not
@@ -126,7 +128,7 @@ one_held {one = one} {other = other} same first second =
 
 lines_answer : (given : Given) (parts : PresentationParts) (before after : Outside)
     (status : Status)
-    → HoldsPresentation before.shelf.holds given.file parts → wordreduce_is_unrefused given before
+    → HoldsPresentation before.shelf.holds given.file parts → IsWordReduceUnrefused given before
     → IsFaultless status
     → AnswersMean parts before after status → AnswersYesOrNo status
 lines_answer given parts before after Yes holds unrefused faultless means = tt
@@ -152,15 +154,15 @@ lines_answer given parts before after (Fault which) holds unrefused faultless me
 lines_answer given parts before after (Undecided limit) holds unrefused faultless means = means
 lines_answer given parts before after (Usage kind) holds unrefused faultless means = means
 
-pub wordreduce_complete : (given : Given) (before after : Outside) (status : Status)
+complete : (given : Given) (before after : Outside) (status : Status)
     → WordReduceMeans given before after status
-    → wordreduce_is_unrefused given before → IsFaultless status → AnswersYesOrNo status
-wordreduce_complete given before after status (inl means) unrefused faultless =
+    → IsWordReduceUnrefused given before → IsFaultless status → AnswersYesOrNo status
+complete given before after status (inl means) unrefused faultless =
     subst AnswersYesOrNo
     (sym (memory_at_load (IsPresentationFault before.shelf.holds given.file) given.file
     status unrefused.file
     faultless means.0)) tt
-wordreduce_complete given before after status (inr means) unrefused faultless =
+complete given before after status (inr means) unrefused faultless =
     lines_answer given means.0 before after status means.1 unrefused faultless means.2
 
 lines_settled : (parts : PresentationParts) (before after other_before other_after : Outside)
@@ -188,38 +190,34 @@ lines_settled parts a b c d (No cert) other conclusive also means others = absur
 lines_settled parts a b c d (Undecided limit) other conclusive also means others = absurd means
 lines_settled parts a b c d status other conclusive also means others = absurd conclusive
 
-pub wordreduce_settled : (given : Given) (before after other_before other_after : Outside)
+settled : (given : Given) (before after other_before other_after : Outside)
     (status other : Status)
     → WordReduceMeans given before after status
     → WordReduceMeans given other_before other_after other
-    → ReadsSame (wordreduce_reads given) before other_before → IsConclusive status
+    → ReadsSame (wordreduce_promise given).reads before other_before → IsConclusive status
     → IsConclusive other → status ≡ other
-wordreduce_settled given before after other_before other_after status other (inl means) others same
+settled given before after other_before other_after status other (inl means) others same
     conclusive also =
     absurd (load_inconclusive (IsPresentationFault before.shelf.holds given.file) given.file status
     means.0 conclusive)
-wordreduce_settled given before after other_before other_after status other (inr means)
+settled given before after other_before other_after status other (inr means)
     (inl others) same
     conclusive also =
     absurd (load_inconclusive (IsPresentationFault other_before.shelf.holds given.file) given.file
     other others.0 also)
-wordreduce_settled given before after other_before other_after status other (inr means)
+settled given before after other_before other_after status other (inr means)
     (inr others) same
     conclusive also =
     let parts = one_held (same given.file refl) means.1 others.1 in
     lines_settled others.0 before after other_before other_after status other conclusive also
     (subst (λ p. AnswersMean p before after status) parts means.2) others.2
 
-yes-conclusive : (status : Status) → IsYes status → IsConclusive status
-yes-conclusive Yes is_yes = tt
-yes-conclusive status is_yes = absurd is_yes
-
 lines_same : (given : Given) (parts : PresentationParts)
     (before after other_before other_after : Outside)
     (status other : Status) → IsYes status → IsYes other
     → AnswersMean parts before after status → AnswersMean parts other_before other_after other
     → before.input.left ≡ other_before.input.left
-    → HasSameEffect (wordreduce_may_store given) before after other_before other_after
+    → HasSameEffect StoresNothing before after other_before other_after
 lines_same given parts before after other_before other_after Yes Yes is_yes also means others same =
     let one = means.1 in
     let other = others.1 in
@@ -236,29 +234,29 @@ lines_same given parts before after other_before other_after Yes other is_yes al
 lines_same given parts before after other_before other_after status other is_yes also means others
     same = absurd is_yes
 
-pub wordreduce_one_function : (given other_given : Given)
+one_function : (given other_given : Given)
     (before after other_before other_after : Outside)
     (status other : Status)
     → WordReduceMeans given before after status
     → WordReduceMeans other_given other_before other_after other
     → IsYes status → IsYes other
-    → WordReducesDifferInOptions given other_given
-    → ReadsSame (wordreduce_reads given) before other_before
+    → given.file ≡ other_given.file
+    → ReadsSame (wordreduce_promise given).reads before other_before
     → before.input.left ≡ other_before.input.left
-    → HasSameEffect (wordreduce_may_store given) before after other_before other_after
-wordreduce_one_function given other_given before after other_before other_after status other
+    → HasSameEffect StoresNothing before after other_before other_after
+one_function given other_given before after other_before other_after status other
     (inl means) others
     is_yes also file same input =
     absurd (load_inconclusive (IsPresentationFault before.shelf.holds given.file)
     given.file status means.0
     (yes-conclusive status is_yes))
-wordreduce_one_function given other_given before after other_before other_after status
+one_function given other_given before after other_before other_after status
     other (inr means)
     (inl others) is_yes also file same input =
     absurd (load_inconclusive
     (IsPresentationFault other_before.shelf.holds other_given.file) other_given.file
     other others.0 (yes-conclusive other also))
-wordreduce_one_function given other_given before after other_before other_after status
+one_function given other_given before after other_before other_after status
     other (inr means)
     (inr others) is_yes also file same input =
     let held = subst (λ name. HoldsPresentation other_before.shelf.holds name others.0)
@@ -266,3 +264,12 @@ wordreduce_one_function given other_given before after other_before other_after 
     let parts = one_held (same given.file refl) means.1 held in
     lines_same given others.0 before after other_before other_after status other is_yes also
     (subst (λ p. AnswersMean p before after status) parts means.2) others.2 input
+
+pub wordreduce_lawful : (given : Given) → IsLawful wordreduce_promise (wordreduce_promise given)
+wordreduce_lawful given = record {
+  complete = complete given;
+  memory = tt;
+  settled = settled given;
+  conclusive = λ status settles. settles;
+  one_function = one_function given;
+}

@@ -30,33 +30,17 @@ use std::sync::Wait;
 use std::thread::Threads;
 
 impl Task for WordReduce {
-    ghost use Rattle.kb_task.specs.Statuses.{AnswersYesOrNo, IsConclusive};
-    ghost use Rattle.kb_cmd_words.specs.WordReduce.{WordReduceMeans, wordreduce_may_store, wordreduce_reads, wordreduce_is_unrefused, WordReducesDifferInOptions};
-    ghost use Rattle.kb_cmd_words.specs.WordReduceLaws.{wordreduce_complete, wordreduce_settled, wordreduce_one_function};
+    ghost use Rattle.kb_cmd_words.specs.WordReduce.{wordreduce_promise};
+    ghost use Rattle.kb_cmd_words.specs.WordReduceLaws.{wordreduce_lawful};
 
-    ghost means = { WordReduceMeans };
+    ghost promise = { wordreduce_promise };
 
-    ghost may_store = { wordreduce_may_store };
-
-    ghost reads = { wordreduce_reads };
-
-    ghost is_unrefused = { wordreduce_is_unrefused };
-
-    ghost answers = { λ task. AnswersYesOrNo };
-
-    ghost settles = { λ task. IsConclusive };
-
-    ghost differs_in_options = { WordReducesDifferInOptions };
-
-    ghost complete = { wordreduce_complete };
-
-    ghost settled = { wordreduce_settled };
-
-    ghost one_function = { wordreduce_one_function };
+    ghost lawful = { wordreduce_lawful };
 }
 
 impl WordReduce {
-    ghost use Rattle.kb_cmd_words.specs.WordReduce.{WordReduceMeans, wordreduce_may_store};
+    ghost use Rattle.kb_task.specs.Promises.{Keeps};
+    ghost use Rattle.kb_cmd_words.specs.WordReduce.{wordreduce_promise};
 
     /// Runs the command. What it writes to `err` only shows that it lives. Workers are threads of `rt`.
     pub fn run<T: Threads + Wait + Sync, F: Shelf, I: Source, O: Sink, E: Sink>(
@@ -68,7 +52,7 @@ impl WordReduce {
         out: &mut O,
         err: &mut E,
     ) -> Status
-        ensures { IsRun (WordReduceMeans self) (wordreduce_may_store self)
+        ensures { Keeps (wordreduce_promise self)
             (outside (F.state shelf.old) (I.state input.old) (O.state out.old))
             (outside (F.state shelf.new) (I.state input.new) (O.state out.new)) result }
     {

@@ -1,5 +1,7 @@
 pub mod Statuses
 pub mod Runs
+pub mod Promises
+pub mod PromiseLaws
 pub mod Effects
 pub mod Loads
 pub mod Presentations

@@ -1,10 +1,10 @@
--- What is true of a run of any command, and the laws of what a command's statuses mean.
+-- What is true of a run of any command.
 use Rattle.std.specs.Prelude.{◌≡◌, ℕ, ◌<◌, ◌⊎◌, List, ◌++◌, IfSome}
 use Rattle.kb_io.specs.Outside.{Outside, IsTold, GoesOn}
 use Rattle.kb_task.specs.declared.status.Status.{Status}
 use Rattle.kb_task.specs.declared.status.Which.{Which}
 use Rattle.kb_task.specs.declared.status.Which.TheVariants.{Load, Store, Input, Output}
-use Rattle.kb_task.specs.Statuses.{fault_of, IsYes, IsFaultless}
+use Rattle.kb_task.specs.Statuses.{fault_of}
 
 -- the count of the device's failures rose
 abbrev pub HasFailed : Outside → Outside → Which → Type 0
@@ -51,37 +51,3 @@ pub record HasSameEffect (MayStore : List ℕ → Type 0)
   pub other_written : other_after.output.written ≡ other_before.output.written ++ bytes
   pub stored : (name : List ℕ) → MayStore name
       → LeavesSame before after other_before other_after name
-
--- Where nothing that the command reads is refused and no device failed, it has one of its answers.
-abbrev pub IsComplete : {Task : Type 0} → (Task → Outside → Outside → Status → Type 0)
-    → (Task → Outside → Type 0)
-    → (Task → Status → Type 0) → Type 0
-IsComplete {Task} Means IsUnrefused Answers =
-    (task : Task) (before after : Outside) (status : Status)
-    → Means task before after status → IsUnrefused task before → IsFaultless status
-    → Answers task status
-
--- The files that are read settle the answer: two runs of one command with statuses that the files
--- settle have one status.
-abbrev pub IsSettledByFiles : {Task : Type 0} → (Task → Outside → Outside → Status → Type 0)
-    → (Task → List ℕ → Type 0)
-    → (Task → Status → Type 0) → Type 0
-IsSettledByFiles {Task} Means IsRead Settles =
-    (task : Task) (before after other_before other_after : Outside) (status other : Status)
-    → Means task before after status → Means task other_before other_after other
-    → ReadsSame (IsRead task) before other_before
-    → Settles task status → Settles task other → status ≡ other
-
--- What status 0 writes and stores is one function of the command without its options, of the files that are read and
--- of the input.
-abbrev pub IsFunctionOfInputs : {Task : Type 0} → (Task → Outside → Outside → Status → Type 0)
-    → (Task → Task → Type 0)
-    → (Task → List ℕ → Type 0) → (Task → List ℕ → Type 0) → Type 0
-IsFunctionOfInputs {Task} Means DifferInOptions IsRead MayStore =
-    (task other_task : Task) (before after other_before other_after : Outside)
-    (status other : Status)
-    → Means task before after status → Means other_task other_before other_after other
-    → IsYes status → IsYes other
-    → DifferInOptions task other_task → ReadsSame (IsRead task) before other_before
-    → before.input.left ≡ other_before.input.left
-    → HasSameEffect (MayStore task) before after other_before other_after

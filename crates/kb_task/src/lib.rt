@@ -1,15 +1,14 @@
 //! What commands have in common: the trait `Task` of a command, how a run ends, and what commands load, store,
 //! print and take from the command line.
 //!
-//! The public contract is that of [`Task`]. A command is a value that runs over the outside once. Its relation
-//! `means` is what each status of a run means; `may_store`, `reads`, `is_unrefused`, `answers`, `settles` and
-//! `differs_in_options` are what it may store, the files that it reads, when nothing of what it reads is refused,
-//! with which statuses it then ends, which statuses the files settle, and which commands are the same but for
-//! options that change no answer. Its laws are over these: where nothing is refused there is an answer
-//! (`complete`), the files settle which of the statuses that they settle there is (`settled`), and what status 0
-//! writes and stores is one function of command, files and input (`one_function`). Every run also keeps what
-//! `IsRun` of `specs/Runs.antt` states once for all commands: the cause of a fault, that counts never fall, and
-//! that other files stay.
+//! The public contract is that of [`Task`]. A command is a value that runs over the outside once, and keeps its
+//! `promise`: what each status of a run means, what it may store, the files that it reads, when nothing of what it
+//! reads is refused, with which statuses it then ends, which statuses the files settle, and which commands are the
+//! same but for options that change no answer. Its laws (`lawful`) are over these: where nothing is refused there is
+//! an answer (`complete`), the files settle which of the statuses that they settle there is (`settled`), and what
+//! status 0 writes and stores is one function of command, files and input (`one_function`). `specs/Promises.antt` has
+//! both. Every run also keeps what `IsRun` of `specs/Runs.antt` states once for all commands: the cause of a fault,
+//! that counts never fall, and that other files stay.
 //!
 //! - `status` is how a run ends, with its exit status and its messages.
 //! - `loading` loads files, and the presentations, automata and logs that they hold; `storing` stores files, and an

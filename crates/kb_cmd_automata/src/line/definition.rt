@@ -7,7 +7,7 @@ ghost use Rattle.kb_task.specs.Arguments.{needed_rule};
 ghost use Rattle.kb_cmd_automata.specs.Line.{command_app, name_text};
 ghost use Rattle.kb_cmd_automata.specs.declared.line.name.Name.TheVariants as names;
 
-use super::name::Name;
+use super::name::{Name, Unlimited};
 use crate::combine::Combination;
 use crate::transform::Transformation;
 use clap::{Arg, Command};
@@ -22,7 +22,7 @@ pub(super) fn definition<'a>(alloc: Global, name: Name) -> Result<Command<'a>, A
     match name {
         Name::Combine(operation) => combine_definition(alloc, operation),
         Name::Transform(operation) => transform_definition(alloc, operation),
-        Name::Minimise => minimise_definition(alloc),
+        Name::Unlimited(command) => unlimited_definition(alloc, command),
         Name::Compare => compare_definition(alloc),
         Name::Enumerate => enumerate_definition(alloc),
     }
@@ -55,12 +55,12 @@ fn transform_definition<'a>(
         .arg(number_option(alloc, NumberOption::MaxStates))
 }
 
-/// `fsamin A OUT`.
-fn minimise_definition<'a>(alloc: Global) -> Result<Command<'a>, AllocError>
-    ensures app { IfOk result (λ command. app_of command ≡ command_app names.Minimise) }
-    ensures local { IfOk result (λ command. (fields_of command).has_globals ≡ false) }
+/// `fsamin A OUT`, and those that take the same.
+fn unlimited_definition<'a>(alloc: Global, command: Unlimited) -> Result<Command<'a>, AllocError>
+    ensures app { IfOk result (λ added. app_of added ≡ command_app (names.Unlimited command)) }
+    ensures local { IfOk result (λ added. (fields_of added).has_globals ≡ false) }
 {
-    labelled(alloc, Name::Minimise)
+    labelled(alloc, Name::Unlimited(command))
         .arg(first_argument(alloc))?
         .arg(out_argument(alloc))
 }

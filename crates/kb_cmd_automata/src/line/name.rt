@@ -36,11 +36,18 @@ pub(crate) enum Name {
     /// `fsanot`, `fsaexists`, `fsastar`, `fsareverse`
     Transform(Transformation),
     /// `fsamin`
-    Minimise,
+    Unlimited(Unlimited),
     /// `fsalequal`
     Compare,
     /// `fsaenumerate`
     Enumerate,
+}
+
+/// A command that takes A and OUT alone, and so has no limit.
+#[derive(Clone, Copy)]
+pub(crate) enum Unlimited {
+    /// `fsamin`
+    Minimise,
 }
 
 /// What a command is called, and its help.
@@ -59,7 +66,7 @@ pub(crate) const NAMES: [Name; 10] = [
     Name::Combine(Combination::And),
     Name::Combine(Combination::Or),
     Name::Transform(Transformation::Not),
-    Name::Minimise,
+    Name::Unlimited(Unlimited::Minimise),
     Name::Compare,
     Name::Transform(Transformation::Exists),
     Name::Combine(Combination::Concat),
@@ -82,7 +89,7 @@ impl Name {
             "fsaexists" => Some(Name::Transform(Transformation::Exists)),
             "fsastar" => Some(Name::Transform(Transformation::Star)),
             "fsareverse" => Some(Name::Transform(Transformation::Reverse)),
-            "fsamin" => Some(Name::Minimise),
+            "fsamin" => Some(Name::Unlimited(Unlimited::Minimise)),
             "fsalequal" => Some(Name::Compare),
             "fsaenumerate" => Some(Name::Enumerate),
             _ => None,
@@ -96,11 +103,7 @@ impl Name {
         match self {
             Name::Combine(operation) => combination_label(operation),
             Name::Transform(operation) => transformation_label(operation),
-            Name::Minimise => Label {
-                text: "fsamin",
-                about: "Stores the minimal automaton of what A accepts",
-                after_help: stores_out!("Example: kb fsamin examples/multiples-of-3.fsa OUT"),
-            },
+            Name::Unlimited(command) => unlimited_label(command),
             Name::Compare => Label {
                 text: "fsalequal",
                 about: "Says whether A and B accept the same, and if not, the least that only one of them accepts",
@@ -170,6 +173,19 @@ fn transformation_label<'a>(operation: Transformation) -> Label<'a>
             text: "fsareverse",
             about: "Stores the automaton of the words of A read backwards",
             after_help: stores_out!("Example: kb fsareverse examples/golden-mean.fsa OUT"),
+        },
+    }
+}
+
+/// What the commands are called that take A and OUT alone.
+fn unlimited_label<'a>(command: Unlimited) -> Label<'a>
+    ensures { result.text.now ≡ name_text (names.Unlimited command) }
+{
+    match command {
+        Unlimited::Minimise => Label {
+            text: "fsamin",
+            about: "Stores the minimal automaton of what A accepts",
+            after_help: stores_out!("Example: kb fsamin examples/multiples-of-3.fsa OUT"),
         },
     }
 }

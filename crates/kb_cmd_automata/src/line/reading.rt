@@ -1,14 +1,15 @@
 //! Commands from their arguments and options.
 
-ghost use Rattle.std.specs.Prelude.{IfOk};
-ghost use Rattle.clap.specs.Words.{found_of, rows_of};
-ghost use Rattle.kb_cmd_automata.specs.Line.{IsRead};
+ghost use Rattle.std.specs.Prelude.{◌≡◌, List, IfOk};
+ghost use Rattle.clap.specs.Words.{Row, found_of, rows_of};
+ghost use Rattle.kb_cmd_automata.specs.Line.{GivesFiles, GivesTask, IsRead, name_of_task};
 ghost use Rattle.kb_cmd_automata.specs.declared.line.name.Name.TheVariants as names;
 
-use super::name::Name;
+use super::name::{Name, Unlimited};
 use crate::combine::{Combination, Combine};
 use crate::compare::Compare;
 use crate::enumerate::Enumerate;
+use crate::files::FileToOut;
 use crate::minimise::Minimise;
 use crate::task::AutomataTask;
 use crate::transform::{Transform, Transformation};
@@ -28,7 +29,7 @@ pub(super) fn task_given(
     match name {
         Name::Combine(operation) => combine_given(alloc, operation, matches),
         Name::Transform(operation) => transform_given(alloc, operation, matches),
-        Name::Minimise => minimise_given(alloc, matches),
+        Name::Unlimited(command) => unlimited_given(alloc, command, matches),
         Name::Compare => compare_given(alloc, matches),
         Name::Enumerate => enumerate_given(alloc, matches),
     }
@@ -88,9 +89,13 @@ fn transform_given(
     })))
 }
 
-/// The command that the matches of `fsamin` give.
-fn minimise_given(alloc: Global, matches: &ArgMatches<'_>) -> Result<Option<AutomataTask>, Memory>
-    ensures { IfOk result (IsRead names.Minimise (rows_of (found_of matches.now))) }
+/// The command that the matches of one that takes A and OUT alone give.
+fn unlimited_given(
+    alloc: Global,
+    command: Unlimited,
+    matches: &ArgMatches<'_>,
+) -> Result<Option<AutomataTask>, Memory>
+    ensures { IfOk result (IsRead (names.Unlimited command) (rows_of (found_of matches.now))) }
 {
     let Some(file) = text_given(matches, "first") else {
         return Ok(None);
@@ -98,10 +103,21 @@ fn minimise_given(alloc: Global, matches: &ArgMatches<'_>) -> Result<Option<Auto
     let Some(out) = text_given(matches, "out") else {
         return Ok(None);
     };
-    Ok(Some(AutomataTask::Minimise(Minimise {
+    let files = FileToOut {
         file: OwnedText::from_str(alloc, file)?,
         out: OwnedText::from_str(alloc, out)?,
-    })))
+    };
+    Ok(Some(unlimited_task(command, files)))
+}
+
+/// The command on these files.
+fn unlimited_task(command: Unlimited, files: FileToOut) -> AutomataTask
+    ensures name { name_of_task result ≡ names.Unlimited command }
+    ensures files { (rows : List Row) → GivesFiles rows files → GivesTask result rows }
+{
+    match command {
+        Unlimited::Minimise => AutomataTask::Minimise(Minimise { files }),
+    }
 }
 
 /// The command that the matches of `fsalequal` give.

@@ -1,6 +1,6 @@
 use Rattle.std.proofs.Common.{sym, List, subst}
 use Rattle.kb_io.specs.Outside.{Outside, outside}
-use Rattle.kb_word.specs.Presentations.{PresentationParts, parts_of}
+use Rattle.kb_word.specs.Presentations.{PresentationParts}
 use Rattle.kb_reduced.specs.Reduced.{IsReducedComplete}
 use Rattle.kb_system.specs.Completed.{below, relations}
 use Rattle.kb_task.specs.Runs.{IsRun}

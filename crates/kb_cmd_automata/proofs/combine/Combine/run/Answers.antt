@@ -7,7 +7,8 @@ use Rattle.kb_task.proofs.LoadEnds.{same_files}
 use Rattle.kb_task.proofs.RunLemmas.{counted_after, goes_on-loads, loads-along, run-ends, told-later, unchanged-loads}
 use Rattle.kb_cmd_automata.specs.Loaded.{at_first, at_second, both}
 use Rattle.kb_cmd_automata.specs.Make.{IsMadeOfTwo, ExceedsCombined, combined_kind}
-use Rattle.kb_cmd_automata.proofs.MakeLemmas.{made_of_two-same}
+use Rattle.kb_cmd_automata.specs.MakeLaws.{combined-known}
+use Rattle.kb_cmd_automata.proofs.MakeLemmas.{made-same}
 use Rattle.kb_cmd_automata.proofs.RunLemmas.{run-stores, run-limit}
 use Rattle.kb_cmd_automata.proofs.combine.Combine.run.Goals as goal
 
@@ -52,7 +53,7 @@ returns-in-Ok-combined g c =
     run-stores before (g.F.Shelf.state c.load_second.new.shelf) input output loads c.store_canonical.result
     (IsMadeOfTwo c.args.self.operation one two) (ExceedsCombined c.args.self.operation c.args.self.max_states one two) c.args.self.out c.in-Ok.first.names
     c.in-Ok-combined.made (g.F.Shelf.state c.store_canonical.new.shelf) (c.store_canonical.ensures input output)
-    (made_of_two-same c.args.self.operation one two c.in-Ok-combined.made c.in-Ok-combined.ensures.alphabet c.in-Ok-combined.ensures.language)
+    (made-same (combined-known c.args.self.operation one two) c.in-Ok-combined.made (c.in-Ok-combined.ensures.alphabet, c.in-Ok-combined.ensures.language))
     (λ limit exceeds. c.in-Ok-combined.ensures.few refl exceeds.1) (λ name is. is)
     (λ told means. both (c.in-Ok.ensures.holds told.shelf) (rw c.kind-kind.ensures at c.in-Ok.ensures.kind)
     (subst (λ files. HoldsAutomaton files c.args.self.two c.in-Ok.first.names two) (same_files c.load_automaton.ensures.only_loads)
