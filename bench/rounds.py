@@ -5,8 +5,9 @@ import re
 import subprocess
 
 import data
-from completions import MOST_RULES, WORKERS, coxeter, free_abelian
+from completions import MOST_RULES, WORKERS
 from measuring import measure
+from presentations import coxeter, free_abelian
 
 
 def measure_rounds(program, maker, room):

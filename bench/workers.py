@@ -3,7 +3,7 @@
 import os
 
 import data
-from completions import burnside, free_abelian, projective
+from presentations import burnside, free_abelian, projective
 from measuring import GIVEN_UP, run_once
 
 COUNTS = (1, 2, 4)
