@@ -111,7 +111,7 @@ first_header digit body other = record {
 no_sign : (digit : ℕ) → digit ≢ 45 → (others : List ℕ) → digit ∷ [] ≢ 45 ∷ others
 no_sign digit other others e = other (head_same digit 45 [] others e)
 
-header_right : (version : Version) (body : List ℕ) → ¬ NamesOtherVersion (header version ++ body)
+pub header_right : (version : Version) (body : List ℕ) → ¬ NamesOtherVersion (header version ++ body)
 header_right One body h =
     let line : codes "kblog " ++ h.0 ≡ codes "kblog 1" =
     same_first_line (header One ++ body) (codes "kblog " ++ h.0) (codes "kblog 1") h.1 (first_header 49 body (λ e. omega (arith, e))) in

@@ -7,3 +7,4 @@ pub mod LogLemmas
 pub mod HeaderLemmas
 pub mod SameLemmas
 pub mod FaultLemmas
+mod OneFault

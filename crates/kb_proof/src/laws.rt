@@ -1,6 +1,6 @@
 //! What printing and reading have to do with each other.
 
-ghost use Rattle.std.specs.Prelude.{◌≡◌, ℕ, List};
+ghost use Rattle.std.specs.Prelude.{◌≡◌, ◌≢◌, ℕ, ◌<◌, ◌^◌, List, length};
 ghost use Rattle.kb_word.specs.Names.{AreApart};
 ghost use Rattle.kb_proof.specs.Faults.{HasLogFault};
 ghost use Rattle.kb_proof.specs.Printable.{AreReadableNames, IsPrintable};
@@ -25,4 +25,12 @@ pub fn a_printed_log_has_no_fault()
     ensures { (names : List (List ℕ)) (log : SomeLog) (error : SomeError) → AreReadableNames names
         → IsPrintable names log → HasLogFault names (text_of_log names log) error
         → error ≡ errors.Memory }
+{}
+
+/// Bytes have one fault at most, want of memory aside. So where [`read_log`](crate::read_log) refuses them, it names the
+/// one line, or the version, that there is to name.
+pub fn bytes_have_one_log_fault()
+    ensures { (names : List (List ℕ)) (bytes : List ℕ) (one other : SomeError) → AreReadableNames names
+        → length bytes < 2 ^ 64 → one ≢ errors.Memory → other ≢ errors.Memory
+        → HasLogFault names bytes one → HasLogFault names bytes other → one ≡ other }
 {}

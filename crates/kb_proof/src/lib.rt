@@ -24,8 +24,9 @@
 //! (`specs/Faults.antt`). Whether lines and relations that a log names are there is not asked here.
 //!
 //! The laws complete that: by [`a_printed_log_has_no_fault`] no bytes are both read and refused, and by
-//! [`a_text_is_of_one_log`] what is read of a printed log is that log. Both ask, as [`read_log`] does, that the names
-//! are Names and none is `IdWord` (`AreReadableNames`), as the names of presentation files are.
+//! [`a_text_is_of_one_log`] what is read of a printed log is that log; by [`bytes_have_one_log_fault`] a refusal names the
+//! one fault that there is. They ask, as [`read_log`] does, that the names are Names and none is `IdWord`
+//! (`AreReadableNames`), as the names of presentation files are.
 //!
 //! # How it is made
 //!
@@ -45,7 +46,7 @@
 //! - `proofs/TextLemmas.antt`: which bytes the texts of numbers, names, words, steps and origins have.
 //! - `proofs/LineLemmas.antt`, `proofs/LogLemmas.antt`: lines and their fields, and the lines of a log.
 //! - `proofs/HeaderLemmas.antt`: the first line. `proofs/PrintLemmas.antt`: what is printed piece by piece.
-//! - `proofs/SameLemmas.antt`, `proofs/FaultLemmas.antt`: the laws.
+//! - `proofs/SameLemmas.antt`, `proofs/FaultLemmas.antt`, `proofs/OneFault.antt`: the laws.
 //!
 //! Below are `kb_machine`, which has lines, `kb_word`, whose presentations name letters, and `kb_lexing`, whose
 //! numbers versions are.
@@ -66,7 +67,7 @@ mod steps;
 mod words;
 
 pub use error::LogError;
-pub use laws::{a_printed_log_has_no_fault, a_text_is_of_one_log};
+pub use laws::{a_printed_log_has_no_fault, a_text_is_of_one_log, bytes_have_one_log_fault};
 pub use log::{Log, Version};
 pub use printing::{print_log, print_origin};
 pub use reader::read_log;

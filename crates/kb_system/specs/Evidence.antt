@@ -2,7 +2,8 @@
 use Rattle.std.specs.Prelude.{◌≡◌, ℕ, ◌<◌, ◌≤◌, List, [], ◌∷◌, ◌++◌, length, All, map, slice_get, Some}
 use Rattle.std.specs.List.{AllPairs}
 use Rattle.kb_word.specs.Words.{Pair, OneOf, IsFactor}
-use Rattle.kb_word.specs.Congruence.{Congruent}
+use Rattle.kb_word.specs.Congruence.{Congruent, SameCongruence}
+use Rattle.kb_word.specs.Overlap.{IsConfluent}
 use Rattle.kb_word.specs.Rewriting.{IsIrreducible}
 use Rattle.kb_word.specs.Presentations.{PresentationParts}
 use Rattle.kb_machine.specs.Lines.{rules_of}
@@ -51,9 +52,12 @@ pub record IsHalted (limits : Limits) (parts : PresentationParts)
   pub is_reached : IsReached limits lines waiting reached
   pub live : AreLiveRules lines rules
 
--- a completion whose word acceptor has more states than may be, with its log
+-- A completion whose word acceptor has more states than may be, with its log: the rules of all its lines are confluent
+-- and generate the congruence of the relations.
 pub record IsTooLarge (limits : Limits) (parts : PresentationParts) (lines : List Line)
     (rules : List Pair) : Type 0 where
   pub justified : IsJustified (below parts) (relations parts) lines
+  pub confluent : IsConfluent (rules_of lines)
+  pub same : SameCongruence (relations parts) (rules_of lines)
   pub reduced : IsReducedComplete (below parts) (relations parts) rules
   pub counted : CountedPrefixes rules limits.states
