@@ -29,7 +29,7 @@ among_one_more numbers number i some = ⊎_elim
     inl (omega (arith, some, other, all)))
     (cases_eq number i)
 
-drew_one_more : (before after : Seat) (number i : ℕ) → numbers_of after ≡ numbers_of before ++ number ∷ [] → Drew after i → Drew before i ⊎ (i ≡ number)
+pub drew_one_more : (before after : Seat) (number i : ℕ) → numbers_of after ≡ numbers_of before ++ number ∷ [] → Drew after i → Drew before i ⊎ (i ≡ number)
 drew_one_more before after number i more drew =
     let P : List ℕ → Type 0 = λ numbers. 0 < times i numbers in
     among_one_more (numbers_of before) number i (subst P more drew)

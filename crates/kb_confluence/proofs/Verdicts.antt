@@ -7,7 +7,7 @@ use Rattle.kb_word.specs.Overlap.{IsResolved, IsUnresolved, IsConfluent, critica
 use Rattle.kb_word.proofs.PathLemmas.{Replaces-implied, congruent_by_replacement, congruent_symmetric, congruent_transitive}
 use Rattle.kb_rules.proofs.Unique.{normal_form_unique}
 use Rattle.kb_rules.proofs.Reducts.{normal_form_congruent}
-use Rattle.kb_overlap.proofs.Superposed.{replaced-by-first, replaced-by-second}
+use Rattle.kb_rules.proofs.Superposed.{replaced-by-first, replaced-by-second}
 use Rattle.kb_confluence.specs.declared.confluence.Verdict.{Verdict}
 use Rattle.kb_confluence.specs.declared.confluence.Verdict.TheVariants.{Yes, No}
 use Rattle.kb_confluence.specs.FirstApart.{IsFirstApart, IsCounterexample}

@@ -6,23 +6,35 @@
 //! word's normal form is then the least word that is congruent to it; `least_by_the_same_congruence` carries that
 //! over to any other list of pairs that generates the same congruence, such as a presentation's relations.
 //!
-//! The test goes over the rules in list order. For each one `kb_overlap` finds all overlaps of its left side,
-//! ascending by the second rule and then by the place, without trying the rules one by one; a rule with itself at
-//! place 0 is left out. Those overlaps are the rule's row. So the first critical pair whose words have different
-//! normal forms is the one to name. `proofs/Checking.antt` follows the test of a row, `proofs/Replacements.antt` and
-//! `proofs/Newman.antt` have the critical pair criterion and Newman's lemma.
+//! # How it goes
+//!
+//! First the prime overlaps are tested alone, which are few (`kb_overlap::PrimeOverlaps`): where each of them is joined the
+//! rules are confluent, since composite overlaps need no look (`kb_overlap::composite_overlaps_need_no_look`). Where one of
+//! them is apart, all overlaps are tested in their order, to find the first one that is.
+//!
+//! A rule's row has the overlaps in which its left side begins first: the prime ones, or all of them, ascending by the
+//! second rule and then by the place; a rule with itself at place 0 is left out. So in the rows of all overlaps the first
+//! critical pair whose words have different normal forms is the one to name.
 //!
 //! Several workers share the rows: each draws rows by a seat of one `kb_draw::Draw` until no row is left, and so each
-//! row is drawn by one worker. A worker keeps the earliest row that isn't joined, and doesn't test the rows after it
-//! that it draws. The earliest of the workers' verdicts is the verdict, the same for every number of workers.
-//! `specs/Rows.antt` says what a verdict on some of the rows is, `proofs/RowVerdicts.antt` puts such verdicts
-//! together, and `proofs/Drawing.antt` follows a worker from one row that it draws to the next.
+//! row is drawn by one worker. Of all overlaps a worker keeps the earliest row that isn't joined, and doesn't test the rows
+//! after it that it draws; the earliest of the workers' verdicts is the verdict, the same for every number of workers.
+//!
+//! # The proofs
+//!
+//! `specs/Rows.antt` says what a verdict on some of the rows is, and `specs/PrimeRows.antt` the same of prime overlaps.
+//! `proofs/Checking.antt` follows the test of a row, `proofs/RowVerdicts.antt` puts verdicts together, `proofs/Drawing.antt`
+//! follows a worker from one row that it draws to the next, and `proofs/PrimeRows.antt` does all that for prime overlaps.
+//! That a word has one normal form where the critical pairs are joined is proved in `kb_overlap`, and
+//! `proofs/LeastWords.antt` has what follows.
 //!
 //! Below are `kb_word`, `kb_rules`, `kb_overlap` and `kb_draw`.
 #![tactic(auto)]
 
 mod confluence;
 mod laws;
+mod prime_rows;
+mod prime_workers;
 mod rows;
 mod workers;
 

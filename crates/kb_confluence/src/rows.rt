@@ -26,8 +26,8 @@ pub struct Rows<'r, R: Reducer> {
 /// The memory that checks work in, kept from one row to the next. What it holds before and after counts for nothing.
 #[derive(Drop)]
 pub struct Buffers {
-    overlaps: Vec<Overlap>,
-    pair: PairWorkspace,
+    pub(crate) overlaps: Vec<Overlap>,
+    pub(crate) pair: PairWorkspace,
 }
 
 impl Buffers {

@@ -236,6 +236,32 @@ lookup_removed rules rules' gone lookup lookup' is fits shorter settled recent n
           (subst N (sym numbers) (numbered_removed rules (is.base ++ is.later) lookup.numbers.items gone fits is.numbered));
     }
 
+-- the lookup after a rule left the list and another joined it
+pub lookup_replaced : (rules rules' : List Pair) (gone : ℕ) (rule : Pair) (number : ℕ) (lookup lookup' : Lookup)
+    (is : IsLookup rules lookup) → gone < length rules → rules' ≡ remove rules gone ++ rule ∷ []
+    → number ≡ length lookup.settled.value.chains.before.items + length lookup.recent.chains.before.items
+    → lookup'.settled.value ≡ lookup.settled.value → lookup'.numbers.items ≡ remove lookup.numbers.items gone ++ number ∷ []
+    → IsRecent (is.later ++ rule ∷ []) lookup'.recent → IsLookup rules' lookup'
+lookup_replaced rules rules' gone rule number lookup lookup' is fits replaced next settled numbers recent =
+    let all : List Pair = is.base ++ is.later in
+    let left : List ℕ = remove lookup.numbers.items gone in
+    let number_is : number ≡ length all =
+    omega (arith, next, is.settled.rule_count, is.recent.rule_count, length-append is.base is.later) in
+    let R : List Pair → Type 0 = λ rs. AreNumbered rs (is.base ++ (is.later ++ rule ∷ [])) lookup'.numbers.items in
+    let N : List ℕ → Type 0 = λ ns. AreNumbered (remove rules gone ++ rule ∷ []) (is.base ++ (is.later ++ rule ∷ [])) ns in
+    let A : List Pair → Type 0 = λ every. AreNumbered (remove rules gone ++ rule ∷ []) every (left ++ length all ∷ []) in
+    record {
+      base = is.base;
+      later = is.later ++ rule ∷ [];
+      settled = subst (IsAutomaton is.base) (sym settled) is.settled;
+      recent = recent;
+      numbered =
+          subst R (sym replaced)
+          (subst N (sym (numbers ∙ ap (λ (n : ℕ). left ++ n ∷ []) number_is))
+          (subst A (append_assoc is.base is.later (rule ∷ []))
+          (numbered_joined (remove rules gone) all rule left (numbered_removed rules all lookup.numbers.items gone fits is.numbered))));
+    }
+
 -- the lookup copied
 pub lookup_copied : (rules : List Pair) (lookup lookup' : Lookup) (is : IsLookup rules lookup)
     → lookup'.settled.value ≡ lookup.settled.value → lookup'.numbers.items ≡ lookup.numbers.items → IsRecent is.later lookup'.recent

@@ -1,6 +1,7 @@
 //! The reducer that reads a word by an automaton.
 
-ghost use Rattle.std.specs.Prelude.{◌≡◌};
+ghost use Rattle.std.specs.Prelude.{◌≡◌, ◌<◌, [], ◌∷◌, ◌++◌, length};
+ghost use Rattle.std.specs.List.{remove};
 
 use crate::lookup::Lookup;
 use crate::reading::{reduce, trace};
@@ -64,6 +65,16 @@ impl Reducer for Index {
         Ok(())
     }
 
+    fn replace(&mut self, alloc: Global, place: usize, rule: &Rule) -> Result<(), Memory> {
+        self.settle_if_due(alloc)?;
+        let rule = rule.copy(alloc)?;
+        let number = self.lookup.next_number();
+        self.lookup.recent.push(rule.left())?;
+        let _rule = self.rules.replace(place, rule);
+        replace_number(&mut self.lookup.numbers, place, number);
+        Ok(())
+    }
+
     fn copy(&self, alloc: Global) -> Result<Index, Memory> {
         let rules = self.rules.copy(alloc)?;
         let lookup = self.lookup.copy(alloc)?;
@@ -81,4 +92,13 @@ impl Index {
         }
         Ok(())
     }
+}
+
+/// Takes the number at a place out of the list, and adds one at its end. It takes no memory.
+fn replace_number(numbers: &mut Vec<usize>, place: usize, number: usize)
+    requires { place < length numbers.old.items }
+    ensures { numbers.new.items ≡ remove numbers.old.items place ++ number ∷ [] }
+{
+    let _ = numbers.remove(place);
+    let _ = numbers.push(number);
 }

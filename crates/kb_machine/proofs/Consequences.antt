@@ -5,7 +5,7 @@ use Rattle.kb_word.specs.Overlap.{superposition, critical_pair}
 use Rattle.kb_word.specs.Congruence.{Replaces, Congruent}
 use Rattle.kb_word.specs.Rewriting.{ReducesTo}
 use Rattle.kb_word.proofs.PathLemmas.{path_equal, path_step, congruent_by_replacement, congruent_by_reduction, congruent_symmetric, congruent_transitive, congruent_covered}
-use Rattle.kb_overlap.proofs.Superposed.{replaced-by-first, replaced-by-second}
+use Rattle.kb_rules.proofs.Superposed.{replaced-by-first, replaced-by-second}
 use Rattle.kb_machine.specs.Lines.{numbered, IsCriticalPair, IsPairOf}
 use Rattle.kb_machine.specs.Derivations.{IsStepBy, Derives, DerivesBoth, Any}
 use Rattle.kb_machine.specs.Justified.{ComesFromPair, ShortensRule, FollowsBy}

@@ -28,7 +28,7 @@
 //! `proofs/Invariant.antt` has what each event keeps, from which soundness follows; there is a file
 //! of lemmas for each event or two.
 //!
-//! Below are `kb_word`, `kb_rules` and `kb_overlap`.
+//! Below are `kb_word` and `kb_rules`.
 #![tactic(auto)]
 
 mod event;

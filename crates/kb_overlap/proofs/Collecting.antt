@@ -3,7 +3,7 @@ use Rattle.std.proofs.Common.{◌≡◌, ◌≢◌, ℕ, zero, suc, ◌+◌, ◌
 use Rattle.std.specs.List.{All, AllPairs, Contains}
 use Rattle.std.proofs.lemmas.Bool.{cases_lt}
 use Rattle.std.proofs.lemmas.List.Elements.{All-append, All-map, All-weaker, All-contains_itself, Contains-append_left, Contains-append_right}
-use Rattle.kb_overlap.specs.Agreement.{AgreeAsFar}
+use Rattle.kb_rules.specs.Agreement.{AgreeAsFar}
 use Rattle.kb_overlap.specs.Sides.{Adds, AreApart, Collects, OverlapsSide, at_place}
 use Rattle.kb_overlap.specs.declared.left_sides.Overlap.{Overlap}
 use Rattle.kb_overlap.specs.declared.walk.Side.{Side}

@@ -14,14 +14,14 @@ use Rattle.std.proofs.lemmas.List.Sorted.{All-permutation, Contains-permutation,
 use Rattle.std.proofs.lemmas.Option.{slice_get_within}
 use Rattle.kb_word.specs.Words.{Pair}
 use Rattle.kb_word.specs.Overlap.{Overlaps}
-use Rattle.kb_overlap.specs.Agreement.{AgreeAsFar}
+use Rattle.kb_rules.specs.Agreement.{AgreeAsFar}
 use Rattle.kb_overlap.specs.Overlapping.{AreOverlaps, IsBefore, OverlapsRule}
 use Rattle.kb_overlap.specs.Sides.{AreApart, AreSortedSides, Collects, IsListed, IsSideOf, OverlapsSide}
 use Rattle.kb_overlap.specs.declared.left_sides.Overlap.{Overlap}
 use Rattle.kb_overlap.specs.declared.walk.Side.{Side}
 use Rattle.kb_overlap.proofs.Collecting.{same_overlap}
 use Rattle.kb_overlap.proofs.Lists.{apart_permuted}
-use Rattle.kb_overlap.proofs.Superposed.{slice_get-drop, overlap-agrees}
+use Rattle.kb_rules.proofs.Superposed.{slice_get-drop, overlap-agrees}
 
 pub listed_none : (rules : List Pair) → IsListed rules 0 []
 listed_none rules = record {

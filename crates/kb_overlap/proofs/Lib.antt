@@ -1,7 +1,22 @@
-pub mod Superposed
 pub mod Joined
 mod Keys
 mod Lists
 mod Walking
 mod Collecting
 mod Indexing
+pub mod Occurrences
+pub mod Replacements
+pub mod Connected
+mod Narrowed
+mod Inside
+pub mod Criterion
+mod Gaining
+mod Shortness
+mod Suffixed
+mod Kept
+mod Ended
+mod Leading
+mod Reached
+mod Sticking
+mod Prefixed
+mod Sweeping

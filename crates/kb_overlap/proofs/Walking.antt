@@ -11,7 +11,7 @@ use Rattle.std.proofs.lemmas.Cmp.{ranked}
 use Rattle.std.proofs.lemmas.List.Elements.{filter_passes, All-contains_itself, Contains-append_left, Contains-append_right, Contains-append_cases}
 use Rattle.std.proofs.lemmas.List.{append-nil, append_assoc, map-append, drop_all, nil_from_length}
 use Rattle.std.proofs.lemmas.List.Kept.{AllPairs-filter}
-use Rattle.kb_overlap.specs.Agreement.{AgreeAsFar}
+use Rattle.kb_rules.specs.Agreement.{AgreeAsFar}
 use Rattle.kb_overlap.specs.Sides.{Adds, AreApart, InOrder, NotAfter, at_place, with_letter}
 use Rattle.kb_overlap.specs.declared.left_sides.Overlap.{Overlap}
 use Rattle.kb_overlap.specs.declared.walk.Side.{Side}

@@ -1,4 +1,6 @@
-pub mod Agreement
+pub mod Composite
 pub mod Joining
 pub mod Overlapping
 pub mod Sides
+pub mod Prefixes
+pub mod Ways

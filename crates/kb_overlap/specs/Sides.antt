@@ -5,7 +5,7 @@ use Rattle.std.specs.Option.{option_eq}
 use Rattle.std.specs.Ordering.{is_lt, nat_cmp}
 use Rattle.std.specs.Cmp.Lexicographic.{slice_cmp}
 use Rattle.kb_word.specs.Words.{Pair}
-use Rattle.kb_overlap.specs.Agreement.{AgreeAsFar}
+use Rattle.kb_rules.specs.Agreement.{AgreeAsFar}
 use Rattle.kb_overlap.specs.declared.left_sides.Overlap.{Overlap}
 use Rattle.kb_overlap.specs.declared.walk.Side.{Side}
 

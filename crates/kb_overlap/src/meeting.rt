@@ -2,7 +2,7 @@
 
 ghost use Rattle.std.specs.Prelude.{◌≡◌, ◌↔◌, ◌<◌, ◌≤◌, ℕ, IsTrue, length, slice_get};
 ghost use Rattle.kb_word.specs.Overlap.{Overlaps};
-ghost use Rattle.kb_overlap.specs.Agreement.{AgreeAsFar};
+ghost use Rattle.kb_rules.specs.Agreement.{AgreeAsFar};
 
 use kb_word::{Letter, Word};
 

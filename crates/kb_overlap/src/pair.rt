@@ -1,9 +1,8 @@
 //! Pairs of words, critical pairs above all: formed, reduced and compared.
 
-ghost use Rattle.std.specs.Prelude.{◌≡◌, ◌++◌, ℕ, [], IfOk, OnOk, drop};
+ghost use Rattle.std.specs.Prelude.{◌≡◌, ◌++◌, [], IfOk, OnOk, drop};
 ghost use Rattle.kb_word.specs.Words.{Pair};
-ghost use Rattle.kb_word.specs.Overlap.{Overlaps, critical_pair, superposition};
-ghost use Rattle.kb_word.specs.Congruence.{Replaces};
+ghost use Rattle.kb_word.specs.Overlap.{Overlaps, critical_pair};
 ghost use Rattle.kb_overlap.specs.Joining.{AreNormalForms, JoinSays};
 
 use kb_rules::{Reducer, Rule, Workspace};
@@ -166,14 +165,3 @@ pub fn pair_at(
     pair.put_critical_pair(l, r, m, s, p)?;
     Ok(pair.take(alloc))
 }
-
-/// Where two left sides overlap, both words of the critical pair come from the superposition, which has
-/// both left sides, by one replacement each.
-pub fn overlaps_are_superpositions()
-    ensures by_the_first { (first second : Pair) (place : ℕ) → Overlaps first.0 second.0 place
-        → Replaces (λ pair. pair ≡ first) (superposition first.0 second.0 place)
-        (critical_pair first second place).0 }
-    ensures by_the_second { (first second : Pair) (place : ℕ) → Overlaps first.0 second.0 place
-        → Replaces (λ pair. pair ≡ second) (superposition first.0 second.0 place)
-        (critical_pair first second place).1 }
-{}

@@ -8,7 +8,7 @@ use Rattle.kb_word.specs.Overlap.{OverlapOf, IsResolved, IsConfluent, critical_p
 use Rattle.kb_word.proofs.PathLemmas.{Replaces-implied, congruent_by_replacement, congruent_symmetric, congruent_transitive}
 use Rattle.kb_rules.proofs.Exists.{normal_form_exists}
 use Rattle.kb_rules.proofs.Reducts.{normal_form_congruent}
-use Rattle.kb_overlap.proofs.Superposed.{replaced-by-first, replaced-by-second}
+use Rattle.kb_rules.proofs.Superposed.{replaced-by-first, replaced-by-second}
 
 -- congruent irreducible words are equal
 abbrev pub OneIrreducible : List Pair → Type 0

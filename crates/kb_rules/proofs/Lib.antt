@@ -6,3 +6,4 @@ pub mod Reducts
 pub mod Listed
 pub mod Scanning
 pub mod Tracing
+pub mod Superposed

@@ -1,3 +1,4 @@
+pub mod Agreement
 pub mod OrderedRules
 pub mod Ending
 pub mod Sides

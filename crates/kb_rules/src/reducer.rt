@@ -68,6 +68,15 @@ pub trait Reducer: Sized + Drop {
         ensures err { OnErr result (rules self.new ≡ rules self.old) }
         ensures order { order self.new ≡ order self.old };
 
+    /// Takes the rule at a place out of the list, where the others stay in their order, and adds one at its end. After
+    /// want of memory the list is as it was.
+    fn replace(&mut self, alloc: Global, place: usize, rule: &Rule) -> Result<(), Memory>
+        requires place { place < length (rules self.old) }
+        requires falls { Below (order self.old) rule.now.1 rule.now.0 }
+        ensures ok { OnOk result (rules self.new ≡ remove (rules self.old) place ++ rule.now ∷ []) }
+        ensures err { OnErr result (rules self.new ≡ rules self.old) }
+        ensures order { order self.new ≡ order self.old };
+
     /// A reducer by the same rules.
     fn copy(&self, alloc: Global) -> Result<Self, Memory>
         ensures rules { IfOk result (λ reducer. rules reducer ≡ rules self.now) }

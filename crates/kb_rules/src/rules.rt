@@ -89,6 +89,20 @@ impl Rules {
         self.rules.remove(index)
     }
 
+    /// Takes the rule at an index out of the list, where the others stay in their order, and adds one at its end. It
+    /// takes no memory.
+    pub fn replace(&mut self, index: usize, rule: Rule) -> Rule
+        requires index { index < length self.old.rules }
+        requires falls { Below self.old.order rule.1 rule.0 }
+        ensures rule { slice_get self.old.rules index ≡ Some result }
+        ensures rules { self.new.rules ≡ remove self.old.rules index ++ rule ∷ [] }
+        ensures order { self.new.order ≡ self.old.order }
+    {
+        let gone = self.rules.remove(index);
+        let _ = self.rules.push(rule);
+        gone
+    }
+
     /// How many rules there are.
     pub fn len(&self) -> usize
         ensures { result ≡ length self.now.rules }

@@ -59,6 +59,12 @@ impl Reducer for Scan {
         Ok(())
     }
 
+    fn replace(&mut self, alloc: Global, place: usize, rule: &Rule) -> Result<(), Memory> {
+        let rule = rule.copy(alloc)?;
+        let _gone = self.rules.replace(place, rule);
+        Ok(())
+    }
+
     fn copy(&self, alloc: Global) -> Result<Scan, Memory> {
         let rules = self.rules.copy(alloc)?;
         Ok(Scan { rules })

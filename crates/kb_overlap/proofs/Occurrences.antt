@@ -13,10 +13,10 @@ pub record Divided (front back longer shorter : List ℕ) : Type 0 where
   pub longer_is : longer ≡ front ++ middle
   pub back_is : back ≡ middle ++ shorter
 
-same-head : {x y : ℕ} {u v : List ℕ} → x ∷ u ≡ y ∷ v → x ≡ y
+pub same-head : {x y : ℕ} {u v : List ℕ} → x ∷ u ≡ y ∷ v → x ≡ y
 same-head e = cc
 
-same-tail : {x y : ℕ} {u v : List ℕ} → x ∷ u ≡ y ∷ v → u ≡ v
+pub same-tail : {x y : ℕ} {u v : List ℕ} → x ∷ u ≡ y ∷ v → u ≡ v
 same-tail e = cc
 
 -- Levi's lemma

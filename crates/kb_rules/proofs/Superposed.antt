@@ -6,7 +6,7 @@ use Rattle.std.proofs.Math.Nat.{suc-add}
 use Rattle.kb_word.specs.Words.{Pair}
 use Rattle.kb_word.specs.Overlap.{Overlaps, superposition, critical_pair}
 use Rattle.kb_word.specs.Congruence.{Replaces}
-use Rattle.kb_overlap.specs.Agreement.{AgreeAsFar}
+use Rattle.kb_rules.specs.Agreement.{AgreeAsFar}
 
 some-injective : {x y : ℕ} → Some x ≡ Some y → x ≡ y
 some-injective e = cc

@@ -1,0 +1,74 @@
+//! The test of one row by its prime overlaps.
+
+ghost use Rattle.std.specs.Prelude.{◌≡◌, ◌<◌, IfOk, IsTrue, Some, length, slice_get};
+ghost use Rattle.kb_overlap.specs.Composite.{ArePrimeOverlaps};
+ghost use Rattle.kb_confluence.specs.PrimeRows.{PrimesOfRowAreJoined};
+
+use crate::rows::Buffers;
+use kb_overlap::{Joinability, Overlap, PairWorkspace, PrimeOverlaps};
+use kb_rules::{Reducer, Rule, Rules};
+use kb_word::Memory;
+use std::alloc::Global;
+
+/// The rows of a list of rules by their prime overlaps, and all that the test of a row reads. Row i has the prime
+/// overlaps in which rule i begins first.
+#[derive(Drop)]
+pub struct PrimeRows<'r, R: Reducer> {
+    pub alloc: Global,
+    pub rules: &'r [Rule],
+    reducer: &'r R,
+    primes: PrimeOverlaps<'r>,
+    ghost reducer_of: { R.rules reducer.now ≡ rules.now },
+    ghost primes_of: { primes ≡ rules.now },
+}
+
+impl<'r, R: Reducer> PrimeRows<'r, R> {
+    /// The rows of these rules.
+    pub fn of(alloc: Global, rules: &'r Rules, reducer: &'r R) -> Result<PrimeRows<'r, R>, Memory>
+        requires { R.rules reducer.now ≡ rules.now.rules }
+        ensures { IfOk result (λ rows. rows.rules.now ≡ rules.now.rules) }
+    {
+        let primes = PrimeOverlaps::of(alloc, rules)?;
+        Ok(PrimeRows {
+            alloc,
+            rules: rules.as_slice(),
+            reducer,
+            primes,
+        })
+    }
+
+    /// Whether each overlap of the row of this index is joined.
+    pub fn is_joined(&self, i: usize, buffers: &mut Buffers) -> Result<bool, Memory>
+        requires { i < length self.now.rules.now }
+        ensures { IfOk result
+            (λ joined. IsTrue joined → PrimesOfRowAreJoined self.now.rules.now i) }
+    {
+        let first = &self.rules[i];
+        let Buffers { overlaps, pair } = buffers;
+        self.primes.of_rule(i, overlaps)?;
+        self.are_joined(i, first, overlaps, pair)
+    }
+
+    /// Whether each overlap of the row of this index is joined, by all of them.
+    fn are_joined(
+        &self,
+        i: usize,
+        first: &Rule,
+        overlaps: &[Overlap],
+        pair: &mut PairWorkspace,
+    ) -> Result<bool, Memory>
+        requires first { slice_get self.now.rules.now i ≡ Some first.now }
+        requires overlaps { ArePrimeOverlaps self.now.rules.now i overlaps.now }
+        ensures { IfOk result
+            (λ joined. IsTrue joined → PrimesOfRowAreJoined self.now.rules.now i) }
+    {
+        for overlap in overlaps {
+            let (j, place) = (overlap.rule, overlap.place as u64);
+            match pair.join(self.reducer, first, &self.rules[j], place)? {
+                Joinability::Joined => {}
+                Joinability::Apart => return Ok(false),
+            }
+        }
+        Ok(true)
+    }
+}

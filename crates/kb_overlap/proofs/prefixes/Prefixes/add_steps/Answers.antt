@@ -1,0 +1,35 @@
+use Rattle.std.proofs.Common.{◌≡◌, ℕ, ◌<◌, get_or, length, sym, subst, arith}
+use Rattle.kb_index.specs.Edges.{word}
+use Rattle.kb_overlap.proofs.Kept.{length_read, link_read}
+use Rattle.kb_overlap.proofs.Suffixed.{link_below, longer_some}
+use Rattle.kb_overlap.proofs.Leading.{Linking, linking_more}
+use Rattle.kb_overlap.proofs.prefixes.Prefixes.add_steps.Goals as goal
+
+pub loop-next-preserved : goal.loop-next-preserved
+loop-next-preserved c =
+    let prefixes = c.args.self.now in
+    let are = c.requires.prefixes in
+    let at : ℕ = c.loop-next.at in
+    let linking = c.loop-next.invariant in
+    let long : c.index.result.now ≡ length (word prefixes.automaton.edges.items at) =
+    length_read are at c.index.result.now linking.within c.index.ensures in
+    let longer : c.args.count < length (word prefixes.automaton.edges.items at) = omega (arith, c.loop-next-test.true) in
+    let P : ℕ → Type 0 =
+    λ link. Linking prefixes.automaton.edges.items c.args.state c.args.count link c.args.next.now.items c.add_children.new.next.items in
+    subst P (sym (link_read are at c.index-at.result.now linking.within c.index-at.ensures))
+    (linking_more are.is c.args.state c.args.count at c.args.next.now.items c.loop-next.next.items c.add_children.new.next.items longer linking
+    c.in_ok-add_children.ensures)
+
+pub loop-next-smaller : goal.loop-next-smaller
+loop-next-smaller c =
+    let prefixes = c.args.self.now in
+    let are = c.requires.prefixes in
+    let at : ℕ = c.loop-next.at in
+    let linking = c.loop-next.invariant in
+    let long : c.index.result.now ≡ length (word prefixes.automaton.edges.items at) =
+    length_read are at c.index.result.now linking.within c.index.ensures in
+    let longer : c.args.count < length (word prefixes.automaton.edges.items at) = omega (arith, c.loop-next-test.true) in
+    let link : c.index-at.result.now ≡ get_or prefixes.automaton.links.items at 0 =
+    link_read are at c.index-at.result.now linking.within c.index-at.ensures in
+    let below = link_below are.is at (longer_some are.is at c.args.count longer) linking.within in
+    omega arith

@@ -1,0 +1,53 @@
+//! Prime overlaps, found by the automaton of the left sides.
+
+ghost use Rattle.std.specs.Prelude.{◌≡◌, ◌<◌, IfOk, OnOk, length};
+ghost use Rattle.kb_overlap.specs.Composite.{ArePrimeOverlaps};
+
+use crate::left_sides::Overlap;
+use crate::prefixes::Prefixes;
+use kb_rules::Rules;
+use kb_word::Memory;
+use std::alloc::Global;
+use std::marker::Model;
+
+/// The left sides of a list of rules as an automaton, by which the prime overlaps of each with all of them are found.
+#[derive(Drop)]
+pub struct PrimeOverlaps<'r> {
+    alloc: Global,
+    prefixes: Prefixes<'r>,
+}
+
+impl<'r> Model for PrimeOverlaps<'r> {
+    ghost use Rattle.std.specs.Prelude.{List};
+    ghost use Rattle.kb_word.specs.Words.{Pair};
+    ghost use Rattle.kb_overlap.specs.Prefixes.{ArePrefixes};
+
+    ghost Value = { List Pair };
+
+    ghost view = { λ primes. primes.prefixes.rules.now };
+
+    ghost invariant = { λ primes. ArePrefixes primes.prefixes };
+}
+
+impl<'r> PrimeOverlaps<'r> {
+    /// The prime overlaps of these rules.
+    pub fn of(alloc: Global, rules: &'r Rules) -> Result<PrimeOverlaps<'r>, Memory>
+        ensures { IfOk result (λ primes. primes ≡ rules.now.rules) }
+    {
+        let prefixes = Prefixes::of(alloc, rules.as_slice())?;
+        Ok(PrimeOverlaps { alloc, prefixes })
+    }
+
+    /// Finds the prime overlaps in which the rule at this index begins first. They are sorted, which nothing rests on. What
+    /// the list held is gone; where memory runs out it holds anything.
+    pub fn of_rule(&self, index: usize, found: &mut Vec<Overlap>) -> Result<(), Memory>
+        requires { index < length self.now }
+        ensures { OnOk result (ArePrimeOverlaps self.now index found.new.items) }
+    {
+        found.clear();
+        self.prefixes.add_contained(index, found)?;
+        self.prefixes.add_proper(self.alloc, index, found)?;
+        found.sort_unstable();
+        Ok(())
+    }
+}
