@@ -1,14 +1,20 @@
--- Searching numbers one after another, and by halves.
-use Rattle.std.proofs.Common.{◌≡◌, ℕ, ◌<◌, ◌≤◌, List, length, get_or, Some, slice_get, Result, Ok, Err, IfSome, IfNone, ap, ◌∙◌, arith, inl, inr}
+-- Searching numbers from the last one back, and by halves.
+use Rattle.std.proofs.Common.{◌≡◌, ℕ, ◌-◌, ◌<◌, ◌≤◌, List, length, get_or, reverse, All, Some, slice_get, Result, Ok, Err, IfSome, IfNone, ap, ◌∙◌, subst, arith, inl, inr}
 use Rattle.std.specs.List.{AllPairs, Contains}
 use Rattle.std.specs.Result.{MatchResult, result_ok}
 use Rattle.std.proofs.lemmas.Bool.{cases_lt}
+use Rattle.std.proofs.lemmas.List.{get_or-reverse, length-reverse}
 use Rattle.std.proofs.lemmas.Option.{slice_get-get_or, get_or_from_slice_get}
 use Rattle.kb_book.proofs.Lists.{contained}
 
--- none of the first n numbers has the property
-abbrev pub NoneSoFar : (ℕ → Type 0) → List ℕ → ℕ → Type 0
-NoneSoFar P numbers n = (index : ℕ) (d : ℕ) → index < n → index < length numbers → ¬ P (get_or numbers index d)
+-- what holds of each number, from the last one back, holds of each
+pub All-reversed : (P : ℕ → Type 0) (numbers : List ℕ) → All P (reverse numbers) → All P numbers
+All-reversed P numbers all k d within =
+    let mirror : ℕ = length numbers - 1 - k in
+    let back : length numbers - 1 - mirror ≡ k = omega arith in
+    let same : get_or (reverse numbers) mirror d ≡ get_or numbers k d =
+    get_or-reverse numbers mirror d (omega arith) ∙ ap (λ (j : ℕ). get_or numbers j d) back in
+    subst P same (all mirror d (omega (arith, length-reverse numbers)))
 
 -- ascending numbers rise
 pub rises : (numbers : List ℕ) → AllPairs (λ one other. one < other) numbers

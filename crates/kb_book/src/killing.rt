@@ -48,11 +48,12 @@ fn replaceable(lines: &[Line], live: &[u32], k: u32) -> Option<usize>
     }
 }
 
-/// Whether a live left side other than that of line k is a factor of the word.
+/// Whether a live left side other than that of line k is a factor of the word. The newest lines come first, since it
+/// is mostly the last one by which others are taken away.
 fn has_other_factor(lines: &[Line], live: &[u32], k: u32, word: &Word) -> bool
     ensures { IsTrue result ↔ HasOtherFactor (rules_of lines.now) live.now k word.now }
 {
-    for other in live {
+    for other in live.iter().rev() {
         if *other != k && is_left_factor(lines, *other, word) {
             return true;
         }

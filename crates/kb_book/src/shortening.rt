@@ -1,6 +1,6 @@
 //! Lines whose right side the other live rules reduce are replaced.
 
-ghost use Rattle.std.specs.Prelude.{◌≡◌, ◌<◌, [], ◌∷◌, ◌++◌, IfOk, All, length, map};
+ghost use Rattle.std.specs.Prelude.{◌≡◌, ◌<◌, [], ◌∷◌, ◌++◌, IfOk, OnOk, OnErr, All, length, map};
 ghost use Rattle.std.specs.List.{remove};
 ghost use Rattle.kb_word.specs.WordOrders.{Below};
 ghost use Rattle.kb_machine.specs.Lines.{rule_of};
@@ -55,7 +55,7 @@ impl<R: Reducer> Book<R> {
         let new = self.lines.len() as u32 + 1;
         self.journal.reserve(1)?;
         self.lines.reserve(1)?;
-        self.reducer = exchanged(alloc, &self.reducer, place, &line)?;
+        exchange(alloc, &mut self.reducer, place, &line)?;
         let _ = self.live.remove(place);
         add(&mut self.live, new);
         add(&mut self.lines, line);
@@ -64,19 +64,22 @@ impl<R: Reducer> Book<R> {
     }
 }
 
-/// The reducer by the same rules, but for the one at a place, and with the line's after them.
-fn exchanged<R: Reducer>(alloc: Global, reducer: &R, place: usize, line: &Line) -> Result<R, Memory>
-    requires place { place < length (R.rules reducer.now) }
-    requires falls { Below (R.order reducer.now) line.now.right line.now.left }
-    ensures rules { IfOk result (λ other.
-        R.rules other ≡ remove (R.rules reducer.now) place ++ rule_of line.now ∷ []) }
-    ensures order { IfOk result (λ other. R.order other ≡ R.order reducer.now) }
+/// Takes the rule at a place out of a reducer's list, and adds that of a line at its end.
+fn exchange<R: Reducer>(
+    alloc: Global,
+    reducer: &mut R,
+    place: usize,
+    line: &Line,
+) -> Result<(), Memory>
+    requires place { place < length (R.rules reducer.old) }
+    requires falls { Below (R.order reducer.old) line.now.right line.now.left }
+    ensures ok { OnOk result
+        (R.rules reducer.new ≡ remove (R.rules reducer.old) place ++ rule_of line.now ∷ []) }
+    ensures err { OnErr result (R.rules reducer.new ≡ R.rules reducer.old) }
+    ensures order { R.order reducer.new ≡ R.order reducer.old }
 {
     let rule = copy_rule(alloc, line)?;
-    let mut other = reducer.copy(alloc)?;
-    other.remove(alloc, place)?;
-    other.push(alloc, &rule)?;
-    Ok(other)
+    reducer.replace(alloc, place, &rule)
 }
 
 /// The line that replaces line k, whose right side was reduced.

@@ -23,7 +23,7 @@ pub(crate) fn published(alloc: Global, text: &str) -> Result<Book<Scan>, Memory>
 }
 
 /// A book after it is settled and its live lines published.
-fn settled(alloc: Global, mut book: Book<Scan>) -> Result<Book<Scan>, Memory>
+pub(crate) fn settled(alloc: Global, mut book: Book<Scan>) -> Result<Book<Scan>, Memory>
     ensures { IfOk result (λ book. IsPublished book.course.state) }
 {
     settle(alloc, &mut book, &mut Silent)?;

@@ -1,8 +1,7 @@
--- The end of a completion: confluent live rules, or an overlap that isn't joined.
-use Rattle.std.proofs.Common.{◌≡◌, ℕ, zero, suc, ◌-◌, ◌<◌, ◌⊎◌, List, [], ◌∷◌, ◌++◌, length, get_or, Some, None, sym, ◌∙◌, ap, subst, inl, inr, arith}
+-- The end of a completion: confluent live rules, or an overlap that is apart.
+use Rattle.std.proofs.Common.{◌≡◌, ◌≢◌, map, refl, ℕ, zero, suc, ◌⊎◌, List, [], ◌∷◌, ◌++◌, length, Some, None, sym, ◌∙◌, ap, subst, inl, inr, arith}
 use Rattle.std.specs.List.{Contains}
-use Rattle.std.proofs.lemmas.List.{length-map, get_or_default}
-use Rattle.std.proofs.lemmas.Option.{slice_get_within}
+use Rattle.std.proofs.lemmas.Option.{get_or_from_slice_get}
 use Rattle.kb_word.specs.Words.{Pair, OneOf}
 use Rattle.kb_word.specs.Congruence.{Congruent, SameCongruence}
 use Rattle.kb_word.specs.Rewriting.{AreDecreasing, NormalForm}
@@ -15,18 +14,17 @@ use Rattle.kb_machine.specs.Lines.{numbered, rules_of, IsPairOf}
 use Rattle.kb_machine.specs.declared.origin.Origin.{Origin}
 use Rattle.kb_machine.specs.declared.origin.Origin.TheVariants as origins
 use Rattle.kb_machine.proofs.Logs.{justified_rules, justified_decreases}
-use Rattle.kb_machine.specs.States.{Problem, State, relations, live_rules, rule_numbered, IsLiveRule, IsPendingPair}
-use Rattle.kb_machine.specs.Course.{Course, Takes, IsSound}
-use Rattle.kb_machine.specs.declared.event.Event.TheVariants.{Entered}
+use Rattle.kb_machine.specs.States.{Problem, State, relations, live_rules, IsLiveRule, IsPendingPair}
+use Rattle.kb_machine.specs.Course.{Course, IsSound}
 use Rattle.kb_book.specs.Answers.{DropsPair}
-use Rattle.kb_confluence.specs.Answers.{IsVerdict}
-use Rattle.kb_confluence.specs.declared.confluence.Verdict.{Verdict}
-use Rattle.kb_confluence.specs.declared.confluence.Verdict.TheVariants.{No}
+use Rattle.kb_share.specs.Versions.{IsRuleOfLine, version_of}
+use Rattle.kb_share.specs.Passes.{AreAllApart, EntersSoMany, IsApart, entered, origin_of}
+use Rattle.kb_share.specs.declared.found.Found.{Found}
 use Rattle.kb_word.specs.declared.word_order.WordOrder.{WordOrder}
 use Rattle.kb_share.proofs.LiveRules.{live_rule_is, live_rule_at, one_of_live, live_rules_decrease}
 use Rattle.kb_reduced.specs.Reduced.{IsReducedComplete}
 use Rattle.kb_complete.specs.Completing.{IsCompleted}
-use Rattle.kb_complete.specs.Working.{FirstIsApart, IsSettled, IsUnjoined}
+use Rattle.kb_complete.specs.Working.{FirstIsApart, IsSettled}
 
 some-injective : {X : Type 0} {x y : X} → Some x ≡ Some y → x ≡ y
 some-injective e = cc
@@ -34,80 +32,42 @@ some-injective e = cc
 none_some : {X : Type 0} {x : X} → None ≡ Some x → ⊥
 none_some e = cc
 
--- what a verdict names
-pub named_unjoined : (rules : List Pair) (i j place : ℕ) (u v : List ℕ) → IsVerdict rules (No i j place u v) → IsUnjoined rules i j place
-named_unjoined rules zero j place u v says = absurd says
-named_unjoined rules (suc i) zero place u v says = absurd says
-named_unjoined rules (suc i) (suc j) place u v says = record {
-  first = says.first;
-  second = says.second;
-  is_first = says.overlap.is_first;
-  is_second = says.overlap.is_second;
-  u = u;
-  v = v;
-  parts = says.parts;
-}
+-- the rule of a line of the version is that of a live line
+line_of : (problem : Problem) (state : State) (k : ℕ) (rule : Pair) → IsSound problem state → IsRuleOfLine (version_of state) k rule
+    → numbered (rules_of state.lines) k ≡ Some rule
+line_of problem state k rule sound line = live_rule_at problem state line.index k rule sound line.is_rule (sym (get_or_from_slice_get state.live line.index k k line.at))
 
--- and so by the verdict that it is
-pub verdict_unjoined : (rules : List Pair) (verdict : Verdict) (i j place : ℕ) (u v : List ℕ) → verdict ≡ No i j place u v
-    → IsVerdict rules verdict → IsUnjoined rules i j place
-verdict_unjoined rules verdict i j place u v same says =
-    named_unjoined rules i j place u v (subst (IsVerdict rules) same says)
-
--- the indices are within
-pub numbered_within : (rules : List Pair) (i : ℕ) (rule : Pair) → numbered rules i ≡ Some rule → i - 1 < length rules
-numbered_within rules zero rule e = absurd (none_some e)
-numbered_within rules (suc i) rule e =
-    let low = slice_get_within rules i rule e in
-    omega (arith, low)
-
-pub numbered_positive : (rules : List Pair) (i : ℕ) (rule : Pair) → numbered rules i ≡ Some rule → 0 < i
-numbered_positive rules zero rule e = absurd (none_some e)
-numbered_positive rules (suc i) rule e = omega arith
-
--- and so are those of the live lines
-pub live_index : (state : State) (i : ℕ) (rule : Pair) → numbered (live_rules state) i ≡ Some rule → i - 1 < length state.live
-live_index state i rule e =
-    rw (← length-map state.live (rule_numbered state.lines)) (numbered_within (live_rules state) i rule e)
-
--- the line of a live rule
-line_of : (problem : Problem) (state : State) (i k : ℕ) (rule : Pair) → IsSound problem state → numbered (live_rules state) i ≡ Some rule
-    → k ≡ get_or state.live (i - 1) 0 → numbered (rules_of state.lines) k ≡ Some rule
-line_of problem state zero k rule sound is_rule read = absurd (none_some is_rule)
-line_of problem state (suc i) k rule sound is_rule read =
-    let index : suc i - 1 ≡ i = omega arith in
-    let low = live_index state (suc i) rule is_rule in
-    let within : i < length state.live = omega (arith, low) in
-    live_rule_at problem state i k rule sound is_rule
-    (read ∙ ap (λ (n : ℕ). get_or state.live n 0) index ∙ get_or_default state.live i 0 k within)
-
--- where nothing was pending, the overlap that is entered comes first
-pub first_is_apart : (before after : Course) (i j place first second : ℕ) → IsSound before.problem before.state
-    → before.state.pending ≡ [] → IsUnjoined (live_rules before.state) i j place → first ≡ get_or before.state.live (i - 1) 0
-    → second ≡ get_or before.state.live (j - 1) 0 → Takes (Entered 0 first second place) before after → FirstIsApart after
-first_is_apart before after i j place first second sound none unjoined read read' takes =
-    let same = takes.step.is in
-    let P : State → Type 0 = λ t. numbered (rules_of t.lines) first ≡ Some unjoined.first in
-    let Q : State → Type 0 = λ t. numbered (rules_of t.lines) second ≡ Some unjoined.second in
-    record {
-      i = first;
-      j = second;
-      place = place;
-      rest = [];
-      pending = ap (λ (t : State). t.pending) same ∙ ap (λ (o : List Origin). o ++ origins.Overlap first second place ∷ []) none;
-      first = unjoined.first;
-      second = unjoined.second;
-      is_first = ap (λ t. numbered (rules_of t) first) (ap (λ (t : State). t.lines) same)
-          ∙ line_of before.problem before.state i first unjoined.first sound unjoined.is_first read;
-      is_second = ap (λ t. numbered (rules_of t) second) (ap (λ (t : State). t.lines) same)
-          ∙ line_of before.problem before.state j second unjoined.second sound unjoined.is_second read';
-      u = unjoined.u;
-      v = unjoined.v;
-      parts =
-          let rules : live_rules after.state ≡ live_rules before.state = ap (λ (t : State). live_rules t) same in
-          subst (λ (r : List Pair). IsUnresolved r (critical_pair unjoined.first unjoined.second place) unjoined.u unjoined.v)
-          (sym rules) unjoined.parts;
-    }
+-- where nothing was pending, the first overlap that is entered comes first, and it is apart
+pub first_is_apart : (before after : Course) (count : ℕ) → IsSound before.problem before.state → before.state.pending ≡ []
+    → EntersSoMany before after count → count ≢ 0 → FirstIsApart after
+first_is_apart before after count sound none enters some =
+    first_of before after enters.all.found sound none enters.all.are_apart enters.all.enters
+    (λ empty. some (sym enters.number ∙ ap length empty))
+  where
+    first_of : (before after : Course) (found : List Found) → IsSound before.problem before.state → before.state.pending ≡ []
+        → AreAllApart (version_of before.state) found → after ≡ entered 1 before found → found ≢ [] → FirstIsApart after
+    first_of before after [] sound none all enters some = absurd (some refl)
+    first_of before after (one ∷ found) sound none all enters some =
+        let apart : IsApart (version_of before.state) one = all.each 0 one (omega arith) in
+        let lines = ap (λ (c : Course). c.state.lines) enters in
+        let live = ap (λ (c : Course). live_rules c.state) enters in
+        record {
+          i = one.first;
+          j = one.second;
+          place = one.place;
+          rest = map origin_of found;
+          pending = ap (λ (c : Course). c.state.pending) enters ∙ ap (λ (o : List Origin). o ++ map origin_of (one ∷ found)) none;
+          first = apart.first;
+          second = apart.second;
+          is_first = ap (λ l. numbered (rules_of l) one.first) lines
+              ∙ line_of before.problem before.state one.first apart.first sound apart.overlap.is_first;
+          is_second = ap (λ l. numbered (rules_of l) one.second) lines
+              ∙ line_of before.problem before.state one.second apart.second sound apart.overlap.is_second;
+          u = apart.u;
+          v = apart.v;
+          parts = subst (λ (r : List Pair). IsUnresolved r (critical_pair apart.first apart.second one.place) apart.u apart.v)
+              (sym live) apart.parts;
+        }
 
 head-injective : {x y : Origin} {xs ys : List Origin} → x ∷ xs ≡ y ∷ ys → x ≡ y
 head-injective e = cc

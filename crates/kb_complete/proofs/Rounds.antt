@@ -1,10 +1,11 @@
 -- Rounds: settling, publishing, passes.
-use Rattle.std.proofs.Common.{◌≡◌, ℕ, ◌-◌, ◌<◌, ◌≤◌, List, [], ◌∷◌, ◌++◌, length, None, Ok, refl, ◌≢◌, sym, ◌∙◌, ap, subst, arith, length-append}
+use Rattle.std.proofs.Common.{◌≡◌, ℕ, ◌-◌, ◌<◌, ◌≤◌, List, [], ◌∷◌, ◌++◌, length, Ok, refl, ◌≢◌, sym, ◌∙◌, ap, subst, arith, length-append}
 use Rattle.std.proofs.lemmas.List.{append-nil}
-use Rattle.kb_machine.specs.States.{Problem, State}
+use Rattle.kb_word.specs.Overlap.{IsConfluent}
+use Rattle.kb_machine.specs.States.{Problem, State, live_rules}
 use Rattle.kb_machine.specs.Course.{Course, Takes, IsSound}
 use Rattle.kb_machine.specs.declared.halt.Halt.{Halt}
-use Rattle.kb_machine.specs.declared.event.Event.TheVariants.{Published, Entered, Made}
+use Rattle.kb_machine.specs.declared.event.Event.TheVariants.{Published, Made}
 use Rattle.kb_rules.specs.OrderedRules.{OrderedRules}
 use Rattle.kb_complete.specs.Completing.{Grows, GrowSays, IsCompleted, IsHalted}
 use Rattle.kb_complete.specs.Working.{IsIdle, IsSettled, StandsAs, AdvanceSays}
@@ -20,6 +21,9 @@ use Rattle.kb_complete.specs.declared.answers.Grown.{Grown}
 use Rattle.kb_complete.specs.declared.answers.Grown.TheVariants as grown
 use Rattle.kb_share.proofs.Stages.{later_then, made_settles, made_more, halt_given, make_said}
 use Rattle.kb_share.specs.Later.{IsLater}
+use Rattle.kb_threads.specs.Passes.{PassSays}
+use Rattle.kb_threads.specs.declared.passed.Passed.{Passed}
+use Rattle.kb_threads.specs.declared.passed.Passed.TheVariants as passed
 use Rattle.kb_share.specs.Settling.{SettleSays}
 use Rattle.kb_share.specs.declared.settled.Settled.{Settled}
 use Rattle.kb_share.specs.declared.settled.Settled.TheVariants as settled
@@ -68,11 +72,6 @@ pub make_halts : (before after : Course) (made : Make) (halt : Halt) → made �
 make_halts before after made halt same says =
     let given = halt_given before after halt (make_said before after made (makes.Halted halt) same says) in
     record { reason = given.own; is = given.is }
-
--- entering
-pub entered_later : (worker i j place : ℕ) (before after : Course) → Takes (Entered worker i j place) before after → IsLater before after
-entered_later worker i j place before after takes =
-    later_same before after takes.problem (ap (λ (t : State). t.lines) takes.step.is)
 
 -- later there are no fewer lines
 pub later_lines : (before after : Course) → IsLater before after → length before.state.lines ≤ length after.state.lines
@@ -155,3 +154,22 @@ end_is_completed problem before after rules same later completed = (later.proble
 pub end_is_halt : (problem : Problem) (before after : Course) → before.problem ≡ problem → IsLater before after
     → IsHalted after → (after.problem ≡ problem) × IsHalted after
 end_is_halt problem before after same later halted = (later.problem ∙ same, halted)
+
+-- what a pass came to, by the answer that it is
+pub pass_confluent : {R : Type 0} (before : Course) (answer : Passed R) (after : BookParts) → answer ≡ passed.Confluent after
+    → PassSays before answer → (after.course ≡ before) × IsConfluent (live_rules before.state)
+pass_confluent {R = R} before answer after same says = subst (λ (a : Passed R). PassSays before a) same says
+
+pub pass_entered : {R : Type 0} (before : Course) (answer : Passed R) (after : BookParts) → answer ≡ passed.Entered after
+    → PassSays before answer → IsLater before after.course
+pass_entered {R = R} before answer after same says = subst (λ (a : Passed R). PassSays before a) same says
+
+-- the same completion is settled too, and its live rules are confluent
+pub settled_same : (before after : Course) → after ≡ before → IsSettled before → IsSettled after
+settled_same before after same settled = subst IsSettled (sym same) settled
+
+pub confluent_same : (before after : Course) → after ≡ before → IsConfluent (live_rules before.state) → IsConfluent (live_rules after.state)
+confluent_same before after same confluent = subst (λ (c : Course). IsConfluent (live_rules c.state)) (sym same) confluent
+
+pub grow_same : {R : Type 0} (before after : Course) (answer : Grown R) → after ≡ before → GrowSays after answer → GrowSays before answer
+grow_same {R = R} before after answer same says = subst (λ (c : Course). GrowSays c answer) same says

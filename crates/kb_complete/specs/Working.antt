@@ -41,17 +41,6 @@ AdvanceSays given before (rounds.Over (grown.Halted after)) =
     IsLater before after.course × IsHalted after.course
 AdvanceSays given before (rounds.Open after) = IsLater before after.course × IsSettled after.course
 
--- the rules at these indices, from 1 on, overlap at the place, and the words of the critical pair
--- have different normal forms
-pub record IsUnjoined (rules : List Pair) (i j place : ℕ) : Type 0 where
-  pub first : Pair
-  pub second : Pair
-  pub is_first : numbered rules i ≡ Some first
-  pub is_second : numbered rules j ≡ Some second
-  pub u : List ℕ
-  pub v : List ℕ
-  pub parts : IsUnresolved rules (critical_pair first second place) u v
-
 -- the first pending origin is an overlap, and the words of its pair have different normal forms by the live rules
 pub record FirstIsApart (course : Course) : Type 0 where
   pub i : ℕ

@@ -1,17 +1,19 @@
 //! Rounds of completion.
 
-ghost use Rattle.std.specs.Prelude.{IfOk};
+ghost use Rattle.std.specs.Prelude.{◌≡◌, IfOk, length};
+ghost use Rattle.kb_machine.specs.Course.{Course};
+ghost use Rattle.kb_share.specs.Later.{IsLater};
 ghost use Rattle.kb_complete.specs.Completing.{GrowSays};
 ghost use Rattle.kb_complete.specs.Working.{IsSettled, AdvanceSays};
 
 use crate::answers::Grown;
-use crate::ending::end;
+use crate::ending::{completed, end};
 use crate::publishing::{Standing, settle_and_publish};
 use kb_book::Book;
 use kb_io::Gate;
 use kb_rules::Reducer;
 use kb_share::Watch;
-use kb_threads::Workers;
+use kb_threads::{Passed, Workers};
 use kb_word::Memory;
 use std::alloc::Global;
 use std::sync::Wait;
@@ -44,7 +46,7 @@ pub fn grow<R: Reducer + Send + Sync, G: Gate, W: Watch, T: Threads + Wait + Syn
     }
 }
 
-/// Makes a pass over a settled book. Where it leads to no line, the confluence check has the last word.
+/// Makes a pass over a settled book. The completion is at its end where nothing is apart.
 fn look_for_more<R: Reducer + Send + Sync, G: Gate, W: Watch, T: Threads + Wait + Sync>(
     rt: &T,
     alloc: Global,
@@ -56,10 +58,26 @@ fn look_for_more<R: Reducer + Send + Sync, G: Gate, W: Watch, T: Threads + Wait 
     ensures { IfOk result (GrowSays book.course) }
 {
     let given = book.lines().len();
-    let passed = workers.pass(rt, alloc, book, watch)?;
-    match advance(alloc, passed, given, watch)? {
+    match workers.pass(rt, alloc, book)? {
+        Passed::Confluent(same) => Ok(completed(alloc, same)?),
+        Passed::Entered(passed) => Ok(go_on(alloc, passed, given, watch)?),
+    }
+}
+
+/// Settles a book after a pass that entered overlaps. Where that leads to no line more than were given, one worker makes
+/// a pass.
+fn go_on<R: Reducer, W: Watch>(
+    alloc: Global,
+    book: Book<R>,
+    given: usize,
+    watch: &mut W,
+) -> Result<Grown<R>, Memory>
+    ensures { (start : Course) → IsLater start book.course
+        → length start.state.lines ≡ given → IfOk result (GrowSays start) }
+{
+    match advance(alloc, book, given, watch)? {
         Round::Over(grown) => Ok(grown),
-        Round::Open(settled) => Ok(end(rt, alloc, settled, workers.count(), watch)?),
+        Round::Open(settled) => Ok(end(alloc, settled, watch)?),
     }
 }
 

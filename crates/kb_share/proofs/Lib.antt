@@ -5,5 +5,7 @@ mod LinesOfVersions
 mod Sifted
 mod Picking
 mod RowByRow
-mod Entries
+pub mod Entries
 mod Progress
+pub mod Sieving
+pub mod NoneApart

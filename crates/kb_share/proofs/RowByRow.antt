@@ -106,7 +106,7 @@ module _ (rules : List Pair) (numbers : List ℕ) (one_each : length numbers ≡
   }
 
   -- an overlap of indices is one of lines
-  is_apart : (number count : ℕ) (one : Found) → IsInRows rules numbers count one
+  pub is_apart : (number count : ℕ) (one : Found) → IsInRows rules numbers count one
       → IsApart (record { number = number; numbers = numbers; rules = rules }) one
   is_apart number count one at =
       let apart = at.apart in

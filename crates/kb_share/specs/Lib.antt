@@ -4,3 +4,4 @@ pub mod Work
 pub mod Versions
 pub mod Passes
 pub mod Rows
+pub mod Primes

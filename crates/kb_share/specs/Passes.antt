@@ -1,5 +1,5 @@
 -- Passes: what a worker enters into a book.
-use Rattle.std.specs.Prelude.{◌≡◌, ℕ, ◌<◌, ◌⊎◌, List, ◌++◌, map}
+use Rattle.std.specs.Prelude.{◌≡◌, ℕ, ◌<◌, ◌⊎◌, List, ◌++◌, length, map}
 use Rattle.std.specs.List.{All, AllPairs, Contains}
 use Rattle.kb_word.specs.Words.{Pair}
 use Rattle.kb_word.specs.Overlap.{IsUnresolved, critical_pair}
@@ -59,3 +59,8 @@ pub record EntersAllApart (before after : Course) : Type 0 where
   pub found : List Found
   pub are_apart : AreAllApart (version_of before.state) found
   pub enters : after ≡ entered 1 before found
+
+-- and there were so many
+pub record EntersSoMany (before after : Course) (count : ℕ) : Type 0 where
+  pub all : EntersAllApart before after
+  pub number : length all.found ≡ count

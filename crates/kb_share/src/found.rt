@@ -10,3 +10,12 @@ pub struct Found {
     /// How many letters of the first left side stand before the second.
     pub place: u64,
 }
+
+/// An overlap that is apart.
+#[derive(Clone, Copy, Debug, PartialEq, Eq)]
+pub struct Apart {
+    /// The overlap.
+    pub found: Found,
+    /// How many letters the two different normal forms have together.
+    pub letters: u64,
+}

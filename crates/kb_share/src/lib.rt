@@ -1,9 +1,9 @@
 //! What a completion does with its book: settling, and passes over versions of it.
 //!
 //! A completion goes by passes. A book is settled: lines are made of its pending pairs until there
-//! is none. Then each overlap of two live lines is sifted: where the words of its critical pair have
-//! different normal forms by the live rules, the overlap is entered into the book, and is pending
-//! from then on.
+//! is none. Then overlaps of two live lines are sifted: where the words of its critical pair have
+//! different normal forms by the live rules, an overlap is apart. Such overlaps are entered into the book, and are
+//! pending from then on.
 //!
 //! # Settling
 //!
@@ -27,11 +27,15 @@
 //! - [`sift`] tells whether an overlap of two of the version's lines is joined or apart;
 //!   [`apart_in_row`] sifts all overlaps in which one line begins first, by one `kb_overlap::PairWorkspace`.
 //! - [`OneByOne`] makes a pass by one worker. It enters exactly the overlaps that are apart, in the
-//!   order of their lines and places (`EntersAllApart` of `specs/Passes.antt`).
+//!   order of their lines and places (`EntersAllApart` of `specs/Passes.antt`), and tells how many there were.
+//! - A [`Sieve`] has a version's prime overlaps, and sifts them row by row: it finds exactly those that are apart, with
+//!   the letters of their normal forms counted (`SiftsRow` of `specs/Primes.antt`).
 //!
-//! All that a completion rests on is that a pass keeps the book's problem and its lines (`IsLater`
-//! of `specs/Later.antt`). Which overlaps a pass enters, and in which order, matters for speed alone,
-//! since an overlap that was left out is found by the confluence check in the end.
+//! Where nothing is apart, the live rules are confluent: by [`OneByOne::enter_apart`] of all overlaps, and by
+//! [`prime_overlaps_decide`] of the prime ones, since composite overlaps need no look.
+//!
+//! Otherwise all that a completion rests on is that a pass keeps the book's problem and its lines (`IsLater`
+//! of `specs/Later.antt`). Which overlaps a pass enters, and in which order, matters for speed alone.
 //!
 //! `specs/Versions.antt` has the versions, and `specs/Passes.antt` what a worker enters.
 //!
@@ -39,6 +43,7 @@
 //! and `kb_book`.
 #![tactic(auto)]
 
+mod deciding;
 mod entering;
 mod finding;
 mod found;
@@ -47,6 +52,7 @@ mod one_by_one;
 mod row;
 mod settled;
 mod settling;
+mod sieve;
 mod sifting;
 mod signature;
 mod simplifying;
@@ -54,14 +60,16 @@ mod sound;
 mod version;
 mod watch;
 
+pub use deciding::prime_overlaps_decide;
 pub use finding::Finder;
-pub use found::Found;
+pub use found::{Apart, Found};
 pub use kb_overlap::Joinability as Sift;
 pub use live::live_rules;
 pub use one_by_one::OneByOne;
 pub use row::apart_in_row;
 pub use settled::Settled;
 pub use settling::{line_made, settle};
+pub use sieve::{Sieve, SieveSpace};
 pub use sifting::sift;
 pub use sound::book_is_sound;
 pub use version::Version;

@@ -3,10 +3,13 @@
 ghost use Rattle.std.specs.Prelude.{◌≡◌, ◌≤◌, IfOk, OnOk};
 ghost use Rattle.kb_share.specs.Later.{IsLater};
 ghost use Rattle.kb_share.specs.Versions.{IsPublished, version_of};
-ghost use Rattle.kb_share.specs.Passes.{EntersAllApart};
+ghost use Rattle.kb_share.specs.Passes.{EntersAllApart, EntersSoMany};
+ghost use Rattle.kb_word.specs.Overlap.{IsConfluent};
+ghost use Rattle.kb_machine.specs.States.{live_rules};
 
 use crate::entering::enter_all;
 use crate::row::apart_in_row;
+use crate::sound::book_is_sound;
 use crate::version::Version;
 use kb_book::Book;
 use kb_overlap::{LeftSides, PairWorkspace};
@@ -25,9 +28,22 @@ impl OneByOne {
         ensures later { IfOk result (λ after. IsLater book.course after.course) }
         ensures entered { IfOk result (λ after. EntersAllApart book.course after.course) }
     {
-        let version = Version::of(alloc, &book)?;
-        pass_over(alloc, &version, &mut book)?;
+        self.enter_apart(alloc, &mut book)?;
         Ok(book)
+    }
+
+    /// Makes a pass, and tells how many overlaps were entered. Where there was none, the live rules are confluent.
+    pub fn enter_apart<R: Reducer>(self, alloc: Global, book: &mut Book<R>) -> Result<usize, Memory>
+        requires { IsPublished book.old.course.state }
+        ensures entered { IfOk result (EntersSoMany book.old.course book.new.course) }
+        ensures none { IfOk result (λ count. count ≡ 0
+            → IsConfluent (live_rules book.old.course.state)) }
+    {
+        book_is_sound(book);
+        let before = book.journal().len();
+        let version = Version::of(alloc, book)?;
+        pass_over(alloc, &version, book)?;
+        Ok(book.journal().len() - before)
     }
 }
 

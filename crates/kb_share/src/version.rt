@@ -45,11 +45,14 @@ impl<R: Reducer> Version<R> {
         book_is_sound(book);
         let mut numbers = Vec::with_capacity(alloc, book.live().len())?;
         numbers.extend_from_slice(book.live())?;
+        let rules = live_rules(alloc, book)?;
+        // Made anew it reads faster than the book's own, to which rules came and from which some went.
+        let reducer = R::of(alloc, &rules)?;
         Ok(Version {
             number: book.versions().len() as u64,
             numbers,
-            rules: live_rules(alloc, book)?,
-            reducer: book.reducer().copy(alloc)?,
+            rules,
+            reducer,
         })
     }
 

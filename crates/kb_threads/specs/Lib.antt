@@ -1,2 +1,4 @@
 pub mod Crews
 pub mod Shared
+pub mod Passes
+pub mod Sweeps

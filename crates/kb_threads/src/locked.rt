@@ -17,10 +17,6 @@ use std::alloc::Global;
 use std::marker::Model;
 use std::sync::ledger;
 
-/// A book is worth settling in the midst of a pass once a pair is pending for each so many live
-/// lines: a version of all live lines is made then, however few of them are new.
-const LIVE_A_PENDING: usize = 8;
-
 /// A book that workers share. It is a later stage of the completion that was given to them, and has
 /// an entry more for each time that they were told so.
 #[derive(Drop)]
@@ -58,11 +54,6 @@ impl<R: Reducer, S: Sharing> Locked<R, S> {
     {
         let Locked { book, entered } = self;
         enter_counted(book, entered, pass, one)
-    }
-
-    /// Whether enough is pending for the book to be settled now.
-    pub(crate) fn is_due(&self) -> bool {
-        self.book.pending().len() >= self.book.live().len() / LIVE_A_PENDING
     }
 
     /// Settles the book, and publishes its live lines where something was pending and it isn't

@@ -1,6 +1,6 @@
 //! A completion that workers share.
 
-ghost use Rattle.std.specs.Prelude.{◌≡◌, ◌+◌, ◌≤◌, ◌<◌, [], ◌∷◌, ◌++◌, length, All, IfOk, IfErr, OnOk, OnErr, IfSome, IfNone};
+ghost use Rattle.std.specs.Prelude.{◌≡◌, ◌+◌, ◌≤◌, ◌<◌, [], ◌∷◌, ◌++◌, length, All, IfOk, IfErr, OnOk, OnErr};
 ghost use Rattle.kb_share.specs.Later.{IsLater, entries};
 ghost use Rattle.kb_threads.specs.Shared.{IsNoOverlap, PublishesBy, entered_by};
 ghost use Rattle.kb_threads.specs.declared.answers.ShareFault.TheVariants.{NotOverlap};
@@ -56,26 +56,6 @@ impl<R: Reducer, S: Sharing> Shared<R, S> {
         self.locked.lock(rt).enter(pass, one)
     }
 
-    /// Enters an overlap of two lines for a worker where the lock is free; `None` where it isn't.
-    pub(crate) fn enter_if_free(
-        &self,
-        pass: &mut Pass<S>,
-        one: &Found,
-    ) -> Option<Result<(), ShareFault>>
-        ensures worker { pass.new.worker ≡ pass.old.worker }
-        ensures ok { IfSome result
-            (λ done. OnOk done (pass.new.entered ≡ pass.old.entered + 1)) }
-        ensures err { IfSome result (λ done. OnErr done (pass.new.entered ≡ pass.old.entered)) }
-        ensures waits { IfNone result (pass.new.entered ≡ pass.old.entered) }
-        ensures no_overlap { IfSome result (λ done. IfErr done (λ fault.
-            fault ≡ NotOverlap → IsNoOverlap S.given one.now)) }
-    {
-        match self.locked.try_lock() {
-            Some(mut locked) => Some(locked.enter(pass, one)),
-            None => None,
-        }
-    }
-
     /// Settles the book, and publishes its live lines where something was pending and no limit is
     /// reached. The lock is held while the book is settled, and free while the version is
     /// published.
@@ -91,32 +71,6 @@ impl<R: Reducer, S: Sharing> Shared<R, S> {
     {
         let advanced = self.locked.lock(rt).advance(alloc, watch)?;
         shown(rt, publisher, advanced)
-    }
-
-    /// The same where the lock is free and enough is pending for that; `None` where it isn't so.
-    pub(crate) fn advance_if_due<T: Wait, W: Watch>(
-        &self,
-        rt: &T,
-        alloc: Global,
-        publisher: &mut Publisher<Version<R>>,
-        watch: &mut W,
-    ) -> Result<Option<Advance>, Memory> {
-        match self.settle_if_due(alloc, watch)? {
-            Some(advanced) => Ok(Some(shown(rt, publisher, advanced)?)),
-            None => Ok(None),
-        }
-    }
-
-    /// Settles the book where the lock is free and enough is pending for that.
-    fn settle_if_due<W: Watch>(
-        &self,
-        alloc: Global,
-        watch: &mut W,
-    ) -> Result<Option<Advanced<R>>, Memory> {
-        match self.locked.try_lock() {
-            Some(mut locked) if locked.is_due() => Ok(Some(locked.advance(alloc, watch)?)),
-            _ => Ok(None),
-        }
     }
 
     /// The book that was shared, by all its passes.

@@ -1,15 +1,16 @@
 //! As many workers as a command asks for.
 
 ghost use Rattle.std.specs.Prelude.{◌≡◌, ◌≤◌, IfOk};
-ghost use Rattle.kb_share.specs.Later.{IsLater};
 ghost use Rattle.kb_share.specs.Versions.{IsPublished};
 ghost use Rattle.kb_threads.specs.Crews.{number_of};
+ghost use Rattle.kb_threads.specs.Passes.{PassSays};
 
+use crate::passed::Passed;
 use crate::threads::Threads;
 use kb_book::Book;
 use kb_io::Gate;
 use kb_rules::Reducer;
-use kb_share::{OneByOne, Watch};
+use kb_share::OneByOne;
 use kb_word::Memory;
 use std::alloc::Global;
 use std::sync::Wait;
@@ -52,23 +53,39 @@ impl<'g, G: Gate> Workers<'g, G> {
         }
     }
 
-    /// Makes a pass over a book whose last version has its live lines. Lines may be made meanwhile,
-    /// which is watched, and the book may halt.
-    pub fn pass<R: Reducer + Send + Sync, W: Watch, T: Threading + Wait + Sync>(
+    /// Makes a pass over a book whose last version has its live lines. One worker enters all overlaps that are apart, in
+    /// their order (`OneByOne`); more of them enter the shortest, also where few lines are live and one does it alone.
+    pub fn pass<R: Reducer + Send + Sync, T: Threading + Wait + Sync>(
         &self,
         rt: &T,
         alloc: Global,
         book: Book<R>,
-        watch: &mut W,
-    ) -> Result<Book<R>, Memory>
+    ) -> Result<Passed<R>, Memory>
         requires { IsPublished book.course.state }
-        ensures { IfOk result (λ after. IsLater book.course after.course) }
+        ensures { IfOk result (PassSays book.course) }
     {
         match self {
-            Workers::Many(threads) if book.live().len() >= MANY_LINES => {
-                threads.pass(rt, alloc, book, watch)
+            Workers::One(one) => pass_by_one(*one, alloc, book),
+            Workers::Many(threads) if book.live().len() < MANY_LINES => {
+                threads.first().pass(rt, alloc, book)
             }
-            _ => OneByOne.pass(alloc, book),
+            Workers::Many(threads) => threads.pass(rt, alloc, book),
         }
+    }
+}
+
+/// Makes a pass by one worker.
+fn pass_by_one<R: Reducer>(
+    one: OneByOne,
+    alloc: Global,
+    mut book: Book<R>,
+) -> Result<Passed<R>, Memory>
+    requires { IsPublished book.course.state }
+    ensures { IfOk result (PassSays book.course) }
+{
+    if one.enter_apart(alloc, &mut book)? == 0 {
+        Ok(Passed::Confluent(book))
+    } else {
+        Ok(Passed::Entered(book))
     }
 }

@@ -1,19 +1,25 @@
-use Rattle.std.proofs.Common.{sym, ◌∙◌}
+use Rattle.std.proofs.Common.{List, sym, subst, ◌∙◌}
+use Rattle.kb_word.specs.Words.{Pair}
+use Rattle.kb_word.specs.Overlap.{IsConfluent}
 use Rattle.kb_share.proofs.Stages.{later_itself}
 use Rattle.kb_complete.proofs.LastLines.{is_completed}
 use Rattle.kb_complete.proofs.ending.completed.Goals as goal
 
 pub reduced_complete-requires-clause-reducer : goal.reduced_complete-requires-clause-reducer
-reduced_complete-requires-clause-reducer g c = c.reducer.ensures.rules ∙ sym c.requires.rules
+reduced_complete-requires-clause-reducer g c = c.reducer.ensures.rules ∙ sym c.in_ok-rules.ensures.rules
 
 pub reduced_complete-requires-clause-confluent : goal.reduced_complete-requires-clause-confluent
-reduced_complete-requires-clause-confluent g c = c.requires.confluent
+reduced_complete-requires-clause-confluent g c =
+    subst (λ (r : List Pair). IsConfluent r) (sym c.in_ok-rules.ensures.rules) c.requires.confluent
 
 pub returns : goal.returns
 returns g c =
-    let course = c.args.book.course in (
+    let course = c.args.book.course in
+    let rules = c.in_ok-rules.ensures in (
       later_itself course,
       is_completed c.reduced_by_the_same_congruence.ensures c.rules_that_cover_are_confluent.ensures.confluent
-          c.rules_that_cover_are_confluent.ensures.same course c.args.rules.now c.in_ok-reduced.reduced c.book_is_sound.ensures c.requires.settled c.requires.rules
-          c.requires.order c.requires.confluent c.in_ok-reduced.ensures.order c.in_ok-reduced.ensures.reduced,
+          c.rules_that_cover_are_confluent.ensures.same course c.in_ok-rules.rules c.in_ok-reduced.reduced c.book_is_sound.ensures c.requires.settled rules.rules
+          rules.order
+          (subst (λ (r : List Pair). IsConfluent r) (sym rules.rules) c.requires.confluent)
+          c.in_ok-reduced.ensures.order c.in_ok-reduced.ensures.reduced,
     )

@@ -1,19 +1,18 @@
-use Rattle.std.proofs.Common.{List, subst, sym, ◌∙◌}
-use Rattle.kb_word.specs.Words.{Pair}
-use Rattle.kb_complete.specs.Working.{IsUnjoined}
+use Rattle.kb_share.proofs.NoneApart.{same_by_none}
+use Rattle.kb_complete.proofs.Rounds.{settled_same, confluent_same}
+use Rattle.kb_complete.proofs.LastLines.{first_is_apart}
 use Rattle.kb_complete.proofs.ending.end.Goals as goal
 
-pub first_unjoined-requires-clause-reducer : goal.first_unjoined-requires-clause-reducer
-first_unjoined-requires-clause-reducer g c = λ _ _. c.reducer.ensures.rules ∙ sym c.in_ok-rules.ensures.rules
+pub completed-requires : goal.completed-requires
+completed-requires g c =
+    let before = c.args.book.course in
+    let after = c.enter_apart.new.book.course in
+    let enters = c.in_ok-enter_apart.ensures in
+    let none = c.if-branch-eq0.true in
+    let same = same_by_none before after c.in_ok-enter_apart.field-0 enters.entered none in
+    record { settled = settled_same before after same c.requires; confluent = confluent_same before after same (enters.none none) }
 
-pub completed-requires-clause-settled : goal.completed-requires-clause-settled
-completed-requires-clause-settled g c = c.requires.settled
-
-pub completed-requires-clause-rules : goal.completed-requires-clause-rules
-completed-requires-clause-rules g c = c.in_ok-rules.ensures.rules
-
-pub completed-requires-clause-order : goal.completed-requires-clause-order
-completed-requires-clause-order g c = c.in_ok-rules.ensures.order
-
-pub add_unjoined-requires-clause-settled : goal.add_unjoined-requires-clause-settled
-add_unjoined-requires-clause-settled g c = c.requires.settled
+pub grow_by_first-requires : goal.grow_by_first-requires
+grow_by_first-requires g c =
+    first_is_apart c.args.book.course c.enter_apart.new.book.course c.in_ok-enter_apart.field-0 c.book_is_sound.ensures
+    c.requires.settled c.in_ok-enter_apart.ensures.entered c.if-branch-eq0.false

@@ -2,7 +2,6 @@ use Rattle.std.proofs.Common.{◌<◌, List, length, subst}
 use Rattle.kb_machine.specs.declared.line.Line.{Line}
 use Rattle.kb_complete.specs.Working.{StandsAs}
 use Rattle.kb_complete.specs.declared.publishing.Standing.{Standing}
-use Rattle.kb_complete.specs.declared.publishing.Standing.TheVariants as standings
 use Rattle.kb_complete.proofs.Rounds.{stands_published}
 use Rattle.kb_complete.proofs.growing.advance.Goals as goal
 

@@ -1,15 +1,24 @@
 use Rattle.std.proofs.Common.{sym, ap, length}
-use Rattle.kb_complete.proofs.Rounds.{round_over, round_open, grow_later}
+use Rattle.kb_complete.proofs.Rounds.{pass_confluent, pass_entered, settled_same, confluent_same, grow_same}
 use Rattle.kb_complete.proofs.growing.look_for_more.Goals as goal
 
-pub returns-in-Over : goal.returns-in-Over
-returns-in-Over g c =
-    round_over c.args.book.course c.in_ok-passed.passed.course _ c.in_ok-grown.field-0 c.in-Over.grown c.in_ok-passed.ensures
-    (ap length (sym c.lines-given.ensures)) c.in-Over.is c.in_ok-grown.ensures
+pub completed-requires : goal.completed-requires
+completed-requires g c =
+    let before = c.args.book.course in
+    let says = pass_confluent before c.in_ok-same.field-0 c.in-Confluent.same c.in-Confluent.is c.in_ok-same.ensures in
+    record {
+      settled = settled_same before c.in-Confluent.same.course says.0 c.requires;
+      confluent = confluent_same before c.in-Confluent.same.course says.0 says.1;
+    }
 
-pub returns-in_ok-end-in-Open : goal.returns-in_ok-end-in-Open
-returns-in_ok-end-in-Open g c =
-    grow_later c.args.book.course c.in-Open.settled.course c.in_ok-end-in-Open.field-0
-    (round_open c.args.book.course c.in_ok-passed.passed.course _ c.in_ok-grown.field-0 c.in-Open.settled c.in_ok-passed.ensures
-    c.in-Open.is c.in_ok-grown.ensures).0
-    c.in_ok-end-in-Open.ensures
+pub returns-in_ok-completed-in-Confluent : goal.returns-in_ok-completed-in-Confluent
+returns-in_ok-completed-in-Confluent g c =
+    let before = c.args.book.course in
+    let says = pass_confluent before c.in_ok-same.field-0 c.in-Confluent.same c.in-Confluent.is c.in_ok-same.ensures in
+    grow_same before c.in-Confluent.same.course c.in_ok-completed-in-Confluent.field-0 says.0 c.in_ok-completed-in-Confluent.ensures
+
+pub returns-in_ok-go_on-in-Entered : goal.returns-in_ok-go_on-in-Entered
+returns-in_ok-go_on-in-Entered g c =
+    let before = c.args.book.course in
+    c.in_ok-go_on-in-Entered.ensures before
+    (pass_entered before c.in_ok-same.field-0 c.in-Entered.passed c.in-Entered.is c.in_ok-same.ensures) (ap length (sym c.lines-given.ensures))

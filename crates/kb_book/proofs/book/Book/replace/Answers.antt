@@ -11,8 +11,8 @@ use Rattle.kb_book.proofs.Courses.{course_keeps, book_after}
 use Rattle.kb_book.proofs.Replaced.{shortened, shorter_decreases, rules_replaced}
 use Rattle.kb_book.proofs.book.Book.replace.Goals as goal
 
-pub exchanged-requires-clause-falls : goal.exchanged-requires-clause-falls
-exchanged-requires-clause-falls g c =
+pub exchange-requires-clause-falls : goal.exchange-requires-clause-falls
+exchange-requires-clause-falls g c =
     let S : BookParts → Type 0 = λ b. IsShorter b.course c.args.k c.args.place c.args.line in
     let is = subst S (sym c.self.view_is) c.requires in
     let less = shorter_decreases _ c.args.k c.args.place c.args.line c.self.invariant.is_course is in
@@ -39,8 +39,8 @@ invariant_of-self-2 g c =
     book_after c.self.invariant
     (shortened _ c.args.k c.args.place (c.len.result + 1) c.args.line _ _ _ is number lines live events).takes
     (rules_replaced c.self.inside.lines.items c.self.inside.live.items c.args.place c.args.line (c.len.result + 1) _ _ _ _ _
-    numbers number c.self.invariant.reduces refl c.in_ok-self-inside.ensures.rules lines live)
-    c.in_ok-self-inside.ensures.order
+    numbers number c.self.invariant.reduces refl c.in_ok-exchange.ensures.ok lines live)
+    c.exchange.ensures.order
 
 pub returns : goal.returns
 returns g c =

@@ -1,0 +1,119 @@
+//! The prime overlaps in which one line begins first.
+
+ghost use Rattle.std.specs.Prelude.{◌≡◌, ◌+◌, ◌<◌, IfOk, OnOk, length};
+ghost use Rattle.kb_overlap.specs.Composite.{ArePrimeOverlaps, IsPrimeOverlap};
+ghost use Rattle.kb_share.specs.Primes.{PrimeSays, SiftsRow};
+
+use crate::found::{Apart, Found};
+use crate::version::Version;
+use kb_overlap::{Joinability, Overlap, PairWorkspace, PrimeOverlaps};
+use kb_rules::Reducer;
+use kb_word::Memory;
+use std::alloc::Global;
+
+/// A version whose prime overlaps are sifted row by row. The row of an index has those in which the line at that index
+/// begins first.
+#[derive(Drop)]
+pub struct Sieve<'v, R: Reducer> {
+    version: &'v Version<R>,
+    primes: PrimeOverlaps<'v>,
+    ghost primes_of: { primes ≡ version.now.rules },
+}
+
+/// The memory that rows are sifted in, kept from one to the next. What it holds before and after counts for nothing.
+#[derive(Drop)]
+pub struct SieveSpace {
+    overlaps: Vec<Overlap>,
+    pair: PairWorkspace,
+}
+
+impl SieveSpace {
+    /// A space that has taken no memory yet.
+    pub fn new(alloc: Global) -> SieveSpace {
+        SieveSpace {
+            overlaps: Vec::new(alloc),
+            pair: PairWorkspace::new(alloc),
+        }
+    }
+}
+
+impl<'v, R: Reducer> Sieve<'v, R> {
+    /// The sieve of a version.
+    pub fn of(alloc: Global, version: &'v Version<R>) -> Result<Sieve<'v, R>, Memory>
+        ensures { IfOk result (λ sieve. sieve.version.now ≡ version.now) }
+    {
+        let primes = PrimeOverlaps::of(alloc, version.rules())?;
+        Ok(Sieve { version, primes })
+    }
+
+    /// Finds those that are apart of the prime overlaps in a row. What the list held is gone; where memory runs out it
+    /// holds anything.
+    pub fn sift_row(
+        &self,
+        index: usize,
+        space: &mut SieveSpace,
+        found: &mut Vec<Apart>,
+    ) -> Result<(), Memory>
+        requires { index < length self.now.version.now.rules }
+        ensures { OnOk result (SiftsRow self.now.version.now index found.new.items) }
+    {
+        let SieveSpace { overlaps, pair } = space;
+        self.primes.of_rule(index, overlaps)?;
+        sift_primes(self.version, index, overlaps, pair, found)
+    }
+}
+
+/// Finds those that are apart of these prime overlaps, which are all of the row.
+fn sift_primes<R: Reducer>(
+    version: &Version<R>,
+    index: usize,
+    overlaps: &[Overlap],
+    pair: &mut PairWorkspace,
+    found: &mut Vec<Apart>,
+) -> Result<(), Memory>
+    requires { ArePrimeOverlaps version.now.rules index overlaps.now }
+    ensures { OnOk result (SiftsRow version.now index found.new.items) }
+{
+    found.clear();
+    for overlap in overlaps {
+        if let Some(one) = sift_prime(version, index, overlap, pair)? {
+            found.push(one)?;
+        }
+    }
+    Ok(())
+}
+
+/// The prime overlap of the lines at these indices, by their numbers, where it is apart.
+fn sift_prime<R: Reducer>(
+    version: &Version<R>,
+    index: usize,
+    overlap: &Overlap,
+    pair: &mut PairWorkspace,
+) -> Result<Option<Apart>, Memory>
+    requires { IsPrimeOverlap version.now.rules index overlap.now }
+    ensures { IfOk result (PrimeSays version.now index overlap.now) }
+{
+    let first = &version.rules().as_slice()[index];
+    let second = &version.rules().as_slice()[overlap.rule];
+    let place = overlap.place as u64;
+    match pair.join(version.reducer(), first, second, place)? {
+        Joinability::Joined => Ok(None),
+        Joinability::Apart => Ok(Some(Apart {
+            found: Found {
+                first: version.numbers()[index],
+                second: version.numbers()[overlap.rule],
+                place,
+            },
+            letters: letters_of(pair),
+        })),
+    }
+}
+
+/// How many letters the pair's words have together.
+fn letters_of(pair: &PairWorkspace) -> u64
+    ensures { result ≡ length pair.now.0 + length pair.now.1 }
+{
+    let first = pair.first().letters();
+    let second = pair.second().letters();
+    first.len() as u64 + second.len() as u64
+}
