@@ -1,3 +1,4 @@
 pub mod Totals
 pub mod Counter
 pub mod Seats
+pub mod Sharing

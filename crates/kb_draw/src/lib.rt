@@ -27,6 +27,8 @@
 
 mod counter;
 mod draw;
+mod work;
 
 pub use counter::Bounds;
 pub use draw::{Draw, Seat};
+pub use work::{Work, share_out};
