@@ -13,7 +13,7 @@ use std::sync::Arc;
 pub trait HasAutomaton: Reducer {
     /// The automaton of the rules. One that is tidy (`Reducer::tidy`) and reads by it shares it.
     fn automaton(&self, alloc: Global) -> Result<Arc<Automaton>, Memory>
-        ensures { IfOk result (λ automaton. IsAutomaton (rules self.now) automaton.value) };
+        ensures { IfOk result (λ automaton. IsAutomaton (Self.rules self.now) automaton.value) };
 }
 
 impl HasAutomaton for Scan {

@@ -3,12 +3,15 @@
 ghost use Rattle.std.specs.Prelude.{◌≡◌, ◌<◌, [], ◌∷◌, ◌++◌, length};
 ghost use Rattle.std.specs.List.{remove};
 
+use crate::automaton::Automaton;
+use crate::has_automaton::HasAutomaton;
 use crate::lookup::Lookup;
 use crate::reading::{reduce, trace};
 use kb_rules::{Reducer, Rule, Rules, Trace, Workspace};
 use kb_word::{Memory, Word};
 use std::alloc::Global;
 use std::marker::Model;
+use std::sync::Arc;
 
 /// A reducer that reads the word from left to right by the automaton of the left sides.
 #[derive(Drop)]
@@ -37,6 +40,10 @@ impl Reducer for Index {
         let rules = list.copy(alloc)?;
         let lookup = Lookup::of(alloc, rules.as_slice())?;
         Ok(Index { rules, lookup })
+    }
+
+    fn list(&self) -> &Rules {
+        &self.rules
     }
 
     fn reduce(&self, w: &mut Word, workspace: &mut Workspace) -> Result<(), Memory> {
@@ -75,10 +82,23 @@ impl Reducer for Index {
         Ok(())
     }
 
+    fn tidy(&mut self, alloc: Global) -> Result<(), Memory> {
+        if !self.lookup.is_tidy() {
+            self.lookup = Lookup::of(alloc, self.rules.as_slice())?;
+        }
+        Ok(())
+    }
+
     fn copy(&self, alloc: Global) -> Result<Index, Memory> {
         let rules = self.rules.copy(alloc)?;
         let lookup = self.lookup.copy(alloc)?;
         Ok(Index { rules, lookup })
+    }
+}
+
+impl HasAutomaton for Index {
+    fn automaton(&self, alloc: Global) -> Result<Arc<Automaton>, Memory> {
+        Ok(Arc::new(alloc, Automaton::of(alloc, self.rules.as_slice())?)?)
     }
 }
 

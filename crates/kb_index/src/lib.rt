@@ -65,6 +65,7 @@ mod chains;
 mod children;
 mod edge;
 mod ends;
+mod has_automaton;
 mod index;
 mod links;
 mod lookup;
@@ -76,4 +77,5 @@ mod table;
 mod trie;
 
 pub use automaton::Automaton;
+pub use has_automaton::HasAutomaton;
 pub use index::Index;

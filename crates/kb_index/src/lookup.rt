@@ -83,6 +83,12 @@ impl Lookup {
         self.settled.chains.before.len() + self.recent.chains.before.len()
     }
 
+    /// Whether no rule came since the automaton was made, and none went.
+    pub fn is_tidy(&self) -> bool {
+        self.recent.chains.before.is_empty()
+            && self.numbers.len() == self.settled.chains.before.len()
+    }
+
     /// Whether to make all anew: when a quarter as many rules came as were settled, or as many went as are left.
     /// Rules that came are looked up letter by letter, at each letter read, and those that went cost little.
     pub fn is_due(&self) -> bool {

@@ -31,6 +31,11 @@ pub trait Reducer: Sized + Drop {
         ensures rules { IfOk result (λ reducer. rules reducer ≡ list.now.rules) }
         ensures order { IfOk result (λ reducer. order reducer ≡ list.now.order) };
 
+    /// The rules by which it reduces, in their order.
+    fn list(&self) -> &Rules
+        ensures rules { result.now.rules ≡ rules self.now }
+        ensures order { result.now.order ≡ order self.now };
+
     /// Replaces a word by its normal form. After want of memory the word is as it was. The word and the workspace may
     /// exchange their memory: where one workspace serves for many words, and one word is filled anew for each of them,
     /// no memory is taken any more once both have grown to the longest word.
@@ -76,6 +81,13 @@ pub trait Reducer: Sized + Drop {
         ensures ok { OnOk result (rules self.new ≡ remove (rules self.old) place ++ rule.now ∷ []) }
         ensures err { OnErr result (rules self.new ≡ rules self.old) }
         ensures order { order self.new ≡ order self.old };
+
+    /// Makes itself ready for much reading after rules came and went. The rules stay.
+    fn tidy(&mut self, _alloc: Global) -> Result<(), Memory>
+        ensures { self.new ≡ self.old }
+    {
+        Ok(())
+    }
 
     /// A reducer by the same rules.
     fn copy(&self, alloc: Global) -> Result<Self, Memory>

@@ -41,6 +41,10 @@ impl Reducer for Scan {
         Ok(Scan { rules })
     }
 
+    fn list(&self) -> &Rules {
+        &self.rules
+    }
+
     fn reduce(&self, w: &mut Word, workspace: &mut Workspace) -> Result<(), Memory> {
         reduce(&self.rules, w, workspace)
     }
