@@ -1,14 +1,17 @@
 //! Prime overlaps, found by the automaton of the left sides.
 
 ghost use Rattle.std.specs.Prelude.{◌≡◌, ◌<◌, IfOk, OnOk, length};
+ghost use Rattle.kb_index.specs.Automata.{IsAutomaton};
 ghost use Rattle.kb_overlap.specs.Composite.{ArePrimeOverlaps};
 
 use crate::left_sides::Overlap;
 use crate::prefixes::Prefixes;
+use kb_index::Automaton;
 use kb_rules::Rules;
 use kb_word::Memory;
 use std::alloc::Global;
 use std::marker::Model;
+use std::sync::Arc;
 
 /// The left sides of a list of rules as an automaton, by which the prime overlaps of each with all of them are found.
 #[derive(Drop)]
@@ -36,6 +39,19 @@ impl<'r> PrimeOverlaps<'r> {
     {
         let prefixes = Prefixes::of(alloc, rules.as_slice())?;
         Ok(PrimeOverlaps { alloc, prefixes })
+    }
+
+    /// The prime overlaps of these rules, whose automaton this is.
+    pub fn by(
+        alloc: Global,
+        rules: &'r Rules,
+        automaton: Arc<Automaton>,
+    ) -> Result<PrimeOverlaps<'r>, Memory>
+        requires { IsAutomaton rules.now.rules automaton.value }
+        ensures { IfOk result (λ primes. primes ≡ rules.now.rules) }
+    {
+        drop(automaton);
+        PrimeOverlaps::of(alloc, rules)
     }
 
     /// Finds the prime overlaps in which the rule at this index begins first. They are sorted, which nothing rests on. What
