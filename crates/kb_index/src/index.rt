@@ -98,7 +98,8 @@ impl Reducer for Index {
 
 impl HasAutomaton for Index {
     fn automaton(&self, alloc: Global) -> Result<Arc<Automaton>, Memory> {
-        Ok(Arc::new(alloc, Automaton::of(alloc, self.rules.as_slice())?)?)
+        let automaton = Automaton::of(alloc, self.rules.as_slice())?;
+        Ok(Arc::new(alloc, automaton)?)
     }
 }
 
