@@ -2,3 +2,4 @@ pub mod Sums
 pub mod Counting
 pub mod Steps
 pub mod Seats
+pub mod Sharing
