@@ -2,5 +2,4 @@ pub mod LeastWords
 mod Checking
 mod Verdicts
 mod RowVerdicts
-mod Drawing
 mod PrimeRows

@@ -44,11 +44,6 @@ NamesFirst rules (No (suc i) (suc j) place u v) = IsFirstOfRow rules i j place u
 NamesFirst rules (No (suc i) zero place u v) = ⊥
 NamesFirst rules (No zero j place u v) = ⊥
 
--- the verdict on the rows that meet P: those before the one that it names are joined
-pub record IsVerdictOn (rules : List Pair) (P : ℕ → Type 0) (verdict : Verdict) : Type 0 where
-  pub named : NamesFirst rules verdict
-  pub joined : (i : ℕ) → P i → i + 1 < named_row verdict → RowIsJoined rules i
-
 -- of two verdicts the one that names the earlier row
 abbrev pub IsEarlier : Verdict → Verdict → Verdict → Type 0
 IsEarlier one other chosen = ((chosen ≡ one) × (named_row one ≤ named_row other))

@@ -6,9 +6,9 @@ ghost use Rattle.kb_word.specs.Overlap.{IsConfluent};
 ghost use Rattle.kb_confluence.specs.Answers.{IsVerdict, GivesCounterexample};
 
 use crate::prime_rows::PrimeRows;
-use crate::prime_workers::{primes_by_workers, primes_in_turn};
-use crate::rows::{Buffers, Rows};
-use crate::workers::check_by_workers;
+use crate::rows::Rows;
+use crate::shares::{all_joined, earliest};
+use kb_draw::share_out;
 use kb_overlap::composite_overlaps_need_no_look;
 use kb_rules::{Reducer, Rule, Rules};
 use kb_word::{Memory, Word};
@@ -96,11 +96,8 @@ fn primes_are_joined<R: Reducer + Sync, T: Threads + Wait + Sync>(
     ensures { IfOk result (λ joined. IsTrue joined → PrimesAreJoined rules.now.rules) }
 {
     let rows = PrimeRows::of(alloc, rules, reducer)?;
-    if workers == 1 || rules.len() < FEW_RULES {
-        primes_in_turn(&rows)
-    } else {
-        primes_by_workers(rt, &rows, workers)
-    }
+    let shares = share_out(rt, alloc, &rows, workers_for(rules.len(), workers))?;
+    Ok(all_joined(&shares))
 }
 
 /// The verdict by all overlaps of these rules.
@@ -117,23 +114,14 @@ fn check_rules<R: Reducer + Sync, T: Threads + Wait + Sync>(
     ensures { IfOk result (IsVerdict rules.now) }
 {
     let rows = Rows::of(alloc, rules, reducer)?;
-    if workers == 1 || rules.len() < FEW_RULES {
-        check_in_turn(&rows)
-    } else {
-        check_by_workers(rt, &rows, workers)
-    }
+    let shares = share_out(rt, alloc, &rows, workers_for(rules.len(), workers))?;
+    Ok(earliest(shares))
 }
 
-/// The verdict on all rows, one after another.
-fn check_in_turn<R: Reducer>(rows: &Rows<R>) -> Result<Verdict, Memory>
-    ensures { IfOk result (IsVerdict rows.now.rules.now) }
+/// How many workers share so many rules: one where they are few.
+fn workers_for(rules: usize, workers: u32) -> u32
+    requires { (1 ≤ workers) × (workers ≤ 64) }
+    ensures { (1 ≤ result) × (result ≤ 64) }
 {
-    let mut buffers = Buffers::new(rows.alloc);
-    for i in 0..rows.rules.len() {
-        match rows.check(i, &mut buffers)? {
-            Verdict::Yes => {}
-            no => return Ok(no),
-        }
-    }
-    Ok(Verdict::Yes)
+    if rules < FEW_RULES { 1 } else { workers }
 }

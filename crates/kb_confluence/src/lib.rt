@@ -16,15 +16,16 @@
 //! second rule and then by the place; a rule with itself at place 0 is left out. So in the rows of all overlaps the first
 //! critical pair whose words have different normal forms is the one to name.
 //!
-//! Several workers share the rows: each draws rows by a seat of one `kb_draw::Draw` until no row is left, and so each
-//! row is drawn by one worker. Of all overlaps a worker keeps the earliest row that isn't joined, and doesn't test the rows
-//! after it that it draws; the earliest of the workers' verdicts is the verdict, the same for every number of workers.
+//! The rows are work that `kb_draw::share_out` shares out, so each row is done in some worker's share. A share of the rows of
+//! prime overlaps says whether those that it took are joined, and once one isn't, the share tests no more of them. A share of
+//! the rows of all overlaps has the earliest row that isn't joined, and doesn't test the rows after it; the earliest of the
+//! shares' verdicts is the verdict, the same for every number of workers. Few rules are tested by one worker.
 //!
 //! # The proofs
 //!
-//! `specs/Rows.antt` says what a verdict on some of the rows is, and `specs/PrimeRows.antt` the same of prime overlaps.
-//! `proofs/Checking.antt` follows the test of a row, `proofs/RowVerdicts.antt` puts verdicts together, `proofs/Drawing.antt`
-//! follows a worker from one row that it draws to the next, and `proofs/PrimeRows.antt` does all that for prime overlaps.
+//! `specs/Rows.antt` says what a verdict on a row is, and `specs/PrimeRows.antt` the same of prime overlaps; what is sound
+//! and done in a share stands beside the code, in `rows` and `prime_rows`. `proofs/Checking.antt` follows the test of a row,
+//! `proofs/RowVerdicts.antt` puts the shares' verdicts together, and `proofs/PrimeRows.antt` does both for prime overlaps.
 //! That a word has one normal form where the critical pairs are joined is proved in `kb_overlap`, and
 //! `proofs/LeastWords.antt` has what follows.
 //!
@@ -34,9 +35,8 @@
 mod confluence;
 mod laws;
 mod prime_rows;
-mod prime_workers;
 mod rows;
-mod workers;
+mod shares;
 
 pub use confluence::{Verdict, check};
 pub use laws::{least_by_the_same_congruence, normal_forms_by_confluent_rules_are_least};

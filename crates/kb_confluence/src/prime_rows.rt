@@ -1,10 +1,12 @@
-//! The test of one row by its prime overlaps.
+//! The test of one row by its prime overlaps, and of all rows as work to be shared out.
 
 ghost use Rattle.std.specs.Prelude.{◌≡◌, ◌<◌, IfOk, IsTrue, Some, length, slice_get};
 ghost use Rattle.kb_overlap.specs.Composite.{ArePrimeOverlaps};
 ghost use Rattle.kb_confluence.specs.PrimeRows.{PrimesOfRowAreJoined};
 
 use crate::rows::Buffers;
+use crate::shares::PrimeShare;
+use kb_draw::Work;
 use kb_overlap::{Joinability, Overlap, PairWorkspace, PrimeOverlaps};
 use kb_rules::{Reducer, Rule, Rules};
 use kb_word::Memory;
@@ -14,8 +16,7 @@ use std::alloc::Global;
 /// overlaps in which rule i begins first.
 #[derive(Drop)]
 pub struct PrimeRows<'r, R: Reducer> {
-    pub alloc: Global,
-    pub rules: &'r [Rule],
+    rules: &'r [Rule],
     reducer: &'r R,
     primes: PrimeOverlaps<'r>,
     ghost reducer_of: { R.rules reducer.now ≡ rules.now },
@@ -30,7 +31,6 @@ impl<'r, R: Reducer> PrimeRows<'r, R> {
     {
         let primes = PrimeOverlaps::of(alloc, rules)?;
         Ok(PrimeRows {
-            alloc,
             rules: rules.as_slice(),
             reducer,
             primes,
@@ -38,7 +38,7 @@ impl<'r, R: Reducer> PrimeRows<'r, R> {
     }
 
     /// Whether each overlap of the row of this index is joined.
-    pub fn is_joined(&self, i: usize, buffers: &mut Buffers) -> Result<bool, Memory>
+    fn is_joined(&self, i: usize, buffers: &mut Buffers) -> Result<bool, Memory>
         requires { i < length self.now.rules.now }
         ensures { IfOk result
             (λ joined. IsTrue joined → PrimesOfRowAreJoined self.now.rules.now i) }
@@ -70,5 +70,37 @@ impl<'r, R: Reducer> PrimeRows<'r, R> {
             }
         }
         Ok(true)
+    }
+}
+
+/// A part is a row. Once a share has a row that isn't joined it takes no more.
+impl<'r, R: Reducer> Work for PrimeRows<'r, R> {
+    ghost use Rattle.std.specs.Prelude.{IsTrue, length};
+    ghost use Rattle.kb_confluence.specs.PrimeRows.{PrimesOfRowAreJoined};
+
+    type Share = PrimeShare;
+
+    ghost parts = { λ rows. length rows.rules.now };
+
+    ghost sound = { λ rows share. Unit {0} };
+
+    ghost done = { λ rows share row. IsTrue share.joined → PrimesOfRowAreJoined rows.rules.now row };
+
+    fn parts(&self) -> u64 {
+        self.rules.len() as u64
+    }
+
+    fn begin(&self, alloc: Global, _worker: u32) -> Result<PrimeShare, Memory> {
+        Ok(PrimeShare {
+            buffers: Buffers::new(alloc),
+            joined: true,
+        })
+    }
+
+    fn take(&self, row: u64, share: &mut PrimeShare) -> Result<(), Memory> {
+        if share.joined {
+            share.joined = self.is_joined(row as usize, &mut share.buffers)?;
+        }
+        Ok(())
     }
 }

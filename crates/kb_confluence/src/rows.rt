@@ -1,10 +1,12 @@
-//! The check of one row: of the overlaps in which one rule begins first.
+//! The check of one row, of the overlaps in which one rule begins first, and of all rows as work to be shared out.
 
 ghost use Rattle.std.specs.Prelude.{◌≡◌, ◌^◌, ◌<◌, ◌≤◌, IfOk, Some, length, slice_get};
 ghost use Rattle.kb_overlap.specs.Overlapping.{AreOverlaps};
 ghost use Rattle.kb_confluence.specs.Rows.{IsRowVerdict};
 
 use crate::confluence::Verdict;
+use crate::shares::RowShare;
+use kb_draw::Work;
 use kb_overlap::{Joinability, LeftSides, Overlap, PairWorkspace};
 use kb_rules::{Reducer, Rule};
 use kb_word::Memory;
@@ -14,8 +16,8 @@ use std::alloc::Global;
 /// first.
 #[derive(Drop)]
 pub struct Rows<'r, R: Reducer> {
-    pub alloc: Global,
-    pub rules: &'r [Rule],
+    alloc: Global,
+    rules: &'r [Rule],
     reducer: &'r R,
     left_sides: LeftSides<'r>,
     ghost reducer_of: { R.rules reducer.now ≡ rules.now },
@@ -57,7 +59,7 @@ impl<'r, R: Reducer> Rows<'r, R> {
     }
 
     /// The verdict on the row of this index.
-    pub fn check(&self, i: usize, buffers: &mut Buffers) -> Result<Verdict, Memory>
+    fn check(&self, i: usize, buffers: &mut Buffers) -> Result<Verdict, Memory>
         requires { i < length self.now.rules.now }
         ensures { IfOk result (IsRowVerdict self.now.rules.now i) }
     {
@@ -96,5 +98,42 @@ impl<'r, R: Reducer> Rows<'r, R> {
             }
         }
         Ok(Verdict::Yes)
+    }
+}
+
+/// A part is a row. A share doesn't check the rows after the one that its verdict names.
+impl<'r, R: Reducer> Work for Rows<'r, R> {
+    ghost use Rattle.std.specs.Prelude.{◌+◌, ◌<◌, length};
+    ghost use Rattle.kb_confluence.specs.Rows.{NamesFirst, RowIsJoined, named_row};
+
+    type Share = RowShare;
+
+    ghost parts = { λ rows. length rows.rules.now };
+
+    ghost sound = { λ rows share. NamesFirst rows.rules.now share.verdict };
+
+    ghost done = { λ rows share row. row + 1 < named_row share.verdict → RowIsJoined rows.rules.now row };
+
+    fn parts(&self) -> u64 {
+        self.rules.len() as u64
+    }
+
+    fn begin(&self, alloc: Global, _worker: u32) -> Result<RowShare, Memory> {
+        Ok(RowShare {
+            buffers: Buffers::new(alloc),
+            verdict: Verdict::Yes,
+        })
+    }
+
+    fn take(&self, row: u64, share: &mut RowShare) -> Result<(), Memory> {
+        // A row after one that isn't joined can't change the verdict.
+        if share.verdict.named_row() <= row {
+            return Ok(());
+        }
+        match self.check(row as usize, &mut share.buffers)? {
+            Verdict::Yes => {}
+            no => share.verdict = no,
+        }
+        Ok(())
     }
 }
