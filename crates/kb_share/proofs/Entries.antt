@@ -1,13 +1,14 @@
 -- Overlaps that are entered, one after another.
-use Rattle.std.proofs.Common.{◌≡◌, ℕ, ◌+◌, ◌-◌, ◌<◌, arith, length-append, List, [], ◌∷◌, ◌++◌, length, take, get_or, map, sym, ◌∙◌, ap, append_assoc}
-use Rattle.std.proofs.lemmas.List.{length-map, map-append, append-nil, take_more}
+use Rattle.std.proofs.Common.{◌≡◌, ℕ, ◌+◌, ◌<◌, List, [], ◌∷◌, ◌++◌, length, take, get_or, map, sym, ◌∙◌, ap, append_assoc}
+use Rattle.std.proofs.lemmas.List.{map-append, append-nil, take_more}
 use Rattle.kb_machine.specs.declared.origin.Origin.{Origin}
 use Rattle.kb_machine.specs.States.{Problem, State}
 use Rattle.kb_machine.specs.Course.{Course, Takes}
 use Rattle.kb_machine.specs.declared.event.Event.{Event}
 use Rattle.kb_share.specs.Later.{IsLater}
 use Rattle.kb_share.specs.declared.found.Found.{Found}
-use Rattle.kb_share.specs.Passes.{entered, entry_of, origin_of, EntersAllApart, EntersSoMany}
+use Rattle.kb_share.specs.Versions.{version_of}
+use Rattle.kb_share.specs.Passes.{AreAllApart, entered, entry_of, origin_of, EntersAllApart, EntersSoMany}
 
 -- a completion with these pending origins and events in place of its own
 abbrev with : Course → List Origin → List Event → Course
@@ -69,21 +70,13 @@ enters_next worker found k one start before after within is so_far takes =
     ∙ entered_twice worker start (take k found) (one ∷ [])
     ∙ ap (entered worker start) more
 
--- the next row was entered
-pub enters_row : (worker : ℕ) (start before after : Course) (found row : List Found) → before ≡ entered worker start found
-    → after ≡ entered worker before row → after ≡ entered worker start (found ++ row)
-enters_row worker start before after found row so_far enters =
-    enters ∙ ap (λ (c : Course). entered worker c row) so_far ∙ entered_twice worker start found row
-
--- as many events came as overlaps were entered
-pub entered_so_many : (before after : Course) (was is : List Event) → EntersAllApart before after → was ≡ before.journal
-    → is ≡ after.journal → EntersSoMany before after (length is - length was)
-entered_so_many before after was is all same now =
-    let longer = ap length (now ∙ ap (λ (c : Course). c.journal) all.enters) in
-    let total = length-append before.journal (map (entry_of 1) all.found) in
-    let many = length-map all.found (entry_of 1) in
-    let start = ap length same in
-    record { all = all; number = omega (arith, longer, total, many, start) }
+-- all that is apart was entered, and there were so many
+pub enters_so_many : (before after : Course) (found list : List Found) (count : ℕ) → AreAllApart (version_of before.state) found
+    → list ≡ found → after ≡ entered 1 before list → count ≡ length found → EntersSoMany before after count
+enters_so_many before after found list count apart same enters number = record {
+  all = record { found = found; are_apart = apart; enters = enters ∙ ap (entered 1 before) same };
+  number = sym number;
+}
 
 -- a pass that only enters overlaps keeps all else
 pub enters_later : (before after : Course) → EntersAllApart before after → IsLater before after

@@ -1,6 +1,5 @@
 -- Versions of a book, and what sifting by one of them answers.
 use Rattle.std.specs.Prelude.{◌≡◌, ℕ, ◌<◌, List, [], ◌∷◌, ◌++◌, length, Some, slice_get}
-use Rattle.std.specs.List.{AllPairs}
 use Rattle.kb_word.specs.Words.{Pair}
 use Rattle.kb_word.specs.Overlap.{Overlaps, IsResolved, IsUnresolved}
 use Rattle.kb_machine.specs.States.{State, live_rules}
@@ -22,12 +21,6 @@ version_of state =
 pub record IsPublished (state : State) : Type 0 where
   pub earlier : List (List ℕ)
   pub is : state.versions ≡ earlier ++ state.live ∷ []
-
--- what a version keeps: a number for each rule, ascending, and a reducer by its rules
-pub record IsVersion (numbers : List ℕ) (rules reducing : List Pair) : Type 0 where
-  pub one_each : length numbers ≡ length rules
-  pub ascending : AllPairs (λ one other. one < other) numbers
-  pub reduces : reducing ≡ rules
 
 -- the rule of the version's line with this number
 pub record IsRuleOfLine (version : VersionParts) (k : ℕ) (rule : Pair) : Type 0 where

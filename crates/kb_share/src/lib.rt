@@ -22,8 +22,8 @@
 //!
 //! # Sifting
 //!
-//! - A [`Version`] is what a worker sifts by: the live lines of a book when they were published, and a reducer by their
-//!   rules. [`Version::of`] copies it from the book.
+//! - A [`Version`] is what a worker sifts by: the live lines of a book as they were published, and the reducer by their
+//!   rules. It borrows the book, so that nothing is copied, and nothing changes as long as it is there.
 //! - [`sift`] tells whether an overlap of two of the version's lines is joined or apart;
 //!   [`apart_in_row`] sifts all overlaps in which one line begins first, by one `kb_overlap::PairWorkspace`.
 //! - [`OneByOne`] makes a pass by one worker. It enters exactly the overlaps that are apart, in the
@@ -39,8 +39,8 @@
 //!
 //! `specs/Versions.antt` has the versions, and `specs/Passes.antt` what a worker enters.
 //!
-//! Below are `kb_overlap`, which finds all overlaps of a left side with others and tells whether they are joined,
-//! and `kb_book`.
+//! Below are `kb_index`, whose automaton serves for reducing and for overlaps, `kb_overlap`, which finds all overlaps of a
+//! left side with others and tells whether they are joined, and `kb_book`.
 #![tactic(auto)]
 
 mod deciding;

@@ -1,13 +1,14 @@
 //! Passes by one worker.
 
-ghost use Rattle.std.specs.Prelude.{◌≡◌, ◌≤◌, IfOk, OnOk};
+ghost use Rattle.std.specs.Prelude.{◌≡◌, ◌≤◌, IfOk};
 ghost use Rattle.kb_share.specs.Later.{IsLater};
-ghost use Rattle.kb_share.specs.Versions.{IsPublished, version_of};
-ghost use Rattle.kb_share.specs.Passes.{EntersAllApart, EntersSoMany};
+ghost use Rattle.kb_share.specs.Versions.{IsPublished};
+ghost use Rattle.kb_share.specs.Passes.{AreAllApart, EntersAllApart, EntersSoMany};
 ghost use Rattle.kb_word.specs.Overlap.{IsConfluent};
 ghost use Rattle.kb_machine.specs.States.{live_rules};
 
 use crate::entering::enter_all;
+use crate::found::Found;
 use crate::row::apart_in_row;
 use crate::sound::book_is_sound;
 use crate::version::Version;
@@ -40,21 +41,15 @@ impl OneByOne {
             → IsConfluent (live_rules book.old.course.state)) }
     {
         book_is_sound(book);
-        let before = book.journal().len();
-        let version = Version::of(alloc, book)?;
-        pass_over(alloc, &version, book)?;
-        Ok(book.journal().len() - before)
+        let found = all_apart(alloc, &Version::of(book))?;
+        enter_all(book, 1, &found)?;
+        Ok(found.len())
     }
 }
 
-/// Enters each overlap of the version's lines that is apart.
-fn pass_over<R: Reducer>(
-    alloc: Global,
-    version: &Version<R>,
-    book: &mut Book<R>,
-) -> Result<(), Memory>
-    requires { version.now ≡ version_of book.old.course.state }
-    ensures { OnOk result (EntersAllApart book.old.course book.new.course) }
+/// The overlaps of the version's lines that are apart, in their order.
+fn all_apart<R: Reducer>(alloc: Global, version: &Version<'_, R>) -> Result<Vec<Found>, Memory>
+    ensures { IfOk result (λ found. AreAllApart version.now found.items) }
 {
     // A use of the numbers brings that they ascend.
     let _numbers = version.numbers();
@@ -62,11 +57,12 @@ fn pass_over<R: Reducer>(
     let left_sides = LeftSides::of(alloc, rules)?;
     let mut pair = PairWorkspace::new(alloc);
     let mut overlaps = Vec::new(alloc);
+    let mut row = Vec::new(alloc);
     let mut found = Vec::new(alloc);
     for (index, first) in rules.iter().enumerate() {
         left_sides.overlaps(first.left(), &mut overlaps)?;
-        apart_in_row(version, index, first, &overlaps, &mut pair, &mut found)?;
-        enter_all(book, 1, &found)?;
+        apart_in_row(version, index, first, &overlaps, &mut pair, &mut row)?;
+        found.extend_from_slice(&row)?;
     }
-    Ok(())
+    Ok(found)
 }

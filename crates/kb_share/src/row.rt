@@ -13,7 +13,7 @@ use kb_word::Memory;
 /// Finds those overlaps that are apart, of all overlaps of the left side of the line at this index
 /// of the version. What the list held is gone.
 pub fn apart_in_row<R: Reducer>(
-    version: &Version<R>,
+    version: &Version<'_, R>,
     index: usize,
     first: &Rule,
     overlaps: &[Overlap],
@@ -37,7 +37,7 @@ pub fn apart_in_row<R: Reducer>(
 
 /// The overlap of the lines at these indices, by their numbers, where it is apart.
 fn sift_at<R: Reducer>(
-    version: &Version<R>,
+    version: &Version<'_, R>,
     index: usize,
     first: &Rule,
     overlap: &Overlap,

@@ -6,6 +6,7 @@ ghost use Rattle.kb_share.specs.Primes.{PrimeSays, SiftsRow};
 
 use crate::found::{Apart, Found};
 use crate::version::Version;
+use kb_index::HasAutomaton;
 use kb_overlap::{Joinability, Overlap, PairWorkspace, PrimeOverlaps};
 use kb_rules::Reducer;
 use kb_word::Memory;
@@ -14,10 +15,10 @@ use std::alloc::Global;
 /// A version whose prime overlaps are sifted row by row. The row of an index has those in which the line at that index
 /// begins first.
 #[derive(Drop)]
-pub struct Sieve<'v, R: Reducer> {
-    version: &'v Version<R>,
-    primes: PrimeOverlaps<'v>,
-    ghost primes_of: { primes ≡ version.now.rules },
+pub struct Sieve<'b, R: Reducer> {
+    version: Version<'b, R>,
+    primes: PrimeOverlaps<'b>,
+    ghost primes_of: { primes ≡ version.rules },
 }
 
 /// The memory that rows are sifted in, kept from one to the next. What it holds before and after counts for nothing.
@@ -37,12 +38,13 @@ impl SieveSpace {
     }
 }
 
-impl<'v, R: Reducer> Sieve<'v, R> {
-    /// The sieve of a version.
-    pub fn of(alloc: Global, version: &'v Version<R>) -> Result<Sieve<'v, R>, Memory>
-        ensures { IfOk result (λ sieve. sieve.version.now ≡ version.now) }
+impl<'b, R: HasAutomaton> Sieve<'b, R> {
+    /// The sieve of a version. A reducer that is tidy lends its automaton.
+    pub fn of(alloc: Global, version: Version<'b, R>) -> Result<Sieve<'b, R>, Memory>
+        ensures { IfOk result (λ sieve. sieve.version ≡ version.entry) }
     {
-        let primes = PrimeOverlaps::of(alloc, version.rules())?;
+        let automaton = version.reducer().automaton(alloc)?;
+        let primes = PrimeOverlaps::by(alloc, version.rules(), automaton)?;
         Ok(Sieve { version, primes })
     }
 
@@ -54,18 +56,18 @@ impl<'v, R: Reducer> Sieve<'v, R> {
         space: &mut SieveSpace,
         found: &mut Vec<Apart>,
     ) -> Result<(), Memory>
-        requires { index < length self.now.version.now.rules }
-        ensures { OnOk result (SiftsRow self.now.version.now index found.new.items) }
+        requires { index < length self.now.version.rules }
+        ensures { OnOk result (SiftsRow self.now.version index found.new.items) }
     {
         let SieveSpace { overlaps, pair } = space;
         self.primes.of_rule(index, overlaps)?;
-        sift_primes(self.version, index, overlaps, pair, found)
+        sift_primes(&self.version, index, overlaps, pair, found)
     }
 }
 
 /// Finds those that are apart of these prime overlaps, which are all of the row.
 fn sift_primes<R: Reducer>(
-    version: &Version<R>,
+    version: &Version<'_, R>,
     index: usize,
     overlaps: &[Overlap],
     pair: &mut PairWorkspace,
@@ -85,7 +87,7 @@ fn sift_primes<R: Reducer>(
 
 /// The prime overlap of the lines at these indices, by their numbers, where it is apart.
 fn sift_prime<R: Reducer>(
-    version: &Version<R>,
+    version: &Version<'_, R>,
     index: usize,
     overlap: &Overlap,
     pair: &mut PairWorkspace,

@@ -14,7 +14,7 @@ use std::alloc::Global;
 /// Whether the overlap of two lines at a place of the first one's left side is joined by the version's rules.
 pub fn sift<R: Reducer>(
     alloc: Global,
-    version: &Version<R>,
+    version: &Version<'_, R>,
     i: u32,
     j: u32,
     place: u64,

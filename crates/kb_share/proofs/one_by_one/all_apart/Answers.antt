@@ -1,12 +1,18 @@
-use Rattle.std.proofs.Common.{◌≡◌, ◌<◌, List, ℕ, length, get_or, refl, ap, ◌∙◌, subst, arith}
+use Rattle.std.proofs.Common.{◌≡◌, ◌<◌, ◌+◌, ◌++◌, List, ℕ, length, get_or, refl, sym, ap, ◌∙◌, subst, arith}
 use Rattle.std.proofs.lemmas.Option.{slice_get_read}
 use Rattle.kb_word.specs.Words.{Pair}
 use Rattle.kb_overlap.specs.Overlapping.{AreOverlaps}
 use Rattle.kb_overlap.specs.declared.left_sides.Overlap.{Overlap}
-use Rattle.kb_share.specs.Passes.{entered}
 use Rattle.kb_share.specs.Rows.{IsApartAt, found_at, Picks}
-use Rattle.kb_share.proofs.Progress.{goes_on, ends}
-use Rattle.kb_share.proofs.one_by_one.pass_over.Goals as goal
+use Rattle.kb_share.specs.declared.found.Found.{Found}
+use Rattle.kb_share.proofs.RowByRow.{AreInRows, no_rows, row_more}
+use Rattle.kb_share.proofs.Progress.{all_found}
+use Rattle.kb_share.proofs.one_by_one.all_apart.Goals as goal
+
+pub loop-index-init : goal.loop-index-init
+loop-index-init g c =
+    let version = c.args.version.now in
+    subst (AreInRows version.rules version.numbers 0) (sym c.new-found.ensures.items) (no_rows version.rules version.numbers)
 
 pub loop-index-preserved : goal.loop-index-preserved
 loop-index-preserved g c =
@@ -15,7 +21,7 @@ loop-index-preserved g c =
     let first = c.index-rules-index.result in
     let overlaps = c.overlaps.new.found.items in
     let row = c.apart_in_row.new.found.items in
-    let before = c.loop-index.book.course in
+    let before = c.loop-index.found.items in
     let is_rules : c.as_slice-rules.result.now ≡ version.rules = c.as_slice-rules.ensures.rules ∙ c.rules.ensures in
     let count = ap length is_rules in
     let within : index < length version.rules = omega arith in
@@ -27,9 +33,11 @@ loop-index-preserved g c =
     let picks : Picks (IsApartAt version.rules index) (found_at version.numbers index) overlaps row =
     subst (λ (o : List Overlap). Picks (IsApartAt version.rules index) (found_at version.numbers index) o row)
     c.deref.ensures.value c.in_ok-apart_in_row.ensures in
-    goes_on version index first overlaps row c.args.book.now.course before c.enter_all.new.book.course
-    c.numbers-numbers.ensures.one_each c.numbers-numbers.ensures.ascending is_first are picks
-    (c.in_ok-enter_all.ensures ∙ ap (entered 1 before) c.deref-in-loop-index.ensures.value) c.loop-index.invariant
+    let more = row_more version.rules version.numbers c.numbers-numbers.ensures.one_each c.numbers-numbers.ensures.ascending index
+    first overlaps before row is_first are picks c.loop-index.invariant in
+    let same : c.extend_from_slice.new.self.items ≡ before ++ row =
+    c.in_ok-extend_from_slice.ensures.items ∙ ap (λ (l : List Found). before ++ l) c.deref-in-loop-index.ensures.value in
+    subst (AreInRows version.rules version.numbers (index + 1)) (sym same) more
 
 pub returns : goal.returns
 returns g c =
@@ -37,5 +45,5 @@ returns g c =
     let is_rules : c.as_slice-rules.result.now ≡ version.rules = c.as_slice-rules.ensures.rules ∙ c.rules.ensures in
     let count = ap length is_rules in
     let all : c.loop-index.index ≡ length version.rules = omega arith in
-    ends version c.loop-index.index c.args.book.now.course c.loop-index.book.course c.numbers-numbers.ensures.one_each
-    c.numbers-numbers.ensures.ascending c.requires all c.loop-index.invariant
+    all_found version c.loop-index.index c.loop-index.found.items c.numbers-numbers.ensures.one_each
+    c.numbers-numbers.ensures.ascending all c.loop-index.invariant
