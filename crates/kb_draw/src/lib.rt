@@ -11,10 +11,11 @@
 //! back all seats: no number was drawn twice, and where the seats are dry each number from the
 //! first one up to the end was drawn.
 //!
-//! [`Work`] is work in parts, numbered from 0 on, which workers take into shares of their own, and [`share_out`] does it by 1 to
-//! 64 workers: there is a share for each worker, each share is sound, and each part is done in one of the shares. What
-//! that means of a share is what the work says by `sound` and `done`; what is done in a share stays done in it. One worker does the
-//! parts in their order, with no thread; several are a thread each, and draw the parts from one counter.
+//! [`Work`] is work in parts, numbered from 0 on, which workers take into shares of their own, and
+//! [`share_out`] does it by 1 to 64 workers: there is a share for each worker, each share is sound,
+//! and each part is done in one of the shares. What that says of a share is what the work means by
+//! `sound` and `done`; what is done in a share stays done in it. One worker does the parts in their
+//! order, with no thread; several are a thread each, and draw the parts from one counter.
 //!
 //! # How it is made
 //!
@@ -22,9 +23,10 @@
 //! the seats' views can be: `specs/Counter.antt` has it as a relation with a constructor for each
 //! kind of step, a number that is drawn, a seat that is split off and a seat that is joined to
 //! another. `proofs/Counting.antt` shows what follows from it: the numbers in all views are those
-//! from the first one up to the word, each once. `specs/Seats.antt` has the words of the contract of draws, and
-//! `specs/Sharing.antt` those of `share_out`. `proofs/Sharing.antt` follows a worker from one part that it draws to the next, and
-//! puts together what workers bring back (`specs/Workers.antt`).
+//! from the first one up to the word, each once. `specs/Seats.antt` has the words of the contract of
+//! draws, and `specs/Sharing.antt` those of `share_out`. `proofs/Sharing.antt` follows a worker from
+//! one part that it draws to the next, and puts together what workers bring back
+//! (`specs/Workers.antt`).
 //!
 //! The seats may draw numbers past the end, one each at most. So the counter never comes to the end of its 64 bits.
 //!
