@@ -1,3 +1,3 @@
 pub mod Lasts
 pub mod Stages
-mod Drawing
+mod Keeping

@@ -8,16 +8,14 @@ use Rattle.kb_machine.specs.declared.line.Line.{Line}
 use Rattle.kb_machine.specs.States.{State}
 use Rattle.kb_machine.specs.Course.{Course, Takes}
 use Rattle.kb_machine.specs.declared.event.Event.{Event}
-use Rattle.kb_machine.specs.declared.event.Event.TheVariants.{Published}
 use Rattle.kb_book.proofs.Lists.{numbered-more}
 use Rattle.kb_share.specs.Later.{IsLater, entries}
 use Rattle.kb_share.proofs.Stages.{later_itself, later_then, entries-append}
 use Rattle.kb_share.specs.Passes.{entry_of}
-use Rattle.kb_share.specs.Versions.{IsPublished}
 use Rattle.kb_share.specs.declared.found.Found.{Found}
 use Rattle.kb_threads.specs.declared.answers.ShareFault.{ShareFault}
 use Rattle.kb_threads.specs.declared.answers.ShareFault.TheVariants as faults
-use Rattle.kb_threads.specs.Shared.{PassParts, IsStageOf, EnterSays, GoesOn, IsNoOverlap}
+use Rattle.kb_threads.specs.Shared.{PassParts, IsStageOf, EnterSays, IsNoOverlap}
 
 -- what is given is a stage of itself, into which nothing was entered
 pub stage_itself : (given course : Course) (entered : ℕ) → course ≡ given → entered ≡ 0
@@ -44,25 +42,6 @@ stage_entered worker one given before after entered stage takes =
     record {
       later = later_then given before after stage.later later;
       entries = omega (arith, so_far, is, joined);
-    }
-
-pub published_goes_on : (before after : Course) → Takes Published before after → GoesOn before after
-published_goes_on before after takes =
-    let joined = entries-append before.journal (Published ∷ []) in
-    let is = ap entries takes.journal in
-    record {
-      later = same_lines Published before after takes (ap (λ (s : State). s.lines) takes.step);
-      entries = omega (arith, is, joined);
-    }
-
--- the version that was published last has the live lines
-pub published_is : (before after : Course) → Takes Published before after → IsPublished after.state
-published_is before after takes =
-    let versions = ap (λ (s : State). s.versions) takes.step in
-    let live = ap (λ (s : State). s.live) takes.step in
-    record {
-      earlier = before.state.versions;
-      is = versions ∙ ap (λ (l : List ℕ). before.state.versions ++ l ∷ []) (sym live);
     }
 
 rules_of-append : (lines more : List Line) → rules_of (lines ++ more) ≡ rules_of lines ++ rules_of more

@@ -8,14 +8,3 @@ pub enum ShareFault {
     /// There was no memory. The book is as it was.
     Memory,
 }
-
-/// How far a shared completion came by itself.
-#[derive(Clone, Copy, Debug, PartialEq, Eq)]
-pub enum Advance {
-    /// Nothing is pending any more, and a version with this number was published.
-    Published(u64),
-    /// Nothing was pending.
-    Nothing,
-    /// The completion is halted.
-    Halted,
-}

@@ -1,6 +1,6 @@
 //! What a worker keeps of what it found.
 
-ghost use Rattle.std.specs.Prelude.{◌≡◌, ◌≢◌, ◌⊎◌, [], ◌∷◌, ◌++◌, OnOk};
+ghost use Rattle.std.specs.Prelude.{◌≡◌, ◌≢◌, ◌⊎◌, [], ◌∷◌, ◌++◌, IsTrue, OnOk};
 ghost use Rattle.kb_threads.specs.Sweeps.{KeepsOf};
 
 use kb_share::Apart;
@@ -92,6 +92,13 @@ impl Kept {
             self.apart.push(*one)?;
         }
         Ok(())
+    }
+
+    /// Whether nothing was kept.
+    pub(crate) fn is_empty(&self) -> bool
+        ensures { IsTrue result → (self.now ≡ []) }
+    {
+        self.apart.is_empty()
     }
 
     /// What was kept.

@@ -7,37 +7,34 @@
 //!   overlaps were entered, and the book is a later stage of the one given; or none is apart, the live rules are
 //!   confluent, and the book is as it was.
 //! - [`Shared`] is a book under a lock, whose workers hold a [`Pass`] each. [`Shared::enter`]
-//!   enters an overlap, and says so only where it did: the pass counts it. [`Shared::advance`]
-//!   settles the book and publishes a version, by a `kb_publish::Publisher`, and lets a
-//!   `kb_share::Watch` see the book. [`Shared::finish`] takes all passes back: the book is a later
-//!   stage of the one that was given, and has just as many entries more as the passes counted.
+//!   enters an overlap, and says so only where it did: the pass counts it. [`Shared::finish`] takes all passes back: the
+//!   book is a later stage of the one that was given, and has just as many entries more as the passes counted.
 //!
 //! # How a pass goes
 //!
-//! The version that stands when the pass begins stands for all of it. Each worker draws rows from one counter
-//! (`kb_draw`), sifts their prime overlaps, and keeps what is apart with the number of letters of its two normal forms
+//! The version that stands when the pass begins stands for all of it. Its rows are work that is shared out (`kb_draw`):
+//! each worker draws rows from one counter, sifts their prime overlaps, and keeps what is apart with the number of letters of its two normal forms
 //! (`sweeping`). The owner takes the bound from all lists: the least number by which all that are apart are entered, or
 //! at least 16. Then each worker enters its own up to that bound, under the lock (`entering`). A worker drops what is
 //! above its own bound, since the common one is at most that, so its list is short; it never drops the last one.
 //!
 //! So which overlaps are entered is the same for any number of workers from two on; the order in which they come is
-//! left open. A pass that enters nothing is the proof of confluence: all rows were drawn, as the dry seats of the draw
-//! show, and none of their prime overlaps is apart; composite ones need no look.
+//! left open. A pass that enters nothing is the proof of confluence: each row was done by one of the workers, and none of
+//! the prime overlaps is apart; composite ones need no look.
 //!
 //! # What is shared
 //!
-//! The version is shared by reference, since it never changes. What lies under the lock is a `kb_book::Book`, so that
+//! The version is borrowed from the book, which nobody changes while its rows are sifted. What lies under the lock is a `kb_book::Book`, so that
 //! all that holds along every course of the completion machine holds whenever the lock is got, whatever the threads did
 //! and in whatever order. That it is a later stage of the book which was given stands on the type under the lock,
 //! which is named after that book (`Sharing`). Entries are counted by a ledger, of which each pass
 //! holds a part.
 //!
-//! `specs/Sweeps.antt` has what workers bring back, and `proofs/Drawing.antt` follows one from a row to the next.
+//! `specs/Sweeps.antt` has what workers keep, and `specs/Shared.antt` what lies under the lock.
 //!
-//! Below are `kb_book`, `kb_share`, `kb_publish` and `kb_draw`.
+//! Below are `kb_book`, `kb_share` and `kb_draw`.
 #![tactic(auto)]
 
-mod advancing;
 mod answers;
 mod entering;
 mod kept;
@@ -50,7 +47,7 @@ mod sweeping;
 mod threads;
 mod workers;
 
-pub use answers::{Advance, ShareFault};
+pub use answers::ShareFault;
 pub use pass::Pass;
 pub use passed::Passed;
 pub use shared::Shared;

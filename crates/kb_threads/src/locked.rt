@@ -1,19 +1,16 @@
 //! What lies under the lock.
 
-ghost use Rattle.std.specs.Prelude.{◌≡◌, ◌+◌, IfOk, IfErr};
+ghost use Rattle.std.specs.Prelude.{◌≡◌, ◌+◌, IfErr};
 ghost use Rattle.kb_share.specs.Later.{IsLater, entries};
-ghost use Rattle.kb_threads.specs.Shared.{EnterSays, Advances, AdvanceSays, IsNoOverlap};
+ghost use Rattle.kb_threads.specs.Shared.{EnterSays, IsNoOverlap};
 ghost use Rattle.kb_threads.specs.declared.answers.ShareFault.TheVariants.{NotOverlap};
 
-use crate::advancing::{Advanced, advance};
 use crate::answers::ShareFault;
 use crate::pass::Pass;
 use crate::sharing::Sharing;
 use kb_book::{Book, EnterFault};
 use kb_rules::Reducer;
-use kb_share::{Found, Watch};
-use kb_word::Memory;
-use std::alloc::Global;
+use kb_share::Found;
 use std::marker::Model;
 use std::sync::ledger;
 
@@ -54,19 +51,6 @@ impl<R: Reducer, S: Sharing> Locked<R, S> {
     {
         let Locked { book, entered } = self;
         enter_counted(book, entered, pass, one)
-    }
-
-    /// Settles the book, and publishes its live lines where something was pending and it isn't
-    /// halted.
-    pub(crate) fn advance<W: Watch>(
-        &mut self,
-        alloc: Global,
-        watch: &mut W,
-    ) -> Result<Advanced<R>, Memory>
-        ensures advances { Advances self.old self.new }
-        ensures says { IfOk result (AdvanceSays self.old.course self.new.course) }
-    {
-        advance(alloc, &mut self.book, watch)
     }
 
     /// The book, and what its workers entered.

@@ -1,19 +1,17 @@
 //! A completion that workers share.
 
-ghost use Rattle.std.specs.Prelude.{◌≡◌, ◌+◌, ◌≤◌, ◌<◌, [], ◌∷◌, ◌++◌, length, All, IfOk, IfErr, OnOk, OnErr};
+ghost use Rattle.std.specs.Prelude.{◌≡◌, ◌+◌, ◌≤◌, ◌<◌, length, All, IfOk, IfErr, OnOk, OnErr};
 ghost use Rattle.kb_share.specs.Later.{IsLater, entries};
-ghost use Rattle.kb_threads.specs.Shared.{IsNoOverlap, PublishesBy, entered_by};
+ghost use Rattle.kb_threads.specs.Shared.{IsNoOverlap, entered_by};
 ghost use Rattle.kb_threads.specs.declared.answers.ShareFault.TheVariants.{NotOverlap};
 
-use crate::advancing::Advanced;
-use crate::answers::{Advance, ShareFault};
+use crate::answers::ShareFault;
 use crate::locked::Locked;
 use crate::pass::Pass;
 use crate::sharing::Sharing;
 use kb_book::Book;
-use kb_publish::Publisher;
 use kb_rules::Reducer;
-use kb_share::{Found, Version, Watch};
+use kb_share::Found;
 use kb_word::Memory;
 use std::alloc::Global;
 use std::sync::ledger::{Blank, Share};
@@ -56,23 +54,6 @@ impl<R: Reducer, S: Sharing> Shared<R, S> {
         self.locked.lock(rt).enter(pass, one)
     }
 
-    /// Settles the book, and publishes its live lines where something was pending and no limit is
-    /// reached. The lock is held while the book is settled, and free while the version is
-    /// published.
-    pub fn advance<T: Wait, W: Watch>(
-        &self,
-        rt: &T,
-        alloc: Global,
-        publisher: &mut Publisher<Version<R>>,
-        watch: &mut W,
-    ) -> Result<Advance, Memory>
-        ensures publishes { IfOk result (PublishesBy publisher.old publisher.new) }
-        ensures nothing { OnErr result (publisher.new ≡ publisher.old) }
-    {
-        let advanced = self.locked.lock(rt).advance(alloc, watch)?;
-        shown(rt, publisher, advanced)
-    }
-
     /// The book that was shared, by all its passes.
     pub fn finish(self, passes: Vec<Pass<S>>) -> Book<R>
         requires { (length passes.items ≡ S.parts) × (0 < S.parts) }
@@ -100,26 +81,6 @@ fn passes_of<S: Sharing>(
         passes.push(Pass::of(worker + 1, &mut rest))?;
     }
     Ok(passes)
-}
-
-/// Shows readers the version that a book came to, if it came to one.
-fn shown<R: Reducer, T: Wait>(
-    rt: &T,
-    publisher: &mut Publisher<Version<R>>,
-    advanced: Advanced<R>,
-) -> Result<Advance, Memory>
-    ensures publishes { IfOk result (PublishesBy publisher.old publisher.new) }
-    ensures nothing { OnErr result (publisher.new ≡ publisher.old) }
-{
-    match advanced {
-        Advanced::Settled(version) => {
-            let number = version.number();
-            publisher.publish(rt, version)?;
-            Ok(Advance::Published(number))
-        }
-        Advanced::Nothing => Ok(Advance::Nothing),
-        Advanced::Halted => Ok(Advance::Halted),
-    }
 }
 
 /// All parts of these passes in one.

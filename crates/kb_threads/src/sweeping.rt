@@ -1,146 +1,109 @@
 //! Workers sift the rows of a version, which they draw.
 
-ghost use Rattle.std.specs.Prelude.{◌≡◌, ◌+◌, ◌<◌, ◌≤◌, ◌^◌, [], All, IsTrue, IfOk, IfNone, OnOk, length};
-ghost use Rattle.kb_draw.specs.Seats.{IsNewSeatOf, IsSeatOf};
-ghost use Rattle.kb_draw.specs.declared.draw.Draw.{Draw};
-ghost use Rattle.kb_threads.specs.Sweeps.{AreSifters, IsMerged, IsShareOf, RowsAreJoined};
+ghost use Rattle.std.specs.Prelude.{◌≡◌, ◌≤◌, ◌^◌, [], All, IfOk, IfNone, IsTrue, length};
+ghost use Rattle.kb_threads.specs.Sweeps.{RowsAreJoined};
 
 use crate::kept::Kept;
-use kb_draw::{Draw, Seat};
+use kb_draw::{Work, share_out};
+use kb_index::HasAutomaton;
 use kb_io::{Gate, Point};
-use kb_rules::Reducer;
 use kb_share::{Apart, Sieve, SieveSpace, Version};
 use kb_word::Memory;
 use std::alloc::Global;
 use std::sync::Wait;
-use std::thread;
 use std::thread::Threads;
 
-/// A worker that sifts: its number, from 1 on, and its seat at the rows.
+/// So many rows of a version, each of which has the prime overlaps in which one line begins first.
 #[derive(Drop)]
-struct Sifter {
-    number: u32,
-    seat: Seat,
+struct Rows<'b, R: HasAutomaton, G: Gate> {
+    sieve: Sieve<'b, R>,
+    rows: u64,
+    gate: &'b G,
+    ghost all: { rows ≡ length sieve.version.rules },
+    ghost few: { rows ≤ 2 ^ 62 },
 }
 
-/// What a worker brings back: its dry seat, and what it kept of the rows that it drew.
+/// What a worker has of the rows that it took: those overlaps that are apart and may be entered.
 #[derive(Drop)]
-struct Share {
-    seat: Seat,
-    kept: Vec<Apart>,
+struct Sifted {
+    worker: u32,
+    space: SieveSpace,
+    found: Vec<Apart>,
+    kept: Kept,
+}
+
+/// A part is a row.
+impl<'b, R: HasAutomaton, G: Gate> Work for Rows<'b, R, G> {
+    ghost use Rattle.std.specs.Prelude.{◌≡◌, []};
+    ghost use Rattle.kb_share.specs.Primes.{PrimesOfRowAreJoined};
+
+    type Share = Sifted;
+
+    ghost parts = { λ rows. rows.rows };
+
+    ghost sound = { λ rows share. Unit {0} };
+
+    ghost done = { λ rows share row.
+        share.kept ≡ [] → PrimesOfRowAreJoined rows.sieve.version.rules row };
+
+    fn parts(&self) -> u64 {
+        self.rows
+    }
+
+    fn begin(&self, alloc: Global, worker: u32) -> Result<Sifted, Memory> {
+        self.gate.at(worker, Point::Draw);
+        Ok(Sifted {
+            worker,
+            space: SieveSpace::new(alloc),
+            found: Vec::new(alloc),
+            kept: Kept::new(alloc),
+        })
+    }
+
+    fn take(&self, row: u64, share: &mut Sifted) -> Result<(), Memory> {
+        self.gate.at(share.worker, Point::Sift);
+        self.sieve
+            .sift_row(row as usize, &mut share.space, &mut share.found)?;
+        share.kept.keep_all(&share.found)?;
+        self.gate.at(share.worker, Point::Draw);
+        Ok(())
+    }
 }
 
 /// So many workers sift the prime overlaps of a version, and each keeps some of those that are apart. None where no
 /// prime overlap is apart.
-pub(crate) fn sweep<R: Reducer + Sync, G: Gate, T: Threads + Wait + Sync>(
+pub(crate) fn sweep<R: HasAutomaton + Sync, G: Gate, T: Threads + Wait + Sync>(
     rt: &T,
     alloc: Global,
     gate: &G,
-    version: &Version<R>,
+    version: Version<'_, R>,
     workers: u32,
 ) -> Result<Option<Vec<Vec<Apart>>>, Memory>
     requires { (1 ≤ workers) × (workers ≤ 64) }
-    ensures { IfOk result (λ kept. IfNone kept (RowsAreJoined version.now.rules)) }
+    ensures { IfOk result (λ kept. IfNone kept (RowsAreJoined version.entry.rules)) }
 {
-    let sieve = Sieve::of(alloc, version)?;
     let rows = version.numbers().len() as u64;
-    sweep_rows(rt, alloc, gate, &sieve, rows, workers)
-}
-
-/// The same with a sieve of the version, which has so many rows.
-fn sweep_rows<R: Reducer + Sync, G: Gate, T: Threads + Wait + Sync>(
-    rt: &T,
-    alloc: Global,
-    gate: &G,
-    sieve: &Sieve<'_, R>,
-    rows: u64,
-    workers: u32,
-) -> Result<Option<Vec<Vec<Apart>>>, Memory>
-    requires rows { (rows ≡ length sieve.now.version.now.rules) × (rows ≤ 2 ^ 62) }
-    requires workers { (1 ≤ workers) × (workers ≤ 64) }
-    ensures { IfOk result (λ kept. IfNone kept (RowsAreJoined sieve.now.version.now.rules)) }
-{
-    let (draw, seats) = Draw::new(alloc, 0, rows, workers)?;
-    let crew = sifters(alloc, seats)?;
-    let shares = thread::map_vec(
-        rt,
-        crew,
-        &|sifter: Sifter| -> Result<Share, Memory>
-            requires seat { IsNewSeatOf draw sifter.seat }
-            requires end { draw.bounds.end ≡ length sieve.now.version.now.rules }
-            ensures { IfOk result (IsShareOf draw sieve.entry.now.version.now) }
-        { work(rt, alloc, gate, sieve, &draw, sifter) },
-    )?;
-    let (seats, kept, none) = put_together(alloc, shares)?;
-    draw.close(seats);
-    if none { Ok(None) } else { Ok(Some(kept)) }
-}
-
-/// A worker at each seat.
-fn sifters(alloc: Global, mut seats: Vec<Seat>) -> Result<Vec<Sifter>, Memory>
-    requires { length seats.items ≤ 64 }
-    ensures { IfOk result (λ made. AreSifters seats.items made.items) }
-{
-    let mut made = Vec::with_capacity(alloc, seats.len())?;
-    while let Some(seat) = seats.pop() {
-        let number = made.len() as u32 + 1;
-        made.push(Sifter { number, seat })?;
+    let sieve = Sieve::of(alloc, version)?;
+    let rows = Rows { sieve, rows, gate };
+    let shares = share_out(rt, alloc, &rows, workers)?;
+    if nothing_kept(&shares) {
+        return Ok(None);
     }
-    Ok(made)
+    Ok(Some(lists_of(alloc, shares)?))
 }
 
-/// Draws rows until the seat is dry, and sifts them.
-fn work<R: Reducer, G: Gate, T: Wait>(
-    rt: &T,
-    alloc: Global,
-    gate: &G,
-    sieve: &Sieve<'_, R>,
-    draw: &Draw,
-    sifter: Sifter,
-) -> Result<Share, Memory>
-    requires seat { IsNewSeatOf draw.now sifter.seat }
-    requires end { draw.now.bounds.end ≡ length sieve.now.version.now.rules }
-    ensures { IfOk result (IsShareOf draw.now sieve.now.version.now) }
+/// Whether no worker kept anything.
+fn nothing_kept(shares: &[Sifted]) -> bool
+    ensures { IsTrue result → All (λ share. share.kept ≡ []) shares.now }
 {
-    let Sifter { number, mut seat } = sifter;
-    let mut space = SieveSpace::new(alloc);
-    let mut found = Vec::new(alloc);
-    let mut kept = Kept::new(alloc);
-    for _ in rt.forever() {
-        gate.at(number, Point::Draw);
-        let Some(row) = draw.next(&mut seat) else {
-            let kept = kept.into_vec();
-            return Ok(Share { seat, kept });
-        };
-        gate.at(number, Point::Sift);
-        sieve.sift_row(row as usize, &mut space, &mut found)?;
-        kept.keep_all(&found)?;
-    }
-    unreachable!()
+    shares.iter().all(|share| share.kept.is_empty())
 }
 
-/// The seats of all shares, what each worker kept, and whether that is nothing.
-fn put_together(
-    alloc: Global,
-    shares: Vec<Result<Share, Memory>>,
-) -> Result<(Vec<Seat>, Vec<Vec<Apart>>, bool), Memory>
-    ensures { IfOk result (λ all. IsMerged shares.items all.0.items all.2) }
-{
-    let mut seats = Vec::new(alloc);
-    let mut lists = Vec::new(alloc);
-    let mut none = true;
+/// What each worker kept.
+fn lists_of(alloc: Global, shares: Vec<Sifted>) -> Result<Vec<Vec<Apart>>, Memory> {
+    let mut lists = Vec::with_capacity(alloc, shares.len())?;
     for share in shares {
-        let Share { seat, kept } = share?;
-        none = still_none(none, &kept);
-        seats.push(seat)?;
-        lists.push(kept)?;
+        lists.push(share.kept.into_vec())?;
     }
-    Ok((seats, lists, none))
-}
-
-/// Whether nothing was kept before, and nothing by one more worker.
-fn still_none(none: bool, kept: &[Apart]) -> bool
-    ensures { IsTrue result → IsTrue none × (kept.now ≡ []) }
-{
-    none && kept.is_empty()
+    Ok(lists)
 }

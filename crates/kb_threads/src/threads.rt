@@ -9,6 +9,7 @@ use crate::entering::enter_shared;
 use crate::passed::Passed;
 use crate::sweeping::sweep;
 use kb_book::Book;
+use kb_index::HasAutomaton;
 use kb_io::Gate;
 use kb_rules::Reducer;
 use kb_share::{Apart, Version, prime_overlaps_decide};
@@ -55,7 +56,7 @@ impl<'g, G: Gate> Threads<'g, G> {
     /// Makes a pass over a book whose last version has its live lines. Of the prime overlaps of these lines that are
     /// apart the shortest are entered: those whose normal forms have at most so many letters together, by the least
     /// number by which all of them or at least 16 are entered.
-    pub fn pass<R: Reducer + Send + Sync, T: thread::Threads + Wait + Sync>(
+    pub fn pass<R: HasAutomaton + Send + Sync, T: thread::Threads + Wait + Sync>(
         &self,
         rt: &T,
         alloc: Global,
@@ -64,8 +65,7 @@ impl<'g, G: Gate> Threads<'g, G> {
         requires { IsPublished book.course.state }
         ensures { IfOk result (PassSays book.course) }
     {
-        let version = Version::of(alloc, &book)?;
-        match sweep(rt, alloc, self.gate, &version, self.workers)? {
+        match sweep(rt, alloc, self.gate, Version::of(&book), self.workers)? {
             None => {
                 prime_overlaps_decide(&book);
                 Ok(Passed::Confluent(book))

@@ -8,6 +8,7 @@ ghost use Rattle.kb_threads.specs.Passes.{PassSays};
 use crate::passed::Passed;
 use crate::threads::Threads;
 use kb_book::Book;
+use kb_index::HasAutomaton;
 use kb_io::Gate;
 use kb_rules::Reducer;
 use kb_share::OneByOne;
@@ -55,7 +56,7 @@ impl<'g, G: Gate> Workers<'g, G> {
 
     /// Makes a pass over a book whose last version has its live lines. One worker enters all overlaps that are apart, in
     /// their order (`OneByOne`); more of them enter the shortest, also where few lines are live and one does it alone.
-    pub fn pass<R: Reducer + Send + Sync, T: Threading + Wait + Sync>(
+    pub fn pass<R: HasAutomaton + Send + Sync, T: Threading + Wait + Sync>(
         &self,
         rt: &T,
         alloc: Global,

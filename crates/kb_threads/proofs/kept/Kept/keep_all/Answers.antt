@@ -1,7 +1,7 @@
 use Rattle.std.proofs.Common.{get_or, refl}
 use Rattle.std.proofs.lemmas.List.{get_or_default}
 use Rattle.kb_share.specs.declared.found.Apart.{Apart}
-use Rattle.kb_threads.proofs.Drawing.{keeps_none, keeps_more, keeps_all}
+use Rattle.kb_threads.proofs.Keeping.{keeps_none, keeps_more, keeps_all}
 use Rattle.kb_threads.proofs.kept.Kept.keep_all.Goals as goal
 
 pub loop-one-init : goal.loop-one-init
