@@ -213,37 +213,52 @@ waits_last P xs (Some x) holds = holds (length xs) x (slice_get_last xs x)
 
 -- ---- logs
 
-log_printable : (parts : PresentationParts) (version : Version) (lines : List Line) (waiting : Option Line) → version ≡ Two
-    → AreShortParts parts
+-- the lines and the pair that waits can be read again
+pub record ArePrintable (names : List (List ℕ)) (lines : List Line) (waiting : Option Line) : Type 0 where
+  pub each : All (IsPrintableLine Two names) lines
+  pub last : IfSome waiting (IsPrintableLine Two names)
+  pub few : length lines < 2 ^ 64
+
+-- those of a completion can, where their text is short
+pub completion_printable : (parts : PresentationParts) (lines : List Line) (waiting : Option Line) → AreShortParts parts
     → IsJustified (Below parts.order) (relations_of parts.inverses parts.equations) (lines ++ option_to_list waiting)
-    → length (header version ++ text_of_body version parts.names lines waiting) ≤ 2 ^ 24
-    → All (IsPrintableLine version parts.names) lines × IfSome waiting (IsPrintableLine version parts.names) × (length lines < 2 ^ 64)
-log_printable parts version lines waiting two short justified fits =
+    → length (header Two ++ text_of_body Two parts.names lines waiting) ≤ 2 ^ 24 → ArePrintable parts.names lines waiting
+completion_printable parts lines waiting short justified fits =
     let names = parts.names in
     let body : length (text_of_body Two names lines waiting) ≤ 2 ^ 24 =
-    subst (λ v. length (text_of_body v names lines waiting) ≤ 2 ^ 24) two
-    (omega (arith, fits, length-append (header version) (text_of_body version names lines waiting))) in
+    omega (arith, fits, length-append (header Two) (text_of_body Two names lines waiting)) in
     let bound : length (text_of_body Two names lines waiting) ≤ most = omega (arith, body) in
     let fewer : length (lines ++ option_to_list waiting) ≤ most =
     omega (arith, body_few names lines waiting (2 ^ 24) body) in
-    let each = line_printable names (relations_of parts.inverses parts.equations) (lines ++ option_to_list waiting)
+    let printable = line_printable names (relations_of parts.inverses parts.equations) (lines ++ option_to_list waiting)
     (relations_over short.presents) short.short justified fewer (body_small names lines waiting most bound) in
-    let back : Version → Type 0 = λ v.
-    All (IsPrintableLine v names) lines × IfSome waiting (IsPrintableLine v names) × (length lines < 2 ^ 64) in
-    subst back (sym two) (
-      all_at (IsPrintableLine Two names) lines
-          (λ index line at. each index line (slice_get_front lines (option_to_list waiting) index line at)),
-      waits_last (IsPrintableLine Two names) lines waiting each,
-      omega (arith, fewer, length-append lines (option_to_list waiting)),
-    )
+    record {
+      each =
+          all_at (IsPrintableLine Two names) lines
+          (λ index line at. printable index line (slice_get_front lines (option_to_list waiting) index line at));
+      last = waits_last (IsPrintableLine Two names) lines waiting printable;
+      few = omega (arith, fewer, length-append lines (option_to_list waiting));
+    }
+
+log_printable : (parts : PresentationParts) (log : Log) → AreShortParts parts → IsOfCompletion parts log
+    → length (text_of_log parts.names log) ≤ 2 ^ 24 → IsPrintable parts.names log
+log_printable parts log short of fits =
+    let names = parts.names in
+    let two = of.with_derivations in
+    let body : Version → Type 0 = λ v. length (header v ++ text_of_body v names log.lines.items log.waiting) ≤ 2 ^ 24 in
+    let are = completion_printable parts log.lines.items log.waiting short of.justified (subst body two fits) in
+    record {
+      lines = subst (λ v. All (IsPrintableLine v names) log.lines.items) (sym two) are.each;
+      few = are.few;
+      waiting = subst (λ v. IfSome log.waiting (IsPrintableLine v names)) (sym two) are.last;
+    }
 
 -- the log of a completion is read again as that log
 pub completion_read_again : (parts : PresentationParts) (log : Log) → AreReadableNames parts.names → AreApart parts.names
     → AreShortParts parts → IsOfCompletion parts log → length (text_of_log parts.names log) ≤ 2 ^ 24
     → IsReadAgain parts.names log
 completion_read_again parts log readable apart short of fits =
-    let are = log_printable parts log.version log.lines.items log.waiting of.with_derivations short of.justified fits in
-    let printable : IsPrintable parts.names log = record { lines = are.0; few = are.2; waiting = are.1 } in
+    let printable = log_printable parts log short of fits in
     record {
       printable = printable;
       same = λ other also same. logs_same parts.names log other readable apart printable also same;
