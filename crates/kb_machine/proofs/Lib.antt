@@ -1,6 +1,8 @@
 pub mod Numbers
 pub mod Consequences
 pub mod Logs
+pub mod Relations
+pub mod Letters
 pub mod Appending
 pub mod Lists
 pub mod Words

@@ -10,7 +10,7 @@ use Rattle.kb_machine.specs.declared.line.Line.{Line}
 use Rattle.kb_machine.proofs.Consequences.{follows_congruent}
 
 -- what stands among the first of a list stands in the list, before their end
-slice_get_take : {X : Type 0} (xs : List X) (count index : ℕ) (x : X) → slice_get (take count xs) index ≡ Some x
+pub slice_get_take : {X : Type 0} (xs : List X) (count index : ℕ) (x : X) → slice_get (take count xs) index ≡ Some x
     → (index < count) × (slice_get xs index ≡ Some x)
 slice_get_take [] zero index x e = absurd (cc e)
 slice_get_take [] (suc count) index x e = absurd (cc e)

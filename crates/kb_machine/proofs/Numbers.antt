@@ -33,7 +33,7 @@ numbered_within lines (suc index) rule e =
     let within = slice_get_within (rules_of lines) index rule e in
     omega (arith, length-map lines rule_of)
 
-slice_get_front : {X : Type 0} (xs ys : List X) (k : ℕ) (x : X) → slice_get xs k ≡ Some x
+pub slice_get_front : {X : Type 0} (xs ys : List X) (k : ℕ) (x : X) → slice_get xs k ≡ Some x
     → slice_get (xs ++ ys) k ≡ Some x
 slice_get_front [] ys k x e = absurd (cc e)
 slice_get_front (y ∷ xs) ys zero x e = e

@@ -4,3 +4,4 @@ pub mod Justified
 pub mod States
 pub mod Machine
 pub mod Course
+pub mod Letters

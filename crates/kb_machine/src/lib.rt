@@ -10,8 +10,10 @@
 //!
 //! What a log has to say is `IsJustified` of `specs/Justified.antt`: each line follows from the
 //! relations and the lines before it. By the law [`justified_lines_are_congruent`] the sides of
-//! each line are then congruent by the relations. `specs/Lines.antt` has the numbers of lines and
-//! their rules, `specs/Derivations.antt` the steps by lines.
+//! each line are then congruent by the relations, and by [`justified_lines_bring_no_letters`] over
+//! the letters of the relations, which by [`relations_are_over_the_generators`] are the generators of
+//! a presentation. `specs/Lines.antt` has the numbers of lines and their rules,
+//! `specs/Derivations.antt` the steps by lines, `specs/Letters.antt` what is over n letters.
 //!
 //! # The machine
 //!
@@ -23,8 +25,8 @@
 //!
 //! The public contract is the law [`courses_are_sound`]: along every course the live rules and the
 //! pending pairs generate the congruence of the presentation, the log is justified line by line,
-//! each left side has a live one as a factor, and a halt has its limit and a pair that waits.
-//! `specs/States.antt` has the states, `specs/Course.antt` what is said of courses.
+//! each left side has a live one as a factor, and a halt has its limit and a pair that waits. By
+//! [`courses_bring_no_letters`] all words are over the letters of the relations. `specs/States.antt` has the states, `specs/Course.antt` what is said of courses.
 //! `proofs/Invariant.antt` has what each event keeps, from which soundness follows; there is a file
 //! of lemmas for each event or two.
 //!
@@ -40,7 +42,10 @@ mod origin;
 
 pub use event::Event;
 pub use halt::Halt;
-pub use laws::courses_are_sound;
+pub use laws::{courses_are_sound, courses_bring_no_letters};
 pub use line::{Line, LogStep};
-pub use log_law::justified_lines_are_congruent;
+pub use log_law::{
+    justified_lines_are_congruent, justified_lines_bring_no_letters,
+    relations_are_over_the_generators,
+};
 pub use origin::Origin;

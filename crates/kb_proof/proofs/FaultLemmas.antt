@@ -125,18 +125,24 @@ header_right Two body h =
     let other = version_positive (50 ∷ []) (no_sign 50 (λ e. omega (arith, e))) (subst P (append_cancel_left (codes "kblog ") h.0 (50 ∷ []) line) h.2) in
     other.2 refl
 
--- a printed log is refused for want of memory only
-pub log_right : (names : List (List ℕ)) (log : Log) (error : LogError) → AreReadableNames names → IsPrintable names log → HasLogFault names (text_of_log names log) error
-    → error ≡ errors.Memory
-log_right names log errors.Memory are a h = refl
-log_right names log errors.Version are a h = absurd (header_right log.version (text_of_body log.version names log.lines.items log.waiting) h)
-log_right names log (errors.Syntax line) are a (inl h) =
-    absurd ((h.0).no_header log.version (text_of_body log.version names log.lines.items log.waiting) refl)
-log_right names log (errors.Syntax line) are a (inr h) =
-    let body = text_of_body log.version names log.lines.items log.waiting in
-    let same : log.version ≡ h.0 = version_same log.version h.0 body h.1 h.2 in
+-- a printed text is refused for want of memory only
+pub text_right : (names : List (List ℕ)) (version : Version) (lines : List Line) (waiting : Option Line) (error : LogError) → AreReadableNames names
+    → All (IsPrintableLine version names) lines → IfSome waiting (IsPrintableLine version names) → length lines < 2 ^ 64
+    → HasLogFault names (header version ++ text_of_body version names lines waiting) error → error ≡ errors.Memory
+text_right names version lines waiting errors.Memory are a p few h = refl
+text_right names version lines waiting errors.Version are a p few h = absurd (header_right version (text_of_body version names lines waiting) h)
+text_right names version lines waiting (errors.Syntax line) are a p few (inl h) =
+    absurd ((h.0).no_header version (text_of_body version names lines waiting) refl)
+text_right names version lines waiting (errors.Syntax line) are a p few (inr h) =
+    let body = text_of_body version names lines waiting in
+    let same : version ≡ h.0 = version_same version h.0 body h.1 h.2 in
     let again : header h.0 ++ body ≡ header h.0 ++ h.1 = ap (λ v. header v ++ body) (sym same) ∙ h.2 in
     let bodies : h.1 ≡ body = sym (append_cancel_left (header h.0) body h.1 again) in
     let P : Version → Type 0 = λ v. IsWrongBody v names h.1 line in
-    let Q : List ℕ → Type 0 = λ l. IsWrongBody log.version names l line in
-    absurd (body_right log.version names log.lines.items log.waiting line are a.lines a.waiting a.few (subst Q bodies (subst P (sym same) h.3)))
+    let Q : List ℕ → Type 0 = λ l. IsWrongBody version names l line in
+    absurd (body_right version names lines waiting line are a p few (subst Q bodies (subst P (sym same) h.3)))
+
+-- so is a printed log
+pub log_right : (names : List (List ℕ)) (log : Log) (error : LogError) → AreReadableNames names → IsPrintable names log → HasLogFault names (text_of_log names log) error
+    → error ≡ errors.Memory
+log_right names log error are a h = text_right names log.version log.lines.items log.waiting error are a.lines a.waiting a.few h

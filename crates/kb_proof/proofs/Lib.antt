@@ -8,3 +8,5 @@ pub mod HeaderLemmas
 pub mod SameLemmas
 pub mod FaultLemmas
 mod OneFault
+mod TextLengths
+pub mod Completions

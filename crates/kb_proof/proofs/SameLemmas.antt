@@ -225,9 +225,9 @@ not_waiting version names (Some v) k line rest are small a b e =
     (open_cut version names bytes v [] are a refl) (numbered_cut version names k bytes line rest are small b e) in
     not_open k small same.first_same
 
-record SameBodies (xs ys : List Line) (v w : Option Line) : Type 0 where
-  lines : AllZip AreSameLines xs ys
-  waiting : WaitSame v w
+pub record SameBodies (xs ys : List Line) (v w : Option Line) : Type 0 where
+  pub lines : AllZip AreSameLines xs ys
+  pub waiting : WaitSame v w
 
 bodies_same : (version : Version) (names : List (List ℕ)) (k : ℕ) (xs ys : List Line) (v w : Option Line) → AreReadableNames names → AreApart names
     → All (IsPrintableLine version names) xs → All (IsPrintableLine version names) ys → IfSome v (IsPrintableLine version names)
@@ -269,21 +269,31 @@ version_same Two Two xs ys e = refl
 version_same One Two xs ys e = let rest : 49 ∷ 10 ∷ xs ≡ 50 ∷ 10 ∷ ys = cc in differ 49 50 (10 ∷ xs) (10 ∷ ys) (λ h. omega (arith, h)) rest
 version_same Two One xs ys e = let rest : 50 ∷ 10 ∷ xs ≡ 49 ∷ 10 ∷ ys = cc in differ 50 49 (10 ∷ xs) (10 ∷ ys) (λ h. omega (arith, h)) rest
 
+-- printable lines, and a pair that waits, with the text of a log are those of the log
+pub log_same : (names : List (List ℕ)) (version : Version) (lines : List Line) (waiting : Option Line) (other : Log) → AreReadableNames names → AreApart names
+    → All (IsPrintableLine version names) lines → IfSome waiting (IsPrintableLine version names) → length lines < 2 ^ 64 → IsPrintable names other
+    → header version ++ text_of_body version names lines waiting ≡ text_of_log names other
+    → (version ≡ other.version) × SameBodies lines other.lines.items waiting other.waiting
+log_same names version lines waiting other are apart a p few b e =
+    let body = text_of_body version names lines waiting in
+    let same : version ≡ other.version =
+    version_same version other.version body (text_of_body other.version names other.lines.items other.waiting) e in
+    let again : header version ++ body ≡ header version ++ text_of_body version names other.lines.items other.waiting =
+    e ∙ ap (λ v. header v ++ text_of_body v names other.lines.items other.waiting) (sym same) in
+    let P : Version → Type 0 = λ v. All (IsPrintableLine v names) other.lines.items in
+    let Q : Version → Type 0 = λ v. IfSome other.waiting (IsPrintableLine v names) in (
+      same,
+      bodies_same version names 1 lines other.lines.items waiting other.waiting are apart a
+          (subst P (sym same) b.lines) p (subst Q (sym same) b.waiting) (omega (arith, few)) (omega (arith, b.few))
+          (append_cancel_left (header version) body (text_of_body version names other.lines.items other.waiting) again),
+    )
+
 -- two printable logs with one text are the same
 pub logs_same : (names : List (List ℕ)) (one other : Log) → AreReadableNames names → AreApart names → IsPrintable names one → IsPrintable names other
     → text_of_log names one ≡ text_of_log names other → AreSameLogs one other
 logs_same names one other are apart a b e =
-    let body = text_of_body one.version names one.lines.items one.waiting in
-    let version : one.version ≡ other.version =
-    version_same one.version other.version body (text_of_body other.version names other.lines.items other.waiting) e in
-    let again : header one.version ++ body ≡ header one.version ++ text_of_body one.version names other.lines.items other.waiting =
-    e ∙ ap (λ v. header v ++ text_of_body v names other.lines.items other.waiting) (sym version) in
-    let P : Version → Type 0 = λ v. All (IsPrintableLine v names) other.lines.items in
-    let Q : Version → Type 0 = λ v. IfSome other.waiting (IsPrintableLine v names) in
-    let same = bodies_same one.version names 1 one.lines.items other.lines.items one.waiting other.waiting are apart a.lines
-    (subst P (sym version) b.lines) a.waiting (subst Q (sym version) b.waiting) (omega (arith, a.few)) (omega (arith, b.few))
-    (append_cancel_left (header one.version) body (text_of_body one.version names other.lines.items other.waiting) again) in record {
-      version = version;
-      lines = same.lines;
-      waiting = same.waiting;
+    let same = log_same names one.version one.lines.items one.waiting other are apart a.lines a.waiting a.few b e in record {
+      version = same.0;
+      lines = same.1.lines;
+      waiting = same.1.waiting;
     }

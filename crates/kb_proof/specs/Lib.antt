@@ -3,3 +3,4 @@ pub mod Printable
 pub mod Faults
 pub mod Reading
 pub mod Same
+pub mod Completions

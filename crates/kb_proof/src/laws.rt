@@ -1,7 +1,9 @@
 //! What printing and reading have to do with each other.
 
-ghost use Rattle.std.specs.Prelude.{◌≡◌, ◌≢◌, ℕ, ◌<◌, ◌^◌, List, length};
+ghost use Rattle.std.specs.Prelude.{◌≡◌, ◌≢◌, ℕ, ◌<◌, ◌≤◌, ◌^◌, List, length};
 ghost use Rattle.kb_word.specs.Names.{AreApart};
+ghost use Rattle.kb_word.specs.Presentations.{PresentationParts};
+ghost use Rattle.kb_proof.specs.Completions.{AreShortParts, IsOfCompletion, IsReadAgain};
 ghost use Rattle.kb_proof.specs.Faults.{HasLogFault};
 ghost use Rattle.kb_proof.specs.Printable.{AreReadableNames, IsPrintable};
 ghost use Rattle.kb_proof.specs.Printed.{text_of_log};
@@ -33,4 +35,12 @@ pub fn bytes_have_one_log_fault()
     ensures { (names : List (List ℕ)) (bytes : List ℕ) (one other : SomeError) → AreReadableNames names
         → length bytes < 2 ^ 64 → one ≢ errors.Memory → other ≢ errors.Memory
         → HasLogFault names bytes one → HasLogFault names bytes other → one ≡ other }
+{}
+
+/// The log of a completion can be read again, as that log, where its text has at most 16,777,216 bytes: no line has
+/// letters without a name, and all numbers fit.
+pub fn logs_of_completions_are_read_again()
+    ensures { (parts : PresentationParts) (log : SomeLog) → AreReadableNames parts.names
+        → AreApart parts.names → AreShortParts parts → IsOfCompletion parts log
+        → length (text_of_log parts.names log) ≤ 2 ^ 24 → IsReadAgain parts.names log }
 {}

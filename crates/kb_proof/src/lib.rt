@@ -26,7 +26,8 @@
 //! The laws complete that: by [`a_printed_log_has_no_fault`] no bytes are both read and refused, and by
 //! [`a_text_is_of_one_log`] what is read of a printed log is that log; by [`bytes_have_one_log_fault`] a refusal names the
 //! one fault that there is. They ask, as [`read_log`] does, that the names are Names and none is `IdWord`
-//! (`AreReadableNames`), as the names of presentation files are.
+//! (`AreReadableNames`), as the names of presentation files are. By [`logs_of_completions_are_read_again`] the log of a
+//! completion is one that can be read again, up to the length that a file may have (`specs/Completions.antt`).
 //!
 //! # How it is made
 //!
@@ -46,7 +47,8 @@
 //! - `proofs/TextLemmas.antt`: which bytes the texts of numbers, names, words, steps and origins have.
 //! - `proofs/LineLemmas.antt`, `proofs/LogLemmas.antt`: lines and their fields, and the lines of a log.
 //! - `proofs/HeaderLemmas.antt`: the first line. `proofs/PrintLemmas.antt`: what is printed piece by piece.
-//! - `proofs/SameLemmas.antt`, `proofs/FaultLemmas.antt`, `proofs/OneFault.antt`: the laws.
+//! - `proofs/SameLemmas.antt`, `proofs/FaultLemmas.antt`, `proofs/OneFault.antt`: the laws of texts.
+//! - `proofs/TextLengths.antt`, `proofs/Completions.antt`: what a short text bounds, and the law of completions.
 //!
 //! Below are `kb_machine`, which has lines, `kb_word`, whose presentations name letters, and `kb_lexing`, whose
 //! numbers versions are.
@@ -67,7 +69,10 @@ mod steps;
 mod words;
 
 pub use error::LogError;
-pub use laws::{a_printed_log_has_no_fault, a_text_is_of_one_log, bytes_have_one_log_fault};
+pub use laws::{
+    a_printed_log_has_no_fault, a_text_is_of_one_log, bytes_have_one_log_fault,
+    logs_of_completions_are_read_again,
+};
 pub use log::{Log, Version};
 pub use printing::{print_log, print_origin};
 pub use reader::read_log;

@@ -1,3 +1,2 @@
-mod Relations
 mod Acceptors
 mod Halts

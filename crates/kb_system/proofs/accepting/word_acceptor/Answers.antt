@@ -1,6 +1,6 @@
 use Rattle.kb_word.specs.Presentations.{parts_of}
 use Rattle.kb_system.specs.Completed.{relations}
-use Rattle.kb_system.proofs.Relations.{relations_over}
+use Rattle.kb_machine.proofs.Relations.{relations_over}
 use Rattle.kb_system.proofs.Acceptors.{left_sides_apart, is_word_acceptor}
 use Rattle.kb_system.proofs.accepting.word_acceptor.Goals as goal
 

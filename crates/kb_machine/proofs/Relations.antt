@@ -12,7 +12,7 @@ IsPairOver : ℕ → Pair → Type 0
 IsPairOver n pair = IsOver n pair.0 × IsOver n pair.1
 
 -- a pair of one list after another is one of the first or of the second
-one_of_append : (pairs more : List Pair) (pair : Pair) → OneOf (pairs ++ more) pair → OneOf pairs pair ⊎ OneOf more pair
+pub one_of_append : (pairs more : List Pair) (pair : Pair) → OneOf (pairs ++ more) pair → OneOf pairs pair ⊎ OneOf more pair
 one_of_append [] more pair one = inr one
 one_of_append (first ∷ pairs) more pair (zero, is) = inl (0, is)
 one_of_append (first ∷ pairs) more pair (suc index, is) = elim (one_of_append pairs more pair (index, is)) [
