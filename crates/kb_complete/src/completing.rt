@@ -8,8 +8,8 @@ ghost use Rattle.kb_complete.specs.Completing.{CompleteSays};
 use crate::answers::{Grown, Outcome};
 use crate::growing::grow;
 use kb_book::{Book, Limits};
+use kb_index::HasAutomaton;
 use kb_io::Gate;
-use kb_rules::Reducer;
 use kb_share::{Silent, Watch, book_is_sound};
 use kb_threads::Workers;
 use kb_word::{Memory, Presentation};
@@ -18,7 +18,7 @@ use std::sync::Wait;
 use std::thread::Threads;
 
 /// Completes a presentation within limits.
-pub fn complete<R: Reducer + Send + Sync, G: Gate, T: Threads + Wait + Sync>(
+pub fn complete<R: HasAutomaton + Send + Sync, G: Gate, T: Threads + Wait + Sync>(
     rt: &T,
     alloc: Global,
     presentation: &Presentation,
@@ -36,7 +36,7 @@ pub fn complete<R: Reducer + Send + Sync, G: Gate, T: Threads + Wait + Sync>(
 }
 
 /// Completes a presentation within limits, and lets somebody watch.
-pub fn complete_watched<R: Reducer + Send + Sync, G: Gate, W: Watch, T: Threads + Wait + Sync>(
+pub fn complete_watched<R: HasAutomaton + Send + Sync, G: Gate, W: Watch, T: Threads + Wait + Sync>(
     rt: &T,
     alloc: Global,
     presentation: &Presentation,
@@ -56,7 +56,7 @@ pub fn complete_watched<R: Reducer + Send + Sync, G: Gate, W: Watch, T: Threads 
 }
 
 /// Grows the book until the completion is at its end.
-fn grow_all<R: Reducer + Send + Sync, G: Gate, W: Watch, T: Threads + Wait + Sync>(
+fn grow_all<R: HasAutomaton + Send + Sync, G: Gate, W: Watch, T: Threads + Wait + Sync>(
     rt: &T,
     alloc: Global,
     mut book: Book<R>,

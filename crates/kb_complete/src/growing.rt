@@ -10,6 +10,7 @@ use crate::answers::Grown;
 use crate::ending::{completed, end};
 use crate::publishing::{Standing, settle_and_publish};
 use kb_book::Book;
+use kb_index::HasAutomaton;
 use kb_io::Gate;
 use kb_rules::Reducer;
 use kb_share::Watch;
@@ -30,7 +31,7 @@ pub(crate) enum Round<R: Reducer> {
 
 /// Goes on until there is a line more than the book given has, or the completion is at its end.
 /// After want of memory the book is gone.
-pub fn grow<R: Reducer + Send + Sync, G: Gate, W: Watch, T: Threads + Wait + Sync>(
+pub fn grow<R: HasAutomaton + Send + Sync, G: Gate, W: Watch, T: Threads + Wait + Sync>(
     rt: &T,
     alloc: Global,
     book: Book<R>,
@@ -47,7 +48,7 @@ pub fn grow<R: Reducer + Send + Sync, G: Gate, W: Watch, T: Threads + Wait + Syn
 }
 
 /// Makes a pass over a settled book. The completion is at its end where nothing is apart.
-fn look_for_more<R: Reducer + Send + Sync, G: Gate, W: Watch, T: Threads + Wait + Sync>(
+fn look_for_more<R: HasAutomaton + Send + Sync, G: Gate, W: Watch, T: Threads + Wait + Sync>(
     rt: &T,
     alloc: Global,
     book: Book<R>,

@@ -19,7 +19,7 @@ pub(crate) enum Standing {
     Halted,
 }
 
-/// Settles a book, and publishes its live lines unless it halts.
+/// Settles a book, and publishes its live lines unless it halts: they are to be read much then.
 pub(crate) fn settle_and_publish<R: Reducer, W: Watch>(
     alloc: Global,
     book: &mut Book<R>,
@@ -31,6 +31,7 @@ pub(crate) fn settle_and_publish<R: Reducer, W: Watch>(
     if let Settled::Halted(_) = settle(alloc, book, watch)? {
         return Ok(Standing::Halted);
     }
+    book.tidy(alloc)?;
     book.publish()?;
     watch.published(book);
     Ok(Standing::Published)
