@@ -8,15 +8,14 @@
 //! - `automata`: automata, and the time that the canonical form of many states takes.
 //! - `books`: books that tests share.
 //! - `branching`: the states of a machine with several moves by one symbol.
+//! - `completion`: room in a book, versions, critical pairs and a whole completion.
 //! - `confluence`: the check of confluence by several workers.
 //! - `drawing`: numbers that threads draw.
 //! - `exploration`: the least text that a machine accepts.
 //! - `least`: the least text of a nondeterministic automaton.
 //! - `outside`: the adapters over real files and streams.
-//! - `publishing`: versions that one thread publishes and others look at.
 //! - `records`: printed records.
 //! - `reducers`: both reducers, by a list of rules that changes.
-//! - `sharing`: a book that workers share.
 //! - `words`: words, presentations and a copied reducer.
 //! - `workers`: passes by threads, which work side by side.
 //!
@@ -30,6 +29,8 @@ mod books;
 #[cfg(test)]
 mod branching;
 #[cfg(test)]
+mod completion;
+#[cfg(test)]
 mod confluence;
 #[cfg(test)]
 mod drawing;
@@ -40,13 +41,9 @@ mod least;
 #[cfg(test)]
 mod outside;
 #[cfg(test)]
-mod publishing;
-#[cfg(test)]
 mod records;
 #[cfg(test)]
 mod reducers;
-#[cfg(test)]
-mod sharing;
 #[cfg(test)]
 mod words;
 #[cfg(test)]

@@ -1,7 +1,7 @@
 pub mod Stages
 pub mod Halting
 pub mod LiveRules
-mod LinesOfVersions
+mod Ascending
 mod Sifted
 mod Picking
 mod RowByRow

@@ -13,7 +13,7 @@ use Rattle.kb_share.specs.declared.found.Found.{Found}
 use Rattle.kb_share.specs.Passes.{IsApart, IsBefore, AreAllApart}
 use Rattle.kb_share.specs.Rows.{IsApartAt, found_at, Picks}
 use Rattle.kb_share.proofs.Picking.{ComesFrom, each_picked, all_picked, picked_ascend, pairs_append}
-use Rattle.kb_share.proofs.LinesOfVersions.{one_index}
+use Rattle.kb_share.proofs.Ascending.{one_index}
 
 -- an overlap that is apart, and in one of the first rows
 pub record IsInRows (rules : List Pair) (numbers : List ℕ) (count : ℕ) (one : Found) : Type 0 where

@@ -26,9 +26,3 @@ SettleSays before after settled.Nothing =
 SettleSays before after settled.Done =
     (before.state.pending ≢ []) × (after.state.pending ≡ []) × (after.state.halt ≡ None)
 SettleSays before after (settled.Halted halt) = (before.state.pending ≢ []) × GivesHalt after halt
-
--- the halt that is answered
-abbrev pub halt_in : Settled → Option Halt
-halt_in (settled.Halted halt) = Some halt
-halt_in settled.Done = None
-halt_in settled.Nothing = None

@@ -1,10 +1,8 @@
--- Versions of a book, and what sifting by one of them answers.
+-- Versions of a book.
 use Rattle.std.specs.Prelude.{◌≡◌, ℕ, ◌<◌, List, [], ◌∷◌, ◌++◌, length, Some, slice_get}
 use Rattle.kb_word.specs.Words.{Pair}
-use Rattle.kb_word.specs.Overlap.{Overlaps, IsResolved, IsUnresolved}
+use Rattle.kb_word.specs.Overlap.{Overlaps}
 use Rattle.kb_machine.specs.States.{State, live_rules}
-use Rattle.kb_overlap.specs.declared.pair.Joinability.{Joinability}
-use Rattle.kb_overlap.specs.declared.pair.Joinability.TheVariants.{Joined, Apart}
 
 -- a version: its number, the numbers of its lines, and their rules
 pub record VersionParts : Type 0 where
@@ -28,10 +26,6 @@ pub record IsRuleOfLine (version : VersionParts) (k : ℕ) (rule : Pair) : Type 
   pub at : slice_get version.numbers index ≡ Some k
   pub is_rule : slice_get version.rules index ≡ Some rule
 
--- the version has a line with this number
-abbrev pub HasLine : VersionParts → ℕ → Type 0
-HasLine version k = (rule : Pair) × IsRuleOfLine version k rule
-
 -- an overlap of two of the version's lines; a line with itself at place 0 is none
 pub record OverlapOfLines (version : VersionParts) (i j place : ℕ)
     (first second : Pair) : Type 0 where
@@ -39,12 +33,3 @@ pub record OverlapOfLines (version : VersionParts) (i j place : ℕ)
   pub is_second : IsRuleOfLine version j second
   pub overlaps : Overlaps first.0 second.0 place
   pub proper : i ≡ j → 0 < place
-
--- two of the version's lines overlap at the place
-abbrev pub HasOverlap : VersionParts → ℕ → ℕ → ℕ → Type 0
-HasOverlap version i j place = (first second : Pair) × OverlapOfLines version i j place first second
-
--- what sifting a critical pair answers: whether its words have one normal form by the rules
-abbrev pub SiftSays : List Pair → Pair → Joinability → Type 0
-SiftSays rules pair Joined = IsResolved rules pair
-SiftSays rules pair Apart = (u v : List ℕ) × IsUnresolved rules pair u v

@@ -24,8 +24,7 @@
 //!
 //! - A [`Version`] is what a worker sifts by: the live lines of a book as they were published, and the reducer by their
 //!   rules. It borrows the book, so that nothing is copied, and nothing changes as long as it is there.
-//! - [`sift`] tells whether an overlap of two of the version's lines is joined or apart;
-//!   [`apart_in_row`] sifts all overlaps in which one line begins first, by one `kb_overlap::PairWorkspace`.
+//! - [`apart_in_row`] sifts all overlaps in which one line begins first, by one `kb_overlap::PairWorkspace`.
 //! - [`OneByOne`] makes a pass by one worker. It enters exactly the overlaps that are apart, in the
 //!   order of their lines and places (`EntersAllApart` of `specs/Passes.antt`), and tells how many there were.
 //! - A [`Sieve`] has a version's prime overlaps, and sifts them row by row: it finds exactly those that are apart, with
@@ -53,7 +52,6 @@ mod row;
 mod settled;
 mod settling;
 mod sieve;
-mod sifting;
 mod signature;
 mod simplifying;
 mod sound;
@@ -63,14 +61,12 @@ mod watch;
 pub use deciding::prime_overlaps_decide;
 pub use finding::Finder;
 pub use found::{Apart, Found};
-pub use kb_overlap::Joinability as Sift;
 pub use live::live_rules;
 pub use one_by_one::OneByOne;
 pub use row::apart_in_row;
 pub use settled::Settled;
 pub use settling::{line_made, settle};
 pub use sieve::{Sieve, SieveSpace};
-pub use sifting::sift;
 pub use sound::book_is_sound;
 pub use version::Version;
 pub use watch::{Silent, Watch};

@@ -1,12 +1,12 @@
 //! Versions of a book.
 
-ghost use Rattle.std.specs.Prelude.{◌≡◌, ◌<◌, Some, length, slice_get};
-ghost use Rattle.std.specs.List.{AllPairs, Contains};
-ghost use Rattle.kb_share.specs.Versions.{HasLine, IsPublished, IsRuleOfLine, version_of};
+ghost use Rattle.std.specs.Prelude.{◌≡◌, ◌<◌, length};
+ghost use Rattle.std.specs.List.{AllPairs};
+ghost use Rattle.kb_share.specs.Versions.{IsPublished, version_of};
 
 use crate::sound::book_is_sound;
 use kb_book::Book;
-use kb_rules::{Reducer, Rule, Rules};
+use kb_rules::{Reducer, Rules};
 use std::marker::Model;
 
 /// The live lines of a book as they were published last, and the reducer by their rules. It borrows the book, which so
@@ -57,31 +57,10 @@ impl<'b, R: Reducer> Version<'b, R> {
         self.book.reducer().list()
     }
 
-    /// The rule of its line with this number.
-    pub fn rule(&self, k: u32) -> &'b Rule
-        requires { HasLine self.now k }
-        ensures { IsRuleOfLine self.now k result.now }
-    {
-        let place = place_of(self.numbers(), k);
-        &self.rules().as_slice()[place]
-    }
-
     /// The reducer by its rules.
     pub fn reducer(&self) -> &'b R
         ensures { R.rules result.now ≡ self.now.rules }
     {
         self.book.reducer()
-    }
-}
-
-/// The place of a number among numbers that ascend.
-fn place_of(numbers: &[u32], k: u32) -> usize
-    requires ascending { AllPairs (λ one other. one < other) numbers.now }
-    requires has { Contains numbers.now k }
-    ensures { slice_get numbers.now result ≡ Some k }
-{
-    match numbers.binary_search(&k) {
-        Ok(place) => place,
-        Err(_) => unreachable!(),
     }
 }
