@@ -1,6 +1,7 @@
 use Rattle.std.proofs.Common.{subst}
-use Rattle.kb_machine.specs.Course.{Course, Takes}
+use Rattle.kb_machine.specs.Course.{Takes}
 use Rattle.kb_machine.specs.declared.event.Event.TheVariants.{Published}
+use Rattle.kb_book.specs.Books.{BookParts}
 use Rattle.kb_share.proofs.Stages.{later_then}
 use Rattle.kb_complete.proofs.Rounds.{published_later, published_settled, settled_halts, settled_idles}
 use Rattle.kb_complete.proofs.publishing.settle_and_publish.Goals as goal
@@ -17,7 +18,7 @@ pub returns-clause-later : goal.returns-clause-later
 returns-clause-later g c =
     let settled = c.settle.new.book.course in
     let after = c.publish.new.self.course in
-    let takes = subst (λ (course : Course). Takes Published course after) c.tidy.ensures c.in_ok-publish.ensures.says.0 in
+    let takes = subst (λ (book : BookParts). Takes Published book.course after) c.tidy.ensures c.in_ok-publish.ensures.says.0 in
     later_then c.args.book.now.course settled after c.settle.ensures.settles.later (published_later settled after takes)
 
 pub returns-clause-stands : goal.returns-clause-stands
@@ -25,6 +26,6 @@ returns-clause-stands g c =
     let before = c.args.book.now.course in
     let settled = c.settle.new.book.course in
     let after = c.publish.new.self.course in
-    let takes = subst (λ (course : Course). Takes Published course after) c.tidy.ensures c.in_ok-publish.ensures.says.0 in
+    let takes = subst (λ (book : BookParts). Takes Published book.course after) c.tidy.ensures c.in_ok-publish.ensures.says.0 in
     published_settled settled after takes
     (settled_idles before settled c.in_ok-settle.field-0 c.in_default.not-Halted c.in_ok-settle.ensures.says)
