@@ -20,6 +20,7 @@ use Rattle.kb_machine.specs.Course.{Course}
 use Rattle.kb_book.specs.Answers.{PendingNormalForms, AreNormalForms}
 use Rattle.kb_word.specs.declared.word_order.WordOrder.{WordOrder}
 use Rattle.kb_book.specs.Books.{IsBook}
+use Rattle.kb_book.specs.Lives.{VersionsParts}
 use Rattle.kb_book.specs.Normal.{HasPair, PairIsJoined, PairIsApart, IsNext, IsNextLine, log_step}
 use Rattle.kb_machine.specs.declared.line.Line.{Line}
 use Rattle.kb_rules.specs.declared.trace.Step.{Step}
@@ -50,7 +51,8 @@ pair_of_words relations rules origin pair u v is first second =
     subst Q (sym second) (subst P (sym first) is)
 
 -- what the reduction of the origin's pair by a book says of it
-pub origin_joined : {course : Course} {own rules : List Pair} {order : WordOrder} (book : IsBook course own rules order) (origin : Origin)
+pub origin_joined : {course : Course} {own rules : List Pair} {order : WordOrder} {versions : VersionsParts}
+    (book : IsBook course own rules order versions) (origin : Origin)
     (relations' : List Pair) (lines : List Line) (pair reduced : Pair) (answer : Joinability) → relations' ≡ own → lines ≡ course.state.lines
     → IsPairOf relations' (rules_of lines) origin pair → answer ≡ Joined → JoinSays rules pair reduced answer → PairIsJoined course origin
 origin_joined {course} {own} {rules} book origin relations' lines pair reduced answer are is_lines is_pair is says =
@@ -60,7 +62,8 @@ origin_joined {course} {own} {rules} book origin relations' lines pair reduced a
     let joined = joined_given rules (live_rules course.state) pair reduced answer book.reduces is says in
     (joined.joint, record { pair = pair; is_pair = named; first = joined.left; second = joined.right })
 
-pub origin_apart : {course : Course} {own rules : List Pair} {order : WordOrder} (book : IsBook course own rules order) (origin : Origin)
+pub origin_apart : {course : Course} {own rules : List Pair} {order : WordOrder} {versions : VersionsParts}
+    (book : IsBook course own rules order versions) (origin : Origin)
     (relations' : List Pair) (lines : List Line) (pair reduced : Pair) (answer : Joinability) → relations' ≡ own → lines ≡ course.state.lines
     → IsPairOf relations' (rules_of lines) origin pair → answer ≡ Apart → JoinSays rules pair reduced answer → PairIsApart course origin
 origin_apart {course} {own} {rules} book origin relations' lines pair reduced answer are is_lines is_pair is says =

@@ -23,6 +23,7 @@ use Rattle.kb_machine.specs.Course.{Course, IsCourse, Takes}
 use Rattle.kb_machine.specs.declared.event.Event.{Event}
 use Rattle.kb_machine.specs.declared.event.Event.TheVariants.{Entered, Dropped, Made, Halted, Killed, Shortened, Published}
 use Rattle.kb_book.specs.Books.{IsBook}
+use Rattle.kb_book.specs.Lives.{VersionsParts}
 use Rattle.kb_book.specs.Normal.{HasPair}
 use Rattle.kb_word.specs.Overlap.{critical_pair}
 use Rattle.kb_machine.specs.declared.origin.Origin.{Origin}
@@ -203,11 +204,45 @@ pub course_keeps : (course : Course) → IsCourse course → Kept course.problem
 course_keeps course is =
     kept_along course.problem (start course.problem) course.journal course.state is (kept_at_start course.problem)
 
+-- an event publishes one version at most
+published_by : (problem : Problem) (before : State) (event : Event) (after : State) → Step problem before event after
+    → length after.versions ≤ length before.versions + 1
+published_by problem before (Entered worker i j place) after step =
+    let same : length after.versions ≡ length before.versions = ap (λ (s : State). length s.versions) step.is in omega arith
+published_by problem before Dropped after step =
+    let same : length after.versions ≡ length before.versions = ap (λ (s : State). length s.versions) step.is in omega arith
+published_by problem before (Made k) after step =
+    let same : length after.versions ≡ length before.versions = ap (λ (s : State). length s.versions) step.is in omega arith
+published_by problem before Halted after step =
+    let same : length after.versions ≡ length before.versions = ap (λ (s : State). length s.versions) step.is in omega arith
+published_by problem before (Killed k) after step =
+    let same : length after.versions ≡ length before.versions = ap (λ (s : State). length s.versions) step.is in omega arith
+published_by problem before (Shortened k new) after step =
+    let same : length after.versions ≡ length before.versions = ap (λ (s : State). length s.versions) step.is in omega arith
+published_by problem before Published after step =
+    let more : length after.versions ≡ length (before.versions ++ before.live ∷ []) = ap (λ (s : State). length s.versions) step in
+    omega (arith, length-append before.versions (before.live ∷ []))
+
+published_along : (problem : Problem) (before : State) (events : List Event) (after : State) → Leads (Step problem) before events after
+    → length after.versions ≤ length before.versions + length events
+published_along problem before [] after same =
+    let own : length before.versions ≡ length after.versions = ap (λ (s : State). length s.versions) same in omega arith
+published_along problem before (event ∷ rest) after leads =
+    let first = published_by problem before event leads.0 leads.1 in
+    let others = published_along problem leads.0 rest after leads.2 in
+    omega (arith, first, others)
+
+-- there are no more versions than events
+pub versions_counted : (course : Course) → IsCourse course → length course.state.versions ≤ length course.journal
+versions_counted course is =
+    let along = published_along course.problem (start course.problem) course.journal course.state is in omega (arith, along)
+
 -- a book after one more event, whose reducer has the rules that are live then
 pub book_after : {event : Event} {before after : Course} {own rules rules' : List Pair} {order order' : WordOrder}
-    → IsBook before own rules order → Takes event before after → rules' ≡ live_rules after.state → order' ≡ order
-    → IsBook after own rules' order'
-book_after {event = event} {before = before} {after = after} book takes reduces same =
+    {versions versions' : VersionsParts} → IsBook before own rules order versions → Takes event before after
+    → rules' ≡ live_rules after.state → order' ≡ order → versions'.live ≡ after.state.live
+    → versions'.lines ≡ length after.state.lines → IsBook after own rules' order' versions'
+book_after {event = event} {before = before} {after = after} book takes reduces same live lines =
     let more : Run before.problem (before.journal ++ event ∷ []) after.state =
     leads_more (Step before.problem) (start before.problem) before.journal before.state after.state event book.is_course takes.step in
     let P : List Event → Type 0 = λ events. Run before.problem events after.state in
@@ -220,6 +255,8 @@ book_after {event = event} {before = before} {after = after} book takes reduces 
       has_relations = book.has_relations ∙ ap relations problem;
       reduces = reduces;
       decreases = same ∙ book.decreases ∙ ap (λ (problem : Problem). problem.presentation.order) problem;
+      has_live = live;
+      has_lines = lines;
       most_lines = subst L problem book.most_lines;
       most_letters = subst M problem book.most_letters;
     }

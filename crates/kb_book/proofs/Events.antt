@@ -95,17 +95,17 @@ dropped before origin pending journal next one numbers popped is_journal =
       };
     }
 
-pub made : (before : Course) (line : Line) (k : ℕ) (lines : List Line) (live : List ℕ) (pending : List Origin) (journal : List Event)
-    → IsNextLine before line → length before.state.lines < before.problem.most_lines
+pub made : (before : Course) (line : Line) (k : ℕ) (lines : List Line) (live : List ℕ) (pending : List Origin)
+    (versions : List (List ℕ)) (journal : List Event) → IsNextLine before line → length before.state.lines < before.problem.most_lines
     → length line.left ≤ before.problem.most_letters → k ≡ length before.state.lines + 1
     → lines ≡ before.state.lines ++ line ∷ [] → live ≡ before.state.live ++ k ∷ []
-    → pending ≡ drop 1 before.state.pending → journal ≡ before.journal ++ Made k ∷ []
+    → pending ≡ drop 1 before.state.pending → versions ≡ before.state.versions → journal ≡ before.journal ++ Made k ∷ []
     → MakesLine before (record {
       problem = before.problem;
-      state = record before.state { lines = lines; live = live; pending = pending };
+      state = record before.state { lines = lines; live = live; pending = pending; versions = versions };
       journal = journal;
     }) k
-made before line k lines live pending journal is room short number is_lines is_live popped is_journal =
+made before line k lines live pending versions journal is room short number is_lines is_live popped are_versions is_journal =
     let next = is.next in
     let rest : pending ≡ next.rest = popped ∙ ap (drop 1) next.pending in
     let P : List Line → Type 0 = λ l. numbered (rules_of l) k ≡ Some (rule_of line) in
@@ -123,7 +123,7 @@ made before line k lines live pending journal is room short number is_lines is_l
           short = short;
           of_origin = refl;
           apart = is.apart;
-          is = cc (is_lines, is_live, rest);
+          is = cc (is_lines, is_live, rest, are_versions);
         };
       };
       rule = rule_of line;

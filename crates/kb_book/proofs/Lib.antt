@@ -1,4 +1,5 @@
 pub mod Lists
+pub mod Lives
 pub mod Searching
 pub mod Origins
 pub mod Courses

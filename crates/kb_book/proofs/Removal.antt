@@ -16,13 +16,17 @@ use Rattle.kb_book.specs.Factors.{IsReplaceable}
 use Rattle.kb_book.proofs.Lists.{parts_at, map-remove, contained}
 
 -- the event, where the line may be taken away
-pub killed_takes : (before : Course) (k place : ℕ) (live : List ℕ) (pending : List Origin) (journal : List Event)
+pub killed_takes : (before : Course) (k place : ℕ) (live : List ℕ) (pending : List Origin) (versions : List (List ℕ)) (journal : List Event)
     → IsReplaceable (rules_of before.state.lines) before.state.live k place
     → live ≡ remove before.state.live place → pending ≡ before.state.pending ++ origins.Killed k ∷ []
-    → journal ≡ before.journal ++ Killed k ∷ []
+    → versions ≡ before.state.versions → journal ≡ before.journal ++ Killed k ∷ []
     → Takes (Killed k) before
-    (record { problem = before.problem; state = record before.state { live = live; pending = pending }; journal = journal })
-killed_takes before k place live pending journal r is_live is_pending is_journal = record {
+    (record {
+      problem = before.problem;
+      state = record before.state { live = live; pending = pending; versions = versions };
+      journal = journal;
+    })
+killed_takes before k place live pending versions journal r is_live is_pending are_versions is_journal = record {
   problem = refl;
   journal = is_journal;
   step = record {
@@ -37,7 +41,7 @@ killed_takes before k place live pending journal r is_live is_pending is_journal
     other_is_live = r.has.1;
     is_rule = r.has.3.1;
     factor = r.has.3.2;
-    is = cc (is_live, is_pending);
+    is = cc (is_live, is_pending, are_versions);
   };
 }
 

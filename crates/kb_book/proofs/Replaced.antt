@@ -18,16 +18,16 @@ use Rattle.kb_book.proofs.Derived.{AreNumbers}
 use Rattle.kb_book.proofs.Removal.{rules_without}
 use Rattle.kb_book.proofs.Events.{numbered_last, rules_with}
 
-pub shortened : (before : Course) (k place new : ℕ) (line : Line) (lines : List Line) (live : List ℕ) (journal : List Event)
-    → IsShorter before k place line → new ≡ length before.state.lines + 1
+pub shortened : (before : Course) (k place new : ℕ) (line : Line) (lines : List Line) (live : List ℕ)
+    (versions : List (List ℕ)) (journal : List Event) → IsShorter before k place line → new ≡ length before.state.lines + 1
     → lines ≡ before.state.lines ++ line ∷ [] → live ≡ remove before.state.live place ++ new ∷ []
-    → journal ≡ before.journal ++ Shortened k new ∷ []
+    → versions ≡ before.state.versions → journal ≡ before.journal ++ Shortened k new ∷ []
     → ShortensLine before (record {
       problem = before.problem;
-      state = record before.state { lines = lines; live = live };
+      state = record before.state { lines = lines; live = live; versions = versions };
       journal = journal;
     }) k new
-shortened before k place new line lines live journal is number is_lines is_live is_journal =
+shortened before k place new line lines live versions journal is number is_lines is_live are_versions is_journal =
     let P : List Line → Type 0 = λ l. numbered (rules_of l) new ≡ Some (rule_of line) in
     record {
       takes = record {
@@ -48,7 +48,7 @@ shortened before k place new line lines live journal is number is_lines is_live 
           right = is.right;
           changed = is.changed;
           no_second = is.no_second;
-          is = cc (is_lines, is_live);
+          is = cc (is_lines, is_live, are_versions);
         };
       };
       own = is.own;

@@ -1,4 +1,5 @@
 pub mod Limited
+pub mod Lives
 pub mod Books
 pub mod Answers
 pub mod Factors

@@ -9,9 +9,9 @@ ghost use Rattle.kb_machine.specs.States.{start, live_rules};
 
 use crate::answers::Shorten;
 use crate::limits::Limits;
+use crate::versions::Versions;
 use kb_machine::{Event, Halt, Line, Origin};
 use kb_overlap::PairWorkspace;
-use kb_ragged::Ragged;
 use kb_rules::Reducer;
 use kb_word::{Memory, Presentation, Word};
 use std::alloc::Global;
@@ -28,7 +28,7 @@ pub struct Book<R: Reducer> {
     pub(crate) lines: Vec<Line>,
     pub(crate) live: Vec<u32>,
     pub(crate) pending: VecDeque<Origin>,
-    pub(crate) versions: Ragged<u32>,
+    pub(crate) versions: Versions,
     pub(crate) halt: Option<Halt>,
     pub(crate) journal: Vec<Event>,
     /// By the live rules, in line order.
@@ -56,13 +56,14 @@ impl<R: Reducer> Model for Book<R> {
           lines = book.lines.items;
           live = book.live.items;
           pending = book.pending.items;
-          versions = book.versions;
+          versions = book.versions.published;
           halt = book.halt;
         };
         journal = book.journal.items;
       };
       spare = min (vec_capacity book.journal - vec_len book.journal)
           (deque_capacity book.pending - deque_len book.pending);
+      publish_room = vec_capacity book.journal - vec_len book.journal;
     } };
 
     ghost invariant = { λ book. IsBook
@@ -76,12 +77,12 @@ impl<R: Reducer> Model for Book<R> {
             lines = book.lines.items;
             live = book.live.items;
             pending = book.pending.items;
-            versions = book.versions;
+            versions = book.versions.published;
             halt = book.halt;
           };
           journal = book.journal.items;
         })
-        book.relations.items (R.rules book.reducer) (R.order book.reducer) };
+        book.relations.items (R.rules book.reducer) (R.order book.reducer) book.versions };
 }
 
 impl<R: Reducer> Book<R> {
@@ -106,9 +107,9 @@ impl<R: Reducer> Book<R> {
         &self.pending
     }
 
-    /// The numbers of the live lines of each version that was published.
-    pub fn versions(&self) -> &Ragged<u32>
-        ensures { result.now ≡ self.now.course.state.versions }
+    /// The versions that were published, of each of which they know the numbers of its live lines.
+    pub fn versions(&self) -> &Versions
+        ensures { result.now.published ≡ self.now.course.state.versions }
     {
         &self.versions
     }

@@ -26,6 +26,7 @@ impl<R: Reducer> Book<R> {
         make_room(&mut self.journal, &mut self.pending, 1)?;
         self.reducer.remove(alloc, place)?;
         let _ = self.live.remove(place);
+        self.versions.take_away(k);
         append(&mut self.pending, Origin::Killed(k));
         add(&mut self.journal, Event::Killed(k));
         Ok(Kill::Killed)

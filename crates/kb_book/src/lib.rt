@@ -13,20 +13,25 @@
 //! - `enter` makes an overlap pending that a worker found; `reserve` makes room for overlaps beforehand.
 //! - `kill` takes a line away whose left side has another live one as a factor.
 //! - `shorten` replaces a line whose right side the other live rules reduce.
-//! - `publish` publishes the live lines as a version.
+//! - `publish` publishes the live lines as a version; `reserve_publish` makes room for that beforehand.
+//!
+//! [`Versions`] tell the live numbers of each version.
 //!
 //! # Inside
 //!
-//! - `book` is the type with its readers; `starting`, `making`, `entering`, `killing`, `shortening` and `publishing`
-//!   are its calls; `limits` and `answers` are the types around it.
+//! - `book` is the type with its readers; `starting`, `making`, `entering`, `killing`, `shortening` and
+//!   `publishing` are its calls; `limits` and `answers` are the types around it.
+//! - `versions` knows which lines each version has. It takes less memory than the lines, however many versions there
+//!   are: of each line it has how many versions were published before the line was made, and before it went.
 //! - `pairs` finds the pair of words that an origin names; `steps` turns reductions by the live rules into
 //!   derivations by the numbers of lines; `numbers` finds lines by their numbers.
 //! - `room` takes memory before anything changes; `copies` copies halts and rules.
 //!
-//! In specs/, `Books` says what a book is seen as and what it keeps, and `Answers` what its calls answer; `Normal`,
-//! `Factors` and `Shorter` say when a line may be made, taken away and replaced, and `Limited` which limits there
-//! are. In proofs/, `Courses` has what is kept along every course, by which the other lemmas know that lines decrease
-//! and live numbers ascend.
+//! In specs/, `Books` says what a book is seen as and what it keeps, and `Answers` what its calls answer; `Lives` says
+//! which versions have which lines; `Normal`, `Factors` and `Shorter` say when a line may be made, taken away and
+//! replaced, and `Limited` which limits there are. In proofs/, `Courses` has what is kept along every course, by which
+//! the other lemmas know that lines decrease, that live numbers ascend, and that there are no more versions than events;
+//! `Lives` has what becomes of the versions' lines where a line is made, where one goes, and where a version is published.
 //!
 //! Below are `kb_rules`, whose `Reducer` computes normal forms by the live rules, `kb_overlap`, which knows
 //! overlaps and their pairs, and `kb_machine`.
@@ -46,7 +51,9 @@ mod room;
 mod shortening;
 mod starting;
 mod steps;
+mod versions;
 
 pub use answers::{EnterFault, Kill, Make, Shorten};
 pub use book::Book;
 pub use limits::Limits;
+pub use versions::Versions;

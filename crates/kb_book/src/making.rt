@@ -100,10 +100,12 @@ impl<R: Reducer> Book<R> {
         self.journal.reserve(1)?;
         self.lines.reserve(1)?;
         self.live.reserve(1)?;
+        self.versions.reserve()?;
         self.reducer.push(alloc, &rule)?;
         let _ = self.pending.pop_front();
         add(&mut self.lines, line);
         add(&mut self.live, k);
+        self.versions.add_line();
         add(&mut self.journal, Event::Made(k));
         Ok(Make::Made(k))
     }

@@ -55,9 +55,12 @@ impl<R: Reducer> Book<R> {
         let new = self.lines.len() as u32 + 1;
         self.journal.reserve(1)?;
         self.lines.reserve(1)?;
+        self.versions.reserve()?;
         exchange(alloc, &mut self.reducer, place, &line)?;
         let _ = self.live.remove(place);
         add(&mut self.live, new);
+        self.versions.take_away(k);
+        self.versions.add_line();
         add(&mut self.lines, line);
         add(&mut self.journal, Event::Shortened { line: k, new });
         Ok(Shorten::Shortened(new))

@@ -6,9 +6,9 @@ ghost use Rattle.kb_machine.specs.States.{relation_origins, start};
 
 use crate::book::Book;
 use crate::limits::Limits;
+use crate::versions::Versions;
 use kb_machine::Origin;
 use kb_overlap::PairWorkspace;
-use kb_ragged::Ragged;
 use kb_rules::{Reducer, Rules};
 use kb_word::{Memory, Presentation, Word, WordOrder};
 use std::alloc::Global;
@@ -34,7 +34,6 @@ impl<R: Reducer> Book<R> {
         let relations = presentation.relations(alloc)?;
         let pending = origins_of(alloc, &relations)?;
         let reducer = without_rules(alloc, &presentation.order)?;
-        let versions = Ragged::new(alloc)?;
         Ok(Book {
             presentation,
             relations,
@@ -43,7 +42,7 @@ impl<R: Reducer> Book<R> {
             lines: Vec::new(alloc),
             live: Vec::new(alloc),
             pending,
-            versions,
+            versions: Versions::new(alloc),
             halt: None,
             journal: Vec::new(alloc),
             reducer,

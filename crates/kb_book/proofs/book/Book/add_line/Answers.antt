@@ -1,4 +1,4 @@
-use Rattle.std.proofs.Common.{◌≡◌, ◌<◌, ◌≤◌, ◌+◌, ℕ, List, [], ◌∷◌, ◌++◌, length, sym, ap, ◌∙◌, subst, arith}
+use Rattle.std.proofs.Common.{◌≡◌, ◌<◌, ◌≤◌, ◌+◌, ℕ, List, [], ◌∷◌, ◌++◌, length, length-append, sym, ap, ◌∙◌, subst, arith}
 use Rattle.kb_machine.specs.declared.line.Line.{Line}
 use Rattle.kb_machine.specs.Lines.{rule_of}
 use Rattle.kb_machine.specs.declared.event.Event.{Event}
@@ -25,11 +25,19 @@ invariant_of-self-2 g c =
     let events = c.add-3.ensures.items ∙ ap (λ (l : List Event). l ++ Made (c.len.result + 1) ∷ []) c.reserve.ensures.items in
     let pushed : g.R.Reducer.rules c.push.new.self ≡ g.R.Reducer.rules c.self.inside.reducer ++ rule_of c.args.line ∷ [] =
     cc (c.in_ok-push.ensures.ok, c.in_ok-rule.ensures) in
+    let versions = c.add_line.ensures.published ∙ c.reserve-4.ensures.published in
+    let has_live = c.reserve-4.ensures.live ∙ c.self.invariant.has_live in
+    let has_lines : c.reserve-4.new.self.lines + 1 ≡ k =
+    let had = c.reserve-4.ensures.lines ∙ c.self.invariant.has_lines in omega (arith, had, number) in
+    let one_more : length (c.self.inside.lines.items ++ c.args.line ∷ []) ≡ length c.self.inside.lines.items + 1 =
+    length-append c.self.inside.lines.items (c.args.line ∷ []) in
     book_after c.self.invariant
-    (made _ c.args.line (c.len.result + 1) _ _ _ _ is room short number lines live c.pop_front.ensures.rest events).takes
+    (made _ c.args.line (c.len.result + 1) _ _ _ _ _ is room short number lines live c.pop_front.ensures.rest versions events).takes
     (rules_with c.self.inside.lines.items c.self.inside.live.items c.args.line (c.len.result + 1) _ _ _ _ numbers number
     c.self.invariant.reduces pushed lines live)
     c.push.ensures.order
+    (c.add_line.ensures.live ∙ cc (has_live, has_lines, live))
+    (c.add_line.ensures.lines ∙ has_lines ∙ number ∙ sym (ap (λ (l : List Line). length l) lines ∙ one_more))
 
 pub returns : goal.returns
 returns g c =
@@ -44,5 +52,6 @@ returns g c =
     let lines = c.add.ensures.items ∙ ap (λ (l : List Line). l ++ c.args.line ∷ []) c.reserve-2.ensures.items in
     let live = c.add-2.ensures.items ∙ ap (λ (l : List ℕ). l ++ (c.len.result + 1) ∷ []) c.reserve-3.ensures.items in
     let events = c.add-3.ensures.items ∙ ap (λ (l : List Event). l ++ Made (c.len.result + 1) ∷ []) c.reserve.ensures.items in
-    let after = made _ c.args.line (c.len.result + 1) _ _ _ _ is room short number lines live c.pop_front.ensures.rest events in
+    let after = made _ c.args.line (c.len.result + 1) _ _ _ _ _ is room short number lines live c.pop_front.ensures.rest
+    (c.add_line.ensures.published ∙ c.reserve-4.ensures.published) events in
     rw (← c.self.view_is) after

@@ -16,7 +16,7 @@ invariant_of-self-2 g c =
     let numbers = (course_keeps _ c.self.invariant.is_course).numbers in
     let events = c.add.ensures.items ∙ ap (λ (l : List Event). l ++ Dropped ∷ []) c.reserve.ensures.items in
     book_after c.self.invariant (dropped _ c.args.origin _ _ next one numbers c.pop_front.ensures.rest events).takes
-    c.self.invariant.reduces refl
+    c.self.invariant.reduces refl c.self.invariant.has_live c.self.invariant.has_lines
 
 pub returns : goal.returns
 returns g c =

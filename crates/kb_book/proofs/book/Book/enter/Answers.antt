@@ -17,4 +17,4 @@ invariant_of-self-2 g c =
     let origins = c.append.ensures.items ∙ ap (λ (l : List Origin). l ++ origin ∷ []) c.make_room.ensures.origins in
     book_after {event = event} c.self.invariant
     (record { problem = refl; journal = events; step = record { first = found.0; second = found.1; overlap = found.2; is = cc origins } })
-    c.self.invariant.reduces refl
+    c.self.invariant.reduces refl c.self.invariant.has_live c.self.invariant.has_lines

@@ -1,13 +1,17 @@
-use Rattle.std.proofs.Common.{◌≡◌, ℕ, List, [], ◌∷◌, ◌++◌, refl, ap, ◌∙◌}
+use Rattle.std.proofs.Common.{ℕ, List, [], ◌∷◌, ◌++◌, refl, ap, ◌∙◌, arith}
 use Rattle.kb_machine.specs.declared.event.Event.{Event}
 use Rattle.kb_machine.specs.declared.event.Event.TheVariants.{Published}
-use Rattle.kb_book.proofs.Courses.{book_after}
+use Rattle.kb_book.proofs.Courses.{versions_counted, book_after}
 use Rattle.kb_book.proofs.book.Book.publish.Goals as goal
 
 pub invariant_of-self-2 : goal.invariant_of-self-2
 invariant_of-self-2 g c =
-    let live : c.deref.result.now ≡ c.self.inside.live.items = c.deref.ensures.value in
     let events = c.add.ensures.items ∙ ap (λ (l : List Event). l ++ Published ∷ []) c.reserve.ensures.items in
-    let versions = c.in_ok-push.ensures.pushed ∙ ap (λ (l : List ℕ). c.self.inside.versions ++ l ∷ []) live in
+    let versions = c.publish.ensures.published ∙ ap (λ (l : List ℕ). c.self.inside.versions.published ++ l ∷ []) c.self.invariant.has_live in
     book_after {event = Published} c.self.invariant (record { problem = refl; journal = events; step = cc versions })
-    c.self.invariant.reduces refl
+    c.self.invariant.reduces refl (c.publish.ensures.live ∙ c.self.invariant.has_live) (c.publish.ensures.lines ∙ c.self.invariant.has_lines)
+
+pub publish-requires : goal.publish-requires
+publish-requires g c =
+    let few = versions_counted _ c.self.invariant.is_course in
+    omega (arith, few, c.self.inside.journal.ok.0)

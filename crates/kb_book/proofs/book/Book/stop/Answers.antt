@@ -14,7 +14,7 @@ invariant_of-self-2 g c =
     let events = c.add.ensures.items ∙ ap (λ (l : List Event). l ++ Halted ∷ []) c.reserve.ensures.items in
     book_after c.self.invariant
     (halted _ c.args.halt c.in_ok-copy.copy (Some c.args.halt) _ limit c.in_ok-copy.ensures refl events).takes
-    c.self.invariant.reduces refl
+    c.self.invariant.reduces refl c.self.invariant.has_live c.self.invariant.has_lines
 
 pub returns : goal.returns
 returns g c =
