@@ -152,6 +152,13 @@ impl<R: Reducer> Book<R> {
         &self.reducer
     }
 
+    /// Makes the reducer ready for much reading, before a pass. After want of memory too the book is as it was.
+    pub fn tidy(&mut self, alloc: Global) -> Result<(), Memory>
+        ensures { self.new ≡ self.old }
+    {
+        self.reducer.tidy(alloc)
+    }
+
     /// The lines, and why the completion halted, if it did; given back without taking memory.
     pub fn into_log(self) -> (Vec<Line>, Option<Halt>)
         ensures lines { result.0.items ≡ self.course.state.lines }

@@ -15,11 +15,12 @@
 //! - `shorten` replaces a line whose right side the other live rules reduce.
 //! - `publish` publishes the live lines as a version; `reserve_publish` makes room for that beforehand.
 //!
-//! [`Versions`] tell the live numbers of each version.
+//! `tidy` makes the reducer ready for much reading. Like the calls that make room it is no event. [`Versions`] tell the
+//! live numbers of each version.
 //!
 //! # Inside
 //!
-//! - `book` is the type with its readers; `starting`, `making`, `entering`, `killing`, `shortening` and
+//! - `book` is the type with its readers and `tidy`; `starting`, `making`, `entering`, `killing`, `shortening` and
 //!   `publishing` are its calls; `limits` and `answers` are the types around it.
 //! - `versions` knows which lines each version has. It takes less memory than the lines, however many versions there
 //!   are: of each line it has how many versions were published before the line was made, and before it went.
