@@ -10,7 +10,7 @@ pub record VersionsParts : Type 0 where
   pub lines : ℕ
   pub room : ℕ
 
--- a line that went when this many versions were published isn't gone from the version at the place
+-- the version at the place was published before a line went, which went after so many versions, if it went
 abbrev pub is_before : ℕ → Option ℕ → Bool
 is_before place None = true
 is_before place (Some gone) = nat_lt place gone

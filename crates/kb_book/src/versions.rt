@@ -67,7 +67,7 @@ impl Versions {
         self.count
     }
 
-    /// The live numbers of the version with this number, ascending; the first version has number 1.
+    /// The live numbers of the version with this number. The first version has number 1.
     pub fn numbers(&self, alloc: Global, version: u64) -> Result<Vec<u32>, Memory>
         requires { (0 < version) × (version ≤ length self.now.published) }
         ensures { IfOk result (λ numbers. numbered self.now.published version ≡ Some numbers.items) }
