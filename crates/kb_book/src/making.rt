@@ -10,7 +10,7 @@ use crate::answers::Make;
 use crate::book::Book;
 use crate::copies::{copy_halt, copy_rule};
 use crate::pairs::put_pair;
-use crate::room::add;
+use crate::room::{add, make_line_room};
 use crate::steps::{log_steps, ordered};
 use kb_machine::{Event, Halt, Line, Origin};
 use kb_overlap::Joinability;
@@ -97,10 +97,12 @@ impl<R: Reducer> Book<R> {
     {
         let rule = copy_rule(alloc, &line)?;
         let k = self.lines.len() as u32 + 1;
-        self.journal.reserve(1)?;
-        self.lines.reserve(1)?;
-        self.live.reserve(1)?;
-        self.versions.reserve()?;
+        make_line_room(
+            &mut self.journal,
+            &mut self.lines,
+            &mut self.live,
+            &mut self.versions,
+        )?;
         self.reducer.push(alloc, &rule)?;
         let _ = self.pending.pop_front();
         add(&mut self.lines, line);

@@ -3,7 +3,8 @@
 ghost use Rattle.std.specs.Prelude.{◌≡◌, ◌+◌, ◌-◌, ◌≤◌, ◌<◌, [], ◌∷◌, ◌++◌, min, OnOk, OnErr, vec_len, vec_capacity};
 ghost use Rattle.std.specs.VecDeque.{deque_len, deque_capacity};
 
-use kb_machine::{Event, Origin};
+use crate::versions::Versions;
+use kb_machine::{Event, Line, Origin};
 use kb_word::Memory;
 use std::collections::VecDeque;
 
@@ -27,6 +28,31 @@ pub(crate) fn make_room(
     journal.reserve(n)?;
     pending.reserve(n)?;
     Ok(())
+}
+
+/// Makes room for one more line.
+pub(crate) fn make_line_room(
+    journal: &mut Vec<Event>,
+    lines: &mut Vec<Line>,
+    live: &mut Vec<u32>,
+    versions: &mut Versions,
+) -> Result<(), Memory>
+    ensures events { journal.new.items ≡ journal.old.items }
+    ensures lines { lines.new.items ≡ lines.old.items }
+    ensures live { live.new.items ≡ live.old.items }
+    ensures live_len { vec_len live.new ≡ vec_len live.old }
+    ensures published { versions.new.published ≡ versions.old.published }
+    ensures versions_live { versions.new.live ≡ versions.old.live }
+    ensures versions_lines { versions.new.lines ≡ versions.old.lines }
+    ensures room_of_events { OnOk result (vec_len journal.new < vec_capacity journal.new) }
+    ensures room_of_lines { OnOk result (vec_len lines.new < vec_capacity lines.new) }
+    ensures room_of_live { OnOk result (vec_len live.new < vec_capacity live.new) }
+    ensures room_of_versions { OnOk result (0 < versions.new.room) }
+{
+    journal.reserve(1)?;
+    lines.reserve(1)?;
+    live.reserve(1)?;
+    versions.reserve()
 }
 
 /// Adds an item at the end of a list that has room for it.

@@ -13,7 +13,7 @@ use crate::answers::Shorten;
 use crate::book::Book;
 use crate::copies::copy_rule;
 use crate::numbers::{line_of, place_of};
-use crate::room::add;
+use crate::room::{add, make_line_room};
 use crate::steps::log_steps;
 use kb_machine::{Event, Line, Origin};
 use kb_rules::{Reducer, Trace};
@@ -53,9 +53,12 @@ impl<R: Reducer> Book<R> {
         ensures { ShortenSays k self.old.course self.new.course result }
     {
         let new = self.lines.len() as u32 + 1;
-        self.journal.reserve(1)?;
-        self.lines.reserve(1)?;
-        self.versions.reserve()?;
+        make_line_room(
+            &mut self.journal,
+            &mut self.lines,
+            &mut self.live,
+            &mut self.versions,
+        )?;
         exchange(alloc, &mut self.reducer, place, &line)?;
         let _ = self.live.remove(place);
         add(&mut self.live, new);

@@ -20,15 +20,16 @@ invariant_of-self-2 g c =
     let numbers = (course_keeps _ c.self.invariant.is_course).numbers in
     let k : ℕ = c.len.result + 1 in
     let number : k ≡ length c.self.inside.lines.items + 1 = omega (arith, c.self.inside.lines.ok.0) in
-    let lines = c.add.ensures.items ∙ ap (λ (l : List Line). l ++ c.args.line ∷ []) c.reserve-2.ensures.items in
-    let live = c.add-2.ensures.items ∙ ap (λ (l : List ℕ). l ++ (c.len.result + 1) ∷ []) c.reserve-3.ensures.items in
-    let events = c.add-3.ensures.items ∙ ap (λ (l : List Event). l ++ Made (c.len.result + 1) ∷ []) c.reserve.ensures.items in
+    let lines = c.add.ensures.items ∙ ap (λ (l : List Line). l ++ c.args.line ∷ []) c.make_line_room.ensures.lines in
+    let live = c.add-2.ensures.items ∙ ap (λ (l : List ℕ). l ++ (c.len.result + 1) ∷ []) c.make_line_room.ensures.live in
+    let events = c.add-3.ensures.items ∙ ap (λ (l : List Event). l ++ Made (c.len.result + 1) ∷ []) c.make_line_room.ensures.events in
     let pushed : g.R.Reducer.rules c.push.new.self ≡ g.R.Reducer.rules c.self.inside.reducer ++ rule_of c.args.line ∷ [] =
     cc (c.in_ok-push.ensures.ok, c.in_ok-rule.ensures) in
-    let versions = c.add_line.ensures.published ∙ c.reserve-4.ensures.published in
-    let has_live = c.reserve-4.ensures.live ∙ c.self.invariant.has_live in
-    let has_lines : c.reserve-4.new.self.lines + 1 ≡ k =
-    let had = c.reserve-4.ensures.lines ∙ c.self.invariant.has_lines in omega (arith, had, number) in
+    let versions : c.add_line.new.self.published ≡ c.self.inside.versions.published =
+    c.add_line.ensures.published ∙ c.make_line_room.ensures.published in
+    let has_live = c.make_line_room.ensures.versions_live ∙ c.self.invariant.has_live in
+    let has_lines : c.make_line_room.new.versions.lines + 1 ≡ k =
+    let had = c.make_line_room.ensures.versions_lines ∙ c.self.invariant.has_lines in omega (arith, had, number) in
     let one_more : length (c.self.inside.lines.items ++ c.args.line ∷ []) ≡ length c.self.inside.lines.items + 1 =
     length-append c.self.inside.lines.items (c.args.line ∷ []) in
     book_after c.self.invariant
@@ -49,9 +50,10 @@ returns g c =
     let short = subst S (sym c.self.view_is) c.requires.short in
     let k : ℕ = c.len.result + 1 in
     let number : k ≡ length c.self.inside.lines.items + 1 = omega (arith, c.self.inside.lines.ok.0) in
-    let lines = c.add.ensures.items ∙ ap (λ (l : List Line). l ++ c.args.line ∷ []) c.reserve-2.ensures.items in
-    let live = c.add-2.ensures.items ∙ ap (λ (l : List ℕ). l ++ (c.len.result + 1) ∷ []) c.reserve-3.ensures.items in
-    let events = c.add-3.ensures.items ∙ ap (λ (l : List Event). l ++ Made (c.len.result + 1) ∷ []) c.reserve.ensures.items in
-    let after = made _ c.args.line (c.len.result + 1) _ _ _ _ _ is room short number lines live c.pop_front.ensures.rest
-    (c.add_line.ensures.published ∙ c.reserve-4.ensures.published) events in
+    let lines = c.add.ensures.items ∙ ap (λ (l : List Line). l ++ c.args.line ∷ []) c.make_line_room.ensures.lines in
+    let live = c.add-2.ensures.items ∙ ap (λ (l : List ℕ). l ++ (c.len.result + 1) ∷ []) c.make_line_room.ensures.live in
+    let events = c.add-3.ensures.items ∙ ap (λ (l : List Event). l ++ Made (c.len.result + 1) ∷ []) c.make_line_room.ensures.events in
+    let versions : c.add_line.new.self.published ≡ c.self.inside.versions.published =
+    c.add_line.ensures.published ∙ c.make_line_room.ensures.published in
+    let after = made _ c.args.line (c.len.result + 1) _ _ _ _ _ is room short number lines live c.pop_front.ensures.rest versions events in
     rw (← c.self.view_is) after
