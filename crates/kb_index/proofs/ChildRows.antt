@@ -4,7 +4,7 @@ use Rattle.std.proofs.lemmas.List.{get_or_push, length_push, get_or_past, get_or
 use Rattle.std.proofs.lemmas.Bool.{cases_lt, cases_eq}
 use Rattle.kb_index.specs.declared.edge.Edge.{Edge}
 use Rattle.kb_index.specs.Edges.{edge_at, no_edge}
-use Rattle.kb_index.specs.Children.{AreShortChildren, IsChild, IsChildOrNone, IsNoChild}
+use Rattle.kb_index.specs.Children.{AreShortChildren, IsChildOrNone, IsNoChild}
 use Rattle.kb_index.proofs.States.{edge_old}
 
 -- no state has a child

@@ -4,6 +4,7 @@ pub mod States
 pub mod Runs
 pub mod Steps
 pub mod Rows
+pub mod Sides
 pub mod Growth
 pub mod Linking
 pub mod Chaining

@@ -1,5 +1,6 @@
 pub mod Edges
 pub mod Tries
+pub mod Sides
 pub mod Growing
 pub mod Children
 pub mod Links

@@ -5,17 +5,18 @@
 //! order is replaced. Where the scan tries each rule at each letter, the index goes from state to state, however many
 //! rules there are: while no rule applies and none has come since the index was made, n letters take n looks into a
 //! table, or where the alphabet is too large for one, at most 2 n moves along edges and links. Making the index takes
-//! time that grows with the number of letters of all left sides, times the logarithm of the number of rules, since each
-//! level is sorted, and with the entries of the table. A rule that comes takes, over a long run, about five times as
-//! much for its own left side, one that goes about as much, and a rule that goes also moves the later ones one place
-//! down. Want of memory is the one free answer, and leaves the list of rules as it was.
+//! time that grows with the number of letters of all left sides and with the entries of the table; the left sides are
+//! sorted once. A rule that comes takes, over a long run, about five times as much for its own left side, one that goes
+//! about as much, and a rule that goes also moves the later ones one place down. Want of memory is the one free answer,
+//! and leaves the list of rules as it was.
 //!
 //! How it is made (Aho and Corasick, 1975; Sims, Computation with Finitely Presented Groups, 3.5):
 //!
 //! - `trie`: the trie of the left sides, a list of edges. State 0 stands for the empty word, and the other states
 //!   are the places of the edges to them, so that each state stands for the letters on the way to it. The edges are
 //!   made level by level, in the order of the states that they lead from and of their letters. So states with
-//!   longer words come later, and the edges from one state stand together.
+//!   longer words come later, and the edges from one state stand together. The left sides are sorted once (`side`), in
+//!   lexicographic order, in which they then come to each level in the order of its edges.
 //! - `children`: where the edges from each state begin. A child is found by halving, in time that grows as the
 //!   logarithm of the number of the state's children, however many letters there are. State 0, at which many
 //!   searches end, has a row with its child by each letter.
@@ -51,7 +52,7 @@
 //! of either kind ends what is read (`IsFirstSuch` of specs/Live.antt) gives the rule of the first rewrite (`IsOwner`).
 //!
 //! The definitions are in specs/, and the lemmas in proofs/: `Words` and `States` on the states and their words,
-//! `Growth` on a level of the trie, `Runs` on children, `Steps` and `Linking` on links, `Rows` on the table, `Chaining`
+//! `Sides` on the left sides in order, `Growth` on a level of the trie, `Runs` on children, `Steps` and `Linking` on links, `Rows` on the table, `Chaining`
 //! on chains, `Ending` on the rules of the automaton that end what is read, `Recents`, `ChildRows` and `Walking` on
 //! those that came later, `Numbering` on the numbers of the list's rules, and `Fronts` on reading. What a step does to
 //! a word, and that steps come to an end, are lemmas of `kb_rules`.
@@ -72,6 +73,7 @@ mod lookup;
 mod reading;
 mod recent;
 mod short_children;
+mod side;
 mod stepping;
 mod table;
 mod trie;

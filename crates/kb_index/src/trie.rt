@@ -1,106 +1,104 @@
 //! The trie of the left sides, made level by level.
 
 ghost use Rattle.std.specs.Prelude.{◌≡◌, ℕ, IsTrue, false, ◌<◌, ◌≤◌, ◌+◌, ◌^◌, [], ◌++◌, IfOk, OnOk, All, length};
-ghost use Rattle.std.specs.List.Sorted.{IsNonDecreasingBy};
 ghost use Rattle.kb_index.specs.Edges.{AreEdges, IsLast, edge_at, rank};
 ghost use Rattle.kb_index.specs.Tries.{IsTrie, left_at};
-ghost use Rattle.kb_index.specs.Growing.{AreWaiting, Follows, IsGrown, rank_of, waits};
+ghost use Rattle.kb_index.specs.Sides.{AreInOrder, IsSmall, sided};
+ghost use Rattle.kb_index.specs.Growing.{AreWaiting, Follows, IsGrown, waits};
 
 use crate::edge::Edge;
+use crate::side::{Side, sorted_sides};
 use kb_rules::Rule;
 use kb_word::Memory;
 use std::alloc::Global;
 
-/// A rule whose left side goes on along an edge that the trie may still lack.
+/// A left side that goes on along an edge which the trie may still lack, by its place in lexicographic order.
 #[derive(Clone, Copy, Debug)]
 pub struct Waiting {
     pub edge: Edge,
-    pub rule: usize,
+    pub side: usize,
 }
 
 /// The trie of the left sides. Its edges come in the order of the states that they lead from, and of the
-/// letters where they lead from one state.
+/// letters where they lead from one state. The left sides wait in lexicographic order, so that at each level they wait
+/// in the order of the edges: those that wait at one state agree up to there, so that their next letters don't fall.
 pub fn trie_of(alloc: Global, rules: &[Rule]) -> Result<Vec<Edge>, Memory>
     ensures { IfOk result (λ edges. IsTrie rules.now edges.items) }
 {
+    let sides = sorted_sides(alloc, rules)?;
     let mut edges = Vec::new(alloc);
-    let mut waiting = wait_at_root(alloc, rules)?;
-    for depth in 0..longest(rules) {
-        waiting.sort_by_key(|waiting| {
-            waiting.edge.parent as u128 * 65536 + waiting.edge.letter as u128
-        })?;
-        waiting = grow_level(alloc, rules, depth, &waiting, &mut edges)?;
+    let mut waiting = wait_at_root(alloc, &sides)?;
+    for depth in 0..longest(&sides) {
+        waiting = grow_level(alloc, &sides, depth, &waiting, &mut edges)?;
     }
     Ok(edges)
 }
 
 /// The length of the longest left side.
-fn longest(rules: &[Rule]) -> usize
-    ensures { (k : ℕ) → k < length rules.now → length (left_at rules.now k) ≤ result }
+fn longest(sides: &[Side]) -> usize
+    ensures { (k : ℕ) → k < length sides.now → length (left_at (sided sides.now) k) ≤ result }
 {
     let mut longest = 0;
-    for rule in rules {
-        longest = longest.max(rule.left().len());
+    for side in sides {
+        longest = longest.max(side.letters.len());
     }
     longest
 }
 
-/// All rules but those with an empty left side, at the root.
-fn wait_at_root(alloc: Global, rules: &[Rule]) -> Result<Vec<Waiting>, Memory>
-    ensures { IfOk result (λ waiting. AreWaiting rules.now [] 0 waiting.items) }
+/// All left sides but empty ones, at the root.
+fn wait_at_root(alloc: Global, sides: &[Side]) -> Result<Vec<Waiting>, Memory>
+    requires { All IsSmall sides.now }
+    ensures { IfOk result (λ waiting. AreWaiting (sided sides.now) [] 0 waiting.items) }
 {
-    let mut waiting = Vec::new(alloc);
-    for rule in 0..rules.len() {
-        wait(rules, rule, 0, 0, &mut waiting)?;
+    let mut waiting = Vec::with_capacity(alloc, sides.len())?;
+    for side in 0..sides.len() {
+        wait(sides, side, 0, 0, &mut waiting)?;
     }
     Ok(waiting)
 }
 
-/// Lets a rule wait at the state of its first letters, as many as are named, if its left side has more.
+/// Lets a left side wait at the state of its first letters, as many as are named, if it has more.
 fn wait(
-    rules: &[Rule],
-    rule: usize,
+    sides: &[Side],
+    side: usize,
     depth: usize,
     state: usize,
     waiting: &mut Vec<Waiting>,
 ) -> Result<(), Memory>
-    requires { rule < length rules.now }
-    ensures waits { OnOk result (waiting.new.items
-        ≡ waiting.old.items ++ waits rules.now depth state rule) }
-    ensures range { All (λ letter. letter < 2 ^ 16) (left_at rules.now rule) }
+    requires { side < length sides.now }
+    ensures { OnOk result (waiting.new.items
+        ≡ waiting.old.items ++ waits (sided sides.now) depth state side) }
 {
-    let left = rules[rule].left().letters();
-    if depth < left.len() {
-        let letter = left[depth].number();
+    if let Some(letter) = sides[side].letters.get(depth) {
         let edge = Edge {
             parent: state,
-            letter,
+            letter: letter.number(),
         };
-        waiting.push(Waiting { edge, rule })?;
+        waiting.push(Waiting { edge, side })?;
     }
     Ok(())
 }
 
-/// Makes the states of the next level, where the rules then wait whose left sides are longer still.
+/// Makes the states of the next level, where the left sides then wait that are longer still.
 fn grow_level(
     alloc: Global,
-    rules: &[Rule],
+    sides: &[Side],
     depth: usize,
     waiting: &[Waiting],
     edges: &mut Vec<Edge>,
 ) -> Result<Vec<Waiting>, Memory>
     requires depth { depth + 1 < 2 ^ 64 }
-    requires grown { IsGrown rules.now edges.old.items depth }
-    requires waiting { AreWaiting rules.now edges.old.items depth waiting.now }
-    requires sorted { IsNonDecreasingBy rank_of waiting.now }
-    ensures grown { OnOk result (IsGrown rules.now edges.new.items (depth + 1)) }
+    requires order { AreInOrder sides.now }
+    requires grown { IsGrown (sided sides.now) edges.old.items depth }
+    requires waiting { AreWaiting (sided sides.now) edges.old.items depth waiting.now }
+    ensures grown { OnOk result (IsGrown (sided sides.now) edges.new.items (depth + 1)) }
     ensures waiting { IfOk result
-        (λ next. AreWaiting rules.now edges.new.items (depth + 1) next.items) }
+        (λ next. AreWaiting (sided sides.now) edges.new.items (depth + 1) next.items) }
 {
-    let mut next = Vec::new(alloc);
+    let mut next = Vec::with_capacity(alloc, waiting.len())?;
     for waiting in waiting {
         follow(edges, waiting.edge)?;
-        wait(rules, waiting.rule, depth + 1, edges.len(), &mut next)?;
+        wait(sides, waiting.side, depth + 1, edges.len(), &mut next)?;
     }
     Ok(next)
 }

@@ -4,31 +4,38 @@ use Rattle.kb_word.specs.Words.{Pair}
 use Rattle.kb_index.specs.declared.edge.Edge.{Edge}
 use Rattle.kb_index.specs.declared.trie.Waiting.{Waiting}
 use Rattle.kb_index.specs.Edges.{no_edge}
+use Rattle.kb_index.specs.Sides.{sided}
 use Rattle.kb_index.specs.Growing.{waits}
 use Rattle.kb_index.proofs.Growth.{growing_more, growing_grown, growing_waits}
+use Rattle.kb_index.proofs.Sides.{ranks_rise, side_range, sided_length}
 use Rattle.kb_index.proofs.trie.grow_level.Goals as goal
 
 pub loop-waiting-preserved : goal.loop-waiting-preserved
 loop-waiting-preserved c =
-    let rules : List Pair = c.args.rules.now in
+    let lefts : List Pair = sided c.args.sides.now in
     let waiting : List Waiting = c.args.waiting.now in
+    let are = c.requires.waiting in
     let i : ℕ = c.loop-waiting.waiting-index in
-    let none : Waiting = record { edge = no_edge; rule = 0 } in
+    let none : Waiting = record { edge = no_edge; side = 0 } in
     let one : Waiting = get_or waiting i none in
     let within : i < length waiting = omega arith in
+    let is = are.each i none within in
+    let there : one.side < length c.args.sides.now = omega (arith, is.rule, sided_length c.args.sides.now) in
     let after : List Edge = c.follow.new.edges.items in
     let long : c.len.result ≡ length after = omega (arith, c.len.ensures, c.follow.new.edges.ok) in
-    growing_more rules c.args.edges.now.items c.args.depth c.requires.waiting.start waiting i c.loop-waiting.edges.items
-    c.loop-waiting.next.items c.loop-waiting.invariant within c.requires.sorted one (get_or_default waiting i none one within)
-    (c.requires.waiting.each i none within) c.in_ok-wait.ensures.range after c.in_ok-follow.ensures c.wait.new.waiting.items
-    (c.in_ok-wait.ensures.waits ∙ ap (λ (state : ℕ). c.loop-waiting.next.items ++ waits rules (c.args.depth + 1) state one.rule) long)
+    growing_more lefts c.args.edges.now.items c.args.depth are.start waiting i c.loop-waiting.edges.items c.loop-waiting.next.items
+    c.loop-waiting.invariant within
+    (ranks_rise c.args.sides.now c.args.edges.now.items c.args.depth are.start waiting c.requires.order are.each are.parents_rise are.sides_rise)
+    are.sides_rise one (get_or_default waiting i none one within) is (side_range c.args.sides.now one.side c.requires.order.small there) after
+    c.in_ok-follow.ensures c.wait.new.waiting.items
+    (c.in_ok-wait.ensures ∙ ap (λ (state : ℕ). c.loop-waiting.next.items ++ waits lefts (c.args.depth + 1) state one.side) long)
 
 pub returns-clause-grown : goal.returns-clause-grown
 returns-clause-grown c =
-    growing_grown c.args.rules.now c.args.edges.now.items c.args.depth c.args.waiting.now c.loop-waiting.waiting-index
+    growing_grown (sided c.args.sides.now) c.args.edges.now.items c.args.depth c.args.waiting.now c.loop-waiting.waiting-index
     c.loop-waiting.edges.items c.loop-waiting.next.items (omega arith) c.requires.grown c.requires.waiting c.loop-waiting.invariant
 
 pub returns-clause-waiting : goal.returns-clause-waiting
 returns-clause-waiting c =
-    growing_waits c.args.rules.now c.args.edges.now.items c.args.depth c.args.waiting.now c.loop-waiting.waiting-index
+    growing_waits (sided c.args.sides.now) c.args.edges.now.items c.args.depth c.args.waiting.now c.loop-waiting.waiting-index
     c.loop-waiting.edges.items c.loop-waiting.next.items (omega arith) c.requires.waiting c.loop-waiting.invariant

@@ -1,30 +1,23 @@
-use Rattle.std.proofs.Common.{List, rules, sym, subst}
-use Rattle.std.proofs.lemmas.List.Sorted.{IsNonDecreasingBy-from_sort_by_key}
-use Rattle.std.specs.List.Sorted.{IsNonDecreasingBy}
-use Rattle.kb_index.specs.declared.edge.Edge.{Edge}
-use Rattle.kb_index.specs.declared.trie.Waiting.{Waiting}
-use Rattle.kb_index.specs.Growing.{AreWaiting, IsGrown, rank_of}
-use Rattle.kb_index.proofs.Growth.{grown_none, waiting_sorted}
+use Rattle.std.proofs.Common.{ℕ, ◌<◌, ◌≤◌, List, length, subst, arith}
+use Rattle.kb_index.specs.declared.side.Side.{Side}
+use Rattle.kb_index.specs.Tries.{left_at}
+use Rattle.kb_index.specs.Sides.{sided}
+use Rattle.kb_index.proofs.Growth.{grown_none}
+use Rattle.kb_index.proofs.Sides.{trie_of_sides}
 use Rattle.kb_index.proofs.trie.trie_of.Goals as goal
 
 pub loop-depth-init : goal.loop-depth-init
 loop-depth-init c =
-    let P : List Edge → Type 0 = λ edges. IsGrown c.args.rules.now edges 0 in
-    let Q : List Edge → Type 0 = λ edges. AreWaiting c.args.rules.now edges 0 c.in_ok-waiting.waiting.items in
-    record {
-      grown = subst P (sym c.new-edges.ensures.items) (grown_none c.args.rules.now);
-      waits = subst Q (sym c.new-edges.ensures.items) c.in_ok-waiting.ensures;
-    }
+    rw c.new-edges.ensures.items
+    (record {
+      grown = grown_none (sided c.in_ok-sides.sides.items);
+      waits = rw c.deref.ensures.value at c.in_ok-waiting.ensures;
+    })
 
-pub grow_level-requires-clause-waiting : goal.grow_level-requires-clause-waiting
-grow_level-requires-clause-waiting c =
-    let P : List Waiting → Type 0 = λ waiting. AreWaiting c.args.rules.now c.loop-depth.edges.items c.loop-depth.depth waiting in
-    subst P (sym c.deref.ensures.value)
-    (waiting_sorted c.args.rules.now c.loop-depth.edges.items c.loop-depth.depth c.loop-depth.waiting.items c.sort_by_key.new.self.items
-    c.in_ok-sort_by_key.ensures.permutation c.loop-depth.invariant.waits)
-
-pub grow_level-requires-clause-sorted : goal.grow_level-requires-clause-sorted
-grow_level-requires-clause-sorted c =
-    let P : List Waiting → Type 0 = λ waiting. IsNonDecreasingBy rank_of waiting in
-    subst P (sym c.deref.ensures.value)
-    (IsNonDecreasingBy-from_sort_by_key rank_of _ c.in_ok-sort_by_key.ensures.sorted (λ a r q k. search rules))
+pub returns : goal.returns
+returns c =
+    let sides : List Side = c.in_ok-sides.sides.items in
+    let P : List Side → Type 0 = λ list. (k : ℕ) → k < length list → length (left_at (sided list) k) ≤ c.longest-depth-end.result in
+    let short : P sides = subst P c.deref-2.ensures.value c.longest-depth-end.ensures in
+    trie_of_sides c.args.rules.now sides c.loop-depth.edges.items c.loop-depth.depth c.in_ok-sides.ensures c.loop-depth.invariant.grown
+    (λ place within. omega (arith, short place within))
