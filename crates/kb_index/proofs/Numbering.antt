@@ -1,7 +1,7 @@
 -- The numbers of the list's rules.
-use Rattle.std.proofs.Common.{◌≡◌, ◌≢◌, ℕ, ◌+◌, ◌-◌, ◌<◌, ◌≤◌, List, [], ◌∷◌, ◌++◌, length, get_or, min, refl, sym, ap, ◌∙◌, subst, inl, inr, arith, append_assoc, length-append}
+use Rattle.std.proofs.Common.{◌≡◌, ◌≢◌, ℕ, zero, suc, ◌+◌, ◌-◌, ◌<◌, ◌≤◌, List, [], ◌∷◌, ◌++◌, length, get_or, min, refl, sym, ap, ◌∙◌, subst, inl, inr, arith, append_assoc, length-append}
 use Rattle.std.specs.List.{remove}
-use Rattle.std.proofs.lemmas.List.{get_or-append-add, get_or_append_left, get_or_push, length_push}
+use Rattle.std.proofs.lemmas.List.{get_or-append-add, get_or_append_left, get_or_default, get_or_push, length_push, same_lists}
 use Rattle.std.proofs.lemmas.List.Edits.{get_or-remove_below, get_or-remove_above, length-remove}
 use Rattle.std.proofs.lemmas.Bool.{cases_lt}
 use Rattle.std.proofs.lemmas.Option.{slice_get-get_or}
@@ -14,6 +14,7 @@ use Rattle.kb_rules.proofs.Exists.{nothing_below_empty}
 use Rattle.kb_index.specs.declared.lookup.Lookup.{Lookup}
 use Rattle.kb_index.specs.Tries.{left_at}
 use Rattle.kb_index.specs.Live.{AreNumbered, IsFirstSuch}
+use Rattle.kb_index.specs.Chains.{Rise}
 use Rattle.kb_index.specs.Automata.{HaveLefts, IsAutomaton}
 use Rattle.kb_index.specs.Recents.{IsRecent}
 use Rattle.kb_index.specs.Lookups.{IsLookup}
@@ -274,6 +275,46 @@ lookup_copied rules lookup lookup' is settled numbers recent =
       recent = recent;
       numbered = subst (AreNumbered rules (is.base ++ is.later)) (sym numbers) is.numbered;
     }
+
+-- numbers that rise are no lower than their places
+rise_low : (numbers : List ℕ) → Rise numbers → (place : ℕ) → place < length numbers → place ≤ get_or numbers place 0
+rise_low numbers rise zero within = omega arith
+rise_low numbers rise (suc place) within =
+    omega (arith, rise_low numbers rise place (omega arith), rise place (suc place) (omega arith) within)
+
+-- and, where all are lower than their count, no higher
+rise_high : (numbers : List ℕ) → Rise numbers → ((place : ℕ) → place < length numbers → get_or numbers place 0 < length numbers)
+    → (rest place : ℕ) → place + rest + 1 ≡ length numbers → get_or numbers place 0 ≤ place
+rise_high numbers rise low zero place last = omega (arith, low place (omega arith))
+rise_high numbers rise low (suc rest) place last =
+    omega (arith, rise_high numbers rise low rest (place + 1) (omega arith), rise place (place + 1) (omega arith) (omega arith))
+
+-- where no rule came and none went, the settled rules are those of the list
+pub tidy_automaton : (rules : List Pair) (lookup : Lookup) → IsLookup rules lookup → length lookup.recent.chains.before.items ≡ 0
+    → length lookup.numbers.items ≡ length lookup.settled.value.chains.before.items → IsAutomaton rules lookup.settled.value
+tidy_automaton rules lookup is none as_many =
+    let numbers : List ℕ = lookup.numbers.items in
+    let numbered = is.numbered in
+    let long : length (is.base ++ is.later) ≡ length numbers =
+    omega (arith, none, as_many, is.settled.rule_count, is.recent.rule_count, length-append is.base is.later) in
+    let settled : length is.base ≡ length numbers = omega (arith, as_many, is.settled.rule_count) in
+    let low : (place : ℕ) → place < length numbers → get_or numbers place 0 < length numbers =
+    λ place within. omega (arith, numbered.within place within) in
+    let same : (place : ℕ) → place < length numbers → get_or numbers place 0 ≡ place =
+    λ place within.
+    let above = rise_low numbers numbered.rise place within in
+    let below = rise_high numbers numbered.rise low (length numbers - place - 1) place (omega arith) in
+    omega arith in
+    let rules_are : is.base ≡ rules =
+    same_lists is.base rules (omega (arith, numbered.count))
+    (λ place d within.
+    let there : place < length numbers = omega arith in
+    let in_rules : place < length rules = omega (arith, numbered.count) in
+    get_or_default is.base place d no_rule within ∙ sym (get_or_append_left is.base is.later no_rule place within)
+    ∙ ap (λ (k : ℕ). get_or (is.base ++ is.later) k no_rule) (sym (same place there)) ∙ sym (numbered.same place there)
+    ∙ get_or_default rules place no_rule d in_rules) in
+    let P : List Pair → Type 0 = λ rs. IsAutomaton rs lookup.settled.value in
+    subst P rules_are is.settled
 
 -- the left sides of rules that decrease are not empty
 pub lefts_of : (order : WordOrder) (rules : List Pair) → AreDecreasing (Below order) rules → HaveLefts rules

@@ -98,6 +98,9 @@ impl Reducer for Index {
 
 impl HasAutomaton for Index {
     fn automaton(&self, alloc: Global) -> Result<Arc<Automaton>, Memory> {
+        if self.lookup.is_tidy() {
+            return Ok(Arc::try_clone(&self.lookup.settled)?);
+        }
         let automaton = Automaton::of(alloc, self.rules.as_slice())?;
         Ok(Arc::new(alloc, automaton)?)
     }

@@ -1,8 +1,8 @@
 //! Where the rules of a list are found.
 
-ghost use Rattle.std.specs.Prelude.{◌≡◌, List, ◌+◌, IfOk, length};
+ghost use Rattle.std.specs.Prelude.{◌≡◌, List, ◌+◌, IfOk, IsTrue, length};
 ghost use Rattle.kb_word.specs.Words.{Pair};
-ghost use Rattle.kb_index.specs.Automata.{HaveLefts, StandsFor};
+ghost use Rattle.kb_index.specs.Automata.{HaveLefts, IsAutomaton, StandsFor};
 ghost use Rattle.kb_index.specs.Lookups.{IsLookup};
 ghost use Rattle.kb_index.specs.Owners.{IsOwner};
 
@@ -83,8 +83,11 @@ impl Lookup {
         self.settled.chains.before.len() + self.recent.chains.before.len()
     }
 
-    /// Whether no rule came since the automaton was made, and none went.
-    pub fn is_tidy(&self) -> bool {
+    /// Whether no rule came since the automaton was made, and none went, so that it is the automaton of the list.
+    pub fn is_tidy(&self) -> bool
+        ensures { (rules : List Pair) → IsLookup rules self.now → IsTrue result
+            → IsAutomaton rules self.now.settled.value }
+    {
         self.recent.chains.before.is_empty()
             && self.numbers.len() == self.settled.chains.before.len()
     }
