@@ -52,10 +52,10 @@
 //! of either kind ends what is read (`IsFirstSuch` of specs/Live.antt) gives the rule of the first rewrite (`IsOwner`).
 //!
 //! The definitions are in specs/, and the lemmas in proofs/: `Words` and `States` on the states and their words,
-//! `Sides` on the left sides in order, `Growth` on a level of the trie, `Runs` on children, `Steps` and `Linking` on links, `Rows` on the table, `Chaining`
-//! on chains, `Ending` on the rules of the automaton that end what is read, `Recents`, `ChildRows` and `Walking` on
-//! those that came later, `Numbering` on the numbers of the list's rules, and `Fronts` on reading. What a step does to
-//! a word, and that steps come to an end, are lemmas of `kb_rules`.
+//! `Sides` on the left sides in order, `Growth` on a level of the trie, `Runs` on children, `Steps` and `Linking` on
+//! links, `Rows` on the table, `Chaining` on chains, `Ending` on the rules of the automaton that end what is read,
+//! `Recents`, `ChildRows` and `Walking` on those that came later, `Numbering` on the numbers of the list's rules, and
+//! `Fronts` on reading. What a step does to a word, and that steps come to an end, are lemmas of `kb_rules`.
 //!
 //! Below are `kb_word`, with words and the definitions of rewriting, and `kb_rules`, with rules and the contract of
 //! reducers.

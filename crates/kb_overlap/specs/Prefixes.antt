@@ -3,6 +3,7 @@ use Rattle.std.specs.Prelude.{◌≡◌, ℕ, ◌+◌, ◌<◌, List, length, ge
 use Rattle.kb_word.specs.Words.{Pair}
 use Rattle.kb_rules.specs.Ending.{NoneEnds}
 use Rattle.kb_index.specs.declared.edge.Edge.{Edge}
+use Rattle.kb_index.specs.declared.automaton.Automaton.{Automaton}
 use Rattle.kb_index.specs.Edges.{edge_at, word}
 use Rattle.kb_index.specs.Children.{IsChild}
 use Rattle.kb_index.specs.Rows.{IsStep}
@@ -16,9 +17,14 @@ pub record AreLengths (edges : List Edge) (lengths : List ℕ) : Type 0 where
       → get_or lengths state 0 ≡ length (word edges state)
 
 -- the automaton is that of the rules, and each state's word has the length that is kept
-pub record ArePrefixes (prefixes : Prefixes) : Type 0 where
-  pub is : IsAutomaton prefixes.rules.now prefixes.automaton
-  pub lengths : AreLengths prefixes.automaton.edges.items prefixes.lengths.items
+pub record AreStatesOf (rules : List Pair) (automaton : Automaton) (lengths : List ℕ)
+    : Type 0 where
+  pub is : IsAutomaton rules automaton
+  pub counted : AreLengths automaton.edges.items lengths
+
+abbrev pub ArePrefixes : Prefixes → Type 0
+ArePrefixes prefixes =
+    AreStatesOf prefixes.rules.now prefixes.automaton.now prefixes.lengths.now
 
 -- a letter leads from the state to one whose word is longer than `beyond`
 pub record LeadsBeyond (edges : List Edge) (state beyond next : ℕ) : Type 0 where

@@ -9,7 +9,7 @@ use crate::left_sides::Overlap;
 use crate::prefixes::Prefixes;
 use kb_word::Memory;
 
-impl<'r> Prefixes<'r> {
+impl<'a> Prefixes<'a> {
     /// Adds the overlaps with the left sides that are contained in that of the rule at the index.
     pub(crate) fn add_contained(&self, index: usize, found: &mut Vec<Overlap>) -> Result<(), Memory>
         requires prefixes { ArePrefixes self.now }
@@ -37,10 +37,10 @@ impl<'r> Prefixes<'r> {
         found: &mut Vec<Overlap>,
     ) -> Result<(), Memory>
         requires prefixes { ArePrefixes self.now }
-        requires state { state ≤ length self.now.automaton.edges.items }
-        requires read { length (word self.now.automaton.edges.items state) ≤ read }
+        requires state { state ≤ length self.now.automaton.now.edges.items }
+        requires read { length (word self.now.automaton.now.edges.items state) ≤ read }
         ensures { OnOk result (Gains
-            (EndsRead self.now.rules.now index (word self.now.automaton.edges.items state) read
+            (EndsRead self.now.rules.now index (word self.now.automaton.now.edges.items state) read
             beyond) found.old.items found.new.items) }
     {
         let mut end = self.automaton.ends[state];
@@ -61,9 +61,9 @@ impl<'r> Prefixes<'r> {
         found: &mut Vec<Overlap>,
     ) -> Result<(), Memory>
         requires prefixes { ArePrefixes self.now }
-        requires state { state ≤ length self.now.automaton.edges.items }
+        requires state { state ≤ length self.now.automaton.now.edges.items }
         ensures { OnOk result (Gains
-            (HasLeft self.now.rules.now index (word self.now.automaton.edges.items state) place)
+            (HasLeft self.now.rules.now index (word self.now.automaton.now.edges.items state) place)
             found.old.items found.new.items) }
     {
         let mut rest = self.automaton.chains.heads[state];

@@ -5,7 +5,7 @@ ghost use Rattle.kb_word.specs.Words.{OneOf};
 ghost use Rattle.kb_word.specs.Rewriting.{IsIrreducible};
 ghost use Rattle.kb_rules.specs.Ending.{NoneEnds};
 ghost use Rattle.kb_index.specs.Edges.{AreEdges, word};
-ghost use Rattle.kb_index.specs.Automata.{HaveLefts, StandsFor};
+ghost use Rattle.kb_index.specs.Automata.{StandsFor};
 ghost use Rattle.kb_overlap.specs.Prefixes.{AreLengths, ArePrefixes};
 
 use kb_index::Automaton;
@@ -14,38 +14,23 @@ use kb_word::{Letter, Memory};
 use std::alloc::Global;
 
 /// The prefixes of the left sides of rules: each is the word of a state of the automaton.
-#[derive(Drop)]
-pub(crate) struct Prefixes<'r> {
-    pub(crate) rules: &'r [Rule],
-    pub(crate) automaton: Automaton,
+#[derive(Clone, Copy)]
+pub(crate) struct Prefixes<'a> {
+    pub(crate) rules: &'a [Rule],
+    pub(crate) automaton: &'a Automaton,
     /// For each state the length of its word.
-    pub(crate) lengths: Vec<usize>,
+    pub(crate) lengths: &'a [usize],
 }
 
-impl<'r> Prefixes<'r> {
-    /// The prefixes of the left sides of these rules.
-    pub(crate) fn of(alloc: Global, rules: &'r [Rule]) -> Result<Prefixes<'r>, Memory>
-        requires { HaveLefts rules.now }
-        ensures rules { IfOk result (λ prefixes. prefixes.rules.now ≡ rules.now) }
-        ensures are { IfOk result ArePrefixes }
-    {
-        let automaton = Automaton::of(alloc, rules)?;
-        let lengths = lengths_of(alloc, &automaton)?;
-        Ok(Prefixes {
-            rules,
-            automaton,
-            lengths,
-        })
-    }
-
+impl<'a> Prefixes<'a> {
     /// Whether a left side ends the word of a state.
     pub(crate) fn is_ended(&self, state: usize) -> bool
         requires prefixes { ArePrefixes self.now }
-        requires state { state ≤ length self.now.automaton.edges.items }
+        requires state { state ≤ length self.now.automaton.now.edges.items }
         ensures yes { IsTrue result
-            → ¬ NoneEnds self.now.rules.now (word self.now.automaton.edges.items state) }
+            → ¬ NoneEnds self.now.rules.now (word self.now.automaton.now.edges.items state) }
         ensures no { result ≡ false
-            → NoneEnds self.now.rules.now (word self.now.automaton.edges.items state) }
+            → NoneEnds self.now.rules.now (word self.now.automaton.now.edges.items state) }
     {
         let mut end = self.automaton.ends[state];
         while end > 0 {
@@ -61,7 +46,7 @@ impl<'r> Prefixes<'r> {
     /// The state after a word, or none where a left side stands in the word.
     pub(crate) fn state_after(&self, letters: &[Letter]) -> Option<usize>
         requires { ArePrefixes self.now }
-        ensures stands { IfSome result (StandsFor self.now.automaton.edges.items letters.now) }
+        ensures stands { IfSome result (StandsFor self.now.automaton.now.edges.items letters.now) }
         ensures irreducible { IfSome result
             (λ _. IsIrreducible (OneOf self.now.rules.now) letters.now) }
         ensures none { IfNone result (¬ IsIrreducible (OneOf self.now.rules.now) letters.now) }
@@ -78,7 +63,7 @@ impl<'r> Prefixes<'r> {
 }
 
 /// The lengths of the words of all states.
-fn lengths_of(alloc: Global, automaton: &Automaton) -> Result<Vec<usize>, Memory>
+pub(crate) fn lengths_of(alloc: Global, automaton: &Automaton) -> Result<Vec<usize>, Memory>
     requires edges { AreEdges automaton.now.edges.items }
     requires few { length automaton.now.edges.items < 2 ^ 32 }
     ensures { IfOk result (λ lengths. AreLengths automaton.now.edges.items lengths.items) }

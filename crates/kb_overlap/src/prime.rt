@@ -3,11 +3,12 @@
 ghost use Rattle.std.specs.Prelude.{◌≡◌, ◌<◌, IfOk, OnOk, length};
 ghost use Rattle.kb_index.specs.Automata.{IsAutomaton};
 ghost use Rattle.kb_overlap.specs.Composite.{ArePrimeOverlaps};
+ghost use Rattle.kb_overlap.specs.Prefixes.{ArePrefixes};
 
 use crate::left_sides::Overlap;
-use crate::prefixes::Prefixes;
+use crate::prefixes::{Prefixes, lengths_of};
 use kb_index::Automaton;
-use kb_rules::Rules;
+use kb_rules::{Rule, Rules};
 use kb_word::Memory;
 use std::alloc::Global;
 use std::marker::Model;
@@ -17,19 +18,22 @@ use std::sync::Arc;
 #[derive(Drop)]
 pub struct PrimeOverlaps<'r> {
     alloc: Global,
-    prefixes: Prefixes<'r>,
+    rules: &'r [Rule],
+    automaton: Arc<Automaton>,
+    /// For each state the length of its word.
+    lengths: Vec<usize>,
 }
 
 impl<'r> Model for PrimeOverlaps<'r> {
     ghost use Rattle.std.specs.Prelude.{List};
     ghost use Rattle.kb_word.specs.Words.{Pair};
-    ghost use Rattle.kb_overlap.specs.Prefixes.{ArePrefixes};
+    ghost use Rattle.kb_overlap.specs.Prefixes.{AreStatesOf};
 
     ghost Value = { List Pair };
 
-    ghost view = { λ primes. primes.prefixes.rules.now };
+    ghost view = { λ primes. primes.rules.now };
 
-    ghost invariant = { λ primes. ArePrefixes primes.prefixes };
+    ghost invariant = { λ primes. AreStatesOf primes.rules.now primes.automaton.value primes.lengths.items };
 }
 
 impl<'r> PrimeOverlaps<'r> {
@@ -37,8 +41,8 @@ impl<'r> PrimeOverlaps<'r> {
     pub fn of(alloc: Global, rules: &'r Rules) -> Result<PrimeOverlaps<'r>, Memory>
         ensures { IfOk result (λ primes. primes ≡ rules.now.rules) }
     {
-        let prefixes = Prefixes::of(alloc, rules.as_slice())?;
-        Ok(PrimeOverlaps { alloc, prefixes })
+        let automaton = Automaton::of(alloc, rules.as_slice())?;
+        PrimeOverlaps::by(alloc, rules, Arc::new(alloc, automaton)?)
     }
 
     /// The prime overlaps of these rules, whose automaton this is.
@@ -50,8 +54,13 @@ impl<'r> PrimeOverlaps<'r> {
         requires { IsAutomaton rules.now.rules automaton.value }
         ensures { IfOk result (λ primes. primes ≡ rules.now.rules) }
     {
-        drop(automaton);
-        PrimeOverlaps::of(alloc, rules)
+        let lengths = lengths_of(alloc, &automaton)?;
+        Ok(PrimeOverlaps {
+            alloc,
+            rules: rules.as_slice(),
+            automaton,
+            lengths,
+        })
     }
 
     /// Finds the prime overlaps in which the rule at this index begins first. They are sorted, which nothing rests on. What
@@ -61,9 +70,22 @@ impl<'r> PrimeOverlaps<'r> {
         ensures { OnOk result (ArePrimeOverlaps self.now index found.new.items) }
     {
         found.clear();
-        self.prefixes.add_contained(index, found)?;
-        self.prefixes.add_proper(self.alloc, index, found)?;
+        let prefixes = self.prefixes();
+        prefixes.add_contained(index, found)?;
+        prefixes.add_proper(self.alloc, index, found)?;
         found.sort_unstable();
         Ok(())
+    }
+
+    /// The prefixes of the left sides.
+    fn prefixes(&self) -> Prefixes<'_>
+        ensures rules { result.rules.now ≡ self.now }
+        ensures are { ArePrefixes result }
+    {
+        Prefixes {
+            rules: self.rules,
+            automaton: &self.automaton,
+            lengths: &self.lengths,
+        }
     }
 }

@@ -13,7 +13,7 @@ use crate::prefixes::Prefixes;
 use kb_word::Memory;
 use std::alloc::Global;
 
-impl<'r> Prefixes<'r> {
+impl<'a> Prefixes<'a> {
     /// Adds the proper overlaps of the rule at the index that aren't composite.
     pub(crate) fn add_proper(
         &self,
@@ -42,11 +42,11 @@ impl<'r> Prefixes<'r> {
     /// The level of no letter after an irreducible word: the state after that word, unless the state's word is empty.
     fn first_level(&self, alloc: Global, state: usize) -> Result<Vec<usize>, Memory>
         requires prefixes { ArePrefixes self.now }
-        requires state { state ≤ length self.now.automaton.edges.items }
-        ensures { (tail : List ℕ) → StandsFor self.now.automaton.edges.items tail state
+        requires state { state ≤ length self.now.automaton.now.edges.items }
+        ensures { (tail : List ℕ) → StandsFor self.now.automaton.now.edges.items tail state
             → IsIrreducible (OneOf self.now.rules.now) tail
             → IfOk result (λ level. AreReached self.now.rules.now
-            self.now.automaton.edges.items tail 0 level.items) }
+            self.now.automaton.now.edges.items tail 0 level.items) }
     {
         let mut level = Vec::new(alloc);
         if self.lengths[state] > 0 {
@@ -68,13 +68,13 @@ impl<'r> Prefixes<'r> {
     ) -> Result<Vec<usize>, Memory>
         requires prefixes { ArePrefixes self.now }
         requires read { read ≡ length (left_at self.now.rules.now index) + count }
-        requires level { AreReached self.now.rules.now self.now.automaton.edges.items
+        requires level { AreReached self.now.rules.now self.now.automaton.now.edges.items
             (drop 1 (left_at self.now.rules.now index)) count level.now }
         ensures next { IfOk result (λ next. AreReached self.now.rules.now
-            self.now.automaton.edges.items (drop 1 (left_at self.now.rules.now index))
+            self.now.automaton.now.edges.items (drop 1 (left_at self.now.rules.now index))
             (count + 1) next.items) }
         ensures found { OnOk result
-            (Gains (IsMet self.now.rules.now self.now.automaton.edges.items index count)
+            (Gains (IsMet self.now.rules.now self.now.automaton.now.edges.items index count)
             found.old.items found.new.items) }
     {
         let mut next = Vec::new(alloc);
@@ -89,9 +89,9 @@ impl<'r> Prefixes<'r> {
     /// side ends at the state, none.
     fn go_on(&self, state: usize, count: usize, next: &mut Vec<usize>) -> Result<(), Memory>
         requires prefixes { ArePrefixes self.now }
-        requires state { state ≤ length self.now.automaton.edges.items }
+        requires state { state ≤ length self.now.automaton.now.edges.items }
         ensures { OnOk result (Gains
-            (GoesOn self.now.rules.now self.now.automaton.edges.items state (count + 1))
+            (GoesOn self.now.rules.now self.now.automaton.now.edges.items state (count + 1))
             next.old.items next.new.items) }
     {
         if self.is_ended(state) {
@@ -104,9 +104,9 @@ impl<'r> Prefixes<'r> {
     /// child of the state, or of one along its links, whose word is longer than `count`.
     fn add_steps(&self, state: usize, count: usize, next: &mut Vec<usize>) -> Result<(), Memory>
         requires prefixes { ArePrefixes self.now }
-        requires state { state ≤ length self.now.automaton.edges.items }
+        requires state { state ≤ length self.now.automaton.now.edges.items }
         ensures { OnOk result
-            (Gains (LeadsBeyond self.now.automaton.edges.items state (count + 1))
+            (Gains (LeadsBeyond self.now.automaton.now.edges.items state (count + 1))
             next.old.items next.new.items) }
     {
         let mut at = state;
@@ -120,9 +120,9 @@ impl<'r> Prefixes<'r> {
     /// Adds those children of a state to which a letter leads from the other state.
     fn add_children(&self, state: usize, at: usize, next: &mut Vec<usize>) -> Result<(), Memory>
         requires prefixes { ArePrefixes self.now }
-        requires state { state ≤ length self.now.automaton.edges.items }
-        requires at { at ≤ length self.now.automaton.edges.items }
-        ensures { OnOk result (Gains (LeadsToChild self.now.automaton.edges.items state at)
+        requires state { state ≤ length self.now.automaton.now.edges.items }
+        requires at { at ≤ length self.now.automaton.now.edges.items }
+        ensures { OnOk result (Gains (LeadsToChild self.now.automaton.now.edges.items state at)
             next.old.items next.new.items) }
     {
         for place in self.automaton.firsts[at]..self.automaton.firsts[at + 1] {
@@ -134,9 +134,9 @@ impl<'r> Prefixes<'r> {
     /// Adds the state to which the edge at the place leads, if its letter leads there from the other state.
     fn add_child(&self, state: usize, place: usize, next: &mut Vec<usize>) -> Result<(), Memory>
         requires prefixes { ArePrefixes self.now }
-        requires state { state ≤ length self.now.automaton.edges.items }
-        requires place { place < length self.now.automaton.edges.items }
-        ensures { OnOk result (Gains (LeadsAlong self.now.automaton.edges.items state place)
+        requires state { state ≤ length self.now.automaton.now.edges.items }
+        requires place { place < length self.now.automaton.now.edges.items }
+        ensures { OnOk result (Gains (LeadsAlong self.now.automaton.now.edges.items state place)
             next.old.items next.new.items) }
     {
         let after = self

@@ -9,18 +9,18 @@ pub loop-rest-init : goal.loop-rest-init
 loop-rest-init c =
     let prefixes = c.args.self.now in
     let are = c.requires.prefixes in
-    let left : List ℕ = word prefixes.automaton.edges.items c.args.state in
+    let left : List ℕ = word prefixes.automaton.now.edges.items c.args.state in
     let P : ℕ → Type 0 = λ rest. Chaining prefixes.rules.now c.args.index left c.args.place rest c.args.found.now.items c.args.found.now.items in
     subst P (sym (head_read are c.args.state c.index-rest.result.now c.requires.state c.index-rest.ensures))
-    (chaining_first prefixes.rules.now c.args.index left c.args.place (get_or prefixes.automaton.chains.heads.items c.args.state 0)
+    (chaining_first prefixes.rules.now c.args.index left c.args.place (get_or prefixes.automaton.now.chains.heads.items c.args.state 0)
     c.args.found.now.items (head_of are.is c.args.state c.requires.state))
 
 pub loop-rest-preserved : goal.loop-rest-preserved
 loop-rest-preserved c =
     let prefixes = c.args.self.now in
     let are = c.requires.prefixes in
-    let left : List ℕ = word prefixes.automaton.edges.items c.args.state in
-    let before : List ℕ = prefixes.automaton.chains.before.items in
+    let left : List ℕ = word prefixes.automaton.now.edges.items c.args.state in
+    let before : List ℕ = prefixes.automaton.now.chains.before.items in
     let rest : ℕ = c.loop-rest.rest in
     let some : 0 < rest = c.loop-rest-test.true in
     let within = c.loop-rest.invariant.within in
@@ -37,7 +37,7 @@ pub loop-rest-smaller : goal.loop-rest-smaller
 loop-rest-smaller c =
     let prefixes = c.args.self.now in
     let are = c.requires.prefixes in
-    let before : List ℕ = prefixes.automaton.chains.before.items in
+    let before : List ℕ = prefixes.automaton.now.chains.before.items in
     let rest : ℕ = c.loop-rest.rest in
     let some : 0 < rest = c.loop-rest-test.true in
     let within = c.loop-rest.invariant.within in
@@ -51,5 +51,5 @@ loop-rest-smaller c =
 pub returns : goal.returns
 returns c =
     let prefixes = c.args.self.now in
-    chaining_all prefixes.rules.now c.args.index (word prefixes.automaton.edges.items c.args.state) c.args.place c.loop-rest.rest
+    chaining_all prefixes.rules.now c.args.index (word prefixes.automaton.now.edges.items c.args.state) c.args.place c.loop-rest.rest
     c.args.found.now.items c.loop-rest.found.items c.loop-rest-test.false c.loop-rest.invariant

@@ -11,7 +11,7 @@ use Rattle.kb_overlap.proofs.prefixes.Prefixes.add_child.Goals as goal
 
 pub returns-else-after-place : goal.returns-else-after-place
 returns-else-after-place c =
-    let edges : List Edge = c.args.self.now.automaton.edges.items in
+    let edges : List Edge = c.args.self.now.automaton.now.edges.items in
     let state : ℕ = c.args.state in
     let place : ℕ = c.args.place in
     let letter : ℕ = (edge_at edges place).letter in

@@ -9,7 +9,7 @@ loop-place-preserved c =
     let are = c.requires.prefixes in
     let at : ℕ = c.args.at in
     let place : ℕ = c.loop-place.place in
-    let firsts : List ℕ = prefixes.automaton.firsts.items in
+    let firsts : List ℕ = prefixes.automaton.now.firsts.items in
     let first : c.index-place.result.now ≡ get_or firsts at 0 = first_read are at c.index-place.result.now (omega (arith, c.requires.at)) c.index-place.ensures in
     let next : c.index-place-end.result.now ≡ get_or firsts (at + 1) 0 =
     first_read are (at + 1) c.index-place-end.result.now (omega (arith, c.requires.at)) c.index-place-end.ensures in
@@ -26,7 +26,7 @@ returns c =
     let prefixes = c.args.self.now in
     let are = c.requires.prefixes in
     let at : ℕ = c.args.at in
-    let firsts : List ℕ = prefixes.automaton.firsts.items in
+    let firsts : List ℕ = prefixes.automaton.now.firsts.items in
     let next : c.index-place-end.result.now ≡ get_or firsts (at + 1) 0 =
     first_read are (at + 1) c.index-place-end.result.now (omega (arith, c.requires.at)) c.index-place-end.ensures in
     children_all are.is c.args.state at c.loop-place.place (get_or firsts (at + 1) 0) c.args.next.now.items c.loop-place.next.items

@@ -13,13 +13,13 @@ pub loop-place-init : goal.loop-place-init
 loop-place-init c =
     let prefixes = c.args.self.now in
     record {
-      stands = record { within = omega arith; longest = longest_nil prefixes.automaton.edges.items };
+      stands = record { within = omega arith; longest = longest_nil prefixes.automaton.now.edges.items };
       gains = prefix_none prefixes.rules.now c.args.index c.letters-letters.result.now c.args.found.now.items;
     }
 
 pub loop-place-preserved : goal.loop-place-preserved
 loop-place-preserved c =
-    let edges : List Edge = c.args.self.now.automaton.edges.items in
+    let edges : List Edge = c.args.self.now.automaton.now.edges.items in
     let is = c.requires.prefixes.is in
     let letters : List ℕ = c.letters-letters.result.now in
     let i : ℕ = c.loop-place.place in

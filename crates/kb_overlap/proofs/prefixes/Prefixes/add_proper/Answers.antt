@@ -32,7 +32,7 @@ pub loop-left-init : goal.loop-left-init
 loop-left-init c =
     let prefixes = c.args.self.now in
     let rules : List Pair = prefixes.rules.now in
-    let edges : List Edge = prefixes.automaton.edges.items in
+    let edges : List Edge = prefixes.automaton.now.edges.items in
     let letters : List ℕ = c.letters.result.now in
     let at = get_or_read rules c.args.index c.index-self-index.result c.requires.index c.index-self-index.is ([], []) in
     let same : letters ≡ left_at rules c.args.index =
@@ -52,7 +52,7 @@ overflow_add-len c =
     let some : 0 < length c.loop-left.level.items =
     omega (arith, not_empty c.loop-left.level.len (sym c.loop-left-test.ensures), c.loop-left.level.ok.0) in
     let bound = level_bound is (drop 1 (left_at rules c.args.index)) c.loop-left.count c.loop-left.level.items c.loop-left.invariant.are some in
-    let short = left_short rules c.args.self.now.automaton.edges.items is.trie c.args.index c.requires.index in
+    let short = left_short rules c.args.self.now.automaton.now.edges.items is.trie c.args.index c.requires.index in
     omega (arith, is.few, c.len.ensures, ap length same)
 
 pub overflow_add-count : goal.overflow_add-count
@@ -67,7 +67,7 @@ overflow_add-count c =
 pub loop-left-smaller : goal.loop-left-smaller
 loop-left-smaller c =
     let rules : List Pair = c.args.self.now.rules.now in
-    let edges : List Edge = c.args.self.now.automaton.edges.items in
+    let edges : List Edge = c.args.self.now.automaton.now.edges.items in
     let count : ℕ = c.loop-left.count in
     let some : 0 < length c.loop-left.level.items =
     omega (arith, not_empty c.loop-left.level.len (sym c.loop-left-test.ensures), c.loop-left.level.ok.0) in
@@ -78,7 +78,7 @@ loop-left-smaller c =
 pub loop-left-preserved : goal.loop-left-preserved
 loop-left-preserved c =
     let prefixes = c.args.self.now in
-    sweeping_more prefixes.rules.now prefixes.automaton.edges.items c.args.index c.loop-left.count c.loop-left.level.items
+    sweeping_more prefixes.rules.now prefixes.automaton.now.edges.items c.args.index c.loop-left.count c.loop-left.level.items
     c.in_ok-level-2.level.items c.args.found.now.items c.loop-left.found.items c.next_level.new.found.items c.loop-left.invariant
     c.in_ok-level-2.ensures.next c.in_ok-level-2.ensures.found
 

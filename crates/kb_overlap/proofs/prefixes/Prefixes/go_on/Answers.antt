@@ -6,7 +6,7 @@ use Rattle.kb_overlap.proofs.prefixes.Prefixes.go_on.Goals as goal
 pub returns-then-is_ended : goal.returns-then-is_ended
 returns-then-is_ended c =
     let prefixes = c.args.self.now in
-    goes_nowhere prefixes.rules.now prefixes.automaton.edges.items c.args.state (c.args.count + 1) c.args.next.now.items
+    goes_nowhere prefixes.rules.now prefixes.automaton.now.edges.items c.args.state (c.args.count + 1) c.args.next.now.items
     (c.if-is_ended.ensures.yes refl)
 
 pub returns : goal.returns
@@ -14,6 +14,6 @@ returns c =
     let prefixes = c.args.self.now in
     on_ok_weaker c.add_steps.result
     (λ gains.
-    goes_on prefixes.rules.now prefixes.automaton.edges.items c.args.state (c.args.count + 1) c.args.next.now.items c.add_steps.new.next.items
+    goes_on prefixes.rules.now prefixes.automaton.now.edges.items c.args.state (c.args.count + 1) c.args.next.now.items c.add_steps.new.next.items
     (c.if-is_ended.ensures.no refl) gains)
     c.add_steps.ensures

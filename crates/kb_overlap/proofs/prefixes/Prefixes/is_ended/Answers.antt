@@ -8,7 +8,7 @@ pub loop-end-init : goal.loop-end-init
 loop-end-init c =
     let prefixes = c.args.self.now in
     let are = c.requires.prefixes in
-    let P : ℕ → Type 0 = λ end. Looking prefixes.rules.now prefixes.automaton c.args.state end in
+    let P : ℕ → Type 0 = λ end. Looking prefixes.rules.now prefixes.automaton.now c.args.state end in
     subst P (sym (end_read are c.args.state c.index-end.result.now c.requires.state c.index-end.ensures))
     (looking_first are.is c.args.state c.requires.state)
 
@@ -19,12 +19,12 @@ loop-end-preserved c =
     let end : ℕ = c.loop-end.end in
     let looking = c.loop-end.invariant in
     let some : 0 < end = c.loop-end-test.true in
-    let head : c.index-head.result.now ≡ get_or prefixes.automaton.chains.heads.items end 0 =
+    let head : c.index-head.result.now ≡ get_or prefixes.automaton.now.chains.heads.items end 0 =
     head_read are end c.index-head.result.now looking.within c.index-head.ensures in
     let none : c.index-head.result.now ≤ 0 = c.if-head-gt0.false in
-    let next : c.index-end-in-loop-end.result.now ≡ next_end prefixes.automaton end =
+    let next : c.index-end-in-loop-end.result.now ≡ next_end prefixes.automaton.now end =
     next_read are end c.index.result.now c.index-end-in-loop-end.result.now some looking.within c.index.ensures c.index-end-in-loop-end.ensures in
-    let P : ℕ → Type 0 = λ end. Looking prefixes.rules.now prefixes.automaton c.args.state end in
+    let P : ℕ → Type 0 = λ end. Looking prefixes.rules.now prefixes.automaton.now c.args.state end in
     subst P (sym next) (looking_more are.is c.args.state end some (omega arith) looking)
 
 pub loop-end-smaller : goal.loop-end-smaller
@@ -34,9 +34,9 @@ loop-end-smaller c =
     let end : ℕ = c.loop-end.end in
     let some : 0 < end = c.loop-end-test.true in
     let within = c.loop-end.invariant.within in
-    let next : c.index-end-in-loop-end.result.now ≡ next_end prefixes.automaton end =
+    let next : c.index-end-in-loop-end.result.now ≡ next_end prefixes.automaton.now end =
     next_read are end c.index.result.now c.index-end-in-loop-end.result.now some within c.index.ensures c.index-end-in-loop-end.ensures in
-    let below : next_end prefixes.automaton end < end = next_below are.is end some within in
+    let below : next_end prefixes.automaton.now end < end = next_below are.is end some within in
     omega arith
 
 pub returns-then-head-gt0-clause-yes : goal.returns-then-head-gt0-clause-yes
@@ -45,7 +45,7 @@ returns-then-head-gt0-clause-yes c =
     let are = c.requires.prefixes in
     let end : ℕ = c.loop-end.end in
     let looking = c.loop-end.invariant in
-    let head : c.index-head.result.now ≡ get_or prefixes.automaton.chains.heads.items end 0 =
+    let head : c.index-head.result.now ≡ get_or prefixes.automaton.now.chains.heads.items end 0 =
     head_read are end c.index-head.result.now looking.within c.index-head.ensures in
     let some : 0 < c.index-head.result.now = c.if-head-gt0.true in
     λ _ none. looking_found are.is c.args.state end (omega arith) looking none

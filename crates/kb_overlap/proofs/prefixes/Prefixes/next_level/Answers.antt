@@ -15,7 +15,7 @@ pub loop-state-init : goal.loop-state-init
 loop-state-init c =
     let prefixes = c.args.self.now in
     let rules : List Pair = prefixes.rules.now in
-    let edges : List Edge = prefixes.automaton.edges.items in
+    let edges : List Edge = prefixes.automaton.now.edges.items in
     let Next : ℕ → ℕ → Type 0 = λ state. GoesOn rules edges state (c.args.count + 1) in
     let Met : ℕ → Overlap → Type 0 = λ state. EndsRead rules c.args.index (word edges state) c.args.read c.args.count in
     let P : List ℕ → Type 0 = λ xs. Gains (Over Next []) [] xs in
@@ -28,7 +28,7 @@ pub loop-state-preserved : goal.loop-state-preserved
 loop-state-preserved c =
     let prefixes = c.args.self.now in
     let rules : List Pair = prefixes.rules.now in
-    let edges : List Edge = prefixes.automaton.edges.items in
+    let edges : List Edge = prefixes.automaton.now.edges.items in
     let level : List ℕ = c.args.level.now in
     let i : ℕ = c.loop-state.state-index in
     let Next : ℕ → ℕ → Type 0 = λ state. GoesOn rules edges state (c.args.count + 1) in
@@ -46,7 +46,7 @@ pub returns-clause-next : goal.returns-clause-next
 returns-clause-next c =
     let prefixes = c.args.self.now in
     let rules : List Pair = prefixes.rules.now in
-    let edges : List Edge = prefixes.automaton.edges.items in
+    let edges : List Edge = prefixes.automaton.now.edges.items in
     let level : List ℕ = c.args.level.now in
     let Next : ℕ → ℕ → Type 0 = λ state. GoesOn rules edges state (c.args.count + 1) in
     reached_level c.requires.prefixes.is (drop 1 (left_at rules c.args.index)) c.args.count level c.loop-state.next.items c.requires.level
@@ -56,7 +56,7 @@ pub returns-clause-found : goal.returns-clause-found
 returns-clause-found c =
     let prefixes = c.args.self.now in
     let rules : List Pair = prefixes.rules.now in
-    let edges : List Edge = prefixes.automaton.edges.items in
+    let edges : List Edge = prefixes.automaton.now.edges.items in
     let level : List ℕ = c.args.level.now in
     let Met : ℕ → Overlap → Type 0 = λ state. EndsRead rules c.args.index (word edges state) c.args.read c.args.count in
     met_level rules edges c.args.index c.args.count c.args.read level c.args.found.now.items c.loop-state.found.items c.requires.read

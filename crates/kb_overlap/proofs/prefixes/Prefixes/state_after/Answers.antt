@@ -13,7 +13,7 @@ use Rattle.kb_overlap.proofs.prefixes.Prefixes.state_after.Goals as goal
 
 pub loop-letter-init : goal.loop-letter-init
 loop-letter-init c = record {
-  stands = record { within = omega arith; longest = longest_nil c.args.self.now.automaton.edges.items };
+  stands = record { within = omega arith; longest = longest_nil c.args.self.now.automaton.now.edges.items };
   irreducible = nothing_irreducible c.requires.is;
 }
 
@@ -21,7 +21,7 @@ pub loop-letter-preserved : goal.loop-letter-preserved
 loop-letter-preserved c =
     let prefixes = c.args.self.now in
     let rules : List Pair = prefixes.rules.now in
-    let edges : List Edge = prefixes.automaton.edges.items in
+    let edges : List Edge = prefixes.automaton.now.edges.items in
     let letters : List ℕ = c.args.letters.now in
     let i : ℕ = c.loop-letter.letter-index in
     let within : i < length letters = omega (arith, c.loop-letter-test.true) in
@@ -46,7 +46,7 @@ pub returns-then-is_ended-clause-none : goal.returns-then-is_ended-clause-none
 returns-then-is_ended-clause-none c =
     let prefixes = c.args.self.now in
     let rules : List Pair = prefixes.rules.now in
-    let edges : List Edge = prefixes.automaton.edges.items in
+    let edges : List Edge = prefixes.automaton.now.edges.items in
     let letters : List ℕ = c.args.letters.now in
     let i : ℕ = c.loop-letter.letter-index in
     let within : i < length letters = omega (arith, c.loop-letter-test.true) in
