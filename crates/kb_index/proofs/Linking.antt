@@ -1,5 +1,5 @@
 -- The failure links, state by state.
-use Rattle.std.proofs.Common.{◌≡◌, ℕ, ◌+◌, ◌-◌, ◌<◌, ◌≤◌, List, [], ◌∷◌, ◌++◌, length, get_or, drop, sym, ap, ◌∙◌, subst, inl, inr, arith}
+use Rattle.std.proofs.Common.{◌≡◌, ℕ, zero, suc, ◌+◌, ◌-◌, ◌<◌, ◌≤◌, List, [], ◌∷◌, ◌++◌, length, get_or, drop, sym, ap, ◌∙◌, subst, inl, inr, arith, length-append}
 use Rattle.std.proofs.lemmas.List.{get_or_append_left, get_or_push, length_push, drop-append-le}
 use Rattle.std.proofs.lemmas.Bool.{cases_lt}
 use Rattle.kb_index.specs.declared.edge.Edge.{Edge}
@@ -9,8 +9,9 @@ use Rattle.kb_index.proofs.Words.{word_root}
 use Rattle.kb_index.proofs.States.{FromEdge, from_edge}
 use Rattle.kb_index.proofs.States.FromEdge.{root, edge_to}
 use Rattle.kb_index.proofs.Runs.{parents_rise}
-use Rattle.kb_index.proofs.Steps.{longest_more}
+use Rattle.kb_index.proofs.Steps.{longest_more, spelled_ends}
 use Rattle.kb_index.proofs.Suffixes.{ends_all}
+use Rattle.kb_word.specs.Words.{EndsWith}
 
 -- the longest suffix of the empty word
 pub longest_nil : (edges : List Edge) → IsLongestSuffix edges [] (word edges 0)
@@ -99,3 +100,52 @@ step_earlier edges rise place from link within in_edges less leads =
           absurd (omega arith)
       | inr fine ↦ fine
     ]
+
+-- a state whose word ends that of another is no later
+suffix_below : (bound : ℕ) (edges : List Edge) → AreEdges edges → (p q : ℕ) → q < bound → p ≤ length edges → q ≤ length edges
+    → EndsWith (word edges q) (word edges p) → FromEdge p → FromEdge q → p ≤ q
+suffix_below zero edges rise p q below in_p in_q ends from_p from_q = absurd (let no : ⊥ = omega arith in no)
+suffix_below (suc bound) edges rise p q below in_p in_q ends root from_q = omega arith
+suffix_below (suc bound) edges rise p q below in_p in_q ends (edge_to i) root =
+    let e : Edge = edge_at edges i in
+    absurd (let no : ⊥ = omega (arith, ap length (sym (word_root edges) ∙ ends.1), length-append ends.0 (word edges (i + 1)), ap length (rise.spelled i (omega arith)), length_push (word edges e.parent) e.letter) in no)
+suffix_below (suc bound) edges rise p q below in_p in_q ends (edge_to i) (edge_to j) =
+    elim (cases_lt j i) [
+      | inl less ↦
+          let in_i : i < length edges = omega arith in
+          let in_j : j < length edges = omega arith in
+          let e : Edge = edge_at edges i in
+          let f : Edge = edge_at edges j in
+          let at_e : e.parent ≤ i = rise.parents i in_i in
+          let at_f : f.parent ≤ j = rise.parents j in_j in
+          let P : List ℕ → Type 0 = λ w. EndsWith w (word edges (i + 1)) in
+          let split = spelled_ends edges rise (word edges f.parent) f.letter i in_i (subst P (rise.spelled j in_j) ends) in
+          let up : e.parent ≤ f.parent =
+          suffix_below bound edges rise e.parent f.parent (omega arith) (omega arith) (omega arith) split.0 (from_edge e.parent)
+          (from_edge f.parent) in
+          let same : f.letter ≡ e.letter = split.1 in
+          let order = rise.rising j i less in_i in
+          absurd (let no : ⊥ = omega arith in no)
+      | inr fine ↦ omega arith
+    ]
+
+-- what a step leads to is a child of the state or of an earlier one
+leads_from : (edges : List Edge) → AreEdges edges → (from letter link : ℕ) → from ≤ length edges → link ≤ length edges
+    → EndsWith (word edges from ++ letter ∷ []) (word edges link) → LeadsFrom edges from link
+leads_from edges rise from letter link in_from in_link ends some =
+    let place : ℕ = link - 1 in
+    let here : place < length edges = omega arith in
+    let same : link ≡ place + 1 = omega arith in
+    let P : ℕ → Type 0 = λ s. EndsWith (word edges from ++ letter ∷ []) (word edges s) in
+    let split = spelled_ends edges rise (word edges from) letter place here (subst P same ends) in
+    let parent : ℕ = (edge_at edges place).parent in
+    let low : parent ≤ place = rise.parents place here in
+    suffix_below (from + 1) edges rise parent from (omega arith) (omega arith) in_from split.0 (from_edge parent) (from_edge from)
+
+-- so the step from a link leads to an earlier state
+pub link_early : (edges : List Edge) → AreEdges edges → (place from letter link : ℕ) → place < length edges → link ≤ length edges
+    → from < (edge_at edges place).parent → IsLongestSuffix edges (word edges from ++ letter ∷ []) (word edges link) → link ≤ place
+link_early edges rise place from letter link within in_edges less longest =
+    let low : (edge_at edges place).parent ≤ place = rise.parents place within in
+    step_earlier edges rise place from link within in_edges less
+    (leads_from edges rise from letter link (omega arith) in_edges longest.ends)

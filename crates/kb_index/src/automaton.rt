@@ -5,6 +5,7 @@ ghost use Rattle.kb_word.specs.Words.{Pair, EndsWith};
 ghost use Rattle.kb_index.specs.Edges.{word};
 ghost use Rattle.kb_index.specs.Children.{AreFirsts, AreRootChildren};
 ghost use Rattle.kb_index.specs.Links.{AreLinks};
+ghost use Rattle.kb_index.specs.Rows.{AreRows};
 ghost use Rattle.kb_index.specs.Tries.{IsTrie};
 ghost use Rattle.kb_index.specs.Chains.{AreBefore, AreHeads, Rise};
 ghost use Rattle.kb_index.specs.Live.{IsFirstSuch};
@@ -14,8 +15,7 @@ use crate::chains::{Chains, first_live};
 use crate::children::{firsts_of, root_children_of};
 use crate::edge::Edge;
 use crate::ends::ends_of;
-use crate::links::{links_of, state_after};
-use crate::table::Table;
+use crate::table::{Table, links_and_table};
 use crate::trie::trie_of;
 use kb_rules::Rule;
 use kb_word::Memory;
@@ -46,9 +46,8 @@ impl Automaton {
         }
         let firsts = firsts_of(alloc, &edges)?;
         let roots = root_children_of(alloc, &edges, &firsts)?;
-        let links = links_of(alloc, &edges, &firsts, &roots)?;
-        let table = Table::of(alloc, &edges, &firsts, &links)?;
-        let chains = chains_of(alloc, rules, &edges, &firsts, &roots, &links)?;
+        let (links, table) = links_and_table(alloc, &edges, &firsts, &roots)?;
+        let chains = chains_of(alloc, rules, &edges, &firsts, &roots, &links, &table)?;
         let ends = ends_of(alloc, &edges, &links, &chains.heads)?;
         Ok(Automaton {
             edges,
@@ -90,12 +89,14 @@ fn chains_of(
     firsts: &[usize],
     roots: &[usize],
     links: &[usize],
+    table: &Table,
 ) -> Result<Chains, Memory>
     requires trie { IsTrie rules.now edges.now }
     requires firsts { AreFirsts edges.now firsts.now }
     requires roots { AreRootChildren edges.now roots.now }
     requires links { AreLinks edges.now links.now }
     requires count { length links.now ≡ length edges.now + 1 }
+    requires rows { AreRows edges.now (length edges.now + 1) table.now.width table.now.rows.items }
     ensures states { IfOk result (λ chains. length chains.heads.items ≡ length edges.now + 1) }
     ensures count { IfOk result (λ chains. length chains.before.items ≡ length rules.now) }
     ensures heads { IfOk result
@@ -104,7 +105,7 @@ fn chains_of(
 {
     let mut chains = Chains::none(alloc, edges.len() + 1)?;
     for rule in rules {
-        let state = state_after(edges, firsts, roots, links, rule.left());
+        let state = table.state_after(edges, firsts, roots, links, rule.left());
         chains.add(state)?;
     }
     Ok(chains)

@@ -20,13 +20,13 @@
 //! - `children`: where the edges from each state begin. A child is found by halving, in time that grows as the
 //!   logarithm of the number of the state's children, however many letters there are. State 0, at which many
 //!   searches end, has a row with its child by each letter.
-//! - `links`: each state's failure link, to the state of the longest proper suffix of its word, and the step by a
-//!   letter, which follows the links to a state with a child by the letter. Links lead to earlier states, so steps
-//!   end.
+//! - `links`: the step by a letter, which follows the failure links to a state with a child by the letter. A state's
+//!   link leads to the state of the longest proper suffix of its word. That is an earlier state, so steps end.
 //! - `table`: the states after each state by each letter of a short alphabet, row by row, so that a step is one look. A
-//!   row is made from that of the link, which is earlier, and the state's own children. The table has a row for each
-//!   state, with four bytes for each number up to the greatest letter, and 16 MiB at most: where it would take more, it
-//!   is empty, and steps go by children and links.
+//!   row is made from that of the link, which is earlier, and the state's own children; and the link of a child is the
+//!   step of its parent's link, one look at a row that is there. So links and rows are made together, state by state.
+//!   The table has a row for each state, with four bytes for each number up to the greatest letter, and 16 MiB at most:
+//!   where it would take more, it is empty, and steps go by children and links.
 //! - `chains`: the rules of each state, those whose left side is its word: the last of them, and for each rule the
 //!   one before it. `ends`: for each state the one of the longest suffix of its word that has rules. `automaton` puts
 //!   all these together; it never changes. `stepping` has its calls for other crates, state by state.

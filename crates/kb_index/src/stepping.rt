@@ -7,7 +7,6 @@ ghost use Rattle.kb_index.specs.Links.{IsLongestSuffix};
 ghost use Rattle.kb_index.specs.Automata.{IsAutomaton};
 
 use crate::automaton::Automaton;
-use crate::links::step;
 
 impl Automaton {
     /// The last state. States are numbered from 0 on.
@@ -25,17 +24,14 @@ impl Automaton {
         ensures longest { IsLongestSuffix self.now.edges.items
             (word self.now.edges.items state ++ letter ∷ []) (word self.now.edges.items result) }
     {
-        match self.table.after(state, letter) {
-            Some(after) => after,
-            None => step(
-                &self.edges,
-                &self.firsts,
-                &self.roots,
-                &self.links,
-                state,
-                letter,
-            ),
-        }
+        self.table.step(
+            &self.edges,
+            &self.firsts,
+            &self.roots,
+            &self.links,
+            state,
+            letter,
+        )
     }
 
     /// Whether the state's word is a left side.

@@ -1,14 +1,15 @@
 //! The steps of the automaton by the letters of a short alphabet, in a table.
 
-ghost use Rattle.std.specs.Prelude.{◌≡◌, ℕ, List, ◌<◌, ◌≤◌, ◌+◌, ◌*◌, ◌^◌, IfOk, IfSome, IfNone, OnOk, length};
-ghost use Rattle.kb_index.specs.Edges.{AreEdges, edge_at};
-ghost use Rattle.kb_index.specs.Children.{AreFirsts};
-ghost use Rattle.kb_index.specs.Links.{AreLinks};
+ghost use Rattle.std.specs.Prelude.{◌≡◌, ℕ, List, ◌<◌, ◌≤◌, ◌+◌, ◌*◌, ◌^◌, IfOk, IfSome, IfNone, OnOk, drop, length};
+ghost use Rattle.kb_index.specs.Edges.{AreEdges, edge_at, word};
+ghost use Rattle.kb_index.specs.Children.{AreFirsts, AreRootChildren};
+ghost use Rattle.kb_index.specs.Links.{AreLinks, IsLongestSuffix};
 ghost use Rattle.kb_index.specs.Rows.{AreRows, AreSteps, IsStep};
 
 use crate::children::child;
 use crate::edge::Edge;
-use kb_word::Memory;
+use crate::links::step;
+use kb_word::{Memory, Word};
 use std::alloc::Global;
 
 /// How many entries a table may have, of four bytes each.
@@ -24,32 +25,19 @@ pub struct Table {
 }
 
 impl Table {
-    /// The table of all states.
-    pub fn of(
-        alloc: Global,
-        edges: &[Edge],
-        firsts: &[usize],
-        links: &[usize],
-    ) -> Result<Table, Memory>
-        requires edges { AreEdges edges.now }
-        requires few { length edges.now < 2 ^ 32 }
-        requires firsts { AreFirsts edges.now firsts.now }
-        requires links { AreLinks edges.now links.now }
-        requires count { length links.now ≡ length edges.now + 1 }
-        ensures { IfOk result
-            (λ table. AreRows edges.now (length edges.now + 1) table.width table.rows.items) }
+    /// The table of no state yet, as wide as the letters of these edges want.
+    pub fn none(alloc: Global, edges: &[Edge]) -> Result<Table, Memory>
+        ensures width { IfOk result (λ table. table.width ≤ 2 ^ 16) }
+        ensures rows { IfOk result
+            (λ table. AreRows edges.now 0 table.width table.rows.items) }
     {
         let width = width_of(edges);
         let rows = Vec::with_capacity(alloc, (edges.len() + 1) * width)?;
-        let mut table = Table { width, rows };
-        for state in 0..edges.len() + 1 {
-            table.add_row(state, edges, firsts, links)?;
-        }
-        Ok(table)
+        Ok(Table { width, rows })
     }
 
     /// Adds the row of a state behind those of the earlier states.
-    fn add_row(
+    pub fn add_row(
         &mut self,
         state: usize,
         edges: &[Edge],
@@ -63,7 +51,7 @@ impl Table {
         requires few { length edges.now < 2 ^ 32 }
         requires firsts { AreFirsts edges.now firsts.now }
         requires links { AreLinks edges.now links.now }
-        requires count { length links.now ≡ length edges.now + 1 }
+        requires linked { state < length links.now }
         ensures width { self.new.width ≡ self.old.width }
         ensures rows { OnOk result
             (AreRows edges.now (state + 1) self.new.width self.new.rows.items) }
@@ -92,7 +80,7 @@ impl Table {
         requires edges { AreEdges edges.now }
         requires firsts { AreFirsts edges.now firsts.now }
         requires links { AreLinks edges.now links.now }
-        requires count { length links.now ≡ length edges.now + 1 }
+        requires linked { state < length links.now }
         ensures { IsStep edges.now state letter result }
     {
         match child(edges, firsts, state, letter) {
@@ -104,10 +92,10 @@ impl Table {
 
     /// The state after a letter more, if the letter is below the width.
     pub fn after(&self, state: usize, letter: u16) -> Option<usize>
-        requires { (edges : List Edge) × (state ≤ length edges)
-            × AreRows edges (length edges + 1) self.now.width self.now.rows.items }
-        ensures some { (edges : List Edge) → state ≤ length edges
-            → AreRows edges (length edges + 1) self.now.width self.now.rows.items
+        requires { (edges : List Edge) × (states : ℕ) × (state < states)
+            × AreRows edges states self.now.width self.now.rows.items }
+        ensures some { (edges : List Edge) (states : ℕ) → state < states
+            → AreRows edges states self.now.width self.now.rows.items
             → IfSome result (IsStep edges state letter) }
         ensures none { IfNone result (self.now.width ≤ letter) }
     {
@@ -118,6 +106,114 @@ impl Table {
             None
         }
     }
+    /// The state after a letter more: one look where the letter is below the width, else by children and links.
+    pub fn step(
+        &self,
+        edges: &[Edge],
+        firsts: &[usize],
+        roots: &[usize],
+        links: &[usize],
+        state: usize,
+        letter: u16,
+    ) -> usize
+        requires edges { AreEdges edges.now }
+        requires firsts { AreFirsts edges.now firsts.now }
+        requires roots { AreRootChildren edges.now roots.now }
+        requires links { AreLinks edges.now links.now }
+        requires linked { state < length links.now }
+        requires count { length links.now ≤ length edges.now + 1 }
+        requires rows { (states : ℕ) × (state < states)
+            × AreRows edges.now states self.now.width self.now.rows.items }
+        ensures { IsStep edges.now state letter result }
+    {
+        match self.after(state, letter) {
+            Some(after) => after,
+            None => step(edges, firsts, roots, links, state, letter),
+        }
+    }
+
+    /// The state after all letters of a word.
+    pub fn state_after(
+        &self,
+        edges: &[Edge],
+        firsts: &[usize],
+        roots: &[usize],
+        links: &[usize],
+        read: &Word,
+    ) -> usize
+        requires edges { AreEdges edges.now }
+        requires firsts { AreFirsts edges.now firsts.now }
+        requires roots { AreRootChildren edges.now roots.now }
+        requires links { AreLinks edges.now links.now }
+        requires count { length links.now ≡ length edges.now + 1 }
+        requires rows { AreRows edges.now (length edges.now + 1) self.now.width self.now.rows.items }
+        ensures state { result ≤ length edges.now }
+        ensures longest { IsLongestSuffix edges.now read.now (word edges.now result) }
+    {
+        let mut state = 0;
+        for letter in read.letters() {
+            state = self.step(edges, firsts, roots, links, state, letter.number());
+        }
+        state
+    }
+
+    /// The failure link of the state to which the edge at a place leads: the state after the link of the edge's first
+    /// state and the letter, or state 0 where that is state 0.
+    fn link(
+        &self,
+        place: usize,
+        edges: &[Edge],
+        firsts: &[usize],
+        roots: &[usize],
+        links: &[usize],
+    ) -> usize
+        requires place { place < length edges.now }
+        requires edges { AreEdges edges.now }
+        requires firsts { AreFirsts edges.now firsts.now }
+        requires roots { AreRootChildren edges.now roots.now }
+        requires links { AreLinks edges.now links.now }
+        requires count { length links.now ≡ place + 1 }
+        requires rows { AreRows edges.now (place + 1) self.now.width self.now.rows.items }
+        ensures earlier { result ≤ place }
+        ensures longest { IsLongestSuffix edges.now (drop 1 (word edges.now (place + 1)))
+            (word edges.now result) }
+    {
+        let edge = edges[place];
+        if edge.parent == 0 {
+            return 0;
+        }
+        let link = links[edge.parent];
+        self.step(edges, firsts, roots, links, link, edge.letter)
+    }
+}
+
+/// The failure links of all states, in their order, and the table: the row of each state follows that of its link, and
+/// the links of a state's children follow the state's row.
+pub fn links_and_table(
+    alloc: Global,
+    edges: &[Edge],
+    firsts: &[usize],
+    roots: &[usize],
+) -> Result<(Vec<usize>, Table), Memory>
+    requires edges { AreEdges edges.now }
+    requires few { length edges.now < 2 ^ 32 }
+    requires firsts { AreFirsts edges.now firsts.now }
+    requires roots { AreRootChildren edges.now roots.now }
+    ensures count { IfOk result (λ both. length both.0.items ≡ length edges.now + 1) }
+    ensures links { IfOk result (λ both. AreLinks edges.now both.0.items) }
+    ensures rows { IfOk result
+        (λ both. AreRows edges.now (length edges.now + 1) both.1.width both.1.rows.items) }
+{
+    let mut links = Vec::with_capacity(alloc, edges.len() + 1)?;
+    links.push(0)?;
+    let mut table = Table::none(alloc, edges)?;
+    for place in 0..edges.len() {
+        table.add_row(place, edges, firsts, &links)?;
+        let link = table.link(place, edges, firsts, roots, &links);
+        links.push(link)?;
+    }
+    table.add_row(edges.len(), edges, firsts, &links)?;
+    Ok((links, table))
 }
 
 /// One more than the greatest letter of the edges, or 0 where a table of so many letters would be too large.

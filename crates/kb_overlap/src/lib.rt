@@ -11,8 +11,8 @@
 //!   that they are exactly the overlaps, strictly ascending by the rule's index and then by the place. A caller
 //!   leaves out a rule with itself at place 0.
 //! - `PrimeOverlaps::of` takes rules that decrease, and `PrimeOverlaps::by` their automaton too, which it shares.
-//!   `PrimeOverlaps::of_rule` then finds the prime overlaps in which one of them begins first: `ArePrimeOverlaps` (specs/Composite.antt) says that they are exactly these. A rule with
-//!   itself at place 0 is none.
+//!   `PrimeOverlaps::of_rule` then finds the prime overlaps in which one of them begins first: `ArePrimeOverlaps`
+//!   (specs/Composite.antt) says that they are exactly these. A rule with itself at place 0 is none.
 //! - `meets` tells whether two words overlap at a place.
 //! - A `PairWorkspace` has two words, reduces them by a `kb_rules::Reducer`, and tells whether they are joined or
 //!   apart: whether their normal forms are one word or two (`specs/Joining.antt`). It is kept for one pair after

@@ -23,7 +23,7 @@ returns-in-None-2 c =
     let letter : ℕ = c.args.letter in
     let link : ℕ = get_or c.args.links.now state 0 in
     let some : 0 < state = omega (arith, c.if-state-eq0.false) in
-    let in_links : state < length c.args.links.now = omega (arith, c.requires.count, c.requires.state) in
+    let in_links : state < length c.args.links.now = c.requires.linked in
     let falls : link < state = c.requires.links.falls state some in_links in
     let within : link * width + letter < length rows =
     omega (arith, place_before state link width letter falls c.requires.letter, c.requires.rows) in

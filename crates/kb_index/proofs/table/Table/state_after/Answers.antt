@@ -4,7 +4,7 @@ use Rattle.kb_index.specs.Edges.{word}
 use Rattle.kb_index.specs.Links.{IsLongestSuffix}
 use Rattle.kb_index.proofs.Steps.{longest_more}
 use Rattle.kb_index.proofs.Linking.{longest_nil}
-use Rattle.kb_index.proofs.links.state_after.Goals as goal
+use Rattle.kb_index.proofs.table.Table.state_after.Goals as goal
 
 pub loop-letter-init : goal.loop-letter-init
 loop-letter-init c = record { within = omega arith; longest = longest_nil c.args.edges.now }
@@ -20,7 +20,7 @@ loop-letter-preserved c =
     ap (λ (y : ℕ). take i items ++ y ∷ []) read ∙ sym (take_more items i 0 (omega arith)) in
     let P : List ℕ → Type 0 = λ w. IsLongestSuffix edges w (word edges c.step-state.result) in
     record {
-      within = c.step-state.ensures.state;
+      within = c.step-state.ensures.within;
       longest =
           subst P more
           (longest_more edges c.requires.edges (take i items) (word edges c.loop-letter.state) (word edges c.step-state.result) x
