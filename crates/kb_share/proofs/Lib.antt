@@ -9,3 +9,9 @@ pub mod Entries
 mod Progress
 pub mod Sieving
 pub mod NoneApart
+pub mod Marks
+pub mod Known
+pub mod SideLemmas
+pub mod LineSteps
+pub mod Rests
+pub mod Staying

@@ -5,3 +5,7 @@ pub mod Versions
 pub mod Passes
 pub mod Rows
 pub mod Primes
+pub mod Signatures
+pub mod Finding
+pub mod Interreduced
+pub mod Simplifying

@@ -1,6 +1,10 @@
 //! Lines are made until nothing is pending.
 
-ghost use Rattle.std.specs.Prelude.{◌≡◌, ◌≢◌, ◌↔◌, ◌<◌, [], IsTrue, IfOk, IfNone, IfSome, None};
+ghost use Rattle.std.specs.Prelude.{◌≡◌, ◌≢◌, ◌↔◌, ◌<◌, [], IsTrue, IfOk, IfNone, IfSome, None, OnOk};
+ghost use Rattle.kb_machine.specs.Course.{Course, Takes};
+ghost use Rattle.kb_machine.specs.declared.event.Event.TheVariants.{Made};
+ghost use Rattle.kb_share.specs.Finding.{Knows};
+ghost use Rattle.kb_share.specs.Interreduced.{StaysReduced};
 ghost use Rattle.kb_share.specs.Settling.{Settles, SettleSays};
 ghost use Rattle.kb_share.specs.Work.{EndsAt, GoesOn, work};
 
@@ -24,6 +28,7 @@ pub fn settle<R: Reducer, W: Watch>(
 ) -> Result<Settled, Memory>
     ensures settles { Settles book.old.course book.new.course }
     ensures says { IfOk result (SettleSays book.old.course book.new.course) }
+    ensures reduced { OnOk result (StaysReduced book.old.course book.new.course) }
 {
     book_is_sound(book);
     if is_idle(book) {
@@ -48,6 +53,7 @@ fn make_all<R: Reducer, W: Watch>(
     requires { book.old.course.state.pending ≢ [] }
     ensures settles { Settles book.old.course book.new.course }
     ensures says { IfOk result (SettleSays book.old.course book.new.course) }
+    ensures reduced { OnOk result (StaysReduced book.old.course book.new.course) }
 {
     let mut finder = Finder::new(alloc);
     'making: loop {
@@ -64,9 +70,12 @@ fn make_next<R: Reducer, W: Watch>(
     finder: &mut Finder,
     watch: &mut W,
 ) -> Result<Option<Settled>, Memory>
+    requires known { Knows finder.old book.old.course.state }
     ensures settles { Settles book.old.course book.new.course }
     ensures falls { IfOk result (λ end. IfNone end (work book.new.course < work book.old.course)) }
     ensures ends { IfOk result (λ end. IfSome end (EndsAt book.new.course)) }
+    ensures known { OnOk result (Knows finder.new book.new.course.state) }
+    ensures reduced { OnOk result (StaysReduced book.old.course book.new.course) }
 {
     book_is_sound(book);
     match book.make(alloc)? {
@@ -77,7 +86,8 @@ fn make_next<R: Reducer, W: Watch>(
     }
 }
 
-/// Goes on after line k was made.
+/// Goes on after line k was made. Where the live rules were interreduced before it was made, they
+/// are so afterwards: left sides always, and right sides as long as lines can be made.
 pub fn line_made<R: Reducer, W: Watch>(
     alloc: Global,
     book: &mut Book<R>,
@@ -85,8 +95,12 @@ pub fn line_made<R: Reducer, W: Watch>(
     finder: &mut Finder,
     watch: &mut W,
 ) -> Result<Option<Settled>, Memory>
+    requires known { Knows finder.old book.old.course.state }
     ensures goes_on { GoesOn book.old.course book.new.course }
     ensures none { IfOk result (λ end. end ≡ None) }
+    ensures known { OnOk result (Knows finder.new book.new.course.state) }
+    ensures reduced { (start : Course) → Takes (Made k) start book.old.course
+        → OnOk result (StaysReduced start book.new.course) }
 {
     watch.line_made(book);
     simplify(alloc, book, k, finder)?;

@@ -1,18 +1,23 @@
 use Rattle.kb_share.proofs.Stages.{settles_itself, settles_then}
+use Rattle.kb_share.proofs.Staying.{stays_itself, stays_then}
 use Rattle.kb_share.proofs.Halting.{ends_settled, none_is, some_is}
 use Rattle.kb_share.proofs.settling.make_all.Goals as goal
 use Rattle.kb_share.specs.Work.{EndsAt}
 
 pub making-init : goal.making-init
-making-init g c = settles_itself c.args.book.now.course
+making-init g c = record {
+  settles = settles_itself c.args.book.now.course;
+  known = c.new-finder.ensures c.args.book.now.course.state;
+  reduced = stays_itself c.args.book.now.course;
+}
 
 pub returns-in_err-end-clause-settles : goal.returns-in_err-end-clause-settles
 returns-in_err-end-clause-settles g c =
-    settles_then c.args.book.now.course c.making.book.course c.make_next.new.book.course c.making.invariant c.make_next.ensures.settles
+    settles_then c.args.book.now.course c.making.book.course c.make_next.new.book.course c.making.invariant.settles c.make_next.ensures.settles
 
 pub returns-in-Some-clause-settles : goal.returns-in-Some-clause-settles
 returns-in-Some-clause-settles g c =
-    settles_then c.args.book.now.course c.making.book.course c.make_next.new.book.course c.making.invariant c.make_next.ensures.settles
+    settles_then c.args.book.now.course c.making.book.course c.make_next.new.book.course c.making.invariant.settles c.make_next.ensures.settles
 
 pub returns-in-Some-clause-says : goal.returns-in-Some-clause-says
 returns-in-Some-clause-says g c =
@@ -23,6 +28,16 @@ returns-in-Some-clause-says g c =
 pub making-smaller : goal.making-smaller
 making-smaller g c = none_is c.in_ok-end.field-0 c.in_default.is c.in_ok-end.ensures.falls
 
+pub returns-in-Some-clause-reduced : goal.returns-in-Some-clause-reduced
+returns-in-Some-clause-reduced g c =
+    stays_then c.args.book.now.course c.making.book.course c.make_next.new.book.course c.making.invariant.reduced
+    c.in_ok-end.ensures.reduced
+
 pub making-preserved : goal.making-preserved
-making-preserved g c =
-    settles_then c.args.book.now.course c.making.book.course c.make_next.new.book.course c.making.invariant c.make_next.ensures.settles
+making-preserved g c = record {
+  settles = settles_then c.args.book.now.course c.making.book.course c.make_next.new.book.course c.making.invariant.settles
+      c.make_next.ensures.settles;
+  known = c.in_ok-end.ensures.known;
+  reduced = stays_then c.args.book.now.course c.making.book.course c.make_next.new.book.course c.making.invariant.reduced
+      c.in_ok-end.ensures.reduced;
+}

@@ -1,5 +1,6 @@
 use Rattle.kb_book.specs.declared.answers.Make.TheVariants as makes
 use Rattle.kb_share.proofs.Stages.{make_settles, make_said, settles_then, made_then_falls, dropped_falls, halt_given}
+use Rattle.kb_share.proofs.Staying.{knows_make, dropped_stays_said, idle_stays, halted_stays_said}
 use Rattle.kb_share.proofs.Halting.{idle_ends, if_none, if_some}
 use Rattle.kb_share.proofs.settling.make_next.Goals as goal
 use Rattle.kb_share.specs.Work.{EndsAt}
@@ -61,4 +62,50 @@ returns-in-Halted-clause-ends g c =
     let before = c.args.book.now.course in
     let after = c.make.new.self.course in
     halt_given before after c.in-Halted.halt
+    (make_said before after c.in_ok-k.field-0 (makes.Halted c.in-Halted.halt) c.in-Halted.is c.in_ok-k.ensures)
+
+pub line_made-requires : goal.line_made-requires
+line_made-requires g c = record {
+  known = knows_make c.args.finder.now c.args.book.now.course c.make.new.self.course c.make.result c.make.ensures c.requires.known;
+}
+
+pub returns-in_ok-line_made-in-Made-clause-known : goal.returns-in_ok-line_made-in-Made-clause-known
+returns-in_ok-line_made-in-Made-clause-known g c = c.in_ok-line_made-in-Made.ensures.known
+
+pub returns-in_ok-line_made-in-Made-clause-reduced : goal.returns-in_ok-line_made-in-Made-clause-reduced
+returns-in_ok-line_made-in-Made-clause-reduced g c =
+    let before = c.args.book.now.course in
+    let middle = c.make.new.self.course in
+    let says = make_said before middle c.in_ok-k.field-0 (makes.Made c.in-Made.k) c.in-Made.is c.in_ok-k.ensures in
+    c.in_ok-line_made-in-Made.ensures.reduced before says.takes
+
+pub returns-in-Dropped-clause-known : goal.returns-in-Dropped-clause-known
+returns-in-Dropped-clause-known g c =
+    knows_make c.args.finder.now c.args.book.now.course c.make.new.self.course c.make.result c.make.ensures c.requires.known
+
+pub returns-in-Dropped-clause-reduced : goal.returns-in-Dropped-clause-reduced
+returns-in-Dropped-clause-reduced g c =
+    let before = c.args.book.now.course in
+    let after = c.make.new.self.course in
+    dropped_stays_said before after (make_said before after c.in_ok-k.field-0 makes.Dropped c.in-Dropped.is c.in_ok-k.ensures)
+
+pub returns-in-Idle-clause-known : goal.returns-in-Idle-clause-known
+returns-in-Idle-clause-known g c =
+    knows_make c.args.finder.now c.args.book.now.course c.make.new.self.course c.make.result c.make.ensures c.requires.known
+
+pub returns-in-Idle-clause-reduced : goal.returns-in-Idle-clause-reduced
+returns-in-Idle-clause-reduced g c =
+    let before = c.args.book.now.course in
+    let after = c.make.new.self.course in
+    idle_stays before after (make_said before after c.in_ok-k.field-0 makes.Idle c.in-Idle.is c.in_ok-k.ensures)
+
+pub returns-in-Halted-clause-known : goal.returns-in-Halted-clause-known
+returns-in-Halted-clause-known g c =
+    knows_make c.args.finder.now c.args.book.now.course c.make.new.self.course c.make.result c.make.ensures c.requires.known
+
+pub returns-in-Halted-clause-reduced : goal.returns-in-Halted-clause-reduced
+returns-in-Halted-clause-reduced g c =
+    let before = c.args.book.now.course in
+    let after = c.make.new.self.course in
+    halted_stays_said before after c.in-Halted.halt
     (make_said before after c.in_ok-k.field-0 (makes.Halted c.in-Halted.halt) c.in-Halted.is c.in_ok-k.ensures)

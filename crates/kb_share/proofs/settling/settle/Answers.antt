@@ -1,5 +1,6 @@
 use Rattle.std.proofs.Common.{◌≡◌, refl, []}
 use Rattle.kb_share.proofs.Stages.{settles_itself}
+use Rattle.kb_share.proofs.Staying.{stays_itself}
 use Rattle.kb_share.proofs.Halting.{idle_runs}
 use Rattle.kb_share.proofs.settling.settle.Goals as goal
 
@@ -17,3 +18,9 @@ returns-clause-settles g c = c.make_all.ensures.settles
 
 pub returns-clause-says : goal.returns-clause-says
 returns-clause-says g c = c.make_all.ensures.says
+
+pub returns-then-is_idle-clause-reduced : goal.returns-then-is_idle-clause-reduced
+returns-then-is_idle-clause-reduced g c = stays_itself c.args.book.now.course
+
+pub returns-clause-reduced : goal.returns-clause-reduced
+returns-clause-reduced g c = c.make_all.ensures.reduced
