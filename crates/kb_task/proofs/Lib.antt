@@ -5,4 +5,5 @@ pub mod LoadEnds
 pub mod LoadLemmas
 pub mod RunLemmas
 pub mod StopLemmas
+pub mod StoredLogs
 mod StoreLemmas

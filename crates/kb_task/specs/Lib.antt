@@ -6,6 +6,7 @@ pub mod Effects
 pub mod Loads
 pub mod Presentations
 pub mod Logs
+pub mod StoredLogs
 pub mod Automata
 pub mod Stored
 pub mod Stores

@@ -11,9 +11,10 @@
 //! that counts never fall, and that other files stay.
 //!
 //! - `status` is how a run ends, with its exit status and its messages.
-//! - `loading` loads files, and the presentations, automata and logs that they hold; `storing` stores files, and an
-//!   automaton in its canonical form; `lines` prints the line of an answer, and `stopping` is how a run ends where the
-//!   word lines stop.
+//! - `loading` loads files, and the presentations, automata and logs that they hold. By [`stored_logs_are_read`] the
+//!   log of a completion that is stored beside its presentation can be read (`specs/StoredLogs.antt`). `storing` stores
+//!   files, and an automaton in its canonical form; `lines` prints the line of an answer, and `stopping` is how a run
+//!   ends where the word lines stop.
 //! - `arguments` is what commands take of the command line in the same way.
 //!
 //! Below are the readers and printers of files and the canonical form of automata.
@@ -33,7 +34,7 @@ pub use arguments::{
 };
 pub use lines::{print_limit, print_line, undecided_line, undecided_words_line};
 pub use loading::automata::{Kind, Loaded, load_automaton, load_second};
-pub use loading::logs::load_log;
+pub use loading::logs::{load_log, stored_logs_are_read};
 pub use loading::presentations::load_presentation;
 pub use loading::{LoadStop, load_text};
 pub use status::{Cert, Construction, FileFault, Limit, Refusal, Status, Which};

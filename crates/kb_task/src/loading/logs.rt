@@ -1,16 +1,20 @@
 //! Logs from files.
 
-ghost use Rattle.std.specs.Prelude.{ℕ, List, IsTrue, IfOk, IfErr};
+ghost use Rattle.std.specs.Prelude.{ℕ, List, Option, IsTrue, IfOk, IfErr};
 ghost use Rattle.kb_io.specs.Outside.{outside};
 ghost use Rattle.kb_io.specs.States.{ShelfState, SourceState, SinkState};
+ghost use Rattle.kb_word.specs.Presentations.{PresentationParts};
+ghost use Rattle.kb_machine.specs.declared.line.Line.{Line};
 ghost use Rattle.kb_proof.specs.Printable.{AreReadableNames};
 ghost use Rattle.kb_task.specs.Loads.{Files, IsHeld, IsCause, EndsAtLoad, OnlyLoads, LoadIsCounted};
 ghost use Rattle.kb_task.specs.Logs.{HoldsLog, IsLogFault};
 ghost use Rattle.kb_task.specs.Runs.{FaultIsCounted};
+ghost use Rattle.kb_task.specs.StoredLogs.{StoresLog, IsReadAsLog};
 
 use super::{LoadStop, load_text};
 use crate::status::{FileFault, Status};
 use kb_io::Shelf;
+use kb_presprint::a_presentation_that_is_read_can_be_written;
 use kb_proof::{Log, LogError, read_log};
 use kb_word::{OwnedText, Presentation};
 use std::alloc::Global;
@@ -76,4 +80,15 @@ fn log_of(alloc: Global, bytes: &[u8], presentation: &Presentation) -> Result<Lo
         Err(LogError::Memory) => Err(LoadStop::Memory),
         Err(fault) => Err(LoadStop::Refused(FileFault::Log(fault))),
     }
+}
+
+/// The log of a completion that is stored beside its presentation can be read: its file isn't refused, and holds a log
+/// of these lines and this pair that waits. So [`load_log`] returns it, unless memory or the shelf fails.
+pub fn stored_logs_are_read()
+    ensures { (files : Files) (file name : List ℕ) (parts : PresentationParts)
+        (lines : List Line) (waiting : Option Line)
+        → StoresLog files file name parts lines waiting
+        → IsReadAsLog files name parts.names lines waiting }
+{
+    a_presentation_that_is_read_can_be_written();
 }
