@@ -1,6 +1,6 @@
 -- The log of a completion, stored beside its presentation, is read: a file's presentation has few relations, and no long ones.
-use Rattle.std.proofs.Common.{◌≡◌, ◌≢◌, ◌∙◌, ℕ, zero, suc, ◌+◌, ◌^◌, ◌<◌, ◌≤◌, Bool, true, false, nat_lt, if◌then◌else◌, List, [], ◌∷◌, ◌++◌, length, Option, None, Some, Result, Ok, Err, refl, sym, ap, subst, inl, inr, arith, length-append, option_to_list}
-use Rattle.std.specs.Prelude.{All, slice_get}
+use Rattle.std.proofs.Common.{◌≡◌, ◌∙◌, ℕ, zero, suc, ◌+◌, ◌≤◌, Bool, true, false, nat_lt, if◌then◌else◌, List, [], ◌∷◌, ◌++◌, length, Option, None, Some, Result, Ok, Err, refl, sym, ap, subst, inl, inr, arith, length-append}
+use Rattle.std.specs.Prelude.{All}
 use Rattle.std.proofs.lemmas.Bool.{ltb-false, cases_order}
 use Rattle.std.proofs.lemmas.Option.{same_Some}
 use Rattle.kb_lexing.specs.Spelling.{IsName}
@@ -19,14 +19,14 @@ use Rattle.kb_presfile.proofs.WeightLemmas.{order_weighs}
 use Rattle.kb_proof.specs.Completions.{AreShort, AreShortParts}
 use Rattle.kb_proof.specs.Faults.{HasLogFault}
 use Rattle.kb_proof.specs.Printable.{AreReadableNames}
-use Rattle.kb_proof.specs.Printed.{header, text_of_body, text_of_log}
+use Rattle.kb_proof.specs.Printed.{header, text_of_body}
 use Rattle.kb_proof.specs.declared.error.LogError.TheVariants as log_errors
 use Rattle.kb_proof.specs.declared.log.Log.{Log}
 use Rattle.kb_proof.specs.declared.log.Version.TheVariants.{Two}
 use Rattle.kb_proof.proofs.Completions.{ArePrintable, completion_printable}
 use Rattle.kb_proof.proofs.FaultLemmas.{text_right}
 use Rattle.kb_proof.proofs.SameLemmas.{log_same}
-use Rattle.kb_task.specs.Loads.{Files, IsHeld, most_file}
+use Rattle.kb_task.specs.Loads.{Files, IsHeld}
 use Rattle.kb_task.specs.Logs.{HoldsLog, IsLogFault}
 use Rattle.kb_task.specs.StoredLogs.{StoresLog, SaysLines, IsReadAsLog}
 use Rattle.kb_task.specs.declared.status.FileFault.{FileFault}

@@ -1,5 +1,6 @@
 -- Logs of completions that are stored beside the presentation.
-use Rattle.std.specs.Prelude.{◌≡◌, ℕ, List, ◌++◌, length, Option, option_to_list}
+use Rattle.std.specs.Prelude.{◌≡◌, ℕ, List, ◌++◌, Option, option_to_list}
+use Rattle.std.specs.List.{AllZip}
 use Rattle.kb_word.specs.WordOrders.{Below}
 use Rattle.kb_word.specs.Presentations.{PresentationParts}
 use Rattle.kb_word.specs.Relations.{relations_of}
@@ -9,7 +10,6 @@ use Rattle.kb_proof.specs.Printed.{header, text_of_body}
 use Rattle.kb_proof.specs.Same.{AreSameLines, WaitSame}
 use Rattle.kb_proof.specs.declared.log.Log.{Log}
 use Rattle.kb_proof.specs.declared.log.Version.TheVariants.{Two}
-use Rattle.std.specs.List.{AllZip}
 use Rattle.kb_task.specs.Automata.{IsUnrefused}
 use Rattle.kb_task.specs.Loads.{Files, IsHeld}
 use Rattle.kb_task.specs.Logs.{HoldsLog, IsLogFault}
