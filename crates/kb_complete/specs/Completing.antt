@@ -13,11 +13,17 @@ use Rattle.kb_complete.specs.declared.answers.Grown.{Grown}
 use Rattle.kb_complete.specs.declared.answers.Grown.TheVariants as grown
 use Rattle.kb_complete.specs.declared.answers.Outcome.{Outcome}
 use Rattle.kb_complete.specs.declared.answers.Outcome.TheVariants as outcomes
+use Rattle.kb_share.specs.Interreduced.{LeftSidesAreReduced, RightSidesAreReducedOrFull, StaysReduced}
 use Rattle.kb_share.specs.Later.{IsLater}
+
+-- a later stage, at which sides that were reduced still are
+pub record Continues (before after : Course) : Type 0 where
+  pub later : IsLater before after
+  pub reduced : StaysReduced before after
 
 -- a later stage with a line more, at which nothing is pending and the live lines are published
 pub record Grows (before after : Course) : Type 0 where
-  pub later : IsLater before after
+  pub continues : Continues before after
   pub more : length before.state.lines < length after.state.lines
   pub settled : after.state.pending ≡ []
   pub running : after.state.halt ≡ None
@@ -42,12 +48,17 @@ pub record IsHalted (course : Course) : Type 0 where
 abbrev pub GrowSays : {R : Type 0} → Course → Grown R → Type 0
 GrowSays before (grown.More after) = Grows before after.course
 GrowSays before (grown.Confluent rules after) =
-    IsLater before after.course × IsCompleted after.course rules
-GrowSays before (grown.Halted after) = IsLater before after.course × IsHalted after.course
+    Continues before after.course × IsCompleted after.course rules
+GrowSays before (grown.Halted after) = Continues before after.course × IsHalted after.course
+
+-- the live rules of a completion are interreduced, but for right sides where the log is full
+pub record AreReduced (course : Course) : Type 0 where
+  pub lefts : LeftSidesAreReduced course.state
+  pub rights : RightSidesAreReducedOrFull course
 
 -- what `complete` answers
 abbrev pub CompleteSays : {R : Type 0} → Problem → Outcome R → Type 0
 CompleteSays problem (outcomes.Confluent rules after) =
     (after.course.problem ≡ problem) × IsCompleted after.course rules
 CompleteSays problem (outcomes.Halted after) =
-    (after.course.problem ≡ problem) × IsHalted after.course
+    (after.course.problem ≡ problem) × IsHalted after.course × AreReduced after.course

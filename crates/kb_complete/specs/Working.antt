@@ -13,8 +13,7 @@ use Rattle.kb_complete.specs.declared.growing.Round.{Round}
 use Rattle.kb_complete.specs.declared.growing.Round.TheVariants as rounds
 use Rattle.kb_complete.specs.declared.publishing.Standing.{Standing}
 use Rattle.kb_complete.specs.declared.publishing.Standing.TheVariants as standings
-use Rattle.kb_share.specs.Later.{IsLater}
-use Rattle.kb_complete.specs.Completing.{IsHalted}
+use Rattle.kb_complete.specs.Completing.{Continues, IsHalted}
 
 -- nothing is pending, and no limit is reached
 pub record IsIdle (course : Course) : Type 0 where
@@ -35,11 +34,11 @@ StandsAs course standings.Halted = IsHalted course
 -- A round is over at a halt, or at a settled book with more lines than were given, or is still open at a settled book.
 abbrev pub AdvanceSays : {R : Type 0} → ℕ → Course → Round R → Type 0
 AdvanceSays given before (rounds.Over (grown.More after)) =
-    IsLater before after.course × IsSettled after.course × (given < length after.course.state.lines)
+    Continues before after.course × IsSettled after.course × (given < length after.course.state.lines)
 AdvanceSays given before (rounds.Over (grown.Confluent rules after)) = ⊥
 AdvanceSays given before (rounds.Over (grown.Halted after)) =
-    IsLater before after.course × IsHalted after.course
-AdvanceSays given before (rounds.Open after) = IsLater before after.course × IsSettled after.course
+    Continues before after.course × IsHalted after.course
+AdvanceSays given before (rounds.Open after) = Continues before after.course × IsSettled after.course
 
 -- the first pending origin is an overlap, and the words of its pair have different normal forms by the live rules
 pub record FirstIsApart (course : Course) : Type 0 where

@@ -3,7 +3,7 @@
 ghost use Rattle.std.specs.Prelude.{◌≡◌, IfOk};
 ghost use Rattle.kb_word.specs.Presentations.{parts_of};
 ghost use Rattle.kb_machine.specs.States.{Problem};
-ghost use Rattle.kb_complete.specs.Completing.{CompleteSays};
+ghost use Rattle.kb_complete.specs.Completing.{AreReduced, CompleteSays};
 
 use crate::answers::{Grown, Outcome};
 use crate::growing::grow;
@@ -63,6 +63,7 @@ fn grow_all<R: HasAutomaton + Send + Sync, G: Gate, W: Watch, T: Threads + Wait 
     workers: &Workers<'_, G>,
     watch: &mut W,
 ) -> Result<Outcome<R>, Memory>
+    requires { AreReduced book.course }
     ensures { IfOk result (CompleteSays book.course.problem) }
 {
     'growing: loop {

@@ -5,9 +5,8 @@ ghost use Rattle.kb_word.specs.Overlap.{IsConfluent};
 ghost use Rattle.kb_machine.specs.States.{live_rules as rules_that_live};
 ghost use Rattle.kb_machine.specs.Course.{Course, Takes};
 ghost use Rattle.kb_machine.specs.declared.event.Event.TheVariants.{Made};
-ghost use Rattle.kb_complete.specs.Completing.{GrowSays, IsHalted};
+ghost use Rattle.kb_complete.specs.Completing.{Continues, GrowSays, IsHalted};
 ghost use Rattle.kb_complete.specs.Working.{FirstIsApart, IsSettled};
-ghost use Rattle.kb_share.specs.Later.{IsLater};
 
 use crate::answers::Grown;
 use crate::publishing::{Standing, settle_and_publish};
@@ -72,7 +71,7 @@ fn make_line<R: Reducer>(alloc: Global, book: &mut Book<R>) -> Result<Option<u32
     ensures made { IfOk result
         (λ made. IfSome made (λ k. Takes (Made k) book.old.course book.new.course)) }
     ensures halted { IfOk result (λ made. IfNone made
-        (IsLater book.old.course book.new.course × IsHalted book.new.course)) }
+        (Continues book.old.course book.new.course × IsHalted book.new.course)) }
 {
     match book.make(alloc)? {
         Make::Made(k) => Ok(Some(k)),

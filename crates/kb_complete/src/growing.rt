@@ -2,8 +2,7 @@
 
 ghost use Rattle.std.specs.Prelude.{◌≡◌, IfOk, length};
 ghost use Rattle.kb_machine.specs.Course.{Course};
-ghost use Rattle.kb_share.specs.Later.{IsLater};
-ghost use Rattle.kb_complete.specs.Completing.{GrowSays};
+ghost use Rattle.kb_complete.specs.Completing.{Continues, GrowSays};
 ghost use Rattle.kb_complete.specs.Working.{IsSettled, AdvanceSays};
 
 use crate::answers::Grown;
@@ -73,7 +72,7 @@ fn go_on<R: Reducer, W: Watch>(
     given: usize,
     watch: &mut W,
 ) -> Result<Grown<R>, Memory>
-    ensures { (start : Course) → IsLater start book.course
+    ensures { (start : Course) → Continues start book.course
         → length start.state.lines ≡ given → IfOk result (GrowSays start) }
 {
     match advance(alloc, book, given, watch)? {

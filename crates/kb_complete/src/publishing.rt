@@ -1,8 +1,8 @@
 //! Books are settled, and their live lines published.
 
 ghost use Rattle.std.specs.Prelude.{IfOk, OnOk};
+ghost use Rattle.kb_complete.specs.Completing.{Continues};
 ghost use Rattle.kb_complete.specs.Working.{StandsAs};
-ghost use Rattle.kb_share.specs.Later.{IsLater};
 
 use kb_book::Book;
 use kb_rules::Reducer;
@@ -25,7 +25,7 @@ pub(crate) fn settle_and_publish<R: Reducer, W: Watch>(
     book: &mut Book<R>,
     watch: &mut W,
 ) -> Result<Standing, Memory>
-    ensures later { OnOk result (IsLater book.old.course book.new.course) }
+    ensures continues { OnOk result (Continues book.old.course book.new.course) }
     ensures stands { IfOk result (StandsAs book.new.course) }
 {
     if let Settled::Halted(_) = settle(alloc, book, watch)? {

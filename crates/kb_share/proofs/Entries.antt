@@ -1,11 +1,11 @@
 -- Overlaps that are entered, one after another.
-use Rattle.std.proofs.Common.{◌≡◌, ℕ, ◌+◌, ◌<◌, List, [], ◌∷◌, ◌++◌, length, take, get_or, map, sym, ◌∙◌, ap, append_assoc}
+use Rattle.std.proofs.Common.{◌≡◌, ℕ, ◌+◌, ◌<◌, List, [], ◌∷◌, ◌++◌, length, take, get_or, map, refl, sym, ◌∙◌, ap, append_assoc}
 use Rattle.std.proofs.lemmas.List.{map-append, append-nil, take_more}
 use Rattle.kb_machine.specs.declared.origin.Origin.{Origin}
 use Rattle.kb_machine.specs.States.{Problem, State}
 use Rattle.kb_machine.specs.Course.{Course, Takes}
 use Rattle.kb_machine.specs.declared.event.Event.{Event}
-use Rattle.kb_share.specs.Later.{IsLater}
+use Rattle.kb_share.specs.Later.{IsLater, OnlyEnters}
 use Rattle.kb_share.specs.declared.found.Found.{Found}
 use Rattle.kb_share.specs.Versions.{version_of}
 use Rattle.kb_share.specs.Passes.{AreAllApart, entered, entry_of, origin_of, EntersAllApart, EntersSoMany}
@@ -78,10 +78,44 @@ enters_so_many before after found list count apart same enters number = record {
   number = sym number;
 }
 
--- a pass that only enters overlaps keeps all else
-pub enters_later : (before after : Course) → EntersAllApart before after → IsLater before after
-enters_later before after done = let e = done.enters in record {
-  problem = ap (λ (c : Course). c.problem) e;
-  made = [];
-  lines = ap (λ (c : Course). c.state.lines) e ∙ sym (append-nil before.state.lines);
+-- nothing happened
+pub only_itself : (course : Course) → OnlyEnters course course
+only_itself course = record { problem = refl; lines = refl; live = refl; versions = refl; halt = refl }
+
+pub only_then : (start before after : Course) → OnlyEnters start before → OnlyEnters before after → OnlyEnters start after
+only_then start before after first second = record {
+  problem = second.problem ∙ first.problem;
+  lines = second.lines ∙ first.lines;
+  live = second.live ∙ first.live;
+  versions = second.versions ∙ first.versions;
+  halt = second.halt ∙ first.halt;
 }
+
+-- an overlap was entered
+pub only_entered : (worker : ℕ) (one : Found) (before after : Course) → Takes (entry_of worker one) before after
+    → OnlyEnters before after
+only_entered worker one before after takes = record {
+  problem = takes.problem;
+  lines = ap (λ (s : State). s.lines) takes.step.is;
+  live = ap (λ (s : State). s.live) takes.step.is;
+  versions = ap (λ (s : State). s.versions) takes.step.is;
+  halt = ap (λ (s : State). s.halt) takes.step.is;
+}
+
+-- that is a later stage
+pub only_later : (before after : Course) → OnlyEnters before after → IsLater before after
+only_later before after only =
+    record { problem = only.problem; made = []; lines = only.lines ∙ sym (append-nil before.state.lines) }
+
+-- a pass that enters all that is apart does nothing else
+pub enters_only : (before after : Course) → EntersAllApart before after → OnlyEnters before after
+enters_only before after done = let e = done.enters in record {
+  problem = ap (λ (c : Course). c.problem) e;
+  lines = ap (λ (c : Course). c.state.lines) e;
+  live = ap (λ (c : Course). c.state.live) e;
+  versions = ap (λ (c : Course). c.state.versions) e;
+  halt = ap (λ (c : Course). c.state.halt) e;
+}
+
+pub enters_later : (before after : Course) → EntersAllApart before after → IsLater before after
+enters_later before after done = only_later before after (enters_only before after done)

@@ -1,21 +1,31 @@
 -- What a sound state says at a halt, as evidence.
-use Rattle.std.proofs.Common.{◌≡◌, ◌≢◌, ℕ, List, [], ◌∷◌, ◌++◌, length, map, Option, Some, IfSome, Result, Ok, Err, IfOk, refl, sym, ap, ◌∙◌, subst}
+use Rattle.std.proofs.Common.{◌≡◌, ◌≢◌, ℕ, ◌<◌, ◌≤◌, ◌⊎◌, inl, inr, ⊎_elim, arith, get_or, List, [], ◌∷◌, ◌++◌, length, map, Option, Some, IfSome, Result, Ok, Err, IfOk, refl, sym, ap, ◌∙◌, subst}
 use Rattle.std.specs.Prelude.{slice_get}
 use Rattle.std.specs.Option.{option_map}
 use Rattle.std.specs.List.{Contains}
-use Rattle.std.proofs.lemmas.Option.{slice_get-map, slice_get_read}
+use Rattle.std.proofs.lemmas.Bool.{cases_lt}
+use Rattle.std.proofs.lemmas.List.{get_or_default, length-map}
+use Rattle.std.proofs.lemmas.Option.{slice_get-map, slice_get_read, slice_get_within}
+use Rattle.kb_word.specs.Rewriting.{IsIrreducible}
 use Rattle.kb_word.specs.Words.{Pair, OneOf}
 use Rattle.kb_word.specs.Presentations.{PresentationParts}
 use Rattle.kb_word.specs.declared.memory.Memory.{Memory}
 use Rattle.kb_machine.specs.Justified.{IsJustified}
 use Rattle.kb_machine.specs.declared.line.Line.{Line}
 use Rattle.kb_machine.specs.declared.origin.Origin.{Origin}
-use Rattle.kb_machine.specs.States.{Problem, State, live_rules, rule_numbered}
-use Rattle.kb_machine.specs.Course.{AreApart, Waits, HaltSays, IsSound, waiting_line}
+use Rattle.kb_machine.specs.Lines.{numbered, rules_of}
+use Rattle.kb_machine.specs.States.{Problem, State, live_rules, rule_numbered, IsLiveRule}
+use Rattle.kb_machine.specs.Machine.{IsLive}
+use Rattle.kb_machine.specs.declared.event.Event.{Event}
+use Rattle.kb_book.specs.Answers.{IsOtherLiveRule}
+use Rattle.kb_share.specs.Interreduced.{LeftSidesAreReduced, RightSidesAreReduced}
+use Rattle.kb_share.proofs.LiveRules.{live_rule_at, live_rule_is}
+use Rattle.kb_complete.specs.Completing.{AreReduced}
+use Rattle.kb_machine.specs.Course.{Course, AreApart, Waits, HaltSays, IsSound, waiting_line}
 use Rattle.kb_machine.specs.declared.halt.Halt.{Halt}
 use Rattle.kb_machine.specs.declared.halt.Halt.TheVariants.{Rules, Length}
 use Rattle.kb_system.specs.Completed.{relations, below}
-use Rattle.kb_system.specs.Evidence.{Limits, AreLiveRules, WaitsIn, IsReached, IsHalted}
+use Rattle.kb_system.specs.Evidence.{Limits, AnotherOf, AreInterreduced, AreLiveRules, WaitsIn, IsReached, IsHalted}
 use Rattle.kb_system.specs.Problems.{problem_of, reached_by}
 use Rattle.kb_system.specs.Ended.{EndsAs}
 use Rattle.kb_system.specs.declared.ending.Ending.{Ending}
@@ -38,6 +48,75 @@ are_live state sound = record {
       let found = sound.covered index line is in
       (rule_numbered state.lines found.0, one_of_map (rule_numbered state.lines) state.live found.0 found.1, found.2);
 }
+
+-- what is irreducible by some rules is so by fewer
+by_fewer : (K L : Pair → Type 0) (w : List ℕ) → ((rule : Pair) → L rule → K rule) → IsIrreducible K w → IsIrreducible L w
+by_fewer K L w into irreducible before rule after allowed = irreducible before rule after (into rule allowed)
+
+module _ (problem : Problem) (state : State) (sound : IsSound problem state) where
+  -- the live number at the index of a live rule
+  number_at : (i : ℕ) → ℕ
+  number_at i = get_or state.live i 0
+
+  live_within : (i : ℕ) (rule : Pair) → slice_get (live_rules state) i ≡ Some rule → i < length state.live
+  live_within i rule is =
+      let within = slice_get_within (live_rules state) i rule is in
+      let count = length-map state.live (rule_numbered state.lines) in
+      omega (arith, within, count)
+
+  is_numbered : (i : ℕ) (rule : Pair) → slice_get (live_rules state) i ≡ Some rule
+      → numbered (rules_of state.lines) (number_at i) ≡ Some rule
+  is_numbered i rule is =
+      live_rule_at problem state i (number_at i) rule sound is
+      (get_or_default state.live i 0 (number_at i) (live_within i rule is))
+
+  -- at other indices other numbers stand
+  numbers_differ : (i j : ℕ) → j < length state.live → i < length state.live → j ≢ i → number_at j ≢ number_at i
+  numbers_differ i j within_j within_i apart same = elim (cases_lt i j) [
+    | inl before ↦
+        let low : number_at i < number_at j = sound.ascending i j 0 before within_j in
+        let no : ⊥ = omega (arith, low, same) in no
+    | inr from ↦
+        let low : number_at j < number_at i = sound.ascending j i 0 (omega (arith, from, apart)) within_i in
+        let no : ⊥ = omega (arith, low, same) in no
+  ]
+
+  another_is_live : (i : ℕ) (rule pair : Pair) → slice_get (live_rules state) i ≡ Some rule → AnotherOf (live_rules state) i pair
+      → IsOtherLiveRule state (number_at i) pair
+  another_is_live i rule pair is another =
+      let j = another.0 in
+      let within = live_within j pair another.2 in (
+        number_at j,
+        (j, within, sym (get_or_default state.live j 0 (number_at j) within)),
+        numbers_differ i j within (live_within i rule is) another.1,
+        is_numbered j pair another.2,
+      )
+
+  -- the live rules are interreduced, by the list
+  pub are_interreduced : (limits : Limits) (course : Course) → course.state ≡ state → course.problem ≡ problem
+      → problem.most_lines ≡ limits.lines → AreReduced course → AreInterreduced limits state.lines (live_rules state)
+  are_interreduced limits course is_state is_problem most reduced =
+      let lefts : LeftSidesAreReduced state = subst (λ (s : State). LeftSidesAreReduced s) is_state reduced.lefts in
+      record {
+        lefts = λ i rule is.
+            let k = number_at i in
+            let within = live_within i rule is in
+            let live : IsLive state k = (i, within, sym (get_or_default state.live i 0 k within)) in
+            by_fewer (IsOtherLiveRule state k) (AnotherOf (live_rules state) i) rule.0
+            (λ pair another. another_is_live i rule pair is another)
+            (lefts k rule live (is_numbered i rule is));
+        rights = λ room. ⊎_elim
+            (λ (rights : RightSidesAreReduced course.state).
+            let mine : RightSidesAreReduced state = subst (λ (s : State). RightSidesAreReduced s) is_state rights in
+            λ rule one. by_fewer (IsLiveRule state) (OneOf (live_rules state)) rule.1
+            (λ pair other. live_rule_is problem state pair sound other)
+            (mine rule (live_rule_is problem state rule sound one)))
+            (λ (full : course.problem.most_lines ≤ length course.state.lines).
+            let lines = ap (λ (s : State). length s.lines) is_state in
+            let bound = ap (λ (p : Problem). p.most_lines) is_problem in
+            absurd (let no : ⊥ = omega (arith, room, full, lines, bound, most) in no))
+            reduced.rights;
+      }
 
 -- what a halt says, at a sound state that is halted
 pub halt_says : {problem : Problem} (state : State) (halt : Halt) → IsSound problem state → state.halt ≡ Some halt
@@ -86,32 +165,36 @@ module _ (limits : Limits) (parts : PresentationParts) (state : State) (halt : H
 
   -- the evidence at a halt
   pub is_halted : (origin : Origin) (rest : List Origin) → IsSound (problem_of limits parts) state → state.halt ≡ Some halt
-      → state.pending ≡ origin ∷ rest
+      → state.pending ≡ origin ∷ rest → AreInterreduced limits state.lines (live_rules state)
       → IsHalted limits parts state.lines (waiting_line origin halt) (live_rules state) (reached_by halt)
-  is_halted origin rest sound is pending =
+  is_halted origin rest sound is pending interreduced =
       let says = halt_says state halt sound is in
       let waits = it_waits (problem_of limits parts) state halt says in
       record {
         waits = waits_in origin waits (same_first (sym waits.pending ∙ pending));
         is_reached = limit_reached origin says;
         live = are_live state sound;
+        interreduced = interreduced;
       }
 
 -- The end of a completion at a halt, where the problem, the log, the line that waits, the rules and the limit have names of
 -- their own.
-pub ends_halted : (limits : Limits) (parts : PresentationParts) (problem : Problem) (state : State) (halt : Halt) (origin : Origin)
+pub ends_halted : (limits : Limits) (parts : PresentationParts) (problem : Problem) (state : State) (journal : List Event) (halt : Halt) (origin : Origin)
     (rest : List Origin) (lines : List Line) (waiting : Line) (rules : List Pair) (reached : Reached)
     → problem ≡ problem_of limits parts → IsSound problem state → state.halt ≡ Some halt → state.pending ≡ origin ∷ rest
+    → AreReduced (record { problem = problem; state = state; journal = journal })
     → lines ≡ state.lines → waiting ≡ waiting_line origin halt → rules ≡ live_rules state → reached ≡ reached_by halt
     → IsHalted limits parts lines waiting rules reached
-ends_halted limits parts problem state halt origin rest lines waiting rules reached same sound is pending are_lines is_waiting are_rules is_limit =
+ends_halted limits parts problem state journal halt origin rest lines waiting rules reached same sound is pending reduced are_lines is_waiting are_rules is_limit =
     let Sound : Problem → Type 0 = λ p. IsSound p state in
     let Lines : List Line → Type 0 = λ l. IsHalted limits parts l waiting rules reached in
     let Waiting : Line → Type 0 = λ w. IsHalted limits parts state.lines w rules reached in
     let Live : List Pair → Type 0 = λ r. IsHalted limits parts state.lines (waiting_line origin halt) r reached in
     let Limit : Reached → Type 0 = λ l. IsHalted limits parts state.lines (waiting_line origin halt) (live_rules state) l in
     subst Lines (sym are_lines) (subst Waiting (sym is_waiting) (subst Live (sym are_rules) (subst Limit (sym is_limit)
-    (is_halted limits parts state halt origin rest (subst Sound same sound) is pending))))
+    (is_halted limits parts state halt origin rest (subst Sound same sound) is pending
+    (are_interreduced problem state sound limits (record { problem = problem; state = state; journal = journal }) refl refl
+    (ap (λ (p : Problem). p.most_lines) same) reduced)))))
 
 -- an answer that is right for whatever the problem is made of is right for what it is made of
 pub ends_as : (limits : Limits) (parts : PresentationParts) (problem : Problem) (answer : Result Ending Memory)

@@ -1,5 +1,5 @@
 -- What shows that a completion reached a limit.
-use Rattle.std.specs.Prelude.{◌≡◌, ℕ, ◌<◌, ◌≤◌, List, [], ◌∷◌, ◌++◌, length, All, map, slice_get, Some}
+use Rattle.std.specs.Prelude.{◌≡◌, ◌≢◌, ℕ, ◌<◌, ◌≤◌, List, [], ◌∷◌, ◌++◌, length, All, map, slice_get, Some}
 use Rattle.std.specs.List.{AllPairs}
 use Rattle.kb_word.specs.Words.{Pair, OneOf, IsFactor}
 use Rattle.kb_word.specs.Congruence.{Congruent, SameCongruence}
@@ -31,6 +31,18 @@ pub record AreLiveRules (lines : List Line) (rules : List Pair) : Type 0 where
   pub cover : (index : ℕ) (line : Line) → slice_get lines index ≡ Some line
       → (rule : Pair) × OneOf rules rule × IsFactor line.left rule.0
 
+-- the pair is a rule of the list at another index
+abbrev pub AnotherOf : List Pair → ℕ → Pair → Type 0
+AnotherOf rules i pair = (j : ℕ) × (j ≢ i) × (slice_get rules j ≡ Some pair)
+
+-- The rules are interreduced (Book and Otto, String-Rewriting Systems, 2.2): no left side is reducible by the other
+-- rules, and no right side by any, unless as many lines were made as may be, so that none could be replaced.
+pub record AreInterreduced (limits : Limits) (lines : List Line) (rules : List Pair) : Type 0 where
+  pub lefts : (i : ℕ) (rule : Pair) → slice_get rules i ≡ Some rule
+      → IsIrreducible (AnotherOf rules i) rule.0
+  pub rights : length lines < limits.lines → (rule : Pair) → OneOf rules rule
+      → IsIrreducible (OneOf rules) rule.1
+
 -- A log whose last line waits: with it the log would be justified; its sides are congruent, and no line reduces them.
 pub record WaitsIn (parts : PresentationParts) (lines : List Line) (waiting : Line) : Type 0 where
   pub justified : IsJustified (below parts) (relations parts) (lines ++ waiting ∷ [])
@@ -51,6 +63,7 @@ pub record IsHalted (limits : Limits) (parts : PresentationParts)
   pub waits : WaitsIn parts lines waiting
   pub is_reached : IsReached limits lines waiting reached
   pub live : AreLiveRules lines rules
+  pub interreduced : AreInterreduced limits lines rules
 
 -- A completion whose word acceptor has more states than may be, with its log: the rules of all its lines are confluent
 -- and generate the congruence of the relations.

@@ -4,7 +4,7 @@ ghost use Rattle.std.specs.Prelude.{◌≡◌, List, ◌∷◌, Some, IfOk};
 ghost use Rattle.kb_word.specs.Presentations.{PresentationParts};
 ghost use Rattle.kb_machine.specs.declared.origin.Origin.{Origin as PairOrigin};
 ghost use Rattle.kb_machine.specs.Course.{waiting_line as line_of};
-ghost use Rattle.kb_complete.specs.Completing.{IsHalted};
+ghost use Rattle.kb_complete.specs.Completing.{AreReduced, IsHalted};
 ghost use Rattle.kb_system.specs.Evidence.{Limits};
 ghost use Rattle.kb_system.specs.Problems.{problem_of, reached_by};
 ghost use Rattle.kb_system.specs.Ended.{EndsAs};
@@ -19,7 +19,8 @@ use std::alloc::Global;
 
 /// The end of a completion that halted: its log, the line that waits, and its live rules.
 pub(crate) fn halted<R: Reducer>(alloc: Global, book: Book<R>) -> Result<Ending, Memory>
-    requires { IsHalted book.course }
+    requires halted { IsHalted book.course }
+    requires reduced { AreReduced book.course }
     ensures { IfOk result (λ ending. (limits : Limits) (parts : PresentationParts)
         → book.course.problem ≡ problem_of limits parts → EndsAs limits parts ending) }
 {

@@ -1,4 +1,4 @@
--- Later stages of a completion that is shared, and how many overlaps were entered up to them.
+-- A completion that is shared, into which overlaps are entered.
 use Rattle.std.proofs.Common.{◌≡◌, ℕ, ◌+◌, List, [], ◌∷◌, ◌++◌, refl, sym, ◌∙◌, ap, subst, arith}
 use Rattle.std.proofs.lemmas.List.{append-nil}
 use Rattle.std.specs.Prelude.{Some, Result, Ok, Err, IfErr}
@@ -10,7 +10,8 @@ use Rattle.kb_machine.specs.Course.{Course, Takes}
 use Rattle.kb_machine.specs.declared.event.Event.{Event}
 use Rattle.kb_book.proofs.Lists.{numbered-more}
 use Rattle.kb_share.specs.Later.{IsLater, entries}
-use Rattle.kb_share.proofs.Stages.{later_itself, later_then, entries-append}
+use Rattle.kb_share.proofs.Stages.{entries-append}
+use Rattle.kb_share.proofs.Entries.{only_itself, only_then, only_entered, only_later}
 use Rattle.kb_share.specs.Passes.{entry_of}
 use Rattle.kb_share.specs.declared.found.Found.{Found}
 use Rattle.kb_threads.specs.declared.answers.ShareFault.{ShareFault}
@@ -22,25 +23,18 @@ pub stage_itself : (given course : Course) (entered : ℕ) → course ≡ given 
     → IsStageOf given (record { course = course; entered = entered })
 stage_itself given course entered same none =
     subst (λ (c : Course). IsStageOf given (record { course = c; entered = entered })) (sym same)
-    (record { later = later_itself given; entries = omega (arith, none) })
-
--- with the lines that there were
-same_lines : (event : Event) (before after : Course) → Takes event before after → after.state.lines ≡ before.state.lines
-    → IsLater before after
-same_lines event before after takes lines =
-    record { problem = takes.problem; made = []; lines = lines ∙ sym (append-nil before.state.lines) }
+    (record { only = only_itself given; entries = omega (arith, none) })
 
 -- an entry more
 pub stage_entered : (worker : ℕ) (one : Found) (given before after : Course) (entered : ℕ)
     → IsStageOf given (record { course = before; entered = entered }) → Takes (entry_of worker one) before after
     → IsStageOf given (record { course = after; entered = entered + 1 })
 stage_entered worker one given before after entered stage takes =
-    let later = same_lines (entry_of worker one) before after takes (ap (λ (s : State). s.lines) takes.step.is) in
     let joined = entries-append before.journal (entry_of worker one ∷ []) in
     let is = ap entries takes.journal in
     let so_far = stage.entries in
     record {
-      later = later_then given before after stage.later later;
+      only = only_then given before after stage.only (only_entered worker one before after takes);
       entries = omega (arith, so_far, is, joined);
     }
 
@@ -108,5 +102,5 @@ pub no_overlap_given : (given before after : Course) (entered : ℕ) (pass later
     → IfErr answer (λ (fault : ShareFault). fault ≡ faults.NotOverlap → IsNoOverlap given one)
 no_overlap_given given before after entered pass later one (Ok done) stage says = tt
 no_overlap_given given before after entered pass later one (Err faults.NotOverlap) stage says =
-    λ is. no_overlap_before given before one stage.later says.0
+    λ is. no_overlap_before given before one (only_later given before stage.only) says.0
 no_overlap_given given before after entered pass later one (Err faults.Memory) stage says = λ is. cc (is)

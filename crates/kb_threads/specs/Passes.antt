@@ -3,12 +3,12 @@ use Rattle.std.specs.Prelude.{◌≡◌}
 use Rattle.kb_word.specs.Overlap.{IsConfluent}
 use Rattle.kb_machine.specs.States.{live_rules}
 use Rattle.kb_machine.specs.Course.{Course}
-use Rattle.kb_share.specs.Later.{IsLater}
+use Rattle.kb_share.specs.Later.{OnlyEnters}
 use Rattle.kb_threads.specs.declared.passed.Passed.{Passed}
 use Rattle.kb_threads.specs.declared.passed.Passed.TheVariants as passed
 
--- a later stage of the completion, or the very one, and its live rules are confluent
+-- the completion after overlaps were entered and nothing else happened, or the very one, and its live rules are confluent
 abbrev pub PassSays : {R : Type 0} → Course → Passed R → Type 0
-PassSays before (passed.Entered after) = IsLater before after.course
+PassSays before (passed.Entered after) = OnlyEnters before after.course
 PassSays before (passed.Confluent after) =
     (after.course ≡ before) × IsConfluent (live_rules before.state)

@@ -4,7 +4,7 @@ use Rattle.kb_word.specs.declared.word_order.WordOrder.TheVariants.{ShortLex}
 use Rattle.kb_draw.specs.Totals.{total}
 use Rattle.kb_machine.specs.Course.{Course, Takes}
 use Rattle.kb_book.specs.Answers.{HasOverlap}
-use Rattle.kb_share.specs.Later.{IsLater, entries}
+use Rattle.kb_share.specs.Later.{OnlyEnters, entries}
 use Rattle.kb_share.specs.Passes.{entry_of}
 use Rattle.kb_share.specs.declared.found.Found.{Found}
 use Rattle.kb_threads.specs.declared.answers.ShareFault.{ShareFault}
@@ -28,10 +28,9 @@ pub record LockedParts : Type 0 where
   pub course : Course
   pub entered : ℕ
 
--- a later stage of the completion that was given, with an entry more for each time that a worker
--- was told so
+-- the completion that was given, into which overlaps were entered: an entry more for each time that a worker was told so
 pub record IsStageOf (given : Course) (locked : LockedParts) : Type 0 where
-  pub later : IsLater given locked.course
+  pub only : OnlyEnters given locked.course
   pub entries : entries locked.course.journal ≡ entries given.journal + locked.entered
 
 -- a worker's token: its number, and how many overlaps it was told that it entered

@@ -1,7 +1,7 @@
 //! Workers enter what they kept.
 
 ghost use Rattle.std.specs.Prelude.{◌≡◌, ◌≤◌, ◌<◌, IfOk, length};
-ghost use Rattle.kb_share.specs.Later.{IsLater};
+ghost use Rattle.kb_share.specs.Later.{OnlyEnters};
 
 use crate::answers::ShareFault;
 use crate::kept::Least;
@@ -44,7 +44,7 @@ pub(crate) fn enter_shared<
     requires name { blank.name ≡ S.name }
     requires parts { (blank.parts ≡ S.parts) × (S.parts ≡ workers) × (1 ≤ workers) }
     requires given { book.course ≡ S.given }
-    ensures { IfOk result (λ after. IsLater S.given after.course) }
+    ensures { IfOk result (λ after. OnlyEnters S.given after.course) }
 {
     let bound = bound_of(alloc, &kept)?;
     let (shared, passes) = Shared::<R, S>::new(alloc, book, blank, workers)?;

@@ -4,11 +4,11 @@
 //!
 //! - [`Threads`] is the pool of many workers, and [`Workers`] that of as many as a command asks
 //!   for: one, who needs no thread, or more. What [`Passed`] says of a pass (`PassSays` of `specs/Passes.antt`):
-//!   overlaps were entered, and the book is a later stage of the one given; or none is apart, the live rules are
+//!   overlaps were entered, and nothing else happened to the book given; or none is apart, the live rules are
 //!   confluent, and the book is as it was.
 //! - [`Shared`] is a book under a lock, whose workers hold a [`Pass`] each. [`Shared::enter`]
 //!   enters an overlap, and says so only where it did: the pass counts it. [`Shared::finish`] takes all passes back: the
-//!   book is a later stage of the one that was given, and has just as many entries more as the passes counted.
+//!   book is the one that was given, with just as many entries more as the passes counted, and nothing else happened.
 //!
 //! # How a pass goes
 //!
@@ -26,7 +26,7 @@
 //!
 //! The version is borrowed from the book, which nobody changes while its rows are sifted. What lies under the lock is a `kb_book::Book`, so that
 //! all that holds along every course of the completion machine holds whenever the lock is got, whatever the threads did
-//! and in whatever order. That it is a later stage of the book which was given stands on the type under the lock,
+//! and in whatever order. That it is the book which was given, with entries more, stands on the type under the lock,
 //! which is named after that book (`Sharing`). Entries are counted by a ledger, of which each pass
 //! holds a part.
 //!

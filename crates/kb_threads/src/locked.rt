@@ -1,7 +1,7 @@
 //! What lies under the lock.
 
 ghost use Rattle.std.specs.Prelude.{◌≡◌, ◌+◌, IfErr};
-ghost use Rattle.kb_share.specs.Later.{IsLater, entries};
+ghost use Rattle.kb_share.specs.Later.{OnlyEnters, entries};
 ghost use Rattle.kb_threads.specs.Shared.{EnterSays, IsNoOverlap};
 ghost use Rattle.kb_threads.specs.declared.answers.ShareFault.TheVariants.{NotOverlap};
 
@@ -14,8 +14,8 @@ use kb_share::Found;
 use std::marker::Model;
 use std::sync::ledger;
 
-/// A book that workers share. It is a later stage of the completion that was given to them, and has
-/// an entry more for each time that they were told so.
+/// A book that workers share. It is the completion that was given to them, with an entry more for each time that they
+/// were told so.
 #[derive(Drop)]
 pub(crate) struct Locked<R: Reducer, S: Sharing> {
     book: Book<R>,
@@ -56,7 +56,7 @@ impl<R: Reducer, S: Sharing> Locked<R, S> {
     /// The book, and what its workers entered.
     pub(crate) fn into_book(self, all: &mut ledger::Share<S>) -> Book<R>
         requires { all.old.parts ≡ S.parts }
-        ensures later { IsLater S.given result.course }
+        ensures only { OnlyEnters S.given result.course }
         ensures entries { entries result.course.journal ≡ entries S.given.journal + all.old.amount }
     {
         let Locked { book, mut entered } = self;

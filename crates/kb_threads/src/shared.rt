@@ -1,7 +1,7 @@
 //! A completion that workers share.
 
 ghost use Rattle.std.specs.Prelude.{◌≡◌, ◌+◌, ◌≤◌, ◌<◌, length, All, IfOk, IfErr, OnOk, OnErr};
-ghost use Rattle.kb_share.specs.Later.{IsLater, entries};
+ghost use Rattle.kb_share.specs.Later.{OnlyEnters, entries};
 ghost use Rattle.kb_threads.specs.Shared.{IsNoOverlap, entered_by};
 ghost use Rattle.kb_threads.specs.declared.answers.ShareFault.TheVariants.{NotOverlap};
 
@@ -17,8 +17,8 @@ use std::alloc::Global;
 use std::sync::ledger::{Blank, Share};
 use std::sync::{Mutex, Wait};
 
-/// A book under a lock. Whenever the lock is got, the book is a later stage of the completion that
-/// was given, and has as many entries more as the workers were told that they made.
+/// A book under a lock. Whenever the lock is got, nothing but entries happened to the completion that was given, and
+/// there are as many more as the workers were told that they made.
 #[derive(Drop)]
 pub struct Shared<R: Reducer, S: Sharing> {
     locked: Mutex<Locked<R, S>>,
@@ -57,7 +57,7 @@ impl<R: Reducer, S: Sharing> Shared<R, S> {
     /// The book that was shared, by all its passes.
     pub fn finish(self, passes: Vec<Pass<S>>) -> Book<R>
         requires { (length passes.items ≡ S.parts) × (0 < S.parts) }
-        ensures later { IsLater S.given result.course }
+        ensures only { OnlyEnters S.given result.course }
         ensures entries { entries result.course.journal ≡ entries S.given.journal + entered_by passes.items }
     {
         let mut all = gathered(passes);

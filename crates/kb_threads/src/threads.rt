@@ -1,7 +1,7 @@
 //! The pool of workers that are threads.
 
 ghost use Rattle.std.specs.Prelude.{◌≡◌, ◌≤◌, IfOk};
-ghost use Rattle.kb_share.specs.Later.{IsLater};
+ghost use Rattle.kb_share.specs.Later.{OnlyEnters};
 ghost use Rattle.kb_share.specs.Versions.{IsPublished};
 ghost use Rattle.kb_threads.specs.Passes.{PassSays};
 
@@ -82,7 +82,7 @@ impl<'g, G: Gate> Threads<'g, G> {
         book: Book<R>,
         kept: Vec<Vec<Apart>>,
     ) -> Result<Book<R>, Memory>
-        ensures { IfOk result (λ after. IsLater book.course after.course) }
+        ensures { IfOk result (λ after. OnlyEnters book.course after.course) }
     {
         let blank = Blank::new(self.workers as u64);
         enter_shared::<Brand, R, G, T>(rt, alloc, self.gate, blank, book, kept, self.workers)

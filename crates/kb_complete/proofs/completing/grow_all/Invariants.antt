@@ -1,8 +1,9 @@
 use Rattle.std.specs.Prelude.{◌≡◌, ◌-◌, length}
+use Rattle.kb_complete.specs.Completing.{AreReduced}
 use Rattle.kb_complete.proofs.completing.grow_all.Given as goal
 
 abbrev pub invariant-growing : goal.invariant-growing
-invariant-growing g l = l.book.course.problem ≡ l.fn.book.course.problem
+invariant-growing g l = (l.book.course.problem ≡ l.fn.book.course.problem) × AreReduced l.book.course
 
 abbrev pub decreases-growing : goal.decreases-growing
 decreases-growing g l = l.book.course.problem.most_lines - length l.book.course.state.lines

@@ -1,7 +1,7 @@
 use Rattle.std.proofs.Common.{List, sym, subst, ◌∙◌}
 use Rattle.kb_word.specs.Words.{Pair}
 use Rattle.kb_word.specs.Overlap.{IsConfluent}
-use Rattle.kb_share.proofs.Stages.{later_itself}
+use Rattle.kb_complete.proofs.Rounds.{continues_itself}
 use Rattle.kb_complete.proofs.LastLines.{is_completed}
 use Rattle.kb_complete.proofs.ending.completed.Goals as goal
 
@@ -16,7 +16,7 @@ pub returns : goal.returns
 returns g c =
     let course = c.args.book.course in
     let rules = c.in_ok-rules.ensures in (
-      later_itself course,
+      continues_itself course,
       is_completed c.reduced_by_the_same_congruence.ensures c.rules_that_cover_are_confluent.ensures.confluent
           c.rules_that_cover_are_confluent.ensures.same course c.in_ok-rules.rules c.in_ok-reduced.reduced c.book_is_sound.ensures c.requires.settled rules.rules
           rules.order

@@ -1,23 +1,28 @@
 use Rattle.std.proofs.Common.{subst}
+use Rattle.kb_machine.specs.Course.{Course}
 use Rattle.kb_share.proofs.Stages.{later_then}
 use Rattle.kb_complete.specs.Working.{StandsAs}
 use Rattle.kb_complete.specs.declared.publishing.Standing.{Standing}
-use Rattle.kb_complete.proofs.Rounds.{grows_by_line, later_by_line}
+use Rattle.kb_complete.proofs.Rounds.{stays_then, grows_by_line, later_by_line}
 use Rattle.kb_complete.proofs.ending.grow_by_line.Goals as goal
 
 pub returns-in-Published : goal.returns-in-Published
 returns-in-Published g c = λ start takes.
     let made = c.args.book.course in
+    let alone = c.line_made.new.book.course in
     let after = c.settle_and_publish.new.book.course in
-    grows_by_line c.args.k start made after takes
-    (later_then made c.line_made.new.book.course after c.line_made.ensures.goes_on.settles.later c.in_ok-settle_and_publish.ensures.later)
+    let continues = c.in_ok-settle_and_publish.ensures.continues in
+    grows_by_line c.args.k start made after takes (later_then made alone after c.line_made.ensures.goes_on.settles.later continues.later)
+    (stays_then start alone after (c.in_ok-line_made.ensures.reduced start takes) continues.reduced)
     (subst (λ (s : Standing). StandsAs after s) c.in-Published.is c.in_ok-settle_and_publish.ensures.stands)
 
 pub returns : goal.returns
 returns g c = λ start takes.
     let made = c.args.book.course in
-    let after = c.settle_and_publish.new.book.course in (
-      later_by_line c.args.k start made after takes
-          (later_then made c.line_made.new.book.course after c.line_made.ensures.goes_on.settles.later c.in_ok-settle_and_publish.ensures.later),
+    let alone = c.line_made.new.book.course in
+    let after = c.settle_and_publish.new.book.course in
+    let continues = c.in_ok-settle_and_publish.ensures.continues in (
+      later_by_line c.args.k start made after takes (later_then made alone after c.line_made.ensures.goes_on.settles.later continues.later)
+          (stays_then start alone after (c.in_ok-line_made.ensures.reduced start takes) continues.reduced),
       subst (λ (s : Standing). StandsAs after s) c.in-Halted.is c.in_ok-settle_and_publish.ensures.stands,
     )

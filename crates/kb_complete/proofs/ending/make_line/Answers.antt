@@ -1,7 +1,7 @@
 use Rattle.kb_book.specs.declared.answers.Make.TheVariants as makes
-use Rattle.kb_share.proofs.Stages.{make_settles, make_said}
+use Rattle.kb_share.proofs.Stages.{make_said}
 use Rattle.kb_complete.proofs.LastLines.{apart_stays, apart_pending}
-use Rattle.kb_complete.proofs.Rounds.{make_halts}
+use Rattle.kb_complete.proofs.Rounds.{halts_continues, make_halts}
 use Rattle.kb_complete.proofs.ending.make_line.Goals as goal
 use Rattle.kb_complete.proofs.ending.make_line.Goals.{in-Made, in-Halted}
 
@@ -19,11 +19,14 @@ pub returns-clause-halted : goal.returns-clause-halted
 returns-clause-halted g c =
     let before = c.args.book.now.course in
     let after = c.make.new.self.course in
-    let made = make_settles before after c.make.result c.make.ensures in
     elim c.match-branch-2.branch [
       | in-Made w ↦ rw w.result-is tt
       | in-Halted w ↦ rw w.result-is
-          (made.later, make_halts before after c.in_ok-k.field-0 w.in-Halted.field-0 w.in-Halted.is c.in_ok-k.ensures)
+          (
+            halts_continues before after w.in-Halted.field-0
+                (make_said before after c.in_ok-k.field-0 (makes.Halted w.in-Halted.field-0) w.in-Halted.is c.in_ok-k.ensures),
+            make_halts before after c.in_ok-k.field-0 w.in-Halted.field-0 w.in-Halted.is c.in_ok-k.ensures,
+          )
     ]
 
 pub unreachable-requires : goal.unreachable-requires

@@ -7,13 +7,13 @@ use Rattle.kb_complete.proofs.growing.advance.Goals as goal
 
 pub returns-in-Halted : goal.returns-in-Halted
 returns-in-Halted g c = (
-  c.in_ok-settle_and_publish.ensures.later,
+  c.in_ok-settle_and_publish.ensures.continues,
   subst (λ (s : Standing). StandsAs c.settle_and_publish.new.book.course s) c.in-Halted.is c.in_ok-settle_and_publish.ensures.stands,
 )
 
 pub returns-then-lines-given : goal.returns-then-lines-given
 returns-then-lines-given g c = (
-  c.in_ok-settle_and_publish.ensures.later,
+  c.in_ok-settle_and_publish.ensures.continues,
   stands_published c.settle_and_publish.new.book.course c.in_ok-settle_and_publish.field-0 c.in_default.not-Halted
       c.in_ok-settle_and_publish.ensures.stands,
   subst (λ (lines : List Line). c.args.given < length lines) c.lines.ensures c.if-lines-given.true,
@@ -21,7 +21,7 @@ returns-then-lines-given g c = (
 
 pub returns : goal.returns
 returns g c = (
-  c.in_ok-settle_and_publish.ensures.later,
+  c.in_ok-settle_and_publish.ensures.continues,
   stands_published c.settle_and_publish.new.book.course c.in_ok-settle_and_publish.field-0 c.in_default.not-Halted
       c.in_ok-settle_and_publish.ensures.stands,
 )

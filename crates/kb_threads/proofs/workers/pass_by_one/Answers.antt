@@ -1,4 +1,4 @@
-use Rattle.kb_share.proofs.Entries.{enters_later}
+use Rattle.kb_share.proofs.Entries.{enters_only}
 use Rattle.kb_share.proofs.NoneApart.{same_by_none}
 use Rattle.kb_threads.proofs.workers.pass_by_one.Goals as goal
 
@@ -11,4 +11,4 @@ returns-then-branch-eq0 g c =
     )
 
 pub returns-else-branch-eq0 : goal.returns-else-branch-eq0
-returns-else-branch-eq0 g c = enters_later c.args.book.course c.enter_apart.new.book.course c.in_ok-enter_apart.ensures.entered.all
+returns-else-branch-eq0 g c = enters_only c.args.book.course c.enter_apart.new.book.course c.in_ok-enter_apart.ensures.entered.all
