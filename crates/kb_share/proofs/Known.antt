@@ -1,11 +1,10 @@
 -- What a finder knows: one line more, and what it finds.
-use Rattle.std.proofs.Common.{◌≡◌, ◌≢◌, ℕ, zero, suc, ◌+◌, ◌<◌, ◌≤◌, List, [], ◌∷◌, ◌++◌, length, get_or, Some, refl, sym, ◌∙◌, ap, subst, inl, inr, arith, length-append}
+use Rattle.std.proofs.Common.{◌≡◌, ℕ, zero, suc, ◌+◌, ◌<◌, ◌≤◌, List, [], ◌∷◌, ◌++◌, length, Some, sym, ◌∙◌, ap, subst, inl, inr, arith, length-append}
 use Rattle.std.specs.Prelude.{slice_get}
 use Rattle.std.specs.List.{Contains}
 use Rattle.std.proofs.lemmas.Bool.{cases_lt}
-use Rattle.std.proofs.lemmas.List.Elements.{Contains-append_left, Contains-push}
 use Rattle.std.proofs.lemmas.Option.{slice_get_within}
-use Rattle.kb_word.specs.Words.{Pair, IsFactor}
+use Rattle.kb_word.specs.Words.{Pair}
 use Rattle.kb_machine.specs.Lines.{numbered, rule_of, rules_of}
 use Rattle.kb_machine.specs.declared.line.Line.{Line}
 use Rattle.kb_machine.proofs.Numbers.{numbered_same, numbered_within, slice_get_last, slice_get_push_cases}
@@ -13,7 +12,7 @@ use Rattle.kb_book.proofs.Lists.{contained}
 use Rattle.kb_share.proofs.LiveRules.{rule_of_line}
 use Rattle.kb_share.proofs.Marks.{signature_within}
 use Rattle.kb_share.specs.Finding.{side_of, row_of, HasAt, IsKeptAt, AgreesWith, KnowsLines, PicksAll, HasFactorAt}
-use Rattle.kb_share.specs.Signatures.{HasMarks, AreWithin, IsSignature}
+use Rattle.kb_share.specs.Signatures.{HasMarks, IsSignature}
 use Rattle.kb_share.specs.declared.finding.Finder.{Finder}
 use Rattle.kb_share.specs.declared.finding.Kept.{Kept}
 use Rattle.kb_share.specs.declared.finding.Side.{Side}

@@ -1,16 +1,15 @@
 -- What the killing and the shortening of one line do to live lines that have others as factors.
-use Rattle.std.proofs.Common.{◌≡◌, ◌≢◌, ◌⊎◌, ℕ, ◌+◌, ◌<◌, ◌≤◌, List, [], ◌∷◌, ◌++◌, length, Some, None, Result, Ok, Err, refl, sym, ◌∙◌, ap, subst, inl, inr, arith, append_assoc, length-append}
+use Rattle.std.proofs.Common.{◌≡◌, ◌≢◌, ◌⊎◌, ℕ, ◌<◌, ◌≤◌, List, [], ◌∷◌, ◌++◌, length, Some, Result, Ok, Err, refl, sym, ◌∙◌, ap, subst, inl, inr, arith, append_assoc, length-append}
 use Rattle.std.specs.List.{Contains, AllPairs}
-use Rattle.std.proofs.lemmas.Bool.{cases_eq}
 use Rattle.std.proofs.lemmas.List.{append-nil}
-use Rattle.std.proofs.lemmas.List.Elements.{Contains-append_cases, Contains-push_cases}
+use Rattle.std.proofs.lemmas.List.Elements.{Contains-push_cases}
 use Rattle.kb_word.specs.Words.{Pair, OneOf, IsFactor}
 use Rattle.kb_word.specs.Rewriting.{IsIrreducible}
 use Rattle.kb_word.specs.declared.memory.Memory.{Memory}
 use Rattle.kb_machine.specs.Lines.{numbered, rules_of}
 use Rattle.kb_machine.specs.declared.line.Line.{Line}
 use Rattle.kb_machine.specs.declared.event.Event.TheVariants as events
-use Rattle.kb_machine.specs.States.{Problem, State, live_rules, IsLiveRule}
+use Rattle.kb_machine.specs.States.{Problem, State, live_rules}
 use Rattle.kb_machine.specs.Machine.{IsLive}
 use Rattle.kb_machine.specs.Course.{Course, Takes, IsSound}
 use Rattle.kb_machine.proofs.Lists.{contains_around, ascending_once}
@@ -22,7 +21,6 @@ use Rattle.kb_book.specs.declared.answers.Shorten.{Shorten}
 use Rattle.kb_book.specs.declared.answers.Shorten.TheVariants as shortens
 use Rattle.kb_share.proofs.LiveRules.{one_of_live}
 use Rattle.kb_share.proofs.SideLemmas.{no_left_side, Former, former}
-use Rattle.kb_share.specs.Finding.{side_of}
 use Rattle.kb_share.specs.Simplifying.{HasFactorOf, NoneHas, Ages, Thins}
 use Rattle.kb_share.specs.declared.finding.Side.{Side}
 use Rattle.kb_share.specs.declared.finding.Side.TheVariants.{Left, Right}

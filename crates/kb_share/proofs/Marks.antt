@@ -1,12 +1,12 @@
 -- Bits within bits, and the signatures of factors.
-use Rattle.std.proofs.Common.{◌≡◌, ℕ, ◌+◌, ◌-◌, ◌<◌, ◌≤◌, max, List, ◌++◌, length, get_or, refl, sym, ◌∙◌, ap, subst, inl, inr, arith, length-append}
+use Rattle.std.proofs.Common.{◌≡◌, ℕ, ◌+◌, ◌-◌, ◌<◌, max, List, ◌++◌, length, get_or, sym, ◌∙◌, ap, subst, inl, inr, arith, length-append}
 use Rattle.std.specs.Prelude.{bit_or}
 use Rattle.std.specs.Int.{bit_at}
 use Rattle.std.proofs.lemmas.Bool.{cases_lt}
 use Rattle.std.proofs.lemmas.List.{get_or-append-add, get_or_append_left}
 use Rattle.std.proofs.lemmas.Nat.Bits.{bit_at_or, bit_at-zero, same_from_bits}
-use Rattle.kb_word.specs.Words.{StandsAt, IsFactor}
-use Rattle.kb_share.specs.Signatures.{mark, letter_mark, neighbour_mark, AreWithin, HasFirst, AreBitsOf, HasMarks, IsSignature}
+use Rattle.kb_word.specs.Words.{IsFactor}
+use Rattle.kb_share.specs.Signatures.{mark, letter_mark, neighbour_mark, AreWithin, AreBitsOf, HasMarks, IsSignature}
 
 -- bits within bits, one at a time
 within_at : (a b i : ℕ) → AreWithin a b → max (bit_at a i) (bit_at b i) ≡ bit_at b i

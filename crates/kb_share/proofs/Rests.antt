@@ -1,5 +1,5 @@
 -- Lines that are looked at one after another, and how much is left to look at.
-use Rattle.std.proofs.Common.{◌≡◌, ◌≢◌, ◌⊎◌, ℕ, ◌+◌, ◌<◌, ◌≤◌, List, length, get_or, Result, Ok, Err, refl, sym, ◌∙◌, subst, inl, inr, arith}
+use Rattle.std.proofs.Common.{◌≡◌, ◌≢◌, ◌⊎◌, ℕ, ◌+◌, ◌≤◌, List, length, get_or, Ok, ◌∙◌, subst, inl, inr, arith}
 use Rattle.std.specs.List.{Contains}
 use Rattle.std.proofs.lemmas.Bool.{cases_eq}
 use Rattle.std.proofs.lemmas.List.{get_or_default}
@@ -10,7 +10,7 @@ use Rattle.kb_book.specs.declared.answers.Kill.{Kill}
 use Rattle.kb_book.specs.declared.answers.Shorten.{Shorten}
 use Rattle.kb_share.proofs.LineSteps.{kill_thins, kill_rest, has_thins, thins_itself, thins_then, ages_itself, ages_then, shorten_ages, shorten_full, shorten_left, shorten_right, HadAnother}
 use Rattle.kb_share.proofs.Stages.{goes_on_itself, goes_on_then, kill_goes_on, shorten_goes_on}
-use Rattle.kb_share.specs.Simplifying.{HasFactorOf, NoneHas, OnlyTheseHave, OnlyRestHave, IsListedFrom, KillsRest, ShortensRest, NoRightHasOrFull}
+use Rattle.kb_share.specs.Simplifying.{NoneHas, OnlyTheseHave, OnlyRestHave, IsListedFrom, KillsRest, ShortensRest, NoRightHasOrFull}
 use Rattle.kb_share.specs.declared.finding.Side.{Side}
 use Rattle.kb_share.specs.declared.finding.Side.TheVariants.{Left, Right}
 

@@ -1,29 +1,27 @@
 -- Live lines that have others as factors, and reduced sides.
 use Rattle.std.proofs.Common.{◌≡◌, ◌≢◌, ◌⊎◌, ℕ, zero, suc, ◌+◌, ◌<◌, ◌≤◌, List, [], ◌∷◌, ◌++◌, length, Some, refl, sym, ◌∙◌, ap, subst, inl, inr, arith}
 use Rattle.std.specs.Prelude.{slice_get}
-use Rattle.std.specs.List.{Contains, All, AllPairs}
+use Rattle.std.specs.List.{Contains, AllPairs}
 use Rattle.std.proofs.lemmas.Bool.{cases_eq}
 use Rattle.std.proofs.lemmas.List.{length-map}
 use Rattle.std.proofs.lemmas.List.Elements.{Contains-push_cases, All-contains}
-use Rattle.kb_word.specs.Words.{Pair, OneOf, IsFactor}
+use Rattle.kb_word.specs.Words.{Pair, IsFactor}
 use Rattle.kb_word.specs.Order.{Accessible, IsReductionOrder}
 use Rattle.kb_word.specs.Order.Accessible.{accessible}
 use Rattle.kb_word.specs.WordOrderLaws.{word_orders}
 use Rattle.kb_word.specs.Rewriting.{IsIrreducible}
 use Rattle.kb_machine.specs.Lines.{numbered, rule_of, rules_of}
 use Rattle.kb_machine.specs.declared.line.Line.{Line}
-use Rattle.kb_machine.specs.States.{Problem, State, below, live_rules, IsLiveRule}
-use Rattle.kb_machine.specs.Machine.{IsLive, Makes, Kills, Shortens}
+use Rattle.kb_machine.specs.States.{Problem, State, below, IsLiveRule}
+use Rattle.kb_machine.specs.Machine.{IsLive, Makes, Shortens}
 use Rattle.kb_machine.specs.Course.{IsSound}
 use Rattle.kb_machine.proofs.Lists.{contains_around, contains_middle, ascending_once}
 use Rattle.kb_machine.proofs.Logs.{justified_decreases}
 use Rattle.kb_machine.proofs.Numbers.{numbered_one, numbered_same, numbered_within, slice_get_push_cases}
 use Rattle.kb_book.proofs.Lists.{rules_of-push}
-use Rattle.kb_book.specs.Answers.{CanBeKilled, CanBeShortened, IsOtherLiveRule}
-use Rattle.kb_share.specs.Finding.{side_of}
+use Rattle.kb_book.specs.Answers.{IsOtherLiveRule}
 use Rattle.kb_share.specs.Interreduced.{LeftSidesAreReduced, RightSidesAreReduced}
 use Rattle.kb_share.specs.Simplifying.{HasFactorOf, NoneHas}
-use Rattle.kb_share.specs.declared.finding.Side.{Side}
 use Rattle.kb_share.specs.declared.finding.Side.TheVariants.{Left, Right}
 
 -- an irreducible word has no left side as a factor

@@ -1,23 +1,22 @@
 -- A finder knows what it knew, and reduced sides stay reduced.
-use Rattle.std.proofs.Common.{◌≡◌, ◌≢◌, ◌⊎◌, ℕ, ◌+◌, ◌<◌, ◌≤◌, List, [], ◌∷◌, ◌++◌, length, Some, None, Result, Ok, Err, refl, sym, ◌∙◌, ap, subst, inl, inr, arith, length-append}
+use Rattle.std.proofs.Common.{◌≡◌, ℕ, List, [], ◌∷◌, length, Some, None, Result, Ok, Err, sym, ◌∙◌, ap, subst, inl, inr, arith, length-append}
 use Rattle.std.specs.List.{Contains}
 use Rattle.std.proofs.lemmas.List.{append-nil, map-append}
 use Rattle.std.proofs.lemmas.List.Elements.{Contains-push_cases}
 use Rattle.kb_word.specs.Words.{Pair}
 use Rattle.kb_word.specs.declared.memory.Memory.{Memory}
 use Rattle.kb_machine.specs.Lines.{numbered, rule_of, rules_of}
-use Rattle.kb_machine.specs.declared.line.Line.{Line}
 use Rattle.kb_machine.specs.declared.event.Event.TheVariants as events
 use Rattle.kb_machine.specs.declared.halt.Halt.{Halt}
-use Rattle.kb_machine.specs.States.{Problem, State}
+use Rattle.kb_machine.specs.States.{State}
 use Rattle.kb_machine.specs.Course.{Course, Takes, IsSound}
 use Rattle.kb_book.proofs.Lists.{numbered-more}
 use Rattle.kb_book.specs.Answers.{MakeSays, HasNoRoom}
 use Rattle.kb_book.specs.declared.answers.Make.{Make}
 use Rattle.kb_book.specs.declared.answers.Make.TheVariants as makes
 use Rattle.kb_share.proofs.LineSteps.{ages_itself, full_more, thins_ages, has_thins}
-use Rattle.kb_share.proofs.SideLemmas.{lefts_from_none, none_from_lefts, rights_from_none, made_left, made_right}
-use Rattle.kb_share.specs.Finding.{side_of, IsKeptAt, AgreesWith, KnowsLines, Knows, FindsAll}
+use Rattle.kb_share.proofs.SideLemmas.{lefts_from_none, rights_from_none, made_left, made_right}
+use Rattle.kb_share.specs.Finding.{IsKeptAt, Knows, FindsAll}
 use Rattle.kb_share.specs.Interreduced.{LeftSidesAreReduced, RightSidesAreReduced, RightSidesAreReducedOrFull, StaysReduced}
 use Rattle.kb_share.specs.Simplifying.{HasFactorOf, NoneHas, OnlyTheseHave, NoRightHasOrFull, Ages, Thins}
 use Rattle.kb_share.specs.declared.finding.Finder.{Finder}

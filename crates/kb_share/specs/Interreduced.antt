@@ -1,6 +1,6 @@
 -- Interreduced rules: no left side is reducible by the other rules, and no right side is reducible. Book and Otto,
 -- String-Rewriting Systems, 2.2.
-use Rattle.std.specs.Prelude.{◌≡◌, ◌≢◌, ℕ, ◌⊎◌, Some}
+use Rattle.std.specs.Prelude.{◌≡◌, ℕ, ◌⊎◌, Some}
 use Rattle.kb_word.specs.Words.{Pair}
 use Rattle.kb_word.specs.Rewriting.{IsIrreducible}
 use Rattle.kb_machine.specs.Lines.{numbered, rules_of}

@@ -10,14 +10,18 @@
 //! - [`settle`] makes lines of the pending pairs until nothing is pending, or a limit is reached
 //!   (`Settles` and `SettleSays` of `specs/Settling.antt`). The book keeps its problem and its
 //!   lines, and nothing is published or entered meanwhile.
-//! - [`line_made`] is what follows on each line that is made: other lines are simplified by it. [`Finder`] finds them.
+//! - [`line_made`] is what follows on each line that is made: other lines are simplified by it. A [`Finder`] finds at
+//!   least all of them, where it knows the book (`Knows` of `specs/Finding.antt`).
+//! - Both keep the live rules interreduced (`StaysReduced` of `specs/Interreduced.antt`): where no live left side has
+//!   another one as a factor, none has afterwards; where no live right side is reducible, none is afterwards, unless no
+//!   line can be made any more.
 //! - A [`Watch`] sees the book after each line that is made of a pending pair, to show progress.
 //! - [`book_is_sound`] brings what holds of every book.
 //!
 //! After a line is made of a pending pair, each other line whose left side has the new one as a
 //! factor is taken away, and each line whose right side it reduces is replaced (Holt, Eick, O'Brien,
 //! Handbook of Computational Group Theory, 12.2). Most lines that a new one doesn't concern are told
-//! by their `signature`s, without a look at their words. That settling ends rests on the limit of
+//! by their `signature`s, without a look at their words: a word has all bits of its factors (`specs/Signatures.antt`). That settling ends rests on the limit of
 //! lines (`work` of `specs/Work.antt` falls).
 //!
 //! # Sifting

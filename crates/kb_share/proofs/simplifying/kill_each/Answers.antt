@@ -1,6 +1,4 @@
-use Rattle.kb_share.proofs.LineSteps.{kill_thins, thins_then}
 use Rattle.kb_share.proofs.Rests.{kills_none, kills_more, none_left}
-use Rattle.kb_share.proofs.Stages.{goes_on_then, kill_goes_on}
 use Rattle.kb_share.proofs.simplifying.kill_each.Goals as goal
 use Rattle.kb_share.specs.declared.finding.Side.TheVariants.{Left}
 

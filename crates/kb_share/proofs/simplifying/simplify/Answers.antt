@@ -1,4 +1,3 @@
-use Rattle.std.proofs.Common.{◌∙◌}
 use Rattle.kb_share.proofs.Staying.{knows_thins, knows_ages, simplified_left, simplified_right}
 use Rattle.kb_share.proofs.Stages.{goes_on_itself, goes_on_then}
 use Rattle.kb_share.proofs.simplifying.simplify.Goals as goal

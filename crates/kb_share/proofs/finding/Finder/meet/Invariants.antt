@@ -1,4 +1,4 @@
-use Rattle.std.proofs.Common.{ℕ, ◌-◌, length}
+use Rattle.std.proofs.Common.{◌-◌, length}
 use Rattle.kb_share.proofs.finding.Finder.meet.Given as goal
 use Rattle.kb_share.specs.Finding.{KnowsLines}
 
