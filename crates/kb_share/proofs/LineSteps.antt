@@ -1,5 +1,5 @@
 -- What the killing and the shortening of one line do to live lines that have others as factors.
-use Rattle.std.proofs.Common.{◌≡◌, ◌≢◌, ◌⊎◌, ℕ, ◌<◌, ◌≤◌, List, [], ◌∷◌, ◌++◌, length, Some, Result, Ok, Err, refl, sym, ◌∙◌, ap, subst, inl, inr, arith, append_assoc, length-append}
+use Rattle.std.proofs.Common.{◌≡◌, ◌≢◌, ◌⊎◌, ℕ, ◌<◌, ◌≤◌, List, [], ◌∷◌, ◌++◌, length, Some, None, Result, Ok, Err, refl, sym, ◌∙◌, ap, subst, inl, inr, arith, append_assoc, length-append}
 use Rattle.std.specs.List.{Contains, AllPairs}
 use Rattle.std.proofs.lemmas.List.{append-nil}
 use Rattle.std.proofs.lemmas.List.Elements.{Contains-push_cases}
@@ -21,6 +21,7 @@ use Rattle.kb_book.specs.declared.answers.Shorten.{Shorten}
 use Rattle.kb_book.specs.declared.answers.Shorten.TheVariants as shortens
 use Rattle.kb_share.proofs.LiveRules.{one_of_live}
 use Rattle.kb_share.proofs.SideLemmas.{no_left_side, Former, former}
+use Rattle.kb_share.specs.Interreduced.{IsFull}
 use Rattle.kb_share.specs.Simplifying.{HasFactorOf, NoneHas, Ages, Thins}
 use Rattle.kb_share.specs.declared.finding.Side.{Side}
 use Rattle.kb_share.specs.declared.finding.Side.TheVariants.{Left, Right}
@@ -28,21 +29,24 @@ use Rattle.kb_share.specs.declared.finding.Side.TheVariants.{Left, Right}
 -- ---- room
 
 pub full_more : (before after : Course) → after.problem ≡ before.problem → length before.state.lines ≤ length after.state.lines
-    → after.state.halt ≡ before.state.halt → HasNoRoom before → HasNoRoom after
-full_more before after problem lines halt (inl full) =
-    inl (omega (arith, ap (λ (p : Problem). p.most_lines) problem, lines, full))
-full_more before after problem lines halt (inr halted) = inr (λ none. halted (sym halt ∙ none))
+    → IsFull before → IsFull after
+full_more before after problem lines full = omega (arith, ap (λ (p : Problem). p.most_lines) problem, lines, full)
+
+-- where there is no room and no halt, the log is full
+no_room_full : (course : Course) → course.state.halt ≡ None → HasNoRoom course → IsFull course
+no_room_full course runs (inl full) = full
+no_room_full course runs (inr halted) = absurd (halted runs)
 
 -- ---- a line is taken away
 
 pub thins_itself : (course : Course) → Thins course course
-thins_itself course = record { lines = refl; fewer = λ k live. live; full = λ full. full }
+thins_itself course = record { lines = refl; fewer = λ k live. live; halt = refl }
 
 pub thins_then : (one two three : Course) → Thins one two → Thins two three → Thins one three
 thins_then one two three a b = record {
   lines = b.lines ∙ a.lines;
   fewer = λ k live. a.fewer k (b.fewer k live);
-  full = λ full. b.full (a.full full);
+  halt = b.halt ∙ a.halt;
 }
 
 same_thins : (before after : Course) → after ≡ before → Thins before after
@@ -56,7 +60,7 @@ killed_thins k before after takes =
       lines = lines;
       fewer = λ j live. subst (λ (xs : List ℕ). Contains xs j) (sym s.is_live) (contains_around s.earlier k s.later j
           (subst (λ (xs : List ℕ). Contains xs j) (ap (λ (t : State). t.live) s.is) live));
-      full = full_more before after takes.problem (omega (arith, ap length lines)) (ap (λ (t : State). t.halt) s.is);
+      halt = ap (λ (t : State). t.halt) s.is;
     }
 
 pub kill_thins : (k : ℕ) (before after : Course) (answer : Result Kill Memory) → KillSays k before after answer → Thins before after
@@ -150,19 +154,29 @@ shorten_ages k before after (Ok shortens.Least) says = same_ages before after sa
 shorten_ages k before after (Ok shortens.NoRoom) says = same_ages before after says.0
 shorten_ages k before after (Err memory) says = same_ages before after says
 
-same_full : (before after : Course) → after ≡ before → HasNoRoom before → HasNoRoom after
-same_full before after same full = subst (λ (c : Course). HasNoRoom c) (sym same) full
+same_full : (before after : Course) → after ≡ before → IsFull before → IsFull after
+same_full before after same full = subst (λ (c : Course). IsFull c) (sym same) full
 
 pub shorten_full : (k : ℕ) (before after : Course) (answer : Result Shorten Memory) → ShortenSays k before after answer
-    → HasNoRoom before → HasNoRoom after
+    → IsFull before → IsFull after
 shorten_full k before after (Ok (shortens.Shortened new)) says =
     let s = says.takes.step in
     full_more before after says.takes.problem
     (omega (arith, ap (λ (t : State). length t.lines) s.is, length-append before.state.lines (s.line ∷ [])))
-    (ap (λ (t : State). t.halt) s.is)
 shorten_full k before after (Ok shortens.Least) says = same_full before after says.0
 shorten_full k before after (Ok shortens.NoRoom) says = same_full before after says.0
 shorten_full k before after (Err memory) says = same_full before after says
+
+same_halt : (before after : Course) → after ≡ before → after.state.halt ≡ before.state.halt
+same_halt before after same = ap (λ (c : Course). c.state.halt) same
+
+-- a shortening sets no halt
+pub shorten_halt : (k : ℕ) (before after : Course) (answer : Result Shorten Memory) → ShortenSays k before after answer
+    → after.state.halt ≡ before.state.halt
+shorten_halt k before after (Ok (shortens.Shortened new)) says = ap (λ (t : State). t.halt) says.takes.step.is
+shorten_halt k before after (Ok shortens.Least) says = same_halt before after says.0
+shorten_halt k before after (Ok shortens.NoRoom) says = same_halt before after says.0
+shorten_halt k before after (Err memory) says = same_halt before after says
 
 -- different lines were different before
 differ : (before : State) (x new i j : ℕ) (one other : Pair) → i ≢ j
@@ -213,11 +227,11 @@ can_be_shortened state j i has = record {
       no_left_side (IsOtherLiveRule state j) has.one.1 has.other irreducible (i, has.other_is_live, has.another, has.is_other) has.factor;
 }
 
--- after line k was looked at, no left side is a factor of its right side
+-- after line k was looked at, where there was no halt, no left side is a factor of its right side, or the log is full
 pub shorten_right : (k : ℕ) (before after : Course) (answer : Shorten) → ShortenSays k before after (Ok answer)
-    → IsSound before.problem before.state
-    → ((j i : ℕ) → HasFactorOf Right after.state j i → HadAnother before.state k j) ⊎ HasNoRoom after
-shorten_right k before after (shortens.Shortened new) says sound = inl (λ j i has.
+    → IsSound before.problem before.state → before.state.halt ≡ None
+    → ((j i : ℕ) → HasFactorOf Right after.state j i → HadAnother before.state k j) ⊎ IsFull after
+shorten_right k before after (shortens.Shortened new) says sound runs = inl (λ j i has.
     let s = says.takes.step in
     let a = former before.problem before.state after.state k new s sound j has.one has.is_live has.is_one in
     let b = former before.problem before.state after.state k new s sound i has.other has.other_is_live has.is_other in
@@ -248,11 +262,11 @@ shorten_right k before after (shortens.Shortened new) says sound = inl (λ j i h
         };
       }
     ])
-shorten_right k before after shortens.Least says sound = inl (λ j i has.
+shorten_right k before after shortens.Least says sound runs = inl (λ j i has.
     let old : HasFactorOf Right before.state j i = subst (λ (c : Course). HasFactorOf Right c.state j i) says.0 has in
     record {
       another = λ same. says.1 (subst (λ (n : ℕ). CanBeShortened before.state n) (sym same) (can_be_shortened before.state j i old));
       i = i;
       had = old;
     })
-shorten_right k before after shortens.NoRoom says sound = inr (same_full before after says.0 says.2)
+shorten_right k before after shortens.NoRoom says sound runs = inr (same_full before after says.0 (no_room_full before runs says.2))

@@ -1,15 +1,16 @@
 -- Lines that are looked at one after another, and how much is left to look at.
-use Rattle.std.proofs.Common.{◌≡◌, ◌≢◌, ◌⊎◌, ℕ, ◌+◌, ◌≤◌, List, length, get_or, Ok, ◌∙◌, subst, inl, inr, arith}
+use Rattle.std.proofs.Common.{◌≡◌, ◌≢◌, ◌⊎◌, ℕ, ◌+◌, ◌≤◌, List, length, get_or, None, Ok, refl, ◌∙◌, subst, inl, inr, arith}
 use Rattle.std.specs.List.{Contains}
 use Rattle.std.proofs.lemmas.Bool.{cases_eq}
 use Rattle.std.proofs.lemmas.List.{get_or_default}
 use Rattle.kb_machine.specs.States.{State}
 use Rattle.kb_machine.specs.Course.{Course, IsSound}
-use Rattle.kb_book.specs.Answers.{KillSays, ShortenSays, HasNoRoom}
+use Rattle.kb_book.specs.Answers.{KillSays, ShortenSays}
 use Rattle.kb_book.specs.declared.answers.Kill.{Kill}
 use Rattle.kb_book.specs.declared.answers.Shorten.{Shorten}
-use Rattle.kb_share.proofs.LineSteps.{kill_thins, kill_rest, has_thins, thins_itself, thins_then, ages_itself, ages_then, shorten_ages, shorten_full, shorten_left, shorten_right, HadAnother}
+use Rattle.kb_share.proofs.LineSteps.{kill_thins, kill_rest, has_thins, thins_itself, thins_then, ages_itself, ages_then, shorten_ages, shorten_full, shorten_halt, shorten_left, shorten_right, HadAnother}
 use Rattle.kb_share.proofs.Stages.{goes_on_itself, goes_on_then, kill_goes_on, shorten_goes_on}
+use Rattle.kb_share.specs.Interreduced.{IsFull}
 use Rattle.kb_share.specs.Simplifying.{NoneHas, OnlyTheseHave, OnlyRestHave, IsListedFrom, KillsRest, ShortensRest, NoRightHasOrFull}
 use Rattle.kb_share.specs.declared.finding.Side.{Side}
 use Rattle.kb_share.specs.declared.finding.Side.TheVariants.{Left, Right}
@@ -74,19 +75,20 @@ pub shortens_none : (course : Course) (lines : List ℕ) → ShortensRest course
 shortens_none course lines = record {
   goes_on = goes_on_itself course;
   ages = ages_itself course.state;
+  halt = refl;
   lefts = λ none. none;
-  rights = λ only. inl (λ j k has. listed_all lines j (only j k has));
+  rights = λ runs only. inl (λ j k has. listed_all lines j (only j k has));
 }
 
 rights_more : (before after : Course) (lines : List ℕ) (place : ℕ) (answer : Shorten)
     → ShortenSays (get_or lines place 0) before after (Ok answer) → IsSound before.problem before.state
-    → OnlyRestHave Right before.state lines place ⊎ HasNoRoom before
-    → OnlyRestHave Right after.state lines (place + 1) ⊎ HasNoRoom after
-rights_more before after lines place answer says sound (inr full) =
+    → before.state.halt ≡ None → OnlyRestHave Right before.state lines place ⊎ IsFull before
+    → OnlyRestHave Right after.state lines (place + 1) ⊎ IsFull after
+rights_more before after lines place answer says sound runs (inr full) =
     inr (shorten_full (get_or lines place 0) before after (Ok answer) says full)
-rights_more before after lines place answer says sound (inl rest) =
+rights_more before after lines place answer says sound runs (inl rest) =
     let k = get_or lines place 0 in
-    elim (shorten_right k before after answer says sound) [
+    elim (shorten_right k before after answer says sound runs) [
       | inl had ↦ inl (λ j i has.
           let old : HadAnother before.state k j = had j i has in
           listed_rest lines place j (rest j old.i old.had) old.another)
@@ -101,13 +103,14 @@ shortens_more start before after lines place answer says sound kept =
     record {
       goes_on = goes_on_then start before after kept.goes_on (shorten_goes_on k before after (Ok answer) says);
       ages = ages_then start.state before.state after.state kept.ages (shorten_ages k before after (Ok answer) says);
+      halt = shorten_halt k before after (Ok answer) says ∙ kept.halt;
       lefts = λ none. shorten_left k before after (Ok answer) says sound (kept.lefts none);
-      rights = λ only. rights_more before after lines place answer says sound (kept.rights only);
+      rights = λ runs only. rights_more before after lines place answer says sound (kept.halt ∙ runs) (kept.rights runs only);
     }
 
 pub shortens_all : (start after : Course) (lines : List ℕ) (place : ℕ) → length lines ≤ place → ShortensRest start after lines place
-    → OnlyTheseHave Right start.state lines → NoRightHasOrFull after
-shortens_all start after lines place end kept only = elim (kept.rights only) [
+    → start.state.halt ≡ None → OnlyTheseHave Right start.state lines → NoRightHasOrFull after
+shortens_all start after lines place end kept runs only = elim (kept.rights runs only) [
   | inl rest ↦ inl (none_left Right after.state lines place end rest)
   | inr full ↦ inr full
 ]

@@ -11,13 +11,13 @@ use Rattle.kb_machine.specs.declared.halt.Halt.{Halt}
 use Rattle.kb_machine.specs.States.{State}
 use Rattle.kb_machine.specs.Course.{Course, Takes, IsSound}
 use Rattle.kb_book.proofs.Lists.{numbered-more}
-use Rattle.kb_book.specs.Answers.{MakeSays, HasNoRoom}
+use Rattle.kb_book.specs.Answers.{MakeSays}
 use Rattle.kb_book.specs.declared.answers.Make.{Make}
 use Rattle.kb_book.specs.declared.answers.Make.TheVariants as makes
 use Rattle.kb_share.proofs.LineSteps.{ages_itself, full_more, thins_ages, has_thins}
 use Rattle.kb_share.proofs.SideLemmas.{lefts_from_none, rights_from_none, made_left, made_right}
 use Rattle.kb_share.specs.Finding.{IsKeptAt, Knows, FindsAll}
-use Rattle.kb_share.specs.Interreduced.{LeftSidesAreReduced, RightSidesAreReduced, RightSidesAreReducedOrFull, StaysReduced}
+use Rattle.kb_share.specs.Interreduced.{IsFull, LeftSidesAreReduced, RightSidesAreReduced, RightSidesAreReducedOrFull, StaysReduced}
 use Rattle.kb_share.specs.Simplifying.{HasFactorOf, NoneHas, OnlyTheseHave, NoRightHasOrFull, Ages, Thins}
 use Rattle.kb_share.specs.declared.finding.Finder.{Finder}
 use Rattle.kb_share.specs.declared.finding.Kept.{Kept}
@@ -76,20 +76,20 @@ dropped_stays before after takes =
       lefts = λ lefts. subst LeftSidesAreReduced (sym s.is) lefts;
       rights = λ rights. elim rights [
         | inl reduced ↦ inl (subst RightSidesAreReduced (sym s.is) reduced)
-        | inr full ↦ inr (full_more before after takes.problem (omega (arith, ap (λ (t : State). length t.lines) s.is))
-            (ap (λ (t : State). t.halt) s.is) full)
+        | inr full ↦ inr (full_more before after takes.problem (omega (arith, ap (λ (t : State). length t.lines) s.is)) full)
       ];
     }
 
-some_none : {X : Type 0} {x : X} → Some x ≡ None → ⊥
-some_none e = cc
-
+-- a halt changes neither lines nor live lines
 halted_stays : (before after : Course) → Takes events.Halted before after → StaysReduced before after
 halted_stays before after takes =
     let s = takes.step in
     record {
       lefts = λ lefts. subst LeftSidesAreReduced (sym s.is) lefts;
-      rights = λ rights. inr (inr (λ none. some_none (sym (ap (λ (t : State). t.halt) s.is) ∙ none)));
+      rights = λ rights. elim rights [
+        | inl reduced ↦ inl (subst RightSidesAreReduced (sym s.is) reduced)
+        | inr full ↦ inr (full_more before after takes.problem (omega (arith, ap (λ (t : State). length t.lines) s.is)) full)
+      ];
     }
 
 -- whatever a making answers, but for a line that is made
@@ -156,9 +156,12 @@ found_these side state k found lines finds same only j i has =
     (record { is_live = has.is_live; rule = has.one; is_rule = has.is_one; factor = has.factor }))
 
 -- where a line is made, there is room
-has_room : (k : ℕ) (before after : Course) → Takes (events.Made k) before after → ¬ HasNoRoom before
-has_room k before after takes (inl full) = let room = takes.step.room in omega (arith, room, full)
-has_room k before after takes (inr halted) = halted takes.step.pending.running
+has_room : (k : ℕ) (before after : Course) → Takes (events.Made k) before after → ¬ IsFull before
+has_room k before after takes full = let room = takes.step.room in omega (arith, room, full)
+
+-- and no halt, before and after
+made_runs : (k : ℕ) (before after : Course) → Takes (events.Made k) before after → after.state.halt ≡ None
+made_runs k before after takes = let s = takes.step in ap (λ (t : State). t.halt) s.is ∙ s.pending.running
 
 pub simplified_left : (k : ℕ) (start old middle new : Course) (found lines : List ℕ) → Takes (events.Made k) start old
     → FindsAll Left old.state k found → lines ≡ found → (OnlyTheseHave Left old.state lines → NoneHas Left middle.state)
@@ -169,14 +172,15 @@ simplified_left k start old middle new found lines takes finds same killed short
     (made_left start.problem start.state old.state k takes.step reduced))))
 
 pub simplified_right : (k : ℕ) (start old middle new : Course) (found lines : List ℕ) → Takes (events.Made k) start old → Thins old middle
-    → FindsAll Right middle.state k found → lines ≡ found → (OnlyTheseHave Right middle.state lines → NoRightHasOrFull new)
+    → FindsAll Right middle.state k found → lines ≡ found
+    → (middle.state.halt ≡ None → OnlyTheseHave Right middle.state lines → NoRightHasOrFull new)
     → IsSound new.problem new.state → RightSidesAreReducedOrFull start → RightSidesAreReducedOrFull new
 simplified_right k start old middle new found lines takes thins finds same shortened sound (inr full) =
     absurd (has_room k start old takes full)
 simplified_right k start old middle new found lines takes thins finds same shortened sound (inl reduced) =
     let only : (j i : ℕ) → HasFactorOf Right middle.state j i → i ≡ k =
     λ j i has. made_right start.problem start.state old.state k takes.step reduced j i (has_thins Right old middle thins j i has) in
-    elim (shortened (found_these Right middle.state k found lines finds same only)) [
+    elim (shortened (thins.halt ∙ made_runs k start old takes) (found_these Right middle.state k found lines finds same only)) [
       | inl none ↦ inl (rights_from_none new.problem new.state sound none)
       | inr full ↦ inr full
     ]

@@ -1,13 +1,13 @@
 -- Interreduced rules: no left side is reducible by the other rules, and no right side is reducible. Book and Otto,
 -- String-Rewriting Systems, 2.2.
-use Rattle.std.specs.Prelude.{◌≡◌, ℕ, ◌⊎◌, Some}
+use Rattle.std.specs.Prelude.{◌≡◌, ℕ, ◌≤◌, ◌⊎◌, Some, length}
 use Rattle.kb_word.specs.Words.{Pair}
 use Rattle.kb_word.specs.Rewriting.{IsIrreducible}
 use Rattle.kb_machine.specs.Lines.{numbered, rules_of}
 use Rattle.kb_machine.specs.States.{State, IsLiveRule}
 use Rattle.kb_machine.specs.Machine.{IsLive}
 use Rattle.kb_machine.specs.Course.{Course}
-use Rattle.kb_book.specs.Answers.{IsOtherLiveRule, HasNoRoom}
+use Rattle.kb_book.specs.Answers.{IsOtherLiveRule}
 
 -- no live left side is reducible by the other live rules: none has another one as a factor
 abbrev pub LeftSidesAreReduced : State → Type 0
@@ -25,9 +25,13 @@ pub record AreInterreduced (state : State) : Type 0 where
   pub lefts : LeftSidesAreReduced state
   pub rights : RightSidesAreReduced state
 
--- no live right side is reducible, or none can be replaced, since no line can be made any more
+-- the log is full: it has as many lines as it may have
+abbrev pub IsFull : Course → Type 0
+IsFull course = course.problem.most_lines ≤ length course.state.lines
+
+-- no live right side is reducible, or none can be replaced, since the log is full
 abbrev pub RightSidesAreReducedOrFull : Course → Type 0
-RightSidesAreReducedOrFull course = RightSidesAreReduced course.state ⊎ HasNoRoom course
+RightSidesAreReducedOrFull course = RightSidesAreReduced course.state ⊎ IsFull course
 
 -- sides that were reduced are so after
 pub record StaysReduced (before after : Course) : Type 0 where

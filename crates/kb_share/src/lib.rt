@@ -13,8 +13,8 @@
 //! - [`line_made`] is what follows on each line that is made: other lines are simplified by it. A [`Finder`] finds at
 //!   least all of them, where it knows the book (`Knows` of `specs/Finding.antt`).
 //! - Both keep the live rules interreduced (`StaysReduced` of `specs/Interreduced.antt`): where no live left side has
-//!   another one as a factor, none has afterwards; where no live right side is reducible, none is afterwards, unless no
-//!   line can be made any more.
+//!   another one as a factor, none has afterwards; where no live right side is reducible, none is afterwards, unless the
+//!   log is full, with as many lines as it may have. A halt at the length of a word excuses nothing.
 //! - A [`Watch`] sees the book after each line that is made of a pending pair, to show progress.
 //! - [`book_is_sound`] brings what holds of every book.
 //!

@@ -87,7 +87,7 @@ fn make_next<R: Reducer, W: Watch>(
 }
 
 /// Goes on after line k was made. Where the live rules were interreduced before it was made, they
-/// are so afterwards: left sides always, and right sides as long as lines can be made.
+/// are so afterwards: left sides always, and right sides unless the log is full.
 pub fn line_made<R: Reducer, W: Watch>(
     alloc: Global,
     book: &mut Book<R>,

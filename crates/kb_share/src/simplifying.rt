@@ -1,6 +1,6 @@
 //! What a new line does to the others.
 
-ghost use Rattle.std.specs.Prelude.{◌≡◌, OnOk};
+ghost use Rattle.std.specs.Prelude.{◌≡◌, None, OnOk};
 ghost use Rattle.kb_machine.specs.Course.{Course, Takes};
 ghost use Rattle.kb_machine.specs.declared.event.Event.TheVariants.{Made};
 ghost use Rattle.kb_share.specs.Finding.{Knows};
@@ -52,13 +52,15 @@ fn kill_each<R: Reducer>(book: &mut Book<R>, lines: &[u32]) -> Result<(), Memory
     Ok(())
 }
 
-/// Replaces those of these lines whose right sides other live rules reduce, as long as lines can be made.
+/// Replaces those of these lines whose right sides other live rules reduce, as long as lines can be made:
+/// where the book isn't halted, until the log is full.
 fn shorten_each<R: Reducer>(alloc: Global, book: &mut Book<R>, lines: &[u32]) -> Result<(), Memory>
     ensures goes_on { GoesOn book.old.course book.new.course }
     ensures ages { Ages book.old.course.state book.new.course.state }
     ensures lefts { NoneHas side.Left book.old.course.state
         → NoneHas side.Left book.new.course.state }
-    ensures rights { OnlyTheseHave side.Right book.old.course.state lines.now
+    ensures rights { book.old.course.state.halt ≡ None
+        → OnlyTheseHave side.Right book.old.course.state lines.now
         → OnOk result (NoRightHasOrFull book.new.course) }
 {
     for line in lines {

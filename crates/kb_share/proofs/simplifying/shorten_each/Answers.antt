@@ -16,6 +16,6 @@ returns-in_err-shorten-clause-lefts g c = λ none.
     (c.loop-line.invariant.lefts none)
 
 pub returns-clause-rights : goal.returns-clause-rights
-returns-clause-rights g c = λ only.
+returns-clause-rights g c = λ runs only.
     shortens_all c.args.book.now.course c.loop-line.book.course c.args.lines.now c.loop-line.line-index c.loop-line-test.false
-    c.loop-line.invariant only
+    c.loop-line.invariant runs only
