@@ -55,6 +55,8 @@ pub struct Wanted {
     pub err: Option<Vec<u8>>,
     /// The files that are stored.
     pub stored: Vec<Named>,
+    /// As many workers come to the gate.
+    pub workers: Option<usize>,
 }
 
 impl Case {
@@ -79,6 +81,7 @@ impl Case {
                 out: Vec::new(alloc),
                 err: None,
                 stored: Vec::new(alloc),
+                workers: None,
             },
         }
     }
@@ -92,7 +95,7 @@ impl Case {
     ) -> Result<(), Mistake> {
         match section.keyword.as_str() {
             "each" => Ok(()),
-            "kb" | "pieces" | "status" | "fails" => self.add_line(rt, section, texts),
+            "kb" | "pieces" | "status" | "workers" | "fails" => self.add_line(rt, section, texts),
             "file" | "stored" => self.add_file(rt, section, texts),
             "input" | "out" | "err" => self.add_text(rt, section, texts),
             _ => Err(Mistake::Keyword),
@@ -114,6 +117,7 @@ impl Case {
                 Ok(())
             }
             "status" => self.wanted.set_status(rt.alloc(), &tokens),
+            "workers" => self.wanted.set_workers(&tokens),
             "pieces" => {
                 self.devices.piece = one_number(&tokens)?;
                 Ok(())
@@ -242,6 +246,19 @@ impl Wanted {
         };
         self.exit = number::<u8>(exit.text()?)?;
         self.kind = kind;
+        Ok(())
+    }
+
+    /// Takes how many workers come to the gate, 1 to 64.
+    fn set_workers(&mut self, tokens: &[Token]) -> Result<(), Mistake> {
+        if self.workers.is_some() {
+            return Err(Mistake::Twice);
+        }
+        let workers = one_number(tokens)?;
+        if workers < 1 || workers > 64 {
+            return Err(Mistake::Number);
+        }
+        self.workers = Some(workers);
         Ok(())
     }
 }

@@ -17,6 +17,8 @@ pub enum Mistake {
     NoCase,
     #[error("the section has a text on its line and another one below")]
     TwoTexts,
+    #[error("the case has this section twice")]
+    Twice,
     #[error("the section has no name")]
     NoName,
     #[error("a quotation mark is not closed")]

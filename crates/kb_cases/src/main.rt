@@ -9,10 +9,12 @@
 //!
 //! - `suite` goes through the sections of a file, which `kb_casefile` reads.
 //! - `trial` runs a case, and `report` prints what differs.
+//! - `meeting` is the gate of the run, at which its workers are counted.
 //!
 //! Below are `kb_casefile` and `kb_cli`.
 #![tactic(auto)]
 
+mod meeting;
 mod report;
 mod suite;
 mod trial;

@@ -1,8 +1,9 @@
 //! One run over memory, compared with what has to come of it.
 
+use crate::meeting::Meeting;
 use kb_casefile::{Case, Named, Wanted, find};
 use kb_cli::{Status, run};
-use kb_io::{MemShelf, MemSink, MemSource, OpenGate, Shelf, Sink, Source};
+use kb_io::{MemShelf, MemSink, MemSource, Shelf, Sink, Source};
 use std::alloc::{AllocError, Global};
 use std::sync::Wait;
 use std::thread::Threads;
@@ -57,6 +58,20 @@ impl Comparison {
             }
             None => Ok(()),
         }
+    }
+
+    /// Compares how many workers came to the gate, where it is told. Of several the first has to meet another.
+    fn compare_workers(&mut self, wanted: &Wanted, meeting: &Meeting) -> Result<(), AllocError> {
+        let Some(wanted) = wanted.workers else {
+            return Ok(());
+        };
+        let wanted = format!(in self.alloc; "{wanted}")?;
+        let came = shown_workers(self.alloc, meeting)?;
+        self.compare(
+            "the workers",
+            Some(wanted.as_bytes()),
+            Some(came.as_bytes()),
+        )
     }
 
     /// Compares what is written on err. Where nothing is told of it there is a message with the
@@ -121,6 +136,16 @@ fn kind_of(alloc: Global, status: &Status) -> Result<String, AllocError> {
     }
 }
 
+/// How many workers a run had, by the gate: to it comes nobody where one did the work.
+fn shown_workers(alloc: Global, meeting: &Meeting) -> Result<String, AllocError> {
+    let workers = meeting.workers().max(1);
+    if meeting.is_missed() {
+        format!(in alloc; "{workers}, of whom the first met none")
+    } else {
+        format!(in alloc; "{workers}")
+    }
+}
+
 /// A shelf with the case's files, on which its loads and stores fail.
 fn shelf_of(alloc: Global, case: &Case) -> Result<MemShelf, AllocError> {
     let loads = case.devices.loads.clone()?;
@@ -142,8 +167,9 @@ fn status_of_run<T: Threads + Wait + Sync, F: Shelf, I: Source, O: Sink, E: Sink
     input: &mut I,
     out: &mut O,
     err: &mut E,
+    meeting: &Meeting,
 ) -> Status {
-    run(rt, alloc, words, shelf, input, out, err, &OpenGate)
+    run(rt, alloc, words, shelf, input, out, err, meeting)
 }
 
 /// Runs the case. What comes of it otherwise than wanted is the result.
@@ -159,8 +185,19 @@ pub(crate) fn differences<R: Threads + Wait + Sync>(
     let mut out = MemSink::new(alloc, rt, piece, case.devices.writes.clone()?);
     let mut err = MemSink::new(alloc, rt, piece, case.devices.messages.clone()?);
     let words = case.words.as_slice();
-    let status = status_of_run(rt, alloc, words, &mut shelf, &mut input, &mut out, &mut err);
-    compared(alloc, case, &status, &shelf, out.written(), err.written())
+    let meeting = Meeting::of(case.wanted.workers.unwrap_or(1));
+    let status = status_of_run(
+        rt, alloc, words, &mut shelf, &mut input, &mut out, &mut err, &meeting,
+    );
+    compared(
+        alloc,
+        case,
+        &status,
+        &meeting,
+        &shelf,
+        out.written(),
+        err.written(),
+    )
 }
 
 /// Compares what came of a run with what was wanted.
@@ -168,6 +205,7 @@ fn compared(
     alloc: Global,
     case: &Case,
     status: &Status,
+    meeting: &Meeting,
     shelf: &MemShelf,
     out: &[u8],
     err: &[u8],
@@ -177,6 +215,7 @@ fn compared(
         found: Vec::new(alloc),
     };
     comparison.compare_status(&case.wanted, status)?;
+    comparison.compare_workers(&case.wanted, meeting)?;
     comparison.compare("out", Some(case.wanted.out.as_slice()), Some(out))?;
     comparison.compare_err(&case.wanted, err)?;
     comparison.compare_files(case, shelf)?;

@@ -73,7 +73,14 @@ fn own_pair(alloc: Global, book: &Book<Scan>, place: u64) -> Result<Option<Rule>
     if !meets(&line.left, &line.left, place) {
         return Ok(None);
     }
-    let (u, v) = pair_at(alloc, &line.left, &line.right, &line.left, &line.right, place)?;
+    let (u, v) = pair_at(
+        alloc,
+        &line.left,
+        &line.right,
+        &line.left,
+        &line.right,
+        place,
+    )?;
     Ok(Some(Rule::new(u, v)))
 }
 

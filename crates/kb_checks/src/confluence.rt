@@ -1,13 +1,15 @@
-//! Confluence: several workers end with the verdict of one.
+//! Confluence: several workers end with the verdict of one, and work side by side.
 
 ghost use Rattle.std.specs.Prelude.{◌≤◌};
 
 use kb_confluence::{Verdict, check};
-use kb_rules::{Reducer, Rule, Rules, Scan};
+use kb_rules::{Reducer, Rule, Rules, Scan, Trace, Workspace};
 use kb_word::{Letter, Memory, Order, Word, WordOrder};
 use std::alloc::Global;
+use std::marker::Model;
 use std::process::Abort;
 use std::sync::Wait;
+use std::sync::atomic::{AtomicU64, Ordering};
 use std::test::Fail;
 use std::thread::Threads;
 
@@ -72,5 +74,138 @@ fn workers_end_with_one_verdict(rt: HostRuntime) -> Result<(), Fail> {
         assert_eq!(rt; named(&rt, rt.alloc(), 0, workers)?, None);
         assert_eq!(rt; named(&rt, rt.alloc(), 40, workers)?, Some((41, 42, 1)));
     }
+    Ok(())
+}
+
+/// As many turns as a call waits for another one: a turn is one look whether two have met.
+const TURNS: u32 = 100_000_000;
+
+/// A reducer whose first call waits until another one is going on too.
+#[derive(Drop)]
+struct Meeting {
+    scan: Scan,
+    /// How many calls are going on.
+    calls: AtomicU64,
+    /// 1 where two calls were going on at once.
+    met: AtomicU64,
+    /// 1 where a call waited in vain. No other waits then.
+    missed: AtomicU64,
+}
+
+impl Model for Meeting {
+    ghost use Rattle.kb_rules.specs.OrderedRules.{OrderedRules};
+
+    ghost Value = { OrderedRules };
+
+    ghost view = { λ meeting. meeting.scan };
+}
+
+impl Meeting {
+    ghost use Rattle.std.specs.Prelude.{◌≡◌};
+
+    /// A reducer by the same rules, of which no call is going on.
+    fn new(scan: Scan) -> Meeting
+        ensures { result ≡ scan }
+    {
+        Meeting {
+            scan,
+            calls: AtomicU64::new(0),
+            met: AtomicU64::new(0),
+            missed: AtomicU64::new(0),
+        }
+    }
+
+    /// Whether two calls were going on at once.
+    fn has_met(&self) -> bool {
+        self.met.load(Ordering::SeqCst) != 0
+    }
+
+    /// Begins a call, which waits where no other is going on.
+    fn begin(&self) {
+        if self.calls.fetch_add(1, Ordering::SeqCst) != 0 {
+            self.met.store(1, Ordering::SeqCst);
+        } else if self.missed.load(Ordering::SeqCst) == 0 {
+            self.wait();
+        }
+    }
+
+    /// Waits until two calls have met.
+    fn wait(&self) {
+        for _ in 0..TURNS {
+            if self.has_met() {
+                return;
+            }
+        }
+        self.missed.store(1, Ordering::SeqCst);
+    }
+
+    /// Ends a call.
+    fn end(&self) {
+        self.calls.fetch_sub(1, Ordering::SeqCst);
+    }
+}
+
+impl Reducer for Meeting {
+    ghost rules = { λ meeting. meeting.rules };
+
+    ghost order = { λ meeting. meeting.order };
+
+    fn of(alloc: Global, list: &Rules) -> Result<Meeting, Memory> {
+        let scan = Scan::of(alloc, list)?;
+        Ok(Meeting::new(scan))
+    }
+
+    fn list(&self) -> &Rules {
+        self.scan.list()
+    }
+
+    fn reduce(&self, w: &mut Word, workspace: &mut Workspace) -> Result<(), Memory> {
+        self.begin();
+        let answer = self.scan.reduce(w, workspace);
+        self.end();
+        answer
+    }
+
+    fn trace(&self, alloc: Global, w: &Word) -> Result<Trace, Memory> {
+        self.scan.trace(alloc, w)
+    }
+
+    fn push(&mut self, alloc: Global, rule: &Rule) -> Result<(), Memory> {
+        self.scan.push(alloc, rule)
+    }
+
+    fn remove(&mut self, alloc: Global, place: usize) -> Result<(), Memory> {
+        self.scan.remove(alloc, place)
+    }
+
+    fn replace(&mut self, alloc: Global, place: usize, rule: &Rule) -> Result<(), Memory> {
+        self.scan.replace(alloc, place, rule)
+    }
+
+    fn copy(&self, alloc: Global) -> Result<Meeting, Memory> {
+        let scan = self.scan.copy(alloc)?;
+        Ok(Meeting::new(scan))
+    }
+}
+
+/// Whether two calls of the reducer are going on at once while so many workers check.
+fn meet<R: Abort + Threads + Wait + Sync>(
+    rt: &R,
+    alloc: Global,
+    workers: u32,
+) -> Result<bool, Memory>
+    requires { (1 ≤ workers) × (workers ≤ 64) }
+{
+    let rules = rules_with(rt, alloc, 0)?;
+    assert!(rt; rules.len() <= 140);
+    let meeting = Meeting::of(alloc, &rules)?;
+    let _verdict = check(rt, alloc, &rules, &meeting, workers)?;
+    Ok(meeting.has_met())
+}
+
+#[test]
+fn two_workers_check_side_by_side(rt: HostRuntime) -> Result<(), Fail> {
+    assert!(rt; !meet(&rt, rt.alloc(), 1)?);
+    assert!(rt; meet(&rt, rt.alloc(), 2)?);
     Ok(())
 }
