@@ -6,6 +6,9 @@ use Rattle.kb_complete.specs.declared.publishing.Standing.{Standing}
 use Rattle.kb_complete.proofs.Rounds.{stays_then, grows_by_line, later_by_line}
 use Rattle.kb_complete.proofs.ending.grow_by_line.Goals as goal
 
+pub line_made-requires : goal.line_made-requires
+line_made-requires g c = record { known = c.new-finder.ensures c.args.book.course.state }
+
 pub returns-in-Published : goal.returns-in-Published
 returns-in-Published g c = λ start takes.
     let made = c.args.book.course in
