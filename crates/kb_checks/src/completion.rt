@@ -102,8 +102,8 @@ fn a_critical_pair_has_two_words(rt: HostRuntime) -> Result<(), Fail> {
         return Err(Fail::new("there is no overlap"));
     };
     let (first, second) = pair.into_sides();
-    assert_eq!(rt; first, word(alloc, &[0, 1, 0, 0, 1])?);
-    assert_eq!(rt; second, word(alloc, &[1, 0, 0, 1, 0])?);
+    assert_eq!(rt; first, word(alloc, &[1, 2, 1, 1, 2])?);
+    assert_eq!(rt; second, word(alloc, &[2, 1, 1, 2, 1])?);
     Ok(())
 }
 
