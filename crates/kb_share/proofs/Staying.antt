@@ -159,7 +159,7 @@ found_these side state k found lines finds same only j i has =
 has_room : (k : ℕ) (before after : Course) → Takes (events.Made k) before after → ¬ IsFull before
 has_room k before after takes full = let room = takes.step.room in omega (arith, room, full)
 
--- and no halt, before and after
+-- and no halt, and none is set
 made_runs : (k : ℕ) (before after : Course) → Takes (events.Made k) before after → after.state.halt ≡ None
 made_runs k before after takes = let s = takes.step in ap (λ (t : State). t.halt) s.is ∙ s.pending.running
 
