@@ -55,7 +55,7 @@ pub struct Wanted {
     pub err: Option<Vec<u8>>,
     /// The files that are stored.
     pub stored: Vec<Named>,
-    /// As many workers come to the gate.
+    /// How many workers come to the gate.
     pub workers: Option<usize>,
 }
 
