@@ -21,12 +21,11 @@ returns-clause-halted g c =
     let after = c.make.new.self.course in
     elim c.match-branch-2.branch [
       | in-Made w ↦ rw w.result-is tt
-      | in-Halted w ↦ rw w.result-is
-          (
-            halts_continues before after w.in-Halted.field-0
-                (make_said before after c.in_ok-k.field-0 (makes.Halted w.in-Halted.field-0) w.in-Halted.is c.in_ok-k.ensures),
-            make_halts before after c.in_ok-k.field-0 w.in-Halted.field-0 w.in-Halted.is c.in_ok-k.ensures,
-          )
+      | in-Halted w ↦ rw w.result-is (
+        halts_continues before after w.in-Halted.field-0
+            (make_said before after c.in_ok-k.field-0 (makes.Halted w.in-Halted.field-0) w.in-Halted.is c.in_ok-k.ensures),
+        make_halts before after c.in_ok-k.field-0 w.in-Halted.field-0 w.in-Halted.is c.in_ok-k.ensures,
+      )
     ]
 
 pub unreachable-requires : goal.unreachable-requires
