@@ -1,4 +1,4 @@
--- A book at which nothing is pending isn't halted; and what settling answers.
+-- A book at which nothing is pending isn't halted; and how it is settled.
 use Rattle.std.proofs.Common.{◌≡◌, ◌≢◌, [], length, Option, Some, None, IfSome, IfNone, refl, sym, ◌∙◌, ap, subst, arith}
 use Rattle.kb_machine.specs.States.{Problem, State}
 use Rattle.kb_machine.specs.Course.{Course, IsSound, HaltSays, Waits}
@@ -6,7 +6,7 @@ use Rattle.kb_machine.specs.declared.halt.Halt.{Halt}
 use Rattle.kb_machine.specs.declared.halt.Halt.TheVariants as halts
 use Rattle.kb_share.specs.declared.settled.Settled.{Settled}
 use Rattle.kb_share.specs.declared.settled.Settled.TheVariants as settled
-use Rattle.kb_share.specs.Settling.{SettleSays, GivesHalt, halt_in}
+use Rattle.kb_share.specs.Settling.{SettleSays}
 use Rattle.kb_share.specs.Work.{EndsAt}
 
 some_none : {X : Type 0} {x : X} → Some x ≡ None → ⊥
@@ -63,21 +63,3 @@ pub ends_settled : (before after : Course) (end : Settled) → before.state.pend
 ends_settled before after settled.Nothing some ends = absurd ends
 ends_settled before after settled.Done some ends = (some, ends.0, ends.1)
 ends_settled before after (settled.Halted halt) some ends = (some, ends)
-
--- a book that is settled without a halt
-pub settled_idle : (before after : Course) (end : Settled) → SettleSays before after end → halt_in end ≡ None → after.state.pending ≡ []
-settled_idle before after settled.Nothing says none = ap (λ (c : Course). c.state.pending) says.1 ∙ says.0
-settled_idle before after settled.Done says none = says.1
-settled_idle before after (settled.Halted halt) says none = absurd (some_none none)
-
-pub settled_runs : (before after : Course) (end : Settled) → SettleSays before after end → halt_in end ≡ None → after.state.halt ≡ None
-settled_runs before after settled.Nothing says none = says.2
-settled_runs before after settled.Done says none = says.2
-settled_runs before after (settled.Halted halt) says none = absurd (some_none none)
-
--- a book that is settled with a halt
-pub settled_halted : (before after : Course) (end : Settled) (halt : Halt) → SettleSays before after end → halt_in end ≡ Some halt
-    → GivesHalt after halt
-settled_halted before after settled.Nothing halt says some = absurd (none_some some)
-settled_halted before after settled.Done halt says some = absurd (none_some some)
-settled_halted before after (settled.Halted own) halt says some = subst (GivesHalt after) (some-injective some) says.1
