@@ -55,7 +55,7 @@ by_fewer K L w into irreducible before rule after allowed = irreducible before r
 
 module _ (problem : Problem) (state : State) (sound : IsSound problem state) where
   -- the live number at the index of a live rule
-  number_at : (i : ℕ) → ℕ
+  abbrev number_at : (i : ℕ) → ℕ
   number_at i = get_or state.live i 0
 
   live_within : (i : ℕ) (rule : Pair) → slice_get (live_rules state) i ≡ Some rule → i < length state.live
