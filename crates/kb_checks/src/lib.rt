@@ -8,7 +8,6 @@
 //! - `automata`: automata, and the time that the canonical form of many states takes.
 //! - `books`: books that tests share.
 //! - `branching`: the states of a machine with several moves by one symbol.
-//! - `completion`: room in a book, versions, critical pairs and a whole completion.
 //! - `confluence`: the check of confluence by several workers.
 //! - `drawing`: numbers that threads draw.
 //! - `exploration`: the least text that a machine accepts.
@@ -28,8 +27,6 @@ mod automata;
 mod books;
 #[cfg(test)]
 mod branching;
-#[cfg(test)]
-mod completion;
 #[cfg(test)]
 mod confluence;
 #[cfg(test)]
