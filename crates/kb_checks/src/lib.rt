@@ -8,6 +8,8 @@
 //! - `automata`: automata, and the time that the canonical form of many states takes.
 //! - `books`: books that tests share.
 //! - `branching`: the states of a machine with several moves by one symbol.
+//! - `choosing`: which overlaps a pass of threads enters.
+//! - `completion`: calls on books and of completions that no command makes.
 //! - `confluence`: the check of confluence by several workers.
 //! - `drawing`: numbers that threads draw.
 //! - `exploration`: the least text that a machine accepts.
@@ -27,6 +29,10 @@ mod automata;
 mod books;
 #[cfg(test)]
 mod branching;
+#[cfg(test)]
+mod choosing;
+#[cfg(test)]
+mod completion;
 #[cfg(test)]
 mod confluence;
 #[cfg(test)]

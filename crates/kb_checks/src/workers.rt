@@ -2,10 +2,10 @@
 
 ghost use Rattle.std.specs.Prelude.{◌≤◌};
 
-use crate::books::{published, settled};
+use crate::books::{line, published, settled};
 use kb_book::Book;
 use kb_io::{Gate, OpenGate, Point};
-use kb_machine::{Event, Line};
+use kb_machine::Event;
 use kb_overlap::{Joinability, PairWorkspace, meets};
 use kb_rules::Scan;
 use kb_share::Found;
@@ -128,11 +128,6 @@ fn two_workers_sift_side_by_side(rt: HostRuntime) -> Result<(), Fail> {
     assert!(rt; meeting.missed.load(Ordering::SeqCst) == 0);
     assert!(rt; has_both(after.journal()));
     Ok(())
-}
-
-/// The line with this number.
-fn line(book: &Book<Scan>, number: u32) -> Option<&Line> {
-    book.lines().get((number as usize).checked_sub(1)?)
 }
 
 /// Whether two lines overlap at the place, and the words of the critical pair have different normal forms.
