@@ -2,5 +2,4 @@ pub mod LimitLemmas
 pub mod RunLemmas
 pub mod LineLemmas
 pub mod LogreadRuns
-pub mod AbelianLemmas
 pub mod SelfTestRuns

@@ -8,7 +8,6 @@ pub mod KbprogLaws
 pub mod Logread
 pub mod LogLaws
 pub mod LogreadLaws
-pub mod FreeAbelian
 pub mod SelfTest
 pub mod SelfTestLaws
 pub mod Tasks

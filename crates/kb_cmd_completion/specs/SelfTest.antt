@@ -18,7 +18,7 @@ use Rattle.kb_system.specs.Completed.{IsCompletion}
 use Rattle.kb_system.specs.Evidence.{IsHalted, IsTooLarge}
 use Rattle.kb_system.specs.declared.ending.Reached.{Reached}
 use Rattle.kb_cmd_completion.specs.Files.{log_text, limit_of}
-use Rattle.kb_cmd_completion.specs.FreeAbelian.{free_abelian}
+use Rattle.kb_freeabelian.specs.FreeAbelian.{free_abelian}
 use Rattle.kb_cmd_completion.specs.Given.{SelfTestGiven}
 use Rattle.kb_cmd_completion.specs.declared.selftest.Report.{Report}
 

@@ -11,7 +11,7 @@ use Rattle.kb_task.specs.declared.status.Status.{Status}
 use Rattle.kb_task.specs.declared.status.Status.TheVariants.{Yes, Refused, Undecided, No, Memory, Fault, Usage}
 use Rattle.kb_system.specs.Completed.{IsCompletion}
 use Rattle.kb_cmd_completion.specs.CompletionLaws.{one_acceptor, one_rules, one_yes}
-use Rattle.kb_cmd_completion.specs.FreeAbelian.{free_abelian}
+use Rattle.kb_freeabelian.specs.FreeAbelian.{free_abelian}
 use Rattle.kb_cmd_completion.specs.Given.{SelfTestGiven}
 use Rattle.kb_cmd_completion.specs.SelfTest.{Reports, completed, halted, too_large, summary_line, SelfTestMeans, selftest_promise}
 

@@ -19,10 +19,11 @@ ghost use Rattle.kb_cmd_completion.specs.Given.{KbprogGiven};
 
 use crate::conclusion::{Conclusion, conclusion_of};
 use crate::evidence::Evidence;
-use crate::progress::Progress;
+use crate::figures::figures_of;
 use kb_book::Limits;
 use kb_io::{Gate, Shelf, Sink, Source};
 use kb_lines::answer_lines;
+use kb_progress::Progress;
 use kb_reduce::NormalForms;
 use kb_reduced::reduced_complete_systems_are_complete;
 use kb_system::complete_presentation;
@@ -121,7 +122,7 @@ fn complete<T: Threads + Wait + Sync, G: Gate, E: Sink>(
     let limits = &task.limits;
     let workers = Workers::of(task.workers, gate);
     let ending = complete_presentation(rt, alloc, &presentation, limits, &workers, progress)?;
-    progress.ended(&ending, limits);
+    progress.ended(figures_of(&ending, limits));
     Ok(conclusion_of(alloc, task, presentation, ending)?)
 }
 

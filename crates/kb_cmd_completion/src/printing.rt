@@ -3,7 +3,6 @@
 ghost use Rattle.std.specs.Prelude.{◌≡◌, ◌++◌, OnOk, decimal};
 
 use itoa::Buffer;
-use kb_io::{Failed, Sink, write_all};
 use kb_word::Memory;
 
 /// Appends bytes.
@@ -20,15 +19,4 @@ pub(crate) fn append_number(number: u64, line: &mut Vec<u8>) -> Result<(), Memor
 {
     let mut buffer = Buffer::new();
     append(buffer.format(number).as_bytes(), line)
-}
-
-/// Writes a text, and a number in decimal digits behind it.
-pub(crate) fn write_number<E: Sink>(
-    before: &[u8],
-    number: usize,
-    err: &mut E,
-) -> Result<(), Failed> {
-    write_all(err, before)?;
-    let mut buffer = Buffer::new();
-    write_all(err, buffer.format(number).as_bytes())
 }

@@ -3,17 +3,18 @@
 ghost use Rattle.std.specs.Prelude.{◌≡◌, ◌≤◌, IfOk};
 ghost use Rattle.kb_word.specs.Presentations.{parts_of};
 ghost use Rattle.kb_system.specs.Ended.{EndsAs};
-ghost use Rattle.kb_cmd_completion.specs.FreeAbelian.{free_abelian};
+ghost use Rattle.kb_freeabelian.specs.FreeAbelian.{free_abelian};
 ghost use Rattle.kb_cmd_completion.specs.Given.{SelfTestGiven, limits_of};
 ghost use Rattle.kb_cmd_completion.specs.SelfTest.{IsCompletedReport, IsHaltedReport, IsReport, IsTooLargeReport};
 
 use crate::evidence::limit_reached;
-use crate::free_abelian::selftest_presentation;
+use crate::figures::figures_of;
 use crate::printing::{append, append_number};
-use crate::progress::Progress;
 use kb_book::Limits;
+use kb_freeabelian::selftest_presentation;
 use kb_io::{Gate, Shelf, Sink, Source};
 use kb_machine::Line;
+use kb_progress::Progress;
 use kb_proof::{Log, Version, print_log};
 use kb_system::{Ending, Reached, complete_presentation};
 use kb_task::{
@@ -123,7 +124,7 @@ fn completion_report<T: Threads + Wait + Sync, G: Gate, E: Sink>(
 {
     let presentation = selftest_presentation(alloc, rank)?;
     let ending = complete_presentation(rt, alloc, &presentation, limits, workers, progress)?;
-    progress.ended(&ending, limits);
+    progress.ended(figures_of(&ending, limits));
     report_on(alloc, rank, &presentation, ending)
 }
 

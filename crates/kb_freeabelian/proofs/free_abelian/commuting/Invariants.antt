@@ -1,6 +1,6 @@
 use Rattle.std.proofs.Common.{◌≡◌, ◌≤◌, ◌-◌}
-use Rattle.kb_cmd_completion.specs.FreeAbelian.{commuting}
-use Rattle.kb_cmd_completion.proofs.free_abelian.commuting.Given as goal
+use Rattle.kb_freeabelian.specs.FreeAbelian.{commuting}
+use Rattle.kb_freeabelian.proofs.free_abelian.commuting.Given as goal
 
 -- the generators so far commute with all after them
 abbrev pub invariant-loop-i : goal.invariant-loop-i

@@ -1,14 +1,12 @@
 //! The last line on how a completion ended.
 
-use crate::printing::write_number;
-use kb_book::Limits;
+use itoa::Buffer;
 use kb_io::{Failed, Sink, write_all};
-use kb_system::{Ending, Reached};
 use kb_word::OwnedText;
 
 /// How a completion ended, in figures.
-#[derive(Clone, Copy)]
-pub(crate) enum Summary {
+#[derive(Clone, Copy, Debug, PartialEq, Eq)]
+pub enum Summary {
     /// With so many rules, and a word acceptor of so many states.
     Completed { rules: usize, states: u32 },
     /// The log has as many lines as it may have.
@@ -20,21 +18,6 @@ pub(crate) enum Summary {
 }
 
 impl Summary {
-    /// That of an ending within limits.
-    pub(crate) fn of(ending: &Ending, limits: &Limits) -> Summary {
-        match ending {
-            Ending::Completed { rules, acceptor } => Summary::Completed {
-                rules: rules.len(),
-                states: acceptor.len(),
-            },
-            Ending::Halted { reached, .. } => match reached {
-                Reached::Lines => Summary::Lines(limits.rules),
-                Reached::Letters => Summary::Letters(limits.len),
-            },
-            Ending::TooLarge { .. } => Summary::States(limits.states),
-        }
-    }
-
     /// Writes it as a line: the figures, or the option of the limit; and in which files that belong to this one that
     /// stands, or that it stands on standard output.
     pub(crate) fn write<E: Sink>(
@@ -95,4 +78,15 @@ impl Summary {
 fn write_limit<E: Sink>(limit: u32, what: &[u8], err: &mut E) -> Result<(), Failed> {
     write_number(b"kb: ", limit as usize, err)?;
     write_all(err, what)
+}
+
+/// Writes a text, and a number in decimal digits behind it.
+pub(crate) fn write_number<E: Sink>(
+    before: &[u8],
+    number: usize,
+    err: &mut E,
+) -> Result<(), Failed> {
+    write_all(err, before)?;
+    let mut buffer = Buffer::new();
+    write_all(err, buffer.format(number).as_bytes())
 }

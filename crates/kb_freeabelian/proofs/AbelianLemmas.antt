@@ -10,7 +10,7 @@ use Rattle.std.proofs.lemmas.Option.{same_Some, slice_get-get_or, slice_get_past
 use Rattle.kb_word.specs.Words.{Pair, OneOf}
 use Rattle.kb_word.specs.Relations.{IsOver, IsPresentation, inverse_letter}
 use Rattle.kb_word.specs.declared.word_order.WordOrder.TheVariants.{ShortLex}
-use Rattle.kb_cmd_completion.specs.FreeAbelian.{commutes, commutes_with_next, commuting, generator_names, generator_inverses}
+use Rattle.kb_freeabelian.specs.FreeAbelian.{commutes, commutes_with_next, commuting, generator_names, generator_inverses}
 
 -- ---- names
 

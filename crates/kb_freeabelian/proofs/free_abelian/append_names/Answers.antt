@@ -1,6 +1,6 @@
 use Rattle.std.proofs.Common.{[], false}
-use Rattle.kb_cmd_completion.proofs.AbelianLemmas.{names_few, names_few_more, names_pushed}
-use Rattle.kb_cmd_completion.proofs.free_abelian.append_names.Goals as goal
+use Rattle.kb_freeabelian.proofs.AbelianLemmas.{names_few, names_few_more, names_pushed}
+use Rattle.kb_freeabelian.proofs.free_abelian.append_names.Goals as goal
 
 pub push-requires : goal.push-requires
 push-requires c = names_few c.args.i c.args.names.now c.args.names.now [] false c.requires.few c.requires.before

@@ -1,6 +1,6 @@
 use Rattle.std.proofs.Common.{◌≡◌, ◌≤◌, ◌<◌, ◌+◌, ◌-◌, ◌++◌}
-use Rattle.kb_cmd_completion.specs.FreeAbelian.{commutes_with_next}
-use Rattle.kb_cmd_completion.proofs.free_abelian.append_commuting.Given as goal
+use Rattle.kb_freeabelian.specs.FreeAbelian.{commutes_with_next}
+use Rattle.kb_freeabelian.proofs.free_abelian.append_commuting.Given as goal
 
 -- the generator commutes with those after it so far
 abbrev pub invariant-loop-j : goal.invariant-loop-j

@@ -1,5 +1,5 @@
-use Rattle.kb_cmd_completion.proofs.AbelianLemmas.{presents}
-use Rattle.kb_cmd_completion.proofs.free_abelian.selftest_presentation.Goals as goal
+use Rattle.kb_freeabelian.proofs.AbelianLemmas.{presents}
+use Rattle.kb_freeabelian.proofs.free_abelian.selftest_presentation.Goals as goal
 
 pub new-requires : goal.new-requires
 new-requires c =

@@ -1,5 +1,5 @@
-use Rattle.kb_cmd_completion.proofs.AbelianLemmas.{next_appended}
-use Rattle.kb_cmd_completion.proofs.free_abelian.append_commuting.Goals as goal
+use Rattle.kb_freeabelian.proofs.AbelianLemmas.{next_appended}
+use Rattle.kb_freeabelian.proofs.free_abelian.append_commuting.Goals as goal
 
 pub loop-j-preserved : goal.loop-j-preserved
 loop-j-preserved c =

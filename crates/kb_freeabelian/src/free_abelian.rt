@@ -2,7 +2,7 @@
 
 ghost use Rattle.std.specs.Prelude.{◌≡◌, ◌≤◌, ◌<◌, ◌+◌, ◌-◌, ◌++◌, ◌∷◌, [], IfOk, OnOk, decimal, string_bytes};
 ghost use Rattle.kb_word.specs.Presentations.{parts_of};
-ghost use Rattle.kb_cmd_completion.specs.FreeAbelian.{free_abelian, commutes, commutes_with_next, commuting, generator_names, generator_inverses};
+ghost use Rattle.kb_freeabelian.specs.FreeAbelian.{free_abelian, commutes, commutes_with_next, commuting, generator_names, generator_inverses};
 
 use itoa::Buffer;
 use kb_word::{Equations, Inverses, Letter, Memory, Names, Presentation, Word, WordOrder};

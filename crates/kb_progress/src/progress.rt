@@ -1,12 +1,10 @@
 //! Lines that show how far a completion has come, and a last one that says how it ended.
 
-use crate::printing::write_number;
-use crate::summary::Summary;
-use kb_book::{Book, Limits};
+use crate::summary::{Summary, write_number};
+use kb_book::Book;
 use kb_io::{Failed, Sink, write_all};
 use kb_rules::Reducer;
 use kb_share::Watch;
-use kb_system::Ending;
 use kb_word::OwnedText;
 
 /// The number of lines of a log at which progress is first shown.
@@ -19,7 +17,7 @@ const VERSIONS: u64 = 10;
 /// as the last time, and at every tenth version that is published after the first time. A run that
 /// showed it ends with a line on how the completion ended. What fails in that is ignored.
 #[derive(Drop)]
-pub(crate) struct Progress<'a, E: Sink> {
+pub struct Progress<'a, E: Sink> {
     err: &'a mut E,
     /// The file of the presentation, if it has one.
     file: Option<&'a OwnedText>,
@@ -33,7 +31,7 @@ pub(crate) struct Progress<'a, E: Sink> {
 
 impl<'a, E: Sink> Progress<'a, E> {
     /// Shows it here, of the completion of this file, or of no file.
-    pub(crate) fn on(err: &'a mut E, file: Option<&'a OwnedText>) -> Progress<'a, E> {
+    pub fn on(err: &'a mut E, file: Option<&'a OwnedText>) -> Progress<'a, E> {
         Progress {
             err,
             file,
@@ -44,12 +42,12 @@ impl<'a, E: Sink> Progress<'a, E> {
     }
 
     /// Takes note of how the completion ended.
-    pub(crate) fn ended(&mut self, ending: &Ending, limits: &Limits) {
-        self.summary = Some(Summary::of(ending, limits));
+    pub fn ended(&mut self, summary: Summary) {
+        self.summary = Some(summary);
     }
 
     /// Writes the last line of a run that showed progress.
-    pub(crate) fn finish(&mut self) {
+    pub fn finish(&mut self) {
         if self.is_shown() {
             if let Some(summary) = self.summary {
                 let _ = summary.write(self.file, self.err);
