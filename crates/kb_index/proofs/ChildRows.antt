@@ -106,8 +106,12 @@ children_push edges edge width rows rows' are parent room short long =
       | inl is_short ↦
           let set_is : rows' ≡ set rows here (length edges + 1) = short is_short in
           let in_rows : here < length rows =
-          omega (arith, mul-add-lt edge.parent width edge.letter (length edges + 1 + 1) (omega (arith, parent)) is_short,
-          mul_comm width (length edges + 1 + 1), room) in
+          omega (
+            arith,
+            mul-add-lt edge.parent width edge.letter (length edges + 1 + 1) (omega (arith, parent)) is_short,
+            mul_comm width (length edges + 1 + 1),
+            room,
+          ) in
           let long_enough : length rows' ≡ length rows = ap length set_is ∙ length-set rows here (length edges + 1) in
           record {
             count = omega (arith, rows_of, room, long_enough);

@@ -28,7 +28,11 @@ impl ShortChildren {
         ensures { IfOk result
             (λ children. AreShortChildren [] children.width children.rows.items) }
     {
-        let width = if letters == 0 { USUAL } else { letters.min(MOST) };
+        let width = if letters == 0 {
+            USUAL
+        } else {
+            letters.min(MOST)
+        };
         let rows = vec![in alloc; 0; width]?;
         Ok(ShortChildren { width, rows })
     }

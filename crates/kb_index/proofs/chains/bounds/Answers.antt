@@ -1,4 +1,4 @@
-use Rattle.std.proofs.Common.{◌≡◌, ℕ, ◌+◌, ◌-◌, ◌<◌, ◌≤◌, List, length, get_or, arith}
+use Rattle.std.proofs.Common.{ℕ, ◌+◌, ◌-◌, ◌≤◌, List, get_or, arith}
 use Rattle.kb_index.proofs.Chaining.{rise_by, rise_low}
 use Rattle.kb_index.proofs.chains.bounds.Goals as goal
 
