@@ -1,6 +1,6 @@
 -- The chains of rules with one left side.
-use Rattle.std.proofs.Common.{◌≡◌, ◌≢◌, ℕ, ◌+◌, ◌-◌, ◌<◌, ◌≤◌, List, [], ◌∷◌, ◌++◌, length, get_or, set, replicate, min, refl, sym, ap, ◌∙◌, subst, inl, inr, arith, length-set}
-use Rattle.std.proofs.lemmas.List.{get_or-replicate, length-replicate, get_or-set_same, get_or-set_other, get_or_append_left, get_or_push, length_push}
+use Rattle.std.proofs.Common.{◌≡◌, ◌≢◌, ℕ, zero, suc, ◌+◌, ◌-◌, ◌<◌, ◌≤◌, List, [], ◌∷◌, ◌++◌, length, get_or, set, replicate, take, drop, min, refl, sym, ap, ◌∙◌, subst, inl, inr, arith, length-set}
+use Rattle.std.proofs.lemmas.List.{get_or-replicate, length-replicate, get_or-set_same, get_or-set_other, get_or_append_left, get_or_push, length_push, get_or-take, get_or-drop, length-take-le, length-drop}
 use Rattle.std.proofs.lemmas.Bool.{cases_lt, cases_eq}
 use Rattle.kb_word.specs.Words.{Pair}
 use Rattle.kb_index.specs.Tries.{left_at}
@@ -171,9 +171,36 @@ following_all rules first numbers w rest best done bound following =
           following.passed (number - first) p (omega arith) such.is (omega arith) less same;
     }
 
+-- as many places on, numbers that rise are higher by as many at least
+pub rise_by : (numbers : List ℕ) → Rise numbers → (more i j : ℕ) → i + more ≡ j → j < length numbers
+    → get_or numbers i 0 + more ≤ get_or numbers j 0
+rise_by numbers rise zero i j is within =
+    let same : i ≡ j = omega arith in omega (arith, ap (λ (k : ℕ). get_or numbers k 0) same)
+rise_by numbers rise (suc more) i j is within =
+    let next : i + 1 < length numbers = omega arith in
+    omega (arith, rise_by numbers rise more (i + 1) j (omega arith) within, rise i (i + 1) (omega arith) next)
+
+-- they are no lower than their places
+pub rise_low : (numbers : List ℕ) → Rise numbers → (place : ℕ) → place < length numbers → place ≤ get_or numbers place 0
+rise_low numbers rise place within = omega (arith, rise_by numbers rise place 0 place (omega arith) within)
+
 pub rise_upto : (numbers : List ℕ) → Rise numbers → (i j : ℕ) → i ≤ j → j < length numbers → get_or numbers i 0 ≤ get_or numbers j 0
 rise_upto numbers rise i j order within =
     elim (cases_lt i j) [
       | inl before ↦ omega (arith, rise i j before within)
       | inr late ↦ let same : i ≡ j = omega arith in omega (arith, ap (λ (k : ℕ). get_or numbers k 0) same)
     ]
+
+-- the numbers from one place up to another
+pub length_between : (numbers : List ℕ) (from upto : ℕ) → upto ≤ length numbers → length (take (upto - from) (drop from numbers)) ≡ upto - from
+length_between numbers from upto within = length-take-le (upto - from) (drop from numbers) (omega (arith, length-drop from numbers))
+
+pub number_between : (numbers : List ℕ) (from upto place : ℕ) → place < upto - from
+    → get_or (take (upto - from) (drop from numbers)) place 0 ≡ get_or numbers (from + place) 0
+number_between numbers from upto place less = get_or-take (upto - from) (drop from numbers) place 0 less ∙ get_or-drop from numbers place 0
+
+pub rise_between : (numbers : List ℕ) (from upto : ℕ) → Rise numbers → upto ≤ length numbers → Rise (take (upto - from) (drop from numbers))
+rise_between numbers from upto rise within i j before in_j =
+    let less : j < upto - from = omega (arith, length_between numbers from upto within) in
+    let rises : get_or numbers (from + i) 0 < get_or numbers (from + j) 0 = rise (from + i) (from + j) (omega arith) (omega arith) in
+    omega (arith, number_between numbers from upto i (omega arith), number_between numbers from upto j less, rises)

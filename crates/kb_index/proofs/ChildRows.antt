@@ -1,6 +1,8 @@
 -- The rows of children of a trie that grows.
-use Rattle.std.proofs.Common.{◌≡◌, ◌≢◌, ℕ, ◌+◌, ◌-◌, ◌*◌, ◌<◌, ◌≤◌, List, [], ◌∷◌, ◌++◌, length, get_or, set, replicate, take, refl, sym, ap, ◌∙◌, subst, inl, inr, arith, length-set}
+use Rattle.std.proofs.Common.{◌≡◌, ◌≢◌, ℕ, ◌+◌, ◌-◌, ◌*◌, ◌/◌, ◌%◌, ◌<◌, ◌≤◌, List, [], ◌∷◌, ◌++◌, length, get_or, set, replicate, take, refl, sym, ap, ◌∙◌, subst, inl, inr, arith, length-set}
 use Rattle.std.proofs.lemmas.List.{get_or_push, length_push, get_or_past, get_or_append_left, get_or-append_right, get_or-replicate, length-replicate, get_or-set_same, get_or-set_other, take_all}
+use Rattle.std.proofs.Math.Nat.{mul_comm}
+use Rattle.std.proofs.lemmas.Nat.{mul-add-lt, div-mul-add, mod-mul-add}
 use Rattle.std.proofs.lemmas.Bool.{cases_lt, cases_eq}
 use Rattle.kb_index.specs.declared.edge.Edge.{Edge}
 use Rattle.kb_index.specs.Edges.{edge_at, no_edge}
@@ -18,25 +20,25 @@ zeros n i =
       | inr past ↦ get_or_past (replicate n 0) i 0 (omega (arith, length-replicate {A = ℕ} n 0))
     ]
 
-pub children_none : (rows : List ℕ) → rows ≡ replicate 64 0 → AreShortChildren [] rows
-children_none rows is =
+pub children_none : (width : ℕ) (rows : List ℕ) → rows ≡ replicate width 0 → AreShortChildren [] width rows
+children_none width rows is =
     record {
-      count = omega (arith, ap length is, length-replicate {A = ℕ} 64 0);
+      count = omega (arith, ap length is, length-replicate {A = ℕ} width 0);
       each = λ state letter short.
-          let zero_is : get_or rows (state * 64 + letter) 0 ≡ 0 =
-          ap (λ (rs : List ℕ). get_or rs (state * 64 + letter) 0) is ∙ zeros 64 (state * 64 + letter) in
+          let zero_is : get_or rows (state * width + letter) 0 ≡ 0 =
+          ap (λ (rs : List ℕ). get_or rs (state * width + letter) 0) is ∙ zeros width (state * width + letter) in
           record { none = λ same. no_children state letter; some = λ some. absurd (omega (arith, zero_is)) };
     }
 
 -- rows that have the same entries, and at least as many
-pub children_same : (edges : List Edge) (rows rows' : List ℕ) → AreShortChildren edges rows
-    → ((place : ℕ) → get_or rows' place 0 ≡ get_or rows place 0) → length rows ≤ length rows' → AreShortChildren edges rows'
-children_same edges rows rows' are same longer =
+pub children_same : (edges : List Edge) (width : ℕ) (rows rows' : List ℕ) → AreShortChildren edges width rows
+    → ((place : ℕ) → get_or rows' place 0 ≡ get_or rows place 0) → length rows ≤ length rows' → AreShortChildren edges width rows'
+children_same edges width rows rows' are same longer =
     record {
       count = omega (arith, are.count);
       each = λ state letter short.
           let P : ℕ → Type 0 = λ child. IsChildOrNone edges state letter child in
-          subst P (sym (same (state * 64 + letter))) (are.each state letter short);
+          subst P (sym (same (state * width + letter))) (are.each state letter short);
     }
 
 -- a state more leaves the child of another state, or of another letter
@@ -91,49 +93,62 @@ entry_new edges edge =
     }
 
 -- a state more, by a short letter or by another
-pub children_push : (edges : List Edge) (edge : Edge) (rows rows' : List ℕ) → AreShortChildren edges rows
-    → edge.parent ≤ length edges → (length edges + 2) * 64 ≤ length rows
-    → (edge.letter < 64 → rows' ≡ set rows (edge.parent * 64 + edge.letter) (length edges + 1))
-    → (64 ≤ edge.letter → rows' ≡ rows) → AreShortChildren (edges ++ edge ∷ []) rows'
-children_push edges edge rows rows' are parent room short long =
+pub children_push : (edges : List Edge) (edge : Edge) (width : ℕ) (rows rows' : List ℕ) → AreShortChildren edges width rows
+    → edge.parent ≤ length edges → (length edges + 1 + 1) * width ≤ length rows
+    → (edge.letter < width → rows' ≡ set rows (edge.parent * width + edge.letter) (length edges + 1))
+    → (width ≤ edge.letter → rows' ≡ rows) → AreShortChildren (edges ++ edge ∷ []) width rows'
+children_push edges edge width rows rows' are parent room short long =
     let after : List Edge = edges ++ edge ∷ [] in
-    let here : ℕ = edge.parent * 64 + edge.letter in
+    let here : ℕ = edge.parent * width + edge.letter in
     let more : length after ≡ length edges + 1 = length_push edges edge in
-    elim (cases_lt edge.letter 64) [
+    let rows_of : (length after + 1) * width ≡ (length edges + 1 + 1) * width = ap (λ (n : ℕ). (n + 1) * width) more in
+    elim (cases_lt edge.letter width) [
       | inl is_short ↦
           let set_is : rows' ≡ set rows here (length edges + 1) = short is_short in
+          let in_rows : here < length rows =
+          omega (
+            arith,
+            mul-add-lt edge.parent width edge.letter (length edges + 1 + 1) (omega (arith, parent)) is_short,
+            mul_comm width (length edges + 1 + 1),
+            room,
+          ) in
           let long_enough : length rows' ≡ length rows = ap length set_is ∙ length-set rows here (length edges + 1) in
           record {
-            count = omega arith;
+            count = omega (arith, rows_of, room, long_enough);
             each = λ state letter column.
-                let place : ℕ = state * 64 + letter in
+                let place : ℕ = state * width + letter in
                 let value : get_or rows' place 0 ≡ get_or (set rows here (length edges + 1)) place 0 =
                 ap (λ (rs : List ℕ). get_or rs place 0) set_is in
                 let P : ℕ → Type 0 = λ child. IsChildOrNone after state letter child in
                 elim (cases_eq place here) [
                   | inl same ↦
-                      let states : edge.parent ≡ state = omega arith in
-                      let letters : edge.letter ≡ letter = omega arith in
+                      let states : edge.parent ≡ state =
+                      sym (div-mul-add edge.parent width edge.letter is_short) ∙ ap (λ (p : ℕ). p / width) (sym same)
+                      ∙ div-mul-add state width letter column in
+                      let letters : edge.letter ≡ letter =
+                      sym (mod-mul-add edge.parent width edge.letter is_short) ∙ ap (λ (p : ℕ). p % width) (sym same)
+                      ∙ mod-mul-add state width letter column in
                       let Q : ℕ → Type 0 = λ s. IsChildOrNone after s edge.letter (length edges + 1) in
                       let R : ℕ → Type 0 = λ x. IsChildOrNone after state x (length edges + 1) in
                       let there : get_or rows' place 0 ≡ length edges + 1 =
                       value ∙ ap (λ (p : ℕ). get_or (set rows here (length edges + 1)) p 0) same
-                      ∙ get_or-set_same rows here (length edges + 1) 0 (omega arith) in
+                      ∙ get_or-set_same rows here (length edges + 1) 0 in_rows in
                       subst P (sym there) (subst R letters (subst Q states (entry_new edges edge)))
                   | inr other ↦
                       let there : get_or rows' place 0 ≡ get_or rows place 0 =
                       value ∙ get_or-set_other rows here place (length edges + 1) 0 other in
                       subst P (sym there)
                       (entry_old edges edge state letter (get_or rows place 0) (are.each state letter column)
-                      (λ states letters. other (omega (arith, states, letters))))
+                      (λ states letters.
+                      other (sym (ap (λ (s : ℕ). s * width + edge.letter) states ∙ ap (λ (x : ℕ). state * width + x) letters))))
                 ];
           }
       | inr is_long ↦
           let same : rows' ≡ rows = long is_long in
           record {
-            count = omega (arith, ap length same);
+            count = omega (arith, rows_of, room, ap length same);
             each = λ state letter column.
-                let place : ℕ = state * 64 + letter in
+                let place : ℕ = state * width + letter in
                 let P : ℕ → Type 0 = λ child. IsChildOrNone after state letter child in
                 subst P (sym (ap (λ (rs : List ℕ). get_or rs place 0) same))
                 (entry_old edges edge state letter (get_or rows place 0) (are.each state letter column)

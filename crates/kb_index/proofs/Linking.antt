@@ -4,7 +4,7 @@ use Rattle.std.proofs.lemmas.List.{get_or_append_left, get_or_push, length_push,
 use Rattle.std.proofs.lemmas.Bool.{cases_lt}
 use Rattle.kb_index.specs.declared.edge.Edge.{Edge}
 use Rattle.kb_index.specs.Edges.{AreEdges, edge_at, word}
-use Rattle.kb_index.specs.Links.{AreLinks, IsLongestSuffix, LeadsFrom}
+use Rattle.kb_index.specs.Links.{AreLinks, IsLongestSuffix}
 use Rattle.kb_index.proofs.Words.{word_root}
 use Rattle.kb_index.proofs.States.{FromEdge, from_edge}
 use Rattle.kb_index.proofs.States.FromEdge.{root, edge_to}
@@ -89,8 +89,12 @@ link_of_child edges links rise are place link within in_links some stepped =
     subst P (sym spelled)
     (longest_more edges rise (drop 1 parent) (word edges (get_or links e.parent 0)) (word edges link) e.letter (are.longest e.parent in_links) stepped)
 
+-- the edge to a state, unless that is state 0, leads from this state or from an earlier one
+abbrev LeadsFrom : List Edge → ℕ → ℕ → Type 0
+LeadsFrom edges state after = 0 < after → (edge_at edges (after - 1)).parent ≤ state
+
 -- what a step from an earlier state leads to is earlier
-pub step_earlier : (edges : List Edge) → AreEdges edges → (place from link : ℕ) → place < length edges → link ≤ length edges
+step_earlier : (edges : List Edge) → AreEdges edges → (place from link : ℕ) → place < length edges → link ≤ length edges
     → from < (edge_at edges place).parent → LeadsFrom edges from link → link ≤ place
 step_earlier edges rise place from link within in_edges less leads =
     elim (cases_lt place link) [

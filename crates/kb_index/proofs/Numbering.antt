@@ -19,6 +19,7 @@ use Rattle.kb_index.specs.Automata.{HaveLefts, IsAutomaton}
 use Rattle.kb_index.specs.Recents.{IsRecent}
 use Rattle.kb_index.specs.Lookups.{IsLookup}
 use Rattle.kb_index.specs.Owners.{IsOwner}
+use Rattle.kb_index.proofs.Chaining.{rise_low}
 
 abbrev pub no_rule : Pair
 no_rule = ([], [])
@@ -276,13 +277,7 @@ lookup_copied rules lookup lookup' is settled numbers recent =
       numbered = subst (AreNumbered rules (is.base ++ is.later)) (sym numbers) is.numbered;
     }
 
--- numbers that rise are no lower than their places
-rise_low : (numbers : List ℕ) → Rise numbers → (place : ℕ) → place < length numbers → place ≤ get_or numbers place 0
-rise_low numbers rise zero within = omega arith
-rise_low numbers rise (suc place) within =
-    omega (arith, rise_low numbers rise place (omega arith), rise place (suc place) (omega arith) within)
-
--- and, where all are lower than their count, no higher
+-- numbers that rise are no higher than their places, where all are lower than their count
 rise_high : (numbers : List ℕ) → Rise numbers → ((place : ℕ) → place < length numbers → get_or numbers place 0 < length numbers)
     → (rest place : ℕ) → place + rest + 1 ≡ length numbers → get_or numbers place 0 ≤ place
 rise_high numbers rise low zero place last = omega (arith, low place (omega arith))

@@ -30,11 +30,11 @@ tree_none =
       spelled = λ i within. absurd (omega arith);
     }
 
-pub recent_none : (recent : Recent) → recent.edges.keys ≡ [] → AreShortChildren [] recent.children.rows.items → recent.chains.heads.items ≡ replicate 1 0 → recent.chains.before.items ≡ []
+pub recent_none : (recent : Recent) → recent.edges.keys ≡ [] → AreShortChildren [] recent.children.width recent.children.rows.items → recent.chains.heads.items ≡ replicate 1 0 → recent.chains.before.items ≡ []
     → IsRecent [] recent
 recent_none recent keys children heads before =
     let H : List ℕ → Type 0 = λ hs. AreHeads [] (spelled_by recent.edges.keys) 0 hs in
-    let C : List Edge → Type 0 = λ es. AreShortChildren es recent.children.rows.items in
+    let C : List Edge → Type 0 = λ es. AreShortChildren es recent.children.width recent.children.rows.items in
     record {
       lefts = λ place within. absurd (omega arith);
       tree = subst IsTree (sym keys) tree_none;
@@ -100,7 +100,7 @@ new_head rules recent is edge parent none =
 
 pub recent_grown : (rules : List Pair) (recent recent' : Recent) (edge : Edge) → IsRecent rules recent → edge.parent ≤ length recent.edges.keys
     → IsNoChild recent.edges.keys edge.parent edge.letter → recent'.edges.keys ≡ recent.edges.keys ++ edge ∷ []
-    → AreShortChildren (recent.edges.keys ++ edge ∷ []) recent'.children.rows.items
+    → AreShortChildren (recent.edges.keys ++ edge ∷ []) recent'.children.width recent'.children.rows.items
     → recent'.chains.heads.items ≡ recent.chains.heads.items ++ 0 ∷ [] → recent'.chains.before.items ≡ recent.chains.before.items
     → IsRecent rules recent'
 recent_grown rules recent recent' edge is parent none keys children heads before =
@@ -140,7 +140,7 @@ recent_grown rules recent recent' edge is parent none keys children heads before
     } in
     let H : List Edge → Type 0 = λ es. AreHeads rules (spelled_by es) (length rules) recent'.chains.heads.items in
     let I : List ℕ → Type 0 = λ hs. AreHeads rules (spelled_by after) (length rules) hs in
-    let R : List Edge → Type 0 = λ es. AreShortChildren es recent'.children.rows.items in
+    let R : List Edge → Type 0 = λ es. AreShortChildren es recent'.children.width recent'.children.rows.items in
     record {
       lefts = is.lefts;
       tree = subst IsTree (sym keys) (tree_push edges edge is.tree parent new);
@@ -155,12 +155,12 @@ recent_grown rules recent recent' edge is parent none keys children heads before
 
 -- room is made, or wanted in vain
 pub recent_kept : (rules : List Pair) (recent recent' : Recent) → IsRecent rules recent → recent'.edges.keys ≡ recent.edges.keys
-    → AreShortChildren recent.edges.keys recent'.children.rows.items → recent'.chains.heads.items ≡ recent.chains.heads.items
+    → AreShortChildren recent.edges.keys recent'.children.width recent'.children.rows.items → recent'.chains.heads.items ≡ recent.chains.heads.items
     → recent'.chains.before.items ≡ recent.chains.before.items → IsRecent rules recent'
 recent_kept rules recent recent' is keys children heads before =
     let edges : List Edge = recent.edges.keys in
     let C : List Edge → Type 0 = λ es. (place : ℕ) → place < length rules → HasState es (reverse (left_at rules place)) in
-    let R : List Edge → Type 0 = λ es. AreShortChildren es recent'.children.rows.items in
+    let R : List Edge → Type 0 = λ es. AreShortChildren es recent'.children.width recent'.children.rows.items in
     let H : List Edge → Type 0 = λ es. AreHeads rules (spelled_by es) (length rules) recent'.chains.heads.items in
     record {
       lefts = is.lefts;
@@ -176,11 +176,12 @@ recent_kept rules recent recent' is keys children heads before =
 -- a rule more, at the state of its left side
 pub recent_added : (rules : List Pair) (rule : Pair) (recent recent' : Recent) (state : ℕ) → IsRecent rules recent
     → state ≤ length recent.edges.keys → word recent.edges.keys state ≡ reverse rule.0 → rule.0 ≢ []
-    → recent'.edges.keys ≡ recent.edges.keys → recent'.children.rows.items ≡ recent.children.rows.items
+    → recent'.edges.keys ≡ recent.edges.keys → recent'.children.width ≡ recent.children.width
+    → recent'.children.rows.items ≡ recent.children.rows.items
     → recent'.chains.heads.items ≡ set recent.chains.heads.items state (length recent.chains.before.items + 1)
     → recent'.chains.before.items ≡ recent.chains.before.items ++ get_or recent.chains.heads.items state 0 ∷ []
     → IsRecent (rules ++ rule ∷ []) recent'
-recent_added rules rule recent recent' state is in_edges spells some keys children heads before =
+recent_added rules rule recent recent' state is in_edges spells some keys width children heads before =
     let edges : List Edge = recent.edges.keys in
     let old_heads : List ℕ = recent.chains.heads.items in
     let old_before : List ℕ = recent.chains.before.items in
@@ -207,7 +208,8 @@ recent_added rules rule recent recent' state is in_edges spells some keys childr
     let H : List Edge → Type 0 = λ es. AreHeads more (spelled_by es) (n + 1) recent'.chains.heads.items in
     let I : List ℕ → Type 0 = λ hs. AreHeads more (spelled_by edges) (n + 1) hs in
     let T : ℕ → Type 0 = λ tried. AreHeads more (spelled_by recent'.edges.keys) tried recent'.chains.heads.items in
-    let R : List Edge → Type 0 = λ es. AreShortChildren es recent'.children.rows.items in
+    let W : ℕ → Type 0 = λ n. AreShortChildren edges n recent'.children.rows.items in
+    let R : List Edge → Type 0 = λ es. AreShortChildren es recent'.children.width recent'.children.rows.items in
     let C : List Edge → Type 0 = λ es. (place : ℕ) → place < length more → HasState es (reverse (left_at more place)) in
     let complete : C edges = λ place within.
     elim (cases_lt place n) [
@@ -231,7 +233,7 @@ recent_added rules rule recent recent' state is in_edges spells some keys childr
                 λ none. some (sym (left_new rules rule) ∙ ap (left_at more) same ∙ none)
           ];
       tree = subst IsTree (sym keys) is.tree;
-      children = subst R (sym keys) (subst (AreShortChildren edges) (sym children) is.children);
+      children = subst R (sym keys) (subst W (sym width) (subst (AreShortChildren edges recent.children.width) (sym children) is.children));
       complete = subst C (sym keys) complete;
       head_count = omega (arith, ap length heads_are, length-set old_heads state (n + 1), ap length keys, is.head_count);
       rule_count =

@@ -1,10 +1,10 @@
 -- Steps of the automaton along the failure links.
-use Rattle.std.proofs.Common.{◌≡◌, ℕ, ◌+◌, ◌-◌, ◌<◌, ◌≤◌, List, [], ◌∷◌, ◌++◌, length, get_or, drop, refl, sym, ap, ◌∙◌, subst, inl, inr, arith}
+use Rattle.std.proofs.Common.{◌≡◌, ℕ, ◌+◌, ◌<◌, ◌≤◌, List, [], ◌∷◌, ◌++◌, length, get_or, drop, refl, sym, ap, ◌∙◌, subst, inl, inr, arith}
 use Rattle.kb_word.specs.Words.{EndsWith}
 use Rattle.kb_index.specs.declared.edge.Edge.{Edge}
 use Rattle.kb_index.specs.Edges.{AreEdges, edge_at, word}
 use Rattle.kb_index.specs.Children.{IsChild, IsNoChild, IsChildOrNone}
-use Rattle.kb_index.specs.Links.{AreLinks, IsLongestSuffix, LeadsFrom}
+use Rattle.kb_index.specs.Links.{AreLinks, IsLongestSuffix}
 use Rattle.kb_index.proofs.Words.{word_root}
 use Rattle.kb_index.proofs.States.{FromEdge, from_edge, edges_tree, same_state}
 use Rattle.kb_index.proofs.States.FromEdge.{root, edge_to}
@@ -145,12 +145,6 @@ step_falls edges links rise are state letter at within in_edges some falling non
             | inr shorter ↦ longest.longest parent in_parent shorter
           ];
     }
-
--- where the child of a state comes from
-pub child_from : (edges : List Edge) (state letter at child : ℕ) → at ≤ state → IsChild edges at letter child → LeadsFrom edges state child
-child_from edges state letter at child lower is some =
-    let same : child - 1 ≡ is.place = omega (arith, is.is) in
-    omega (arith, ap (λ (k : ℕ). (edge_at edges k).parent) same, is.parent)
 
 -- state 0 is reached, whose child by the letter is known
 pub step_root : (edges : List Edge) → AreEdges edges → (state letter child : ℕ) → Falling edges state letter 0

@@ -35,8 +35,8 @@ pub record IsChildOrNone (edges : List Edge) (state letter child : ℕ) : Type 0
 abbrev pub AreRootChildren : List Edge → List ℕ → Type 0
 AreRootChildren edges row = (letter : ℕ) → IsChildOrNone edges 0 letter (get_or row letter 0)
 
--- the children of all states by the letters below 64, in rows of 64
-pub record AreShortChildren (edges : List Edge) (rows : List ℕ) : Type 0 where
-  pub count : (length edges + 1) * 64 ≤ length rows
-  pub each : (state letter : ℕ) → letter < 64
-      → IsChildOrNone edges state letter (get_or rows (state * 64 + letter) 0)
+-- the children of all states by the letters below the width, in rows of this width
+pub record AreShortChildren (edges : List Edge) (width : ℕ) (rows : List ℕ) : Type 0 where
+  pub count : (length edges + 1) * width ≤ length rows
+  pub each : (state letter : ℕ) → letter < width
+      → IsChildOrNone edges state letter (get_or rows (state * width + letter) 0)

@@ -1,8 +1,8 @@
 -- Longest suffixes, and failure links.
-use Rattle.std.specs.Prelude.{ℕ, ◌-◌, ◌<◌, ◌≤◌, List, length, get_or, drop}
+use Rattle.std.specs.Prelude.{ℕ, ◌<◌, ◌≤◌, List, length, get_or, drop}
 use Rattle.kb_word.specs.Words.{EndsWith}
 use Rattle.kb_index.specs.declared.edge.Edge.{Edge}
-use Rattle.kb_index.specs.Edges.{edge_at, word}
+use Rattle.kb_index.specs.Edges.{word}
 
 -- u is the longest suffix of w that is a state's word, or at least ends with each suffix of w that is one
 pub record IsLongestSuffix (edges : List Edge) (w u : List ℕ) : Type 0 where
@@ -15,7 +15,3 @@ pub record AreLinks (edges : List Edge) (links : List ℕ) : Type 0 where
   pub falls : (state : ℕ) → 0 < state → state < length links → get_or links state 0 < state
   pub longest : (state : ℕ) → state < length links
       → IsLongestSuffix edges (drop 1 (word edges state)) (word edges (get_or links state 0))
-
--- the edge to a state, unless that is state 0, leads from this state or from an earlier one
-abbrev pub LeadsFrom : List Edge → ℕ → ℕ → Type 0
-LeadsFrom edges state after = 0 < after → (edge_at edges (after - 1)).parent ≤ state

@@ -12,7 +12,8 @@ use Rattle.kb_index.specs.Automata.{HaveLefts}
 pub record IsRecent (rules : List Pair) (recent : Recent) : Type 0 where
   pub lefts : HaveLefts rules
   pub tree : IsTree recent.edges.keys
-  pub children : AreShortChildren recent.edges.keys recent.children.rows.items
+  pub children : AreShortChildren recent.edges.keys recent.children.width
+      recent.children.rows.items
   pub complete : (place : ℕ) → place < length rules
       → HasState recent.edges.keys (reverse (left_at rules place))
   pub head_count : length recent.chains.heads.items ≡ length recent.edges.keys + 1

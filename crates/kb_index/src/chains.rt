@@ -78,15 +78,38 @@ pub fn first_live(numbers: &[usize], first: usize, before: &[usize], head: usize
     best
 }
 
-/// The place of a number among the numbers, or how many there are.
+/// The place of a number among the numbers, or how many there are. While no earlier number is missing, that is the number
+/// itself.
 fn place_of(numbers: &[usize], number: usize) -> usize
     requires { Rise numbers.now }
     ensures within { result ≤ length numbers.now }
     ensures is { result < length numbers.now → get_or numbers.now result 0 ≡ number }
     ensures earlier { (place : ℕ) → place < result → get_or numbers.now place 0 ≢ number }
 {
-    match numbers.binary_search(&number) {
-        Ok(place) => place,
+    if numbers.get(number) == Some(&number) {
+        return number;
+    }
+    let (from, upto) = bounds(numbers, number);
+    match numbers[from..upto].binary_search(&number) {
+        Ok(place) => from + place,
         Err(_) => numbers.len(),
     }
+}
+
+/// From which place on, and up to which, a number stands, if it is there. It stands no later than at the place of this
+/// number, and earlier by no more than numbers are missing before the last one.
+fn bounds(numbers: &[usize], number: usize) -> (usize, usize)
+    requires { Rise numbers.now }
+    ensures order { result.0 ≤ result.1 }
+    ensures within { result.1 ≤ length numbers.now }
+    ensures holds { (place : ℕ) → place < length numbers.now → get_or numbers.now place 0 ≡ number
+        → (result.0 ≤ place) × (place < result.1) }
+{
+    let Some(last) = numbers.len().checked_sub(1) else {
+        return (0, 0);
+    };
+    let missing = numbers[last] - last;
+    let upto = last.min(number) + 1;
+    let from = number.saturating_sub(missing);
+    (from.min(upto), upto)
 }

@@ -32,8 +32,10 @@
 //!   all these together; it never changes. `stepping` has its calls for other crates, state by state.
 //! - `recent`: the rules that came after the automaton was made: a trie of the left sides read from their ends, which
 //!   takes a further rule letter by letter. What is read is looked up in it from its last letter on. Where no rule
-//!   came, it costs nothing. `short_children` has the children of its states by the letters below 64, in a row of 256
-//!   bytes for each state, so that a child is one look; those by other letters are found by their hashes.
+//!   came, it costs nothing. `short_children` has the children of its states by the letters of the automaton, but for
+//!   64 of them at most, in a row for each state, with four bytes for each number up to the greatest letter, so that a
+//!   child is one look; those by other letters are found by their hashes. Where the automaton has no letters, a row has
+//!   room for those below 8.
 //! - `lookup`: the automaton and the recent rules, and the numbers of the list's rules. A rule has a number of its
 //!   own, which stays the same while others come and go, and the numbers rise along the list. A rule that goes only
 //!   loses its number: chains are followed past rules that have none. When more than a quarter as many rules came as

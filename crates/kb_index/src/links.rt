@@ -3,7 +3,7 @@
 ghost use Rattle.std.specs.Prelude.{◌<◌, ◌≤◌, ◌+◌, ◌∷◌, ◌++◌, [], length};
 ghost use Rattle.kb_index.specs.Edges.{AreEdges, word};
 ghost use Rattle.kb_index.specs.Children.{AreFirsts, AreRootChildren};
-ghost use Rattle.kb_index.specs.Links.{AreLinks, IsLongestSuffix, LeadsFrom};
+ghost use Rattle.kb_index.specs.Links.{AreLinks, IsLongestSuffix};
 
 use crate::children::child;
 use crate::edge::Edge;
@@ -24,7 +24,6 @@ pub fn step(
     requires state { state < length links.now }
     requires count { length links.now ≤ length edges.now + 1 }
     ensures state { result ≤ length edges.now }
-    ensures from { LeadsFrom edges.now state result }
     ensures longest { IsLongestSuffix edges.now (word edges.now state ++ letter ∷ [])
         (word edges.now result) }
 {

@@ -8,6 +8,7 @@ ghost use Rattle.kb_index.specs.Owners.{IsOwner};
 
 use crate::automaton::Automaton;
 use crate::recent::Recent;
+use crate::table::letters_of;
 use kb_rules::Rule;
 use kb_word::{Memory, Word};
 use std::alloc::Global;
@@ -39,8 +40,9 @@ impl Lookup {
         for number in 0..rules.len() {
             numbers.push(number)?;
         }
-        let settled = Arc::new(alloc, Automaton::of(alloc, rules)?)?;
-        let recent = Recent::none(alloc)?;
+        let automaton = Automaton::of(alloc, rules)?;
+        let recent = Recent::none(alloc, letters_of(&automaton.edges))?;
+        let settled = Arc::new(alloc, automaton)?;
         Ok(Lookup {
             numbers,
             settled,

@@ -10,7 +10,7 @@ ghost use Rattle.kb_index.specs.Recents.{IsRecent};
 
 use crate::chains::{Chains, first_live};
 use crate::edge::Edge;
-use crate::short_children::{SHORT, ShortChildren};
+use crate::short_children::ShortChildren;
 use indexmap::IndexSet;
 use kb_word::{Memory, Word};
 use std::alloc::Global;
@@ -25,12 +25,12 @@ pub struct Recent {
 }
 
 impl Recent {
-    /// No rules.
-    pub fn none(alloc: Global) -> Result<Recent, Memory>
+    /// No rules. Most letters of those that come are below this number, or nothing is known of them, where it is 0.
+    pub fn none(alloc: Global, letters: usize) -> Result<Recent, Memory>
         ensures { IfOk result (IsRecent []) }
     {
         let chains = Chains::none(alloc, 1)?;
-        let children = ShortChildren::none(alloc)?;
+        let children = ShortChildren::none(alloc, letters)?;
         Ok(Recent {
             edges: IndexSet::new(alloc),
             children,
@@ -102,7 +102,7 @@ impl Recent {
         ensures some { IfSome result (IsChild self.now.edges.keys state letter) }
         ensures none { IfNone result (IsNoChild self.now.edges.keys state letter) }
     {
-        if (letter as usize) < SHORT {
+        if (letter as usize) < self.children.width {
             self.children.get(state, letter)
         } else {
             self.listed_child(state, letter)

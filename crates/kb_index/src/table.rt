@@ -229,7 +229,7 @@ fn width_of(edges: &[Edge]) -> usize
 }
 
 /// One more than the greatest letter of the edges, or 0 where there are none.
-fn letters_of(edges: &[Edge]) -> usize
+pub fn letters_of(edges: &[Edge]) -> usize
     ensures most { result ≤ 2 ^ 16 }
     ensures above { (i : ℕ) → i < length edges.now → (edge_at edges.now i).letter < result }
 {

@@ -1,4 +1,4 @@
-use Rattle.std.proofs.Common.{◌≡◌, ℕ, ◌+◌, ◌*◌, ◌<◌, ◌≤◌, List, ◌∷◌, [], ◌++◌, Bool, length, set, if◌then◌else◌, ap, ◌∙◌, refl, subst, arith}
+use Rattle.std.proofs.Common.{◌≡◌, ℕ, ◌+◌, ◌*◌, ◌<◌, ◌≤◌, List, ◌∷◌, [], ◌++◌, Bool, length, set, if◌then◌else◌, sym, ap, ◌∙◌, refl, subst, arith}
 use Rattle.std.proofs.lemmas.List.{length_push}
 use Rattle.kb_index.specs.declared.edge.Edge.{Edge}
 use Rattle.kb_index.specs.Edges.{word}
@@ -15,14 +15,21 @@ returns-clause-keeps c rules is =
     let keys : c.insert.new.self.keys ≡ old ++ edge ∷ [] =
     c.in_ok-insert.ensures.keys ∙ ap (λ (b : Bool). if b then old else old ++ edge ∷ []) (no_edge_is old edge c.in_default.ensures.none) in
     let rows : List ℕ = c.make_room.new.self.rows.items in
-    let room : (length old + 2) * 64 ≤ length rows = omega (arith, c.in_ok-make_room.ensures.room, c.len-next.ensures.len) in
-    let kept : AreShortChildren old rows =
-    children_same old c.args.self.now.children.rows.items rows is.children c.make_room.ensures.same c.make_room.ensures.longer in
+    let width : ℕ = c.make_room.new.self.width in
+    let M : ℕ → Type 0 = λ n. (n + 1 + 1) * width ≤ length rows in
+    let room : (length old + 1 + 1) * width ≤ length rows = subst M c.len-next.ensures.len c.in_ok-make_room.ensures.room in
+    let W : ℕ → Type 0 = λ n. AreShortChildren old n rows in
+    let kept : AreShortChildren old width rows =
+    subst W (sym c.make_room.ensures.width)
+    (children_same old c.args.self.now.children.width c.args.self.now.children.rows.items rows is.children c.make_room.ensures.same
+    c.make_room.ensures.longer) in
     let N : ℕ → Type 0 =
-    λ n. c.args.letter < 64 → c.note.new.self.rows.items ≡ set rows (c.args.state * 64 + c.args.letter) (n + 1) in
+    λ n. c.args.letter < width → c.note.new.self.rows.items ≡ set rows (c.args.state * width + c.args.letter) (n + 1) in
+    let V : ℕ → Type 0 = λ n. AreShortChildren (old ++ edge ∷ []) n c.note.new.self.rows.items in
     recent_grown rules c.args.self.now _ edge is c.requires.state c.in_default.ensures.none keys
-    (children_push old edge rows c.note.new.self.rows.items kept c.requires.state room (subst N c.len-next.ensures.len c.note.ensures.short)
-    c.note.ensures.long)
+    (subst V (sym c.note.ensures.width)
+    (children_push old edge width rows c.note.new.self.rows.items kept c.requires.state room (subst N c.len-next.ensures.len c.note.ensures.short)
+    c.note.ensures.long))
     (c.in_ok-push.ensures.items ∙ ap (λ (hs : List ℕ). hs ++ 0 ∷ []) c.in_ok-reserve.ensures.items) refl
 
 pub returns-clause-word : goal.returns-clause-word

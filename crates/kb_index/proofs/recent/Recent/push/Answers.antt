@@ -25,4 +25,4 @@ returns-clause-ok c rules rule is same some =
     on_ok_two c.add.result c.add.ensures.heads c.add.ensures.before
     (λ heads before.
     recent_added rules rule c.loop-rest.self _ c.loop-rest.state (c.loop-rest.invariant.keeps rules is) c.loop-rest.invariant.within spelled some
-    refl refl heads before)
+    refl refl refl heads before)

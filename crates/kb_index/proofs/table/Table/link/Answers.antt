@@ -1,4 +1,4 @@
-use Rattle.std.proofs.Common.{◌≡◌, ℕ, ◌<◌, ◌≤◌, List, length, get_or, arith}
+use Rattle.std.proofs.Common.{◌<◌, ◌≤◌, List, get_or, arith}
 use Rattle.kb_index.specs.declared.edge.Edge.{Edge}
 use Rattle.kb_index.specs.Edges.{edge_at}
 use Rattle.kb_index.proofs.Linking.{link_early, link_of_child, link_of_first}
