@@ -14,7 +14,7 @@ use Rattle.kb_machine.specs.declared.origin.Origin.{Origin}
 use Rattle.kb_machine.specs.declared.origin.Origin.TheVariants.{Relation, Overlap, Killed, Shortened}
 use Rattle.kb_machine.specs.declared.line.LogStep.{LogStep}
 use Rattle.kb_machine.specs.Derivations.{Derives, DerivesBoth}
-use Rattle.kb_machine.specs.States.{relations, live_rules}
+use Rattle.kb_machine.specs.States.{live_rules}
 use Rattle.kb_machine.specs.Machine.{IsLive}
 use Rattle.kb_machine.specs.Course.{Course}
 use Rattle.kb_book.specs.Answers.{PendingNormalForms, AreNormalForms}
@@ -51,38 +51,40 @@ pair_of_words relations rules origin pair u v is first second =
     subst Q (sym second) (subst P (sym first) is)
 
 -- what the reduction of the origin's pair by a book says of it
-pub origin_joined : {course : Course} {own rules : List Pair} {order : WordOrder} {versions : VersionsParts}
-    (book : IsBook course own rules order versions) (origin : Origin)
-    (relations' : List Pair) (lines : List Line) (pair reduced : Pair) (answer : Joinability) → relations' ≡ own → lines ≡ course.state.lines
+pub origin_joined : {course : Course} {rules : List Pair} {order : WordOrder} {versions : VersionsParts}
+    (book : IsBook course rules order versions) (origin : Origin)
+    (relations' : List Pair) (lines : List Line) (pair reduced : Pair) (answer : Joinability) → relations' ≡ course.problem.relations
+    → lines ≡ course.state.lines
     → IsPairOf relations' (rules_of lines) origin pair → answer ≡ Joined → JoinSays rules pair reduced answer → PairIsJoined course origin
-origin_joined {course} {own} {rules} book origin relations' lines pair reduced answer are is_lines is_pair is says =
+origin_joined {course} {rules} book origin relations' lines pair reduced answer are is_lines is_pair is says =
     let P : List Pair → Type 0 = λ l. IsPairOf l (rules_of lines) origin pair in
-    let Q : List Line → Type 0 = λ l. IsPairOf (relations course.problem) (rules_of l) origin pair in
-    let named = subst Q is_lines (subst P (are ∙ book.has_relations) is_pair) in
+    let Q : List Line → Type 0 = λ l. IsPairOf course.problem.relations (rules_of l) origin pair in
+    let named = subst Q is_lines (subst P are is_pair) in
     let joined = joined_given rules (live_rules course.state) pair reduced answer book.reduces is says in
     (joined.joint, record { pair = pair; is_pair = named; first = joined.left; second = joined.right })
 
-pub origin_apart : {course : Course} {own rules : List Pair} {order : WordOrder} {versions : VersionsParts}
-    (book : IsBook course own rules order versions) (origin : Origin)
-    (relations' : List Pair) (lines : List Line) (pair reduced : Pair) (answer : Joinability) → relations' ≡ own → lines ≡ course.state.lines
+pub origin_apart : {course : Course} {rules : List Pair} {order : WordOrder} {versions : VersionsParts}
+    (book : IsBook course rules order versions) (origin : Origin)
+    (relations' : List Pair) (lines : List Line) (pair reduced : Pair) (answer : Joinability) → relations' ≡ course.problem.relations
+    → lines ≡ course.state.lines
     → IsPairOf relations' (rules_of lines) origin pair → answer ≡ Apart → JoinSays rules pair reduced answer → PairIsApart course origin
-origin_apart {course} {own} {rules} book origin relations' lines pair reduced answer are is_lines is_pair is says =
+origin_apart {course} {rules} book origin relations' lines pair reduced answer are is_lines is_pair is says =
     let P : List Pair → Type 0 = λ l. IsPairOf l (rules_of lines) origin pair in
-    let Q : List Line → Type 0 = λ l. IsPairOf (relations course.problem) (rules_of l) origin pair in
-    let named = subst Q is_lines (subst P (are ∙ book.has_relations) is_pair) in
+    let Q : List Line → Type 0 = λ l. IsPairOf course.problem.relations (rules_of l) origin pair in
+    let named = subst Q is_lines (subst P are is_pair) in
     let parts = apart_given rules (live_rules course.state) pair reduced answer book.reduces is says in
     (reduced.0, reduced.1, record { pair = pair; is_pair = named; first = parts.left; second = parts.right }, parts.different)
 
 -- normal forms of the pair's words are different, where some are
 pub forms_differ : (course : Course) (origin : Origin) → PairIsApart course origin
     → (relations' : List Pair) (pair : Pair) (rules : List Pair) (u v : List ℕ)
-    → relations' ≡ relations course.problem → rules ≡ live_rules course.state
+    → relations' ≡ course.problem.relations → rules ≡ live_rules course.state
     → IsPairOf relations' (rules_of course.state.lines) origin pair → NormalForm rules pair.0 u → NormalForm rules pair.1 v → u ≢ v
 forms_differ course origin different relations' pair rules u v are live is first second same =
     let lines = rules_of course.state.lines in
     let have = different.2 in
     let P : List Pair → Type 0 = λ l. IsPairOf l lines origin pair in
-    let one : pair ≡ have.pair = pair_unique (relations course.problem) lines origin pair have.pair (subst P are is) have.is_pair in
+    let one : pair ≡ have.pair = pair_unique course.problem.relations lines origin pair have.pair (subst P are is) have.is_pair in
     let F : Pair → Type 0 = λ p. NormalForm rules p.0 u in
     let S : Pair → Type 0 = λ p. NormalForm rules p.1 v in
     let G : List Pair → Type 0 = λ l. NormalForm l have.pair.0 u in
@@ -93,7 +95,7 @@ forms_differ course origin different relations' pair rules u v are live is first
 
 -- the normal forms, the greater one first
 pub forms_in_order : {course : Course} {origin : Origin} (next : IsNext course origin) (pair : Pair) (u v : List ℕ) (sides : Pair)
-    → IsPairOf (relations course.problem) (rules_of course.state.lines) origin pair
+    → IsPairOf course.problem.relations (rules_of course.state.lines) origin pair
     → NormalForm (live_rules course.state) pair.0 u → NormalForm (live_rules course.state) pair.1 v
     → (sides ≡ (u, v)) ⊎ (sides ≡ (v, u)) → AreNormalForms course sides.0 sides.1
 forms_in_order {course = course} {origin = origin} next pair u v sides is first second both =
@@ -126,11 +128,11 @@ derives_in_order allowed rules pair first_steps second_steps u v sides first sec
 
 -- the origin of different normal forms names a pair
 pub has_pair : (course : Course) (origin : Origin) (relations' : List Pair) (lines : List Line)
-    → relations' ≡ relations course.problem → lines ≡ course.state.lines → PairIsApart course origin
+    → relations' ≡ course.problem.relations → lines ≡ course.state.lines → PairIsApart course origin
     → HasPair relations' (rules_of lines) origin
 has_pair course origin relations' lines are same different =
     let P : List Pair → Type 0 = λ l. HasPair l (rules_of lines) origin in
-    let Q : List Line → Type 0 = λ l. HasPair (relations course.problem) (rules_of l) origin in
+    let Q : List Line → Type 0 = λ l. HasPair course.problem.relations (rules_of l) origin in
     subst P (sym are) (subst Q (sym same) (different.2.pair, different.2.is_pair))
 
 sides_irreducible : (allowed : Pair → Type 0) (u v : List ℕ) (sides : Pair) → IsIrreducible allowed u → IsIrreducible allowed v
@@ -143,7 +145,7 @@ sides_irreducible allowed u v sides one other both =
 pub next_line_is : (course : Course) (origin : Origin) (relations' : List Pair) (lines : List Line) (live : List ℕ) (pair : Pair)
     (rules : List Pair) (u v : List ℕ) (first second : List Step) (line : Line)
     → IsNext course origin → AreNumbers course.state.lines course.state.live
-    → relations' ≡ relations course.problem → lines ≡ course.state.lines → live ≡ course.state.live → rules ≡ live_rules course.state
+    → relations' ≡ course.problem.relations → lines ≡ course.state.lines → live ≡ course.state.live → rules ≡ live_rules course.state
     → IsPairOf relations' (rules_of lines) origin pair
     → NormalForm rules pair.0 u → NormalForm rules pair.1 v
     → Leads (IsFirstStep rules) pair.0 first u → Leads (IsFirstStep rules) pair.1 second v
@@ -157,8 +159,8 @@ next_line_is course origin relations' lines live pair rules u v first second lin
     let allowed : ℕ → Type 0 = λ k. IsLive state k in
     let all = rules_of state.lines in
     let A : List Pair → Type 0 = λ l. IsPairOf l (rules_of lines) origin pair in
-    let B : List Line → Type 0 = λ l. IsPairOf (relations course.problem) (rules_of l) origin pair in
-    let named : IsPairOf (relations course.problem) all origin pair = subst B is_lines (subst A are is_pair) in
+    let B : List Line → Type 0 = λ l. IsPairOf course.problem.relations (rules_of l) origin pair in
+    let named : IsPairOf course.problem.relations all origin pair = subst B is_lines (subst A are is_pair) in
     let N : List Pair → Type 0 = λ l. NormalForm l pair.0 u in
     let M : List Pair → Type 0 = λ l. NormalForm l pair.1 v in
     let normal_u : NormalForm (live_rules state) pair.0 u = subst N is_rules n in
@@ -180,7 +182,7 @@ next_line_is course origin relations' lines live pair rules u v first second lin
     let by_second : Derives allowed all pair.1 line.second_steps.items v =
     subst E (sym second_is) (derives_live state.lines state.live numbers pair.1 second v other) in
     let O : Origin → Type 0 = λ o. IsNext course o in
-    let Q : Origin → Type 0 = λ o. IsPairOf (relations course.problem) all o pair in
+    let Q : Origin → Type 0 = λ o. IsPairOf course.problem.relations all o pair in
     let irreducible = sides_irreducible (IsLiveRule state) u v (rule_of line)
     (irreducible_live state u normal_u.irreducible) (irreducible_live state v normal_v.irreducible) both in
     record {

@@ -17,7 +17,7 @@ use Rattle.kb_machine.specs.declared.line.Line.{Line}
 use Rattle.kb_machine.specs.declared.line.LogStep.{LogStep}
 use Rattle.kb_machine.specs.Lines.{rule_of, rules_of}
 use Rattle.kb_machine.specs.Derivations.{IsStepBy, Derives}
-use Rattle.kb_machine.specs.States.{Problem, State, relations, below, start, live_rules, relation_origins}
+use Rattle.kb_machine.specs.States.{Problem, State, below, start, live_rules, relation_origins}
 use Rattle.kb_machine.specs.Machine.{Step, Run, Shortens}
 use Rattle.kb_machine.specs.Course.{Course, IsCourse, Takes}
 use Rattle.kb_machine.specs.declared.event.Event.{Event}
@@ -66,7 +66,7 @@ pub record Kept (problem : Problem) (lines : List Line) (live : List ℕ) (pendi
   pub ascending : AllPairs (λ one other. one < other) live
   pub numbers : All (λ k. (0 < k) × (k ≤ length lines)) live
   pub few : length lines ≤ problem.most_lines
-  pub pairs : (origin : Origin) → Contains pending origin → HasPair (relations problem) (rules_of lines) origin
+  pub pairs : (origin : Origin) → Contains pending origin → HasPair problem.relations (rules_of lines) origin
 
 -- a line more
 with_line : {problem : Problem} {lines : List Line} {live : List ℕ} {pending : List Origin} (line : Line) → Kept problem lines live pending
@@ -86,9 +86,9 @@ with_line {problem = problem} {lines = lines} {live = live} {pending = pending} 
       few = omega arith;
       pairs = λ origin contained.
           let named = kept.pairs origin contained in
-          let Q : List Pair → Type 0 = λ rules. HasPair (relations problem) rules origin in
+          let Q : List Pair → Type 0 = λ rules. HasPair problem.relations rules origin in
           subst Q (sym (rules_of-push lines line))
-          (named.0, pair_more (relations problem) (rules_of lines) (rule_of line ∷ []) origin named.0 named.1);
+          (named.0, pair_more problem.relations (rules_of lines) (rule_of line ∷ []) origin named.0 named.1);
     }
 
 -- a number less
@@ -110,7 +110,7 @@ without {problem = problem} {lines = lines} {pending = pending} kept earlier k l
 shortened_less : {problem : Problem} {before after : State} {k new : ℕ} → Kept problem before.lines before.live before.pending
     → (s : Shortens problem before after k new) → below problem s.line.right s.line.left
 shortened_less {problem = problem} {before = before} kept s =
-    let order = problem.presentation.order in
+    let order = problem.order in
     let own : Below order s.own.1 s.own.0 = kept.falling s.own (numbered_one (rules_of before.lines) _ s.own s.is_own) in
     let P : List ℕ → Type 0 = λ w. Below order s.line.right w in
     let Q : List ℕ → Type 0 = λ w. Below order w s.own.0 in
@@ -131,7 +131,7 @@ with_shortened {problem = problem} {before = before} {k = k} kept s =
 
 -- an origin more
 with_origin : {problem : Problem} {lines : List Line} {live : List ℕ} {pending : List Origin} (origin : Origin)
-    → Kept problem lines live pending → HasPair (relations problem) (rules_of lines) origin
+    → Kept problem lines live pending → HasPair problem.relations (rules_of lines) origin
     → Kept problem lines live (pending ++ origin ∷ [])
 with_origin {problem = problem} {lines = lines} {pending = pending} origin kept named = record {
   falling = kept.falling;
@@ -140,7 +140,7 @@ with_origin {problem = problem} {lines = lines} {pending = pending} origin kept 
   few = kept.few;
   pairs = λ other contained. elim (Contains-append_cases pending (origin ∷ []) other contained) [
     | inl earlier ↦ kept.pairs other earlier
-    | inr last ↦ let P : Origin → Type 0 = HasPair (relations problem) (rules_of lines) in subst P (only origin other last) named
+    | inr last ↦ let P : Origin → Type 0 = HasPair problem.relations (rules_of lines) in subst P (only origin other last) named
   ];
 }
 
@@ -162,7 +162,7 @@ pub step_keeps : (problem : Problem) (before : State) (event : Event) (after : S
 step_keeps problem before (Entered worker i j place) after step kept =
     let P : State → Type 0 = λ s. Kept problem s.lines s.live s.pending in
     let pair = critical_pair step.first step.second place in
-    let named : HasPair (relations problem) (rules_of before.lines) (origins.Overlap i j place) =
+    let named : HasPair problem.relations (rules_of before.lines) (origins.Overlap i j place) =
     (pair, record { first = step.first; second = step.second; overlap = step.overlap; is = refl }) in
     subst P (sym step.is) (with_origin (origins.Overlap i j place) kept named)
 step_keeps problem before Dropped after step kept =
@@ -177,7 +177,7 @@ step_keeps problem before Halted after step kept =
     let P : State → Type 0 = λ s. Kept problem s.lines s.live s.pending in subst P (sym step.is) kept
 step_keeps problem before (Killed k) after step kept =
     let P : State → Type 0 = λ s. Kept problem s.lines s.live s.pending in
-    let named : HasPair (relations problem) (rules_of before.lines) (origins.Killed k) = (step.own, step.is_own) in
+    let named : HasPair problem.relations (rules_of before.lines) (origins.Killed k) = (step.own, step.is_own) in
     subst P (sym step.is) (with_origin (origins.Killed k) (without kept step.earlier k step.later step.is_live) named)
 step_keeps problem before (Shortened k new) after step kept = with_shortened kept step
 step_keeps problem before Published after step kept =
@@ -190,13 +190,13 @@ kept_along problem before [] after same kept =
 kept_along problem before (event ∷ rest) after leads kept =
     kept_along problem leads.0 rest after leads.2 (step_keeps problem before event leads.0 leads.1 kept)
 
-pub kept_at_start : (problem : Problem) → Kept problem [] [] (relation_origins 1 (relations problem))
+pub kept_at_start : (problem : Problem) → Kept problem [] [] (relation_origins 1 problem.relations)
 kept_at_start problem = record {
   falling = λ rule one. absurd (none-some rule one.1);
   ascending = λ i j d before within. absurd (omega arith);
   numbers = λ k d within. absurd (omega arith);
   few = omega arith;
-  pairs = relation_has_pair (relations problem) [];
+  pairs = relation_has_pair problem.relations [];
 }
 
 -- along every course
@@ -238,10 +238,10 @@ versions_counted course is =
     let along = published_along course.problem (start course.problem) course.journal course.state is in omega (arith, along)
 
 -- a book after one more event, whose reducer has the rules that are live then
-pub book_after : {event : Event} {before after : Course} {own rules rules' : List Pair} {order order' : WordOrder}
-    {versions versions' : VersionsParts} → IsBook before own rules order versions → Takes event before after
+pub book_after : {event : Event} {before after : Course} {rules rules' : List Pair} {order order' : WordOrder}
+    {versions versions' : VersionsParts} → IsBook before rules order versions → Takes event before after
     → rules' ≡ live_rules after.state → order' ≡ order → versions'.live ≡ after.state.live
-    → versions'.lines ≡ length after.state.lines → IsBook after own rules' order' versions'
+    → versions'.lines ≡ length after.state.lines → IsBook after rules' order' versions'
 book_after {event = event} {before = before} {after = after} book takes reduces same live lines =
     let more : Run before.problem (before.journal ++ event ∷ []) after.state =
     leads_more (Step before.problem) (start before.problem) before.journal before.state after.state event book.is_course takes.step in
@@ -252,9 +252,8 @@ book_after {event = event} {before = before} {after = after} book takes reduces 
     let M : Problem → Type 0 = λ problem. problem.most_letters ≤ 65535 in
     record {
       is_course = subst Q problem (subst P (sym takes.journal) more);
-      has_relations = book.has_relations ∙ ap relations problem;
       reduces = reduces;
-      decreases = same ∙ book.decreases ∙ ap (λ (problem : Problem). problem.presentation.order) problem;
+      decreases = same ∙ book.decreases ∙ ap (λ (problem : Problem). problem.order) problem;
       has_live = live;
       has_lines = lines;
       most_lines = subst L problem book.most_lines;

@@ -54,7 +54,7 @@ pub reduction : (course : Course) (k place : ℕ) (lines : List Line) (live : Li
     → Leads (IsFirstStep rules) own.1 steps word → IsReduction course k place own steps word
 reduction course k place lines live own rules steps word is_course is_lines is_live are at is_own normal leads =
     let state = course.state in
-    let order = course.problem.presentation.order in
+    let order = course.problem.order in
     let kept = course_keeps course is_course in
     let A : List ℕ → Type 0 = λ l. slice_get l place ≡ Some k in
     let O : List Line → Type 0 = λ l. numbered (rules_of l) k ≡ Some own in
@@ -94,7 +94,7 @@ changes : (course : Course) (k place : ℕ) (own : Pair) (steps : List Step) (wo
 changes course k place own [] word r some = absurd (omega arith)
 changes course k place own (step ∷ rest) word r some =
     let state = course.state in
-    let order = course.problem.presentation.order in
+    let order = course.problem.order in
     let lower : Below order word own.1 = derived_below order (λ j. IsLive state j × (j ≢ k)) (rules_of state.lines) r.falling own.1
     (log_step state.live step) (map (log_step state.live) rest) word r.derived in
     let P : List ℕ → Type 0 = λ w. Below order w own.1 in

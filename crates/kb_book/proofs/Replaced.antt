@@ -62,7 +62,7 @@ shortened before k place new line lines live versions journal is number is_lines
 pub shorter_decreases : (course : Course) (k place : ℕ) (line : Line) → IsCourse course → IsShorter course k place line
     → below course.problem line.right line.left
 shorter_decreases course k place line is_course is =
-    let order = course.problem.presentation.order in
+    let order = course.problem.order in
     let falling = (course_keeps course is_course).falling in
     let own : Below order is.own.1 is.own.0 = falling is.own (numbered_one (rules_of course.state.lines) k is.own is.is_own) in
     let P : List ℕ → Type 0 = λ w. Below order line.right w in

@@ -6,7 +6,7 @@ use Rattle.kb_word.specs.declared.memory.Memory.{Memory}
 use Rattle.kb_machine.specs.Lines.{numbered, rules_of, IsPairOf, OverlapOfNumbers}
 use Rattle.kb_machine.specs.declared.origin.Origin.{Origin}
 use Rattle.kb_machine.specs.declared.line.LogStep.{LogStep}
-use Rattle.kb_machine.specs.States.{Problem, State, relations, live_rules}
+use Rattle.kb_machine.specs.States.{Problem, State, live_rules}
 use Rattle.kb_machine.specs.Machine.{IsLive}
 use Rattle.kb_machine.specs.Course.{Course, Takes}
 use Rattle.kb_book.specs.declared.answers.EnterFault.{EnterFault}
@@ -28,7 +28,7 @@ pub record PendingNormalForms (problem : Problem) (state : State)
   pub rest : List Origin
   pub pending : state.pending ≡ origin ∷ rest
   pub pair : Pair
-  pub is_pair : IsPairOf (relations problem) (rules_of state.lines) origin pair
+  pub is_pair : IsPairOf problem.relations (rules_of state.lines) origin pair
   pub first : NormalForm (live_rules state) pair.0 one
   pub second : NormalForm (live_rules state) pair.1 other
 

@@ -2,7 +2,7 @@
 use Rattle.std.specs.Prelude.{◌≡◌, ℕ, ◌≤◌, List, length}
 use Rattle.kb_word.specs.Words.{Pair}
 use Rattle.kb_word.specs.declared.word_order.WordOrder.{WordOrder}
-use Rattle.kb_machine.specs.States.{relations, live_rules}
+use Rattle.kb_machine.specs.States.{live_rules}
 use Rattle.kb_machine.specs.Course.{Course, IsCourse}
 use Rattle.kb_book.specs.Lives.{VersionsParts}
 
@@ -12,14 +12,12 @@ pub record BookParts : Type 0 where
   pub spare : ℕ
   pub publish_room : ℕ
 
--- what a book keeps: its completion is a course, it has the relations at hand, it reduces by the live rules, and its
--- versions have its lines
-pub record IsBook (course : Course) (own_relations rules : List Pair)
-    (order : WordOrder) (versions : VersionsParts) : Type 0 where
+-- what a book keeps: its completion is a course, it reduces by the live rules, and its versions have its lines
+pub record IsBook (course : Course) (rules : List Pair) (order : WordOrder)
+    (versions : VersionsParts) : Type 0 where
   pub is_course : IsCourse course
-  pub has_relations : own_relations ≡ relations course.problem
   pub reduces : rules ≡ live_rules course.state
-  pub decreases : order ≡ course.problem.presentation.order
+  pub decreases : order ≡ course.problem.order
   pub has_live : versions.live ≡ course.state.live
   pub has_lines : versions.lines ≡ length course.state.lines
   pub most_lines : course.problem.most_lines ≤ 1000000

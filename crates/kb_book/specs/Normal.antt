@@ -7,7 +7,7 @@ use Rattle.kb_machine.specs.Lines.{IsPairOf, rules_of}
 use Rattle.kb_machine.specs.declared.line.Line.{Line}
 use Rattle.kb_machine.specs.declared.line.LogStep.{LogStep}
 use Rattle.kb_machine.specs.declared.origin.Origin.{Origin}
-use Rattle.kb_machine.specs.States.{relations, live_rules}
+use Rattle.kb_machine.specs.States.{live_rules}
 use Rattle.kb_machine.specs.Machine.{LeadsApart, IsAtLimit}
 use Rattle.kb_machine.specs.declared.halt.Halt.{Halt}
 use Rattle.kb_machine.specs.Course.{Course}
@@ -28,7 +28,7 @@ pub record HaveNormalForms (relations rules live_rules : List Pair) (origin : Or
 -- the origin's pair is apart: its words have different normal forms
 abbrev pub PairIsApart : Course → Origin → Type 0
 PairIsApart course origin = (u v : List ℕ)
-    × HaveNormalForms (relations course.problem) (rules_of course.state.lines)
+    × HaveNormalForms course.problem.relations (rules_of course.state.lines)
     (live_rules course.state)
     origin u v × (u ≢ v)
 
@@ -52,7 +52,7 @@ log_step live step = record { place = step.place; line = get_or live step.rule 0
 -- the origin's pair is joined: its words have one normal form
 abbrev pub PairIsJoined : Course → Origin → Type 0
 PairIsJoined course origin = (joint : List ℕ)
-    × HaveNormalForms (relations course.problem) (rules_of course.state.lines)
+    × HaveNormalForms course.problem.relations (rules_of course.state.lines)
     (live_rules course.state)
     origin joint joint
 

@@ -2,7 +2,6 @@
 
 ghost use Rattle.std.specs.Prelude.{◌≡◌, ◌≢◌, ◌+◌, ◌≤◌, ◌<◌, [], Err, IfOk, OnOk};
 ghost use Rattle.std.specs.Option.{option_copied};
-ghost use Rattle.kb_word.specs.Presentations.{parts_of};
 ghost use Rattle.kb_book.specs.Answers.{ShortenSays};
 ghost use Rattle.kb_machine.specs.Course.{IsCourse};
 ghost use Rattle.kb_machine.specs.States.{start, live_rules};
@@ -13,15 +12,15 @@ use crate::versions::Versions;
 use kb_machine::{Event, Halt, Line, Origin};
 use kb_overlap::PairWorkspace;
 use kb_rules::Reducer;
-use kb_word::{Memory, Presentation, Word};
+use kb_word::{Memory, Word, WordOrder};
 use std::alloc::Global;
 use std::collections::VecDeque;
 use std::marker::Model;
 
-/// A completion of a presentation within limits, with the events that led to its state.
+/// A completion within limits, with the events that led to its state.
 #[derive(Drop)]
 pub struct Book<R: Reducer> {
-    pub(crate) presentation: Presentation,
+    pub(crate) order: WordOrder,
     pub(crate) relations: Vec<(Word, Word)>,
     pub(crate) most_lines: u32,
     pub(crate) most_letters: u32,
@@ -40,7 +39,6 @@ pub struct Book<R: Reducer> {
 impl<R: Reducer> Model for Book<R> {
     ghost use Rattle.std.specs.Prelude.{◌≡◌, ◌≤◌, ◌-◌, vec_len, vec_capacity, min};
     ghost use Rattle.std.specs.VecDeque.{deque_len, deque_capacity};
-    ghost use Rattle.kb_word.specs.Presentations.{parts_of};
     ghost use Rattle.kb_book.specs.Books.{BookParts, IsBook};
 
     ghost Value = { BookParts };
@@ -48,7 +46,8 @@ impl<R: Reducer> Model for Book<R> {
     ghost view = { λ book. record {
       course = record {
         problem = record {
-          presentation = parts_of book.presentation;
+          order = book.order;
+          relations = book.relations.items;
           most_lines = book.most_lines;
           most_letters = book.most_letters;
         };
@@ -69,7 +68,8 @@ impl<R: Reducer> Model for Book<R> {
     ghost invariant = { λ book. IsBook
         (record {
           problem = record {
-            presentation = parts_of book.presentation;
+            order = book.order;
+            relations = book.relations.items;
             most_lines = book.most_lines;
             most_letters = book.most_letters;
           };
@@ -82,7 +82,7 @@ impl<R: Reducer> Model for Book<R> {
           };
           journal = book.journal.items;
         })
-        book.relations.items (R.rules book.reducer) (R.order book.reducer) book.versions };
+        (R.rules book.reducer) (R.order book.reducer) book.versions };
 }
 
 impl<R: Reducer> Book<R> {
@@ -129,11 +129,11 @@ impl<R: Reducer> Book<R> {
         &self.journal
     }
 
-    /// What is completed.
-    pub fn presentation(&self) -> &Presentation
-        ensures { parts_of result.now ≡ self.now.course.problem.presentation }
+    /// The order by which lines decrease.
+    pub fn order(&self) -> &WordOrder
+        ensures { result.now ≡ self.now.course.problem.order }
     {
-        &self.presentation
+        &self.order
     }
 
     /// How many lines there may be, and how many letters a left side may have.
@@ -147,7 +147,7 @@ impl<R: Reducer> Book<R> {
     /// The reducer by the live rules, in line order.
     pub fn reducer(&self) -> &R
         ensures rules { R.rules result.now ≡ live_rules self.now.course.state }
-        ensures order { R.order result.now ≡ self.now.course.problem.presentation.order }
+        ensures order { R.order result.now ≡ self.now.course.problem.order }
     {
         &self.reducer
     }

@@ -2,8 +2,8 @@
 //!
 //! # The public contract
 //!
-//! A [`Book`] is a completion: its problem (a presentation and limits), its state and its journal, the list of events
-//! that led there. Each call is exactly one event of the completion machine (`kb_machine`), which is then in the
+//! A [`Book`] is a completion: its problem (an order, relations and limits), its state and its journal, the list of
+//! events that led there. Each call is exactly one event of the completion machine (`kb_machine`), which is then in the
 //! journal, or an answer without event that says why there is none (`specs/Answers.antt`); after want of memory the
 //! book is as it was. So whoever calls, in whatever order, a book is a course of that machine, and by
 //! `kb_machine::courses_are_sound` that says all that matters.
@@ -30,9 +30,10 @@
 //!
 //! In specs/, `Books` says what a book is seen as and what it keeps, and `Answers` what its calls answer; `Lives` says
 //! which versions have which lines; `Normal`, `Factors` and `Shorter` say when a line may be made, taken away and
-//! replaced, and `Limited` which limits there are. In proofs/, `Courses` has what is kept along every course, by which
-//! the other lemmas know that lines decrease, that live numbers ascend, and that there are no more versions than events;
-//! `Lives` has what becomes of the versions' lines where a line is made, where one goes, and where a version is published.
+//! replaced; `Problems` says what is completed of a presentation, and `Limited` which limits there are. In proofs/,
+//! `Courses` has what is kept along every course, by which the other lemmas know that lines decrease, that live numbers
+//! ascend, and that there are no more versions than events; `Lives` has what becomes of the versions' lines where a line
+//! is made, where one goes, and where a version is published.
 //!
 //! Below are `kb_rules`, whose `Reducer` computes normal forms by the live rules, `kb_overlap`, which knows
 //! overlaps and their pairs, and `kb_machine`.

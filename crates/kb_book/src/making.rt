@@ -78,7 +78,7 @@ impl<R: Reducer> Book<R> {
         let second = self.reducer.trace(alloc, self.pair.second())?;
         let first_steps = log_steps(alloc, &self.live, &first.steps)?;
         let second_steps = log_steps(alloc, &self.live, &second.steps)?;
-        let (left, right) = ordered(&self.presentation.order, first.word, second.word);
+        let (left, right) = ordered(&self.order, first.word, second.word);
         Ok(Line {
             origin,
             left,

@@ -3,6 +3,7 @@
 ghost use Rattle.std.specs.Prelude.{◌≡◌, ◌+◌, [], IfOk, IfSome};
 ghost use Rattle.kb_word.specs.Presentations.{parts_of};
 ghost use Rattle.kb_machine.specs.States.{relation_origins, start};
+ghost use Rattle.kb_book.specs.Problems.{problem_of};
 
 use crate::book::Book;
 use crate::limits::Limits;
@@ -21,21 +22,17 @@ impl<R: Reducer> Book<R> {
         presentation: &Presentation,
         limits: &Limits,
     ) -> Result<Book<R>, Memory>
-        ensures problem { IfOk result (λ book. book.course.problem ≡
-            record {
-              presentation = parts_of presentation.now;
-              most_lines = limits.now.rules;
-              most_letters = limits.now.len;
-            }) }
+        ensures problem { IfOk result (λ book. book.course.problem
+            ≡ problem_of (parts_of presentation.now) limits.now.rules limits.now.len) }
         ensures state { IfOk result (λ book. book.course.state ≡ start book.course.problem) }
         ensures journal { IfOk result (λ book. book.course.journal ≡ []) }
     {
-        let presentation = presentation.copy(alloc)?;
+        let order = presentation.order.copy(alloc)?;
         let relations = presentation.relations(alloc)?;
         let pending = origins_of(alloc, &relations)?;
-        let reducer = without_rules(alloc, &presentation.order)?;
+        let reducer = without_rules(alloc, &order)?;
         Ok(Book {
-            presentation,
+            order,
             relations,
             most_lines: limits.rules,
             most_letters: limits.len,

@@ -6,7 +6,7 @@ use Rattle.kb_machine.proofs.Numbers.{slice_get_last}
 use Rattle.kb_machine.proofs.Logs.{justified_congruent}
 use Rattle.kb_machine.proofs.Appending.{justified_push}
 use Rattle.kb_machine.specs.Justified.{IsJustified}
-use Rattle.kb_machine.specs.States.{Problem, State, relations, below}
+use Rattle.kb_machine.specs.States.{Problem, State, below}
 use Rattle.kb_machine.specs.Machine.{LeadsApart, IsAtLimit, Halts}
 use Rattle.kb_machine.specs.Course.{Waits, AreApart as WordsApart, HaltSays, waiting_line}
 use Rattle.kb_machine.specs.declared.halt.Halt.{Halt}
@@ -19,7 +19,7 @@ module _ {problem : Problem} {state : State} (inv : Invariant problem state) (or
   -- the line of the pair that waits would be justified
   waiting_justified : (line : Line) → line.origin ≡ origin
       → LeadsApart problem state origin line.left line.right line.first_steps.items line.second_steps.items
-      → IsJustified (below problem) (relations problem) (state.lines ++ line ∷ [])
+      → IsJustified (below problem) problem.relations (state.lines ++ line ∷ [])
   waiting_justified line of_origin apart =
       justified_push inv.justified (pending_may_come inv origin rest pending line of_origin apart)
 
@@ -28,7 +28,7 @@ module _ {problem : Problem} {state : State} (inv : Invariant problem state) (or
       → Waits problem (record state { halt = Some halt }) halt
   waits halt line is of_origin apart =
       let justified = waiting_justified line of_origin apart in
-      let P : Line → Type 0 = λ one. IsJustified (below problem) (relations problem) (state.lines ++ one ∷ []) in
+      let P : Line → Type 0 = λ one. IsJustified (below problem) problem.relations (state.lines ++ one ∷ []) in
       let Q : Line → Type 0 = λ one. WordsApart problem (record state { halt = Some halt }) one.left one.right in
       let words : Q line = record {
         less = apart.less;

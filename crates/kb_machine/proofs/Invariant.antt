@@ -10,7 +10,7 @@ use Rattle.kb_machine.specs.Justified.{HasAnotherFactor, IsJustified}
 use Rattle.kb_machine.specs.declared.line.Line.{Line}
 use Rattle.kb_machine.specs.declared.origin.Origin.{Origin}
 use Rattle.kb_machine.specs.declared.origin.Origin.TheVariants.{Relation, Overlap, Killed, Shortened}
-use Rattle.kb_machine.specs.States.{Problem, State, relations, below, IsLiveRule, IsPendingPair}
+use Rattle.kb_machine.specs.States.{Problem, State, below, IsLiveRule, IsPendingPair}
 use Rattle.kb_machine.specs.Course.{HaltSays}
 
 -- the pair is a live rule or a pending pair
@@ -50,8 +50,8 @@ MayBePending rules (Shortened k) = ⊥
 
 -- what is kept
 pub record Invariant (problem : Problem) (state : State) : Type 0 where
-  pub kept : (pair : Pair) → OneOf (relations problem) pair → IsKept problem state pair
-  pub justified : IsJustified (below problem) (relations problem) state.lines
+  pub kept : (pair : Pair) → OneOf problem.relations pair → IsKept problem state pair
+  pub justified : IsJustified (below problem) problem.relations state.lines
   pub factors : (pair : Pair) → OneOf (rules_of state.lines) pair → HasLiveFactor state pair.0
   pub few : length state.lines ≤ problem.most_lines
   pub ascending : AllPairs (λ one other. one < other) state.live

@@ -11,7 +11,7 @@ use Rattle.kb_machine.specs.Lines.{rule_of, rules_of, IsPairOf}
 use Rattle.kb_machine.specs.Derivations.{Derives, DerivesBoth, Any}
 use Rattle.kb_machine.specs.Justified.{ComesFromPair, ShortensRule, FollowsBy, IsJustified}
 use Rattle.kb_machine.specs.Letters.{IsPairOver, AreOver, halted_pair, IsStateOver}
-use Rattle.kb_machine.specs.States.{Problem, State, relations}
+use Rattle.kb_machine.specs.States.{Problem, State}
 use Rattle.kb_machine.specs.Course.{Waits, HaltSays, IsSound, waiting_line}
 use Rattle.kb_machine.specs.declared.line.Line.{Line}
 use Rattle.kb_machine.specs.declared.line.LogStep.{LogStep}
@@ -129,14 +129,14 @@ justified_over n relations lines given justified rule one =
 
 -- ---- courses
 
-waiting_over : (n : ℕ) (problem : Problem) (state : State) (halt : Halt) → AreOver n (relations problem) → (waits : Waits problem state halt)
+waiting_over : (n : ℕ) (problem : Problem) (state : State) (halt : Halt) → AreOver n problem.relations → (waits : Waits problem state halt)
     → IsPairOver n (rule_of (waiting_line waits.origin halt))
 waiting_over n problem state halt given waits =
     let lines = state.lines ++ waiting_line waits.origin halt ∷ [] in
-    lines_before_over n (relations problem) lines given waits.justified (suc (length state.lines)) (length state.lines)
+    lines_before_over n problem.relations lines given waits.justified (suc (length state.lines)) (length state.lines)
     (waiting_line waits.origin halt) (omega arith) (slice_get_last state.lines (waiting_line waits.origin halt))
 
-halted_over : (n : ℕ) (problem : Problem) (state : State) (halt : Halt) → AreOver n (relations problem) → HaltSays problem state halt
+halted_over : (n : ℕ) (problem : Problem) (state : State) (halt : Halt) → AreOver n problem.relations → HaltSays problem state halt
     → IsPairOver n (halted_pair halt)
 halted_over n problem state (Rules u v first second) given says =
     waiting_over n problem state (Rules u v first second) given says.1
@@ -144,13 +144,13 @@ halted_over n problem state (Length u v first second) given says =
     waiting_over n problem state (Length u v first second) given says.2
 
 -- what is sound is over the letters of the relations
-pub sound_over : (n : ℕ) (problem : Problem) (state : State) → AreOver n (relations problem) → IsSound problem state
+pub sound_over : (n : ℕ) (problem : Problem) (state : State) → AreOver n problem.relations → IsSound problem state
     → IsStateOver n problem state
 sound_over n problem state given sound =
-    let lines = justified_over n (relations problem) state.lines given sound.justified in
+    let lines = justified_over n problem.relations state.lines given sound.justified in
     record {
       lines = lines;
       pending =
-          λ pair pending. pair_over n (relations problem) (rules_of state.lines) pending.0 pair given lines pending.2;
+          λ pair pending. pair_over n problem.relations (rules_of state.lines) pending.0 pair given lines pending.2;
       halted = IfSome_then state.halt sound.halted (λ halt says. halted_over n problem state halt given says);
     }

@@ -9,7 +9,7 @@ use Rattle.kb_machine.specs.declared.origin.Origin.{Origin}
 use Rattle.kb_machine.proofs.Numbers.{extends_push, numbered_last, pair_extends}
 use Rattle.kb_machine.proofs.Consequences.{deriving_congruent}
 use Rattle.kb_machine.proofs.Appending.{justified_push}
-use Rattle.kb_machine.specs.States.{Problem, State, relations, IsLiveRule}
+use Rattle.kb_machine.specs.States.{Problem, State, IsLiveRule}
 use Rattle.kb_machine.specs.Machine.{IsLive, Makes}
 use Rattle.kb_machine.specs.Course.{HaltSays}
 use Rattle.kb_machine.proofs.Lists.{pairs_push}
@@ -64,7 +64,7 @@ module _ {problem : Problem} {before after : State} {k : ℕ} (inv : Invariant p
       pending) [
         | inl first ↦ subst (IsKept problem with_line) first kept_first
         | inr other ↦
-            let among = pair_extends (relations problem) (rules_of before.lines) (rules_of with_line.lines) other.0 pair
+            let among = pair_extends problem.relations (rules_of before.lines) (rules_of with_line.lines) other.0 pair
             (extends_push before.lines line) other.2 in
             known_kept problem with_line pair (inr (other.0, other.1, among))
       ]

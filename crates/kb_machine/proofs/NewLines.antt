@@ -13,7 +13,7 @@ use Rattle.kb_machine.specs.declared.origin.Origin.TheVariants.{Relation, Overla
 use Rattle.kb_machine.proofs.Numbers.{rules_push_cases}
 use Rattle.kb_machine.proofs.Consequences.{derives_both_implied}
 use Rattle.kb_machine.proofs.Appending.{MayCome}
-use Rattle.kb_machine.specs.States.{Problem, State, relations, below, IsLiveRule}
+use Rattle.kb_machine.specs.States.{Problem, State, below, IsLiveRule}
 use Rattle.kb_machine.specs.Machine.{IsLive, LeadsApart}
 use Rattle.kb_machine.proofs.Lists.{contains_head, pairs_before}
 use Rattle.kb_machine.proofs.Words.{factor_itself, irreducible_by_factors}
@@ -55,9 +55,9 @@ module _ {problem : Problem} {state : State} (inv : Invariant problem state) (or
       subst (MayBePending (rules_of state.lines)) (sym of_origin)
       (inv.waiting origin (subst P (sym pending) (contains_head origin rest)))
 
-  comes : ComesFromPair (relations problem) (rules_of state.lines) line
+  comes : ComesFromPair problem.relations (rules_of state.lines) line
   comes =
-      let P : Origin → Type 0 = λ one. IsPairOf (relations problem) (rules_of state.lines) one apart.pair in
+      let P : Origin → Type 0 = λ one. IsPairOf problem.relations (rules_of state.lines) one apart.pair in
       record {
         pair = apart.pair;
         is_pair = subst P (sym of_origin) apart.is_pair;
@@ -78,9 +78,9 @@ module _ {problem : Problem} {state : State} (inv : Invariant problem state) (or
       (origin_of_line state.lines index other is_line) in
       subst (AreApart other.origin) (sym of_origin) from
 
-  pub pending_may_come : MayCome (below problem) (relations problem) state.lines line
+  pub pending_may_come : MayCome (below problem) problem.relations state.lines line
   pending_may_come = record {
-    follows = follows_pending (relations problem) (rules_of state.lines) line.origin line may comes;
+    follows = follows_pending problem.relations (rules_of state.lines) line.origin line may comes;
     decreases = apart.less;
     new_relation = λ index other k is_line one two. lines_apart index other is_line (k, inl (one, two));
     new_replaced = λ index other k is_line one two. lines_apart index other is_line (k, inr (one, two));

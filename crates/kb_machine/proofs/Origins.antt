@@ -11,7 +11,7 @@ use Rattle.kb_machine.specs.declared.line.Line.{Line}
 use Rattle.kb_machine.specs.declared.origin.Origin.{Origin}
 use Rattle.kb_machine.specs.declared.origin.Origin.TheVariants.{Relation, Overlap, Killed, Shortened}
 use Rattle.kb_machine.proofs.Numbers.{Extends, another_factor_extends, pair_same}
-use Rattle.kb_machine.specs.States.{Problem, State, relations, IsPendingPair}
+use Rattle.kb_machine.specs.States.{Problem, State, IsPendingPair}
 use Rattle.kb_machine.specs.Course.{Waits, HaltSays}
 use Rattle.kb_machine.specs.declared.halt.Halt.{Halt}
 use Rattle.kb_machine.specs.declared.halt.Halt.TheVariants.{Rules, Length}
@@ -56,16 +56,16 @@ module _ (problem : Problem) (state : State) (origin : Origin) (rest : List Orig
       subst P (sym pending) (contains_tail origin rest other has)
 
   -- a pending pair is the first one's, or that of one of the others
-  pub pending_cases : (first pair : Pair) → IsPairOf (relations problem) (rules_of state.lines) origin first
+  pub pending_cases : (first pair : Pair) → IsPairOf problem.relations (rules_of state.lines) origin first
       → IsPendingPair problem state pair
       → (first ≡ pair)
-      ⊎ ((other : Origin) × Contains rest other × IsPairOf (relations problem) (rules_of state.lines) other pair)
+      ⊎ ((other : Origin) × Contains rest other × IsPairOf problem.relations (rules_of state.lines) other pair)
   pending_cases first pair is_first (other, has, is) =
       let P : List Origin → Type 0 = λ list. Contains list other in
-      let Q : Origin → Type 0 = λ one. IsPairOf (relations problem) (rules_of state.lines) one first in
+      let Q : Origin → Type 0 = λ one. IsPairOf problem.relations (rules_of state.lines) one first in
       elim (contains_cons_cases origin rest other (subst P pending has)) [
         | inl here ↦
-            inl (pair_same (relations problem) (rules_of state.lines) other first pair (subst Q here is_first) is)
+            inl (pair_same problem.relations (rules_of state.lines) other first pair (subst Q here is_first) is)
         | inr later ↦ inr (other, later, is)
       ]
 

@@ -18,7 +18,7 @@ use Rattle.kb_machine.proofs.Numbers.{numbered_one, extends_push, numbered_last,
 use Rattle.kb_machine.proofs.Consequences.{IsAllowedRule, derivation_reduces, derivation_congruent, derives_implied}
 use Rattle.kb_machine.proofs.Logs.{justified_decreases}
 use Rattle.kb_machine.proofs.Appending.{MayCome, justified_push}
-use Rattle.kb_machine.specs.States.{Problem, State, relations, below, IsLiveRule}
+use Rattle.kb_machine.specs.States.{Problem, State, below, IsLiveRule}
 use Rattle.kb_machine.specs.Machine.{IsLive, Shortens}
 use Rattle.kb_machine.specs.Course.{HaltSays}
 use Rattle.kb_machine.proofs.Lists.{contains_middle_cases, pairs_push, pairs_middle}
@@ -52,7 +52,7 @@ module _ {problem : Problem} {before after : State} {k new : ℕ} (inv : Invaria
   decreases =
       let one : OneOf (rules_of before.lines) step.own = numbered_one (rules_of before.lines) k step.own step.is_own in
       let own : below problem step.own.1 step.own.0 = justified_decreases inv.justified step.own one in
-      let order = word_orders problem.presentation.order in
+      let order = word_orders problem.order in
       let falling : (rule : Pair) → IsAllowedRule IsOther (rules_of before.lines) rule → below problem rule.1 rule.0 =
       λ rule allowed.
       justified_decreases inv.justified rule (numbered_one (rules_of before.lines) allowed.0 rule allowed.2) in
@@ -92,9 +92,9 @@ module _ {problem : Problem} {before after : State} {k new : ℕ} (inv : Invaria
       (origin_of_line before.lines index other is_line) in
       subst (AreApart other.origin) (sym step.of_origin) (apart_shortened other.origin among)
 
-  may_come : MayCome (below problem) (relations problem) before.lines line
+  may_come : MayCome (below problem) problem.relations before.lines line
   may_come = record {
-    follows = let P : Origin → Type 0 = λ origin. FollowsBy (relations problem) (rules_of before.lines) origin line in
+    follows = let P : Origin → Type 0 = λ origin. FollowsBy problem.relations (rules_of before.lines) origin line in
         subst P (sym step.of_origin) follows;
     decreases = decreases;
     new_relation = λ index other j is_line one two. apart_line index other is_line (j, inl (one, two));
@@ -137,7 +137,7 @@ module _ {problem : Problem} {before after : State} {k new : ℕ} (inv : Invaria
         | inr other ↦ kept_live pair (other_is_live pair live.0 other live.2)
       ]
   kept_known pair (inr (origin, has, is)) =
-      let among = pair_extends (relations problem) (rules_of before.lines) (rules_of lines) origin pair
+      let among = pair_extends problem.relations (rules_of before.lines) (rules_of lines) origin pair
       (extends_push before.lines line) is in
       known_kept problem shortened pair (inr (origin, has, among))
 

@@ -10,22 +10,22 @@ use Rattle.kb_machine.specs.declared.line.Line.{Line}
 use Rattle.kb_machine.proofs.Numbers.{numbered_one}
 use Rattle.kb_machine.proofs.Consequences.{pair_congruent}
 use Rattle.kb_machine.proofs.Logs.{justified_rules}
-use Rattle.kb_machine.specs.States.{Problem, State, relations, rule_numbered, IsLiveRule, IsPendingPair}
+use Rattle.kb_machine.specs.States.{Problem, State, rule_numbered, IsLiveRule, IsPendingPair}
 use Rattle.kb_machine.specs.Machine.{IsLive}
 use Rattle.kb_machine.specs.Course.{IsSound}
 use Rattle.kb_machine.proofs.Invariant.{Invariant}
 
 -- the sides of a live rule are congruent by the relations
 pub live_holds : {problem : Problem} {state : State} → Invariant problem state → (rule : Pair) → IsLiveRule state rule
-    → Congruent (OneOf (relations problem)) rule.0 rule.1
+    → Congruent (OneOf problem.relations) rule.0 rule.1
 live_holds {state = state} inv rule live =
     justified_rules inv.justified rule (numbered_one (rules_of state.lines) live.0 rule live.2)
 
 pending_holds : {problem : Problem} {state : State} → Invariant problem state → (pair : Pair)
     → IsPendingPair problem state pair
-    → Congruent (OneOf (relations problem)) pair.0 pair.1
+    → Congruent (OneOf problem.relations) pair.0 pair.1
 pending_holds {problem = problem} {state = state} inv pair pending =
-    pair_congruent (relations problem) (rules_of state.lines) pending.0 pair
+    pair_congruent problem.relations (rules_of state.lines) pending.0 pair
     (λ relation one. congruent_sides relation one)
     (justified_rules inv.justified) pending.2
 

@@ -8,7 +8,7 @@ use Rattle.kb_word.proofs.PathLemmas.{congruent_sides}
 use Rattle.kb_machine.specs.Lines.{replaced}
 use Rattle.kb_machine.specs.declared.origin.Origin.{Origin}
 use Rattle.kb_machine.specs.declared.origin.Origin.TheVariants.{Relation}
-use Rattle.kb_machine.specs.States.{Problem, relations, relation_origins, start}
+use Rattle.kb_machine.specs.States.{Problem, relation_origins, start}
 use Rattle.kb_machine.proofs.Lists.{contains_head, contains_tail, contains_cons_cases, all_contained}
 use Rattle.kb_machine.proofs.Invariant.{AreApart, MayBePending, Invariant}
 
@@ -74,7 +74,7 @@ first_relation pairs index pair e =
 pub start_kept : (problem : Problem) → Invariant problem (start problem)
 start_kept problem = record {
   kept = λ pair one. congruent_sides pair
-      (inr (Relation (suc one.0), first_relation (relations problem) one.0 pair one.1, one.1));
+      (inr (Relation (suc one.0), first_relation problem.relations one.0 pair one.1, one.1));
   justified = record {
     follows = λ index line is_line. none_at index line is_line;
     decreases = λ index line is_line. none_at index line is_line;
@@ -87,11 +87,11 @@ start_kept problem = record {
   numbers = λ k d within. absurd (omega arith);
   waiting = λ origin has.
       let P : Origin → Type 0 = λ one. MayBePending [] one in
-      let found = pending_relation 1 (relations problem) origin has in
+      let found = pending_relation 1 problem.relations origin has in
       subst P (sym found.is) tt;
-  apart = relations_apart 1 (relations problem);
+  apart = relations_apart 1 problem.relations;
   gone = λ origin k has is.
-      let found = pending_relation 1 (relations problem) origin has in
+      let found = pending_relation 1 problem.relations origin has in
       let none : replaced (Relation found.number) ≡ Some k = ap replaced (sym found.is) ∙ is in
       absurd (cc none);
   halted = tt;

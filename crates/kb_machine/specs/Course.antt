@@ -7,7 +7,7 @@ use Rattle.kb_word.specs.Rewriting.{IsIrreducible}
 use Rattle.kb_machine.specs.Lines.{rules_of}
 use Rattle.kb_machine.specs.Justified.{IsJustified}
 use Rattle.kb_machine.specs.declared.line.Line.{Line}
-use Rattle.kb_machine.specs.States.{Problem, State, relations, below, rule_numbered, IsLiveRule, IsPendingPair}
+use Rattle.kb_machine.specs.States.{Problem, State, below, rule_numbered, IsLiveRule, IsPendingPair}
 use Rattle.kb_machine.specs.Machine.{Run, Step, IsLive}
 use Rattle.kb_machine.specs.declared.origin.Origin.{Origin}
 use Rattle.kb_machine.specs.declared.event.Event.{Event}
@@ -32,12 +32,12 @@ pub record Takes (event : Event) (before after : Course) : Type 0 where
 
 -- the live rules and the pending pairs generate the congruence of the relations
 pub record KeepsCongruence (problem : Problem) (state : State) : Type 0 where
-  pub covered : (pair : Pair) → OneOf (relations problem) pair
+  pub covered : (pair : Pair) → OneOf problem.relations pair
       → Congruent (λ one. IsLiveRule state one ⊎ IsPendingPair problem state one) pair.0 pair.1
   pub rules_hold : (pair : Pair) → IsLiveRule state pair
-      → Congruent (OneOf (relations problem)) pair.0 pair.1
+      → Congruent (OneOf problem.relations) pair.0 pair.1
   pub pairs_hold : (pair : Pair) → IsPendingPair problem state pair
-      → Congruent (OneOf (relations problem)) pair.0 pair.1
+      → Congruent (OneOf problem.relations) pair.0 pair.1
 
 -- a live left side is a factor of the left side of each line
 abbrev pub IsCovered : State → Type 0
@@ -47,7 +47,7 @@ IsCovered state = (index : ℕ) (line : Line) → slice_get state.lines index �
 -- u and v are different words that are congruent by the relations, and no line reduces either
 pub record AreApart (problem : Problem) (state : State) (u v : List ℕ) : Type 0 where
   pub less : below problem v u
-  pub congruent : Congruent (OneOf (relations problem)) u v
+  pub congruent : Congruent (OneOf problem.relations) u v
   pub u_is_irreducible : IsIrreducible (OneOf (rules_of state.lines)) u
   pub v_is_irreducible : IsIrreducible (OneOf (rules_of state.lines)) v
 
@@ -63,7 +63,7 @@ pub record Waits (problem : Problem) (state : State) (halt : Halt) : Type 0 wher
   pub origin : Origin
   pub rest : List Origin
   pub pending : state.pending ≡ origin ∷ rest
-  pub justified : IsJustified (below problem) (relations problem)
+  pub justified : IsJustified (below problem) problem.relations
       (state.lines ++ waiting_line origin halt ∷ [])
   pub apart : AreApart problem state (waiting_line origin halt).left
       (waiting_line origin halt).right
@@ -79,7 +79,7 @@ HaltSays problem state (Length u v first second) =
 -- What holds along every course.
 pub record IsSound (problem : Problem) (state : State) : Type 0 where
   pub congruence : KeepsCongruence problem state
-  pub justified : IsJustified (below problem) (relations problem) state.lines
+  pub justified : IsJustified (below problem) problem.relations state.lines
   pub covered : IsCovered state
   pub few : length state.lines ≤ problem.most_lines
   pub ascending : AllPairs (λ one other. one < other) state.live

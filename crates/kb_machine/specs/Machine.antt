@@ -14,7 +14,7 @@ use Rattle.kb_machine.specs.declared.line.Line.{Line}
 use Rattle.kb_machine.specs.declared.line.LogStep.{LogStep}
 use Rattle.kb_machine.specs.declared.origin.Origin.{Origin}
 use Rattle.kb_machine.specs.declared.origin.Origin.TheVariants as origins
-use Rattle.kb_machine.specs.States.{Problem, State, relations, below, start, IsLiveRule}
+use Rattle.kb_machine.specs.States.{Problem, State, below, start, IsLiveRule}
 use Rattle.kb_machine.specs.declared.event.Event.{Event}
 use Rattle.kb_machine.specs.declared.event.Event.TheVariants.{Entered, Dropped, Made, Halted, Killed, Shortened, Published}
 use Rattle.kb_machine.specs.declared.halt.Halt.{Halt}
@@ -34,7 +34,7 @@ pub record FirstPending (state : State) (origin : Origin) (rest : List Origin) :
 pub record LeadsApart (problem : Problem) (state : State) (origin : Origin) (u v : List ℕ)
     (first_steps second_steps : List LogStep) : Type 0 where
   pub pair : Pair
-  pub is_pair : IsPairOf (relations problem) (rules_of state.lines) origin pair
+  pub is_pair : IsPairOf problem.relations (rules_of state.lines) origin pair
   pub derived : DerivesBoth (IsLive state) (rules_of state.lines) pair first_steps second_steps u v
   pub less : below problem v u
   pub u_is_irreducible : IsIrreducible (IsLiveRule state) u
@@ -53,7 +53,7 @@ pub record Drops (problem : Problem) (before after : State) : Type 0 where
   pub rest : List Origin
   pub pending : FirstPending before origin rest
   pub pair : Pair
-  pub is_pair : IsPairOf (relations problem) (rules_of before.lines) origin pair
+  pub is_pair : IsPairOf problem.relations (rules_of before.lines) origin pair
   pub joint : List ℕ
   pub first : ReducesTo (IsLiveRule before) pair.0 joint
   pub second : ReducesTo (IsLiveRule before) pair.1 joint

@@ -3,27 +3,23 @@ use Rattle.std.specs.Prelude.{◌≡◌, ℕ, suc, List, [], ◌∷◌, map, Opt
 use Rattle.std.specs.List.{Contains}
 use Rattle.kb_word.specs.Words.{Pair}
 use Rattle.kb_word.specs.WordOrders.{Below}
-use Rattle.kb_word.specs.Presentations.{PresentationParts}
-use Rattle.kb_word.specs.Relations.{relations_of}
+use Rattle.kb_word.specs.declared.word_order.WordOrder.{WordOrder}
 use Rattle.kb_machine.specs.Lines.{numbered, rules_of, IsPairOf}
 use Rattle.kb_machine.specs.declared.line.Line.{Line}
 use Rattle.kb_machine.specs.declared.origin.Origin.{Origin}
 use Rattle.kb_machine.specs.declared.origin.Origin.TheVariants.{Relation}
 use Rattle.kb_machine.specs.declared.halt.Halt.{Halt}
 
--- a presentation, and the limits within which it is to be completed
+-- an order of words, relations, and the limits within which they are to be completed
 pub record Problem : Type 0 where
-  pub presentation : PresentationParts
+  pub order : WordOrder
+  pub relations : List Pair
   pub most_lines : ℕ
   pub most_letters : ℕ
 
--- its defining relations
-abbrev pub relations : Problem → List Pair
-relations problem = relations_of problem.presentation.inverses problem.presentation.equations
-
 -- its order
 abbrev pub below : Problem → List ℕ → List ℕ → Type 0
-below problem = Below problem.presentation.order
+below problem = Below problem.order
 
 -- How far a completion has come: all lines that were made, the numbers of those that are live, the
 -- origins of the pairs that are still to be looked at, the live numbers of each version that was
@@ -52,7 +48,7 @@ IsLiveRule state pair =
 abbrev pub IsPendingPair : Problem → State → Pair → Type 0
 IsPendingPair problem state pair =
     (origin : Origin) × Contains state.pending origin
-    × IsPairOf (relations problem) (rules_of state.lines) origin pair
+    × IsPairOf problem.relations (rules_of state.lines) origin pair
 
 -- the relations' origins, the first of which has this number
 abbrev pub relation_origins : ℕ → List Pair → List Origin
@@ -64,7 +60,7 @@ abbrev pub start : Problem → State
 start problem = record {
   lines = [];
   live = [];
-  pending = relation_origins 1 (relations problem);
+  pending = relation_origins 1 problem.relations;
   versions = [];
   halt = None;
 }

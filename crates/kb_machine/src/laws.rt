@@ -3,7 +3,6 @@
 ghost use Rattle.std.specs.Prelude.{ℕ};
 ghost use Rattle.kb_machine.specs.Course.{Course, IsCourse, IsSound};
 ghost use Rattle.kb_machine.specs.Letters.{AreOver, IsStateOver};
-ghost use Rattle.kb_machine.specs.States.{relations};
 
 /// Whatever the order of the events is, and whoever enters overlaps: along every course the live
 /// rules and the pending pairs generate the congruence of the relations, the log is justified, each
@@ -15,6 +14,6 @@ pub fn courses_are_sound()
 /// No course brings new letters: where the relations are over n letters, so are the lines, the pending pairs and the
 /// pair of a halt.
 pub fn courses_bring_no_letters()
-    ensures { (n : ℕ) (course : Course) → AreOver n (relations course.problem) → IsCourse course
+    ensures { (n : ℕ) (course : Course) → AreOver n course.problem.relations → IsCourse course
         → IsStateOver n course.problem course.state }
 {}

@@ -24,7 +24,7 @@
 //! what is shown of every run holds of any interleaving of workers.
 //!
 //! The public contract is the law [`courses_are_sound`]: along every course the live rules and the
-//! pending pairs generate the congruence of the presentation, the log is justified line by line,
+//! pending pairs generate the congruence of the relations, the log is justified line by line,
 //! each left side has a live one as a factor, and a halt has its limit and a pair that waits. By
 //! [`courses_bring_no_letters`] all words are over the letters of the relations. `specs/States.antt` has the states, `specs/Course.antt` what is said of courses.
 //! `proofs/Invariant.antt` has what each event keeps, from which soundness follows; there is a file

@@ -1,4 +1,4 @@
-use Rattle.std.proofs.Common.{refl, ◌∙◌, inr}
+use Rattle.std.proofs.Common.{refl, inr}
 use Rattle.kb_book.proofs.Courses.{course_keeps}
 use Rattle.kb_book.proofs.Apart.{origin_joined, origin_apart}
 use Rattle.kb_book.proofs.Limit.{first_pair}
@@ -12,7 +12,7 @@ returns-in-Some g c =
 pub put_pair-requires : goal.put_pair-requires
 put_pair-requires g c =
     first_pair c.deref.result.now _ c.deref-2.result.now c.self.inside.lines.items c.self.inside.pending.items
-    c.in-Some-first_of.origin (c.deref.ensures.value ∙ c.self.invariant.has_relations) c.deref-2.ensures.value
+    c.in-Some-first_of.origin c.deref.ensures.value c.deref-2.ensures.value
     (course_keeps _ c.self.invariant.is_course).pairs c.in-Some-first_of.ensures.some.0 c.in-Some-first_of.ensures.some.1
 
 pub drop_pair-requires-clause-joined : goal.drop_pair-requires-clause-joined

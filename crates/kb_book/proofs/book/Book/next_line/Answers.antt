@@ -2,7 +2,7 @@ use Rattle.std.proofs.Common.{◌≡◌, ℕ, List, map, refl, sym, ap, ◌∙�
 use Rattle.kb_machine.specs.declared.line.Line.{Line}
 use Rattle.kb_machine.specs.Lines.{rules_of, IsPairOf}
 use Rattle.kb_word.specs.Words.{Pair}
-use Rattle.kb_machine.specs.States.{relations, live_rules}
+use Rattle.kb_machine.specs.States.{live_rules}
 use Rattle.kb_book.specs.Books.{BookParts}
 use Rattle.kb_book.specs.Normal.{IsNext, log_step}
 use Rattle.kb_rules.specs.declared.trace.Step.{Step}
@@ -28,7 +28,7 @@ ordered-left-requires g c =
     let V : BookParts → Type 0 = λ b. IsPairOf c.deref.result.now (rules_of b.course.state.lines) c.args.origin pair in
     let is_pair = pair_of_words _ _ c.args.origin c.put_pair.new.pair pair.0 pair.1 c.in_ok-put_pair.ensures c.first.ensures c.second.ensures in
     forms_differ c.args.self.now.course c.args.origin c.requires.apart c.deref.result.now pair _ _ _
-    (c.deref.ensures.value ∙ c.self.invariant.has_relations ∙ ap (λ (b : BookParts). relations b.course.problem) c.self.view_is)
+    (c.deref.ensures.value ∙ ap (λ (b : BookParts). b.course.problem.relations) c.self.view_is)
     (c.self.invariant.reduces ∙ ap (λ (b : BookParts). live_rules b.course.state) c.self.view_is)
     (subst V c.self.view_is (subst Q lines is_pair))
     c.in_ok-first.ensures.normal c.in_ok-second.ensures.normal
@@ -47,7 +47,7 @@ returns-clause-line g c =
     rw (← c.self.view_is)
     (next_line_is _ c.args.origin c.deref.result.now c.deref-2.result.now c.self.inside.live.items
     (c.first.result.now, c.second.result.now) _ _ _ _ _ _ next numbers
-    (c.deref.ensures.value ∙ c.self.invariant.has_relations) c.deref-2.ensures.value refl c.self.invariant.reduces
+    c.deref.ensures.value c.deref-2.ensures.value refl c.self.invariant.reduces
     is_pair c.in_ok-first.ensures.normal c.in_ok-second.ensures.normal
     c.in_ok-first.ensures.steps c.in_ok-second.ensures.steps refl c.ordered-left.ensures.both c.ordered-left.ensures.less
     first_is second_is)
