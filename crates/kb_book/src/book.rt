@@ -136,6 +136,13 @@ impl<R: Reducer> Book<R> {
         &self.order
     }
 
+    /// The relations that are completed.
+    pub fn relations(&self) -> &[(Word, Word)]
+        ensures { result.now ≡ self.now.course.problem.relations }
+    {
+        &self.relations
+    }
+
     /// How many lines there may be, and how many letters a left side may have.
     pub fn limits(&self) -> (u32, u32)
         ensures { result

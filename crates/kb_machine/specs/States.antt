@@ -17,7 +17,7 @@ pub record Problem : Type 0 where
   pub most_lines : ℕ
   pub most_letters : ℕ
 
--- its order
+-- one word is less than another by its order
 abbrev pub below : Problem → List ℕ → List ℕ → Type 0
 below problem = Below problem.order
 
