@@ -127,7 +127,7 @@ one_of_live problem state sound rule live =
 
 -- copies of the order and of the live rules
 pub copies_decrease : (problem : Problem) (state : State) (order : WordOrder) (rules : List Pair) → IsSound problem state
-    → order ≡ problem.presentation.order → rules ≡ live_rules state → AreDecreasing (Below order) rules
+    → order ≡ problem.order → rules ≡ live_rules state → AreDecreasing (Below order) rules
 copies_decrease problem state order rules sound is_order is_rules =
     subst (λ (o : WordOrder). AreDecreasing (Below o) rules) (sym is_order)
     (subst (λ (r : List Pair). AreDecreasing (below problem) r) (sym is_rules) (live_rules_decrease problem state sound))

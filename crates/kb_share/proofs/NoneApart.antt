@@ -56,7 +56,7 @@ none_apart problem state sound all index one apart =
 none_confluent : (problem : Problem) (state : State) → IsSound problem state → AreAllApart (version_of state) []
     → IsConfluent (live_rules state)
 none_confluent problem state sound all i j place first second overlap =
-    joined_unless_apart problem.presentation.order (live_rules state) (critical_pair first second place)
+    joined_unless_apart problem.order (live_rules state) (critical_pair first second place)
     (live_rules_decrease problem state sound)
     (λ u v parts. none_apart problem state sound all i (record { rule = j; place = place })
     (record { first = first; second = second; overlap = overlap; u = u; v = v; parts = parts }))
@@ -85,4 +85,4 @@ PrimesDecide = (order : WordOrder) (rules : List Pair) → AreDecreasing (Below 
 pub confluent_by_rows : PrimesDecide → (problem : Problem) (state : State) → IsSound problem state
     → ((index : ℕ) → index < length (live_rules state) → PrimesOfRowAreJoined (live_rules state) index) → IsConfluent (live_rules state)
 confluent_by_rows decide problem state sound rows =
-    decide problem.presentation.order (live_rules state) (live_rules_decrease problem state sound) (rows_joined (live_rules state) rows)
+    decide problem.order (live_rules state) (live_rules_decrease problem state sound) (rows_joined (live_rules state) rows)

@@ -44,7 +44,7 @@ descent order before after u (accessible lower) less =
 pub own_no_factor : (problem : Problem) (state : State) → IsSound problem state → (k : ℕ) (rule : Pair)
     → numbered (rules_of state.lines) k ≡ Some rule → ¬ IsFactor rule.1 rule.0
 own_no_factor problem state sound k rule is_rule factor =
-    let order = problem.presentation.order in
+    let order = problem.order in
     let stands = factor.1 in
     let less : below problem rule.1 rule.0 =
     justified_decreases sound.justified rule (numbered_one (rules_of state.lines) k rule is_rule) in

@@ -13,10 +13,10 @@ use std::alloc::Global;
 /// A copy of the live rules, in line order.
 pub fn live_rules<R: Reducer>(alloc: Global, book: &Book<R>) -> Result<Rules, Memory>
     ensures rules { IfOk result (λ rules. rules.rules ≡ rules_that_live book.now.course.state) }
-    ensures order { IfOk result (λ rules. rules.order ≡ book.now.course.problem.presentation.order) }
+    ensures order { IfOk result (λ rules. rules.order ≡ book.now.course.problem.order) }
 {
     book_is_sound(book);
-    let order = book.presentation().order.copy(alloc)?;
+    let order = book.order().copy(alloc)?;
     let rules = rules_of(alloc, book.lines(), book.live())?;
     Ok(Rules::from_vec(order, rules))
 }
