@@ -21,8 +21,8 @@
 //! After a line is made of a pending pair, each other line whose left side has the new one as a
 //! factor is taken away, and each line whose right side it reduces is replaced (Holt, Eick, O'Brien,
 //! Handbook of Computational Group Theory, 12.2). Most lines that a new one doesn't concern are told
-//! by their `signature`s, without a look at their words: a word has all bits of its factors (`specs/Signatures.antt`). That settling ends rests on the limit of
-//! lines (`work` of `specs/Work.antt` falls).
+//! by their `signature`s, without a look at their words: a word has all bits of its factors
+//! (`specs/Signatures.antt`). That settling ends rests on the limit of lines (`work` of `specs/Work.antt` falls).
 //!
 //! # Sifting
 //!
