@@ -11,7 +11,8 @@
 //!   (`Settles` and `SettleSays` of `specs/Settling.antt`). The book keeps its problem and its
 //!   lines, and nothing is published or entered meanwhile.
 //! - [`line_made`] is what follows on each line that is made: other lines are simplified by it. A [`Finder`] finds at
-//!   least all of them, where it knows the book (`Knows` of `specs/Finding.antt`).
+//!   least all of them, where it knows the book (`Knows` of `specs/Finding.antt`). One finder serves a book as long as it
+//!   lives, so that each line is met once.
 //! - Both keep the live rules interreduced (`StaysReduced` of `specs/Interreduced.antt`): where no live left side has
 //!   another one as a factor, none has afterwards; where no live right side is reducible, none is afterwards, unless the
 //!   log is full, with as many lines as it may have. A halt at the length of a word excuses nothing.
