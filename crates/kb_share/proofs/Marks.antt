@@ -1,12 +1,13 @@
 -- Bits within bits, and the signatures of factors.
-use Rattle.std.proofs.Common.{◌≡◌, ℕ, ◌+◌, ◌-◌, ◌<◌, max, List, ◌++◌, length, get_or, sym, ◌∙◌, ap, subst, inl, inr, arith, length-append}
+use Rattle.std.proofs.Common.{◌≡◌, ℕ, ◌+◌, ◌-◌, ◌<◌, ◌≤◌, max, List, ◌++◌, length, take, drop, sym, ◌∙◌, ap, subst, inl, inr, arith, length-append}
 use Rattle.std.specs.Prelude.{bit_or}
 use Rattle.std.specs.Int.{bit_at}
 use Rattle.std.proofs.lemmas.Bool.{cases_lt}
-use Rattle.std.proofs.lemmas.List.{get_or-append-add, get_or_append_left}
+use Rattle.std.proofs.Math.Seq.{drop-append-add}
+use Rattle.std.proofs.lemmas.List.{drop-append-le, take-append-le, length-drop}
 use Rattle.std.proofs.lemmas.Nat.Bits.{bit_at_or, bit_at-zero, same_from_bits}
 use Rattle.kb_word.specs.Words.{IsFactor}
-use Rattle.kb_share.specs.Signatures.{mark, letter_mark, neighbour_mark, AreWithin, AreBitsOf, HasMarks, IsSignature}
+use Rattle.kb_share.specs.Signatures.{mark, window_mark, AreWithin, AreBitsOf, HasWindows, HasMarks, IsSignature}
 
 -- bits within bits, one at a time
 within_at : (a b i : ℕ) → AreWithin a b → max (bit_at a i) (bit_at b i) ≡ bit_at b i
@@ -73,53 +74,75 @@ marks_more marks count bits are = record {
       within_both bits (marks count) more (are.least more (λ index low. all index (omega (arith, low)))) (all count (omega arith));
 }
 
--- the marks of letters and of neighbours together
-pub signature_is : (word : List ℕ) (a b : ℕ) → AreBitsOf (letter_mark word) (length word) a
-    → AreBitsOf (neighbour_mark word) (length word - 1) b → IsSignature word (bit_or a b)
-signature_is word a b letters neighbours = record {
-  has = record {
-    letters = λ index low. within_then (letter_mark word index) a (bit_or a b) (letters.has index low) (within_first a b);
-    neighbours = λ index low.
-        within_then (neighbour_mark word index) b (bit_or a b) (neighbours.has index (omega (arith, low))) (within_second a b);
-  };
-  least = λ more all. within_both a b more (letters.least more all.letters)
-      (neighbours.least more (λ index low. all.neighbours index (omega (arith, low))));
-}
+-- four numbers within another
+within_four : (a b c d bits : ℕ) → AreWithin a bits → AreWithin b bits → AreWithin c bits → AreWithin d bits
+    → AreWithin (bit_or (bit_or (bit_or a b) c) d) bits
+within_four a b c d bits first second third fourth =
+    within_both (bit_or (bit_or a b) c) d bits
+    (within_both (bit_or a b) c bits (within_both a b bits first second) third) fourth
 
--- a letter of a factor is one of the word
-letter_of : (before factor after : List ℕ) (i : ℕ) → i < length factor
-    → get_or (before ++ factor ++ after) (length before + i) 0 ≡ get_or factor i 0
-letter_of before factor after i low =
-    get_or_append_left (before ++ factor) after 0 (length before + i) (omega (arith, low, length-append before factor))
-    ∙ get_or-append-add before factor i 0
+-- the marks of all windows of a size are within numbers that have them all
+windows_are : (size : ℕ) (word : List ℕ) (bits more : ℕ) → AreBitsOf (window_mark size word) (length word + 1 - size) bits
+    → AreWithin bits more → HasWindows size word more
+windows_are size word bits more are within = λ place low.
+    within_then (window_mark size word place) bits more (are.has place (omega (arith, low))) within
 
-within_whole : (before factor after : List ℕ) (i : ℕ) → i < length factor
-    → length before + i < length (before ++ factor ++ after)
-within_whole before factor after i low =
-    omega (arith, low, length-append (before ++ factor) after, length-append before factor)
+windows_least : (size : ℕ) (word : List ℕ) (bits more : ℕ) → 0 < size → AreBitsOf (window_mark size word) (length word + 1 - size) bits
+    → HasWindows size word more → AreWithin bits more
+windows_least size word bits more some are has = are.least more (λ place low. has place (omega (arith, low, some)))
 
-has_parts : (before factor after : List ℕ) (bits : ℕ) → HasMarks (before ++ factor ++ after) bits → HasMarks factor bits
-has_parts before factor after bits has =
-    let word = before ++ factor ++ after in
+-- the marks of windows of all sizes together
+pub signature_is : (word : List ℕ) (a b c d : ℕ) → AreBitsOf (window_mark 1 word) (length word + 1 - 1) a
+    → AreBitsOf (window_mark 2 word) (length word + 1 - 2) b → AreBitsOf (window_mark 5 word) (length word + 1 - 5) c
+    → AreBitsOf (window_mark 12 word) (length word + 1 - 12) d → IsSignature word (bit_or (bit_or (bit_or a b) c) d)
+signature_is word a b c d letters pairs fives twelves =
+    let two = bit_or a b in
+    let three = bit_or two c in
+    let all = bit_or three d in
+    let short = within_then two three all (within_first two c) (within_first three d) in
     record {
-      letters = λ index low.
-          let P : ℕ → Type 0 = λ letter. AreWithin (mark 0 letter) bits in
-          subst P (letter_of before factor after index low)
-          (has.letters (length before + index) (within_whole before factor after index low));
-      neighbours = λ index low.
-          let first = letter_of before factor after index (omega (arith, low)) in
-          let second = letter_of before factor after (index + 1) low in
-          let next : length before + (index + 1) ≡ (length before + index) + 1 = omega arith in
-          let within : length before + (index + 1) < length word = within_whole before factor after (index + 1) low in
-          let P : ℕ → Type 0 = λ letter. AreWithin (mark (1 + letter) (get_or factor (index + 1) 0)) bits in
-          let Q : ℕ → Type 0 = λ letter. AreWithin (mark (1 + get_or word (length before + index) 0) letter) bits in
-          let R : ℕ → Type 0 = λ place. get_or word place 0 ≡ get_or factor (index + 1) 0 in
-          subst P first (subst Q (subst R next second)
-          (has.neighbours (length before + index) (omega (arith, within))));
+      has = record {
+        letters = windows_are 1 word a all letters (within_then a two all (within_first a b) short);
+        pairs = windows_are 2 word b all pairs (within_then b two all (within_second a b) short);
+        fives = windows_are 5 word c all fives (within_then c three all (within_second two c) (within_first three d));
+        twelves = windows_are 12 word d all twelves (within_second three d);
+      };
+      least = λ more has. within_four a b c d more
+          (windows_least 1 word a more (omega arith) letters has.letters) (windows_least 2 word b more (omega arith) pairs has.pairs)
+          (windows_least 5 word c more (omega arith) fives has.fives) (windows_least 12 word d more (omega arith) twelves has.twelves);
     }
 
+-- a window of a factor is one of the word
+window_of : (size : ℕ) (before factor after : List ℕ) (place : ℕ) → place + size ≤ length factor
+    → take size (drop (length before + place) (before ++ factor ++ after)) ≡ take size (drop place factor)
+window_of size before factor after place low =
+    let start = length before + place in
+    let rest = drop place factor in
+    let within : start ≤ length (before ++ factor) = omega (arith, low, length-append before factor) in
+    let fits : size ≤ length rest = omega (arith, low, length-drop place factor) in
+    let cut : drop start (before ++ factor ++ after) ≡ rest ++ after =
+    drop-append-le start (before ++ factor) after within ∙ ap (λ (w : List ℕ). w ++ after) (drop-append-add before factor place) in
+    ap (take size) cut ∙ take-append-le size rest after fits
+
+-- the marks of a word's windows have those of its factor's
+windows_of : (size : ℕ) (before factor after : List ℕ) (bits : ℕ) → HasWindows size (before ++ factor ++ after) bits
+    → HasWindows size factor bits
+windows_of size before factor after bits has = λ place low.
+    let within : length before + place + size ≤ length (before ++ factor ++ after) =
+    omega (arith, low, length-append (before ++ factor) after, length-append before factor) in
+    subst (λ (window : List ℕ). AreWithin (mark window) bits) (window_of size before factor after place low)
+    (has (length before + place) within)
+
+has_parts : (before factor after : List ℕ) (bits : ℕ) → HasMarks (before ++ factor ++ after) bits → HasMarks factor bits
+has_parts before factor after bits has = record {
+  letters = windows_of 1 before factor after bits has.letters;
+  pairs = windows_of 2 before factor after bits has.pairs;
+  fives = windows_of 5 before factor after bits has.fives;
+  twelves = windows_of 12 before factor after bits has.twelves;
+}
+
 -- a word has the marks of its factors
-pub factor_has : (word factor : List ℕ) (bits : ℕ) → IsFactor word factor → HasMarks word bits → HasMarks factor bits
+factor_has : (word factor : List ℕ) (bits : ℕ) → IsFactor word factor → HasMarks word bits → HasMarks factor bits
 factor_has word factor bits is has =
     let stands = is.1 in
     has_parts stands.before factor stands.after bits (subst (λ (w : List ℕ). HasMarks w bits) stands.whole has)

@@ -1,8 +1,7 @@
 -- Where a pass finds nothing that is apart, the live rules are confluent.
-use Rattle.std.proofs.Common.{◌≡◌, ◌≢◌, ℕ, ◌<◌, List, [], ◌∷◌, length, map, sym, ◌∙◌, ap, subst, inl, inr, refl, arith}
+use Rattle.std.proofs.Common.{◌≡◌, ℕ, ◌<◌, List, [], ◌∷◌, length, sym, ◌∙◌, ap, subst, inl, inr, refl, arith}
 use Rattle.std.proofs.lemmas.List.{length-map}
 use Rattle.std.proofs.lemmas.Option.{slice_get_within}
-use Rattle.std.specs.List.{Contains}
 use Rattle.kb_word.specs.Words.{Pair}
 use Rattle.kb_word.specs.WordOrders.{Below}
 use Rattle.kb_word.specs.WordOrderLaws.{word_orders}
@@ -15,11 +14,10 @@ use Rattle.kb_machine.specs.States.{Problem, State, live_rules, rule_numbered}
 use Rattle.kb_machine.specs.Course.{Course, IsSound}
 use Rattle.kb_overlap.specs.Composite.{PrimesAreJoined}
 use Rattle.kb_overlap.specs.declared.left_sides.Overlap.{Overlap}
-use Rattle.kb_share.specs.declared.found.Found.{Found}
 use Rattle.kb_share.specs.Primes.{PrimesOfRowAreJoined}
 use Rattle.kb_share.specs.Rows.{IsApartAt, found_at}
 use Rattle.kb_share.specs.Versions.{version_of}
-use Rattle.kb_share.specs.Passes.{IsApart, AreAllApart, EntersSoMany, entered}
+use Rattle.kb_share.specs.Passes.{AreAllApart, EntersSoMany, entered}
 use Rattle.kb_share.proofs.LiveRules.{live_rules_decrease}
 use Rattle.kb_share.proofs.Entries.{entered_none}
 use Rattle.kb_share.proofs.RowByRow.{is_apart}

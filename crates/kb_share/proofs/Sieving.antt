@@ -1,7 +1,7 @@
 -- A row is sifted, one prime overlap after another.
 use Rattle.std.proofs.Common.{◌≡◌, ℕ, ◌+◌, ◌<◌, ◌≤◌, ◌⊎◌, List, [], ◌∷◌, ◌++◌, length, get_or, Option, Some, None, refl, sym, ◌∙◌, ap, subst, inl, inr, arith}
 use Rattle.std.specs.Prelude.{slice_get}
-use Rattle.std.specs.List.{All, Contains}
+use Rattle.std.specs.List.{All}
 use Rattle.std.proofs.lemmas.Bool.{cases_lt}
 use Rattle.std.proofs.lemmas.List.{get_or_default}
 use Rattle.std.proofs.lemmas.List.Elements.{All-push, Contains-append_left, Contains-append_right}
@@ -12,7 +12,7 @@ use Rattle.kb_overlap.specs.Composite.{IsPrimeOverlap, ArePrimeOverlaps, PrimesA
 use Rattle.kb_overlap.specs.declared.left_sides.Overlap.{Overlap}
 use Rattle.kb_share.specs.declared.found.Apart.{Apart}
 use Rattle.kb_share.specs.Versions.{VersionParts}
-use Rattle.kb_share.specs.Rows.{IsApartAt, found_at}
+use Rattle.kb_share.specs.Rows.{found_at}
 use Rattle.kb_share.specs.Primes.{IsJoinedAt, IsApartAs, IsPrimeApart, IsFoundAs, PrimeSays, SiftsRow, PrimesOfRowAreJoined}
 
 some-injective : {X : Type 0} {x y : X} → Some x ≡ Some y → x ≡ y

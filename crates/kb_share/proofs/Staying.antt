@@ -6,6 +6,7 @@ use Rattle.std.proofs.lemmas.List.Elements.{Contains-push_cases}
 use Rattle.kb_word.specs.Words.{Pair}
 use Rattle.kb_word.specs.declared.memory.Memory.{Memory}
 use Rattle.kb_machine.specs.Lines.{numbered, rule_of, rules_of}
+use Rattle.kb_machine.specs.declared.line.Line.{Line}
 use Rattle.kb_machine.specs.declared.event.Event.TheVariants as events
 use Rattle.kb_machine.specs.declared.halt.Halt.{Halt}
 use Rattle.kb_machine.specs.States.{State}
@@ -16,7 +17,7 @@ use Rattle.kb_book.specs.declared.answers.Make.{Make}
 use Rattle.kb_book.specs.declared.answers.Make.TheVariants as makes
 use Rattle.kb_share.proofs.LineSteps.{ages_itself, full_more, thins_ages, has_thins}
 use Rattle.kb_share.proofs.SideLemmas.{lefts_from_none, rights_from_none, made_left, made_right}
-use Rattle.kb_share.specs.Finding.{IsKeptAt, Knows, FindsAll}
+use Rattle.kb_share.specs.Finding.{IsKeptAt, Knows, KnowsLines, FindsAll}
 use Rattle.kb_share.specs.Interreduced.{IsFull, LeftSidesAreReduced, RightSidesAreReduced, RightSidesAreReducedOrFull, StaysReduced}
 use Rattle.kb_share.specs.Simplifying.{HasFactorOf, NoneHas, OnlyTheseHave, NoRightHasOrFull, Ages, Thins}
 use Rattle.kb_share.specs.declared.finding.Finder.{Finder}
@@ -50,6 +51,13 @@ knows_ages finder before after ages knows =
       };
       all = λ number live low high. knows.all number (ages.old number live (omega (arith, high, met))) low high;
     }
+
+-- the same lines, of which the same are live
+pub knows_same : (finder : Finder) (before after : State) → after.lines ≡ before.lines → after.live ≡ before.live → Knows finder before
+    → Knows finder after
+knows_same finder before after lines live knows =
+    subst (λ (numbers : List ℕ). KnowsLines finder after.lines numbers) (sym live)
+    (subst (λ (list : List Line). KnowsLines finder list before.live) (sym lines) knows)
 
 pub knows_thins : (finder : Finder) (before after : Course) → Thins before after → Knows finder before.state
     → Knows finder after.state

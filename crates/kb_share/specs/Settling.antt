@@ -1,5 +1,5 @@
 -- What settling a book does, and what it answers.
-use Rattle.std.specs.Prelude.{◌≡◌, ◌≢◌, [], Option, Some, None}
+use Rattle.std.specs.Prelude.{◌≡◌, ◌≢◌, [], Some, None}
 use Rattle.kb_machine.specs.Course.{Course}
 use Rattle.kb_machine.specs.declared.halt.Halt.{Halt}
 use Rattle.kb_book.specs.Answers.{IsCopyOf}

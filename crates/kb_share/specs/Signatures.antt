@@ -1,24 +1,26 @@
--- Signatures of words: each letter and each two neighbouring letters mark one of 64 bits.
-use Rattle.std.specs.Prelude.{◌≡◌, ℕ, ◌+◌, ◌*◌, ◌/◌, ◌%◌, ◌^◌, ◌<◌, List, length, slice_index, bit_or}
+-- Signatures of words: each window, which is so many neighbouring letters, marks one of 64 bits.
+use Rattle.std.specs.Prelude.{◌≡◌, ℕ, ◌+◌, ◌*◌, ◌/◌, ◌%◌, ◌^◌, ◌<◌, ◌≤◌, List, [], ◌∷◌, length, take, drop, bit_or}
 
--- The bit of a pair of numbers, by multiplicative hashing: Knuth, The Art of Computer Programming, volume 3, 6.4. Which
--- one it is matters for speed alone.
-unfoldable pub bit_number : ℕ → ℕ → ℕ
-bit_number first second =
-    ((((first * 0x9e37_79b9_7f4a_7c15) % 2 ^ 64 + second) % 2 ^ 64) * 0xd6e8_feb8_6659_fd93) % 2 ^ 64
-    / 2 ^ 58
+-- The hash of a window's letters, from that of those before. Which one it is matters for speed alone.
+unfoldable pub hash_on : ℕ → List ℕ → ℕ
+hash_on hash [] = hash
+hash_on hash (letter ∷ rest) = hash_on ((hash * 0x9e37_79b9_7f4a_7c15 % 2 ^ 64 + letter) % 2 ^ 64) rest
 
--- the number that has this bit alone
-unfoldable pub mark : ℕ → ℕ → ℕ
-mark first second = (1 * 2 ^ (bit_number first second % 64)) % 2 ^ 64
+-- The bit of a window, by multiplicative hashing: Knuth, The Art of Computer Programming, volume 3, 6.4.
+unfoldable pub bit_number : ℕ → ℕ
+bit_number hash = hash * 0xd6e8_feb8_6659_fd93 % 2 ^ 64 / 2 ^ 58
 
--- the mark of the letter at the index
-abbrev pub letter_mark : List ℕ → ℕ → ℕ
-letter_mark word index = mark 0 (slice_index word index)
+-- the number that has the bit of this hash alone
+unfoldable pub bit_alone : ℕ → ℕ
+bit_alone hash = (1 * 2 ^ (bit_number hash % 64)) % 2 ^ 64
 
--- the mark of the letters at the index and after it
-abbrev pub neighbour_mark : List ℕ → ℕ → ℕ
-neighbour_mark word index = mark (1 + slice_index word index) (slice_index word (index + 1))
+-- the number that has the window's bit alone
+abbrev pub mark : List ℕ → ℕ
+mark window = bit_alone (hash_on 0 window)
+
+-- the mark of the window of this many letters at the place
+abbrev pub window_mark : ℕ → List ℕ → ℕ → ℕ
+window_mark size word place = mark (take size (drop place word))
 
 -- all bits of the first number are bits of the second
 abbrev pub AreWithin : ℕ → ℕ → Type 0
@@ -33,10 +35,16 @@ pub record AreBitsOf (marks : ℕ → ℕ) (count bits : ℕ) : Type 0 where
   pub has : HasFirst marks count bits
   pub least : (more : ℕ) → HasFirst marks count more → AreWithin bits more
 
--- the bits have the marks of the word's letters, and of its neighbouring letters
+-- the bits have the marks of the word's windows of this size
+abbrev pub HasWindows : ℕ → List ℕ → ℕ → Type 0
+HasWindows size word bits = (place : ℕ) → place + size ≤ length word → AreWithin (window_mark size word place) bits
+
+-- the bits have the marks of the word's windows of all sizes that are marked
 pub record HasMarks (word : List ℕ) (bits : ℕ) : Type 0 where
-  pub letters : (index : ℕ) → index < length word → AreWithin (letter_mark word index) bits
-  pub neighbours : (index : ℕ) → index + 1 < length word → AreWithin (neighbour_mark word index) bits
+  pub letters : HasWindows 1 word bits
+  pub pairs : HasWindows 2 word bits
+  pub fives : HasWindows 5 word bits
+  pub twelves : HasWindows 12 word bits
 
 -- the bits are those of the word's marks, and no others
 pub record IsSignature (word : List ℕ) (bits : ℕ) : Type 0 where

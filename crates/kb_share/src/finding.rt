@@ -18,8 +18,9 @@ use kb_word::{Memory, Word, factor_at};
 use std::alloc::Global;
 
 /// Finds the live lines that have a new line's left side as a factor. It keeps the signatures of
-/// the live lines, and of some that were live, so that few lines are read letter by letter. A finder
-/// that was made for a book, and that saw it since, knows its live lines (`Knows` of `specs/Finding.antt`).
+/// the live lines, and of some that were live, so that few lines are read letter by letter. A new finder
+/// knows any book, and one that serves a book goes on to know it, as lines are made and go and while it is
+/// published or overlaps are entered (`Knows` of `specs/Finding.antt`).
 #[derive(Drop)]
 pub struct Finder {
     /// How many lines of the book were met.

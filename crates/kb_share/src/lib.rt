@@ -11,7 +11,8 @@
 //!   (`Settles` and `SettleSays` of `specs/Settling.antt`). The book keeps its problem and its
 //!   lines, and nothing is published or entered meanwhile.
 //! - [`line_made`] is what follows on each line that is made: other lines are simplified by it. A [`Finder`] finds at
-//!   least all of them, where it knows the book (`Knows` of `specs/Finding.antt`).
+//!   least all of them, where it knows the book (`Knows` of `specs/Finding.antt`). One finder serves a book as long as it
+//!   lives, so that each line is met once.
 //! - Both keep the live rules interreduced (`StaysReduced` of `specs/Interreduced.antt`): where no live left side has
 //!   another one as a factor, none has afterwards; where no live right side is reducible, none is afterwards, unless the
 //!   log is full, with as many lines as it may have. A halt at the length of a word excuses nothing.
@@ -21,8 +22,8 @@
 //! After a line is made of a pending pair, each other line whose left side has the new one as a
 //! factor is taken away, and each line whose right side it reduces is replaced (Holt, Eick, O'Brien,
 //! Handbook of Computational Group Theory, 12.2). Most lines that a new one doesn't concern are told
-//! by their `signature`s, without a look at their words: a word has all bits of its factors (`specs/Signatures.antt`). That settling ends rests on the limit of
-//! lines (`work` of `specs/Work.antt` falls).
+//! by their `signature`s, without a look at their words: a word has all bits of its factors
+//! (`specs/Signatures.antt`). That settling ends rests on the limit of lines (`work` of `specs/Work.antt` falls).
 //!
 //! # Sifting
 //!

@@ -20,21 +20,25 @@ use std::alloc::Global;
 
 /// Makes lines until nothing is pending or a limit is reached. After each line the other lines are
 /// taken away whose left sides have its left side as a factor, and those are replaced whose right
-/// sides it reduces. After want of memory the events that were made stand.
+/// sides it reduces. The finder knows the book's live lines, or is new, and knows them afterwards. After
+/// want of memory the events that were made stand.
 pub fn settle<R: Reducer, W: Watch>(
     alloc: Global,
     book: &mut Book<R>,
+    finder: &mut Finder,
     watch: &mut W,
 ) -> Result<Settled, Memory>
+    requires known { Knows finder.old book.old.course.state }
     ensures settles { Settles book.old.course book.new.course }
     ensures says { IfOk result (SettleSays book.old.course book.new.course) }
+    ensures known { OnOk result (Knows finder.new book.new.course.state) }
     ensures reduced { OnOk result (StaysReduced book.old.course book.new.course) }
 {
     book_is_sound(book);
     if is_idle(book) {
         return Ok(Settled::Nothing);
     }
-    make_all(alloc, book, watch)
+    make_all(alloc, book, finder, watch)
 }
 
 /// Whether nothing is pending.
@@ -48,16 +52,18 @@ fn is_idle<R: Reducer>(book: &Book<R>) -> bool
 fn make_all<R: Reducer, W: Watch>(
     alloc: Global,
     book: &mut Book<R>,
+    finder: &mut Finder,
     watch: &mut W,
 ) -> Result<Settled, Memory>
-    requires { book.old.course.state.pending ≢ [] }
+    requires pending { book.old.course.state.pending ≢ [] }
+    requires known { Knows finder.old book.old.course.state }
     ensures settles { Settles book.old.course book.new.course }
     ensures says { IfOk result (SettleSays book.old.course book.new.course) }
+    ensures known { OnOk result (Knows finder.new book.new.course.state) }
     ensures reduced { OnOk result (StaysReduced book.old.course book.new.course) }
 {
-    let mut finder = Finder::new(alloc);
     'making: loop {
-        if let Some(end) = make_next(alloc, book, &mut finder, watch)? {
+        if let Some(end) = make_next(alloc, book, finder, watch)? {
             return Ok(end);
         }
     }

@@ -1,11 +1,11 @@
 //! Signatures of words, by which most words are seen not to have a factor.
 
-ghost use Rattle.std.specs.Prelude.{◌≡◌, ◌↔◌, ◌+◌, ◌-◌, ◌<◌, ◌^◌, IsTrue, length};
-ghost use Rattle.kb_share.specs.Signatures.{mark, letter_mark, neighbour_mark, AreWithin, AreBitsOf, IsSignature};
+ghost use Rattle.std.specs.Prelude.{◌≡◌, ◌↔◌, ◌+◌, ◌-◌, ◌<◌, IsTrue, length};
+ghost use Rattle.kb_share.specs.Signatures.{mark, window_mark, AreWithin, AreBitsOf, IsSignature};
 
 use kb_word::{Letter, Word};
 
-/// The letters of a word and its pairs of neighbouring letters, each marked as one of 64 bits. A
+/// The windows of a word, each of them so many neighbouring letters, marked as one of 64 bits. A
 /// word has all bits of its factors, so that a word without one of them needs no closer look; a
 /// word with all of them may have the factor or not.
 #[derive(Clone, Copy, Debug, PartialEq, Eq)]
@@ -14,13 +14,18 @@ pub(crate) struct Signature {
 }
 
 impl Signature {
-    /// The signature of a word.
+    /// The signature of a word. Over many letters short windows tell words apart. Over few letters nearly
+    /// every word has all of them, and long ones tell: over an involution and an element of order three
+    /// there are but 12 irreducible words of five letters, and 128 of twelve.
     pub(crate) fn of(word: &Word) -> Signature
         ensures { IsSignature word.now result.bits }
     {
         let letters = word.letters();
         Signature {
-            bits: letter_marks(letters) | neighbour_marks(letters),
+            bits: window_marks(letters, 1)
+                | window_marks(letters, 2)
+                | window_marks(letters, 5)
+                | window_marks(letters, 12),
         }
     }
 
@@ -32,36 +37,27 @@ impl Signature {
     }
 }
 
-/// The marks of the letters.
-fn letter_marks(letters: &[Letter]) -> u64
-    ensures { AreBitsOf (letter_mark letters.now) (length letters.now) result }
+/// The marks of all windows of this size.
+fn window_marks(letters: &[Letter], size: usize) -> u64
+    requires { 0 < size }
+    ensures { AreBitsOf (window_mark size letters.now) (length letters.now + 1 - size) result }
 {
     let mut bits = 0;
-    for letter in letters {
-        bits |= bit_of(0, letter.number() as u64);
+    for window in letters.windows(size) {
+        bits |= bit_of(window);
     }
     bits
 }
 
-/// The marks of the neighbouring letters.
-fn neighbour_marks(letters: &[Letter]) -> u64
-    ensures { AreBitsOf (neighbour_mark letters.now) (length letters.now - 1) result }
+/// The bit of a window, by multiplicative hashing: Knuth, The Art of Computer Programming, volume 3, 6.4.
+fn bit_of(window: &[Letter]) -> u64
+    ensures { result ≡ mark window.now }
 {
-    let mut bits = 0;
-    for place in 0..letters.len().saturating_sub(1) {
-        let (one, next) = (letters[place].number(), letters[place + 1].number());
-        bits |= bit_of(1 + one as u64, next as u64);
+    let mut hash = 0u64;
+    for letter in window {
+        hash = hash
+            .wrapping_mul(0x9e37_79b9_7f4a_7c15)
+            .wrapping_add(letter.number() as u64);
     }
-    bits
-}
-
-/// The bit of a pair of numbers, by multiplicative hashing: Knuth, The Art of Computer Programming, volume 3, 6.4.
-fn bit_of(first: u64, second: u64) -> u64
-    ensures { result ≡ mark first second }
-{
-    let mixed = first
-        .wrapping_mul(0x9e37_79b9_7f4a_7c15)
-        .wrapping_add(second)
-        .wrapping_mul(0xd6e8_feb8_6659_fd93);
-    1u64.wrapping_shl((mixed >> 58) as u32)
+    1u64.wrapping_shl((hash.wrapping_mul(0xd6e8_feb8_6659_fd93) >> 58) as u32)
 }

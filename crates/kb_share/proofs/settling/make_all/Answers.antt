@@ -7,7 +7,7 @@ use Rattle.kb_share.specs.Work.{EndsAt}
 pub making-init : goal.making-init
 making-init g c = record {
   settles = settles_itself c.args.book.now.course;
-  known = c.new-finder.ensures c.args.book.now.course.state;
+  known = c.requires.known;
   reduced = stays_itself c.args.book.now.course;
 }
 
@@ -22,7 +22,7 @@ returns-in-Some-clause-settles g c =
 pub returns-in-Some-clause-says : goal.returns-in-Some-clause-says
 returns-in-Some-clause-says g c =
     let after = c.make_next.new.book.course in
-    ends_settled c.args.book.now.course after c.in-Some.end c.requires
+    ends_settled c.args.book.now.course after c.in-Some.end c.requires.pending
     (some_is (EndsAt after) c.in_ok-end.field-0 c.in-Some.end c.in-Some.is c.in_ok-end.ensures.ends)
 
 pub making-smaller : goal.making-smaller
@@ -32,6 +32,9 @@ pub returns-in-Some-clause-reduced : goal.returns-in-Some-clause-reduced
 returns-in-Some-clause-reduced g c =
     stays_then c.args.book.now.course c.making.book.course c.make_next.new.book.course c.making.invariant.reduced
     c.in_ok-end.ensures.reduced
+
+pub returns-in-Some-clause-known : goal.returns-in-Some-clause-known
+returns-in-Some-clause-known g c = c.in_ok-end.ensures.known
 
 pub making-preserved : goal.making-preserved
 making-preserved g c = record {

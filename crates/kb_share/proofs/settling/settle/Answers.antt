@@ -24,3 +24,9 @@ returns-then-is_idle-clause-reduced g c = stays_itself c.args.book.now.course
 
 pub returns-clause-reduced : goal.returns-clause-reduced
 returns-clause-reduced g c = c.make_all.ensures.reduced
+
+pub returns-then-is_idle-clause-known : goal.returns-then-is_idle-clause-known
+returns-then-is_idle-clause-known g c = c.requires.known
+
+pub returns-clause-known : goal.returns-clause-known
+returns-clause-known g c = c.make_all.ensures.known

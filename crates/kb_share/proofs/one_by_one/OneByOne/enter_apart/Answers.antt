@@ -1,4 +1,4 @@
-use Rattle.std.proofs.Common.{◌≡◌, List, ap, length, sym, ◌∙◌, subst}
+use Rattle.std.proofs.Common.{◌≡◌, ap, length, sym, ◌∙◌, subst}
 use Rattle.kb_share.specs.Passes.{AreAllApart}
 use Rattle.kb_share.specs.Versions.{VersionParts}
 use Rattle.kb_share.proofs.Entries.{enters_so_many}
