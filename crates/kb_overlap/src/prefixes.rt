@@ -71,7 +71,7 @@ pub(crate) fn lengths_of(alloc: Global, automaton: &Automaton) -> Result<Vec<usi
     let mut lengths = Vec::with_capacity(alloc, automaton.edges.len() + 1)?;
     lengths.push(0)?;
     for edge in &automaton.edges {
-        lengths.push(lengths[edge.parent] + 1)?;
+        lengths.push(lengths[edge.parent as usize] + 1)?;
     }
     Ok(lengths)
 }
