@@ -10,14 +10,10 @@ use Rattle.kb_share.specs.declared.found.Found.{Found}
 use Rattle.kb_threads.specs.declared.answers.ShareFault.{ShareFault}
 use Rattle.kb_threads.specs.declared.answers.ShareFault.TheVariants as faults
 
--- the completion of no presentation, which stands where none is shared
+-- the completion of no relations, which stands where none is shared
 abbrev pub nothing : Course
 nothing = record {
-  problem = record {
-    presentation = record { order = ShortLex; names = []; inverses = []; equations = [] };
-    most_lines = 0;
-    most_letters = 0;
-  };
+  problem = record { order = ShortLex; relations = []; most_lines = 0; most_letters = 0 };
   state = record { lines = []; live = []; pending = []; versions = []; halt = None };
   journal = [];
 }
