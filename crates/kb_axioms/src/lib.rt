@@ -1,0 +1,6 @@
+//! The axioms of automatic structures.
+#![tactic(auto)]
+
+mod laws;
+
+pub use laws::{automatic_structures_have_no_certificate, axioms_make_automatic_structures};
