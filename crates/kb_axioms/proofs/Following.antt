@@ -4,9 +4,10 @@ use Rattle.std.proofs.lemmas.List.{append-nil}
 use Rattle.kb_word.specs.WordOrders.{Below}
 use Rattle.kb_word.specs.WordOrderLaws.{word_orders}
 use Rattle.kb_word.specs.Relations.{IsOver}
-use Rattle.kb_word.proofs.PathLemmas.{path_equal, congruent_transitive, congruent_between}
+use Rattle.kb_word.proofs.PathLemmas.{path_equal, congruent_transitive}
 use Rattle.kb_axioms.specs.Structure.{Structure, IsGenerator, AreEqual, Accepts, Multiplies, Follows}
 use Rattle.kb_axioms.specs.Axioms.{SatisfiesAxioms}
+use Rattle.kb_axioms.proofs.Words.{congruent_before}
 use Rattle.kb_axioms.proofs.Letters.{over_first, over_later, over_rest}
 
 -- following two words one after another is following the word that they make
@@ -35,7 +36,7 @@ follows_product structure products (x ∷ w) u v over follows =
     products x (over_first structure.n x w over) u next follows.1.0 in
     let P : List ℕ → Type 0 = λ z. AreEqual structure z (next ++ w) in
     let both : AreEqual structure (u ++ x ∷ w) (next ++ w) =
-    subst P (append_assoc u (x ∷ []) w) (congruent_between [] w first) in
+    subst P (append_assoc u (x ∷ []) w) (congruent_before w first) in
     congruent_transitive both (follows_product structure products w next v (over_later structure.n x w over) follows.1.1)
 
 module _ (structure : Structure) (axioms : SatisfiesAxioms structure) where

@@ -5,3 +5,5 @@ pub mod Following
 pub mod Acting
 pub mod OwnStructure
 pub mod Refuting
+pub mod InverseRelations
+pub mod LabelWords

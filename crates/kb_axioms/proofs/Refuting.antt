@@ -6,14 +6,14 @@ use Rattle.kb_word.specs.WordOrders.{Below}
 use Rattle.kb_word.specs.WordOrderLaws.{word_orders}
 use Rattle.kb_word.specs.Congruence.{IsLeast}
 use Rattle.kb_word.specs.Relations.{IsOver}
-use Rattle.kb_word.proofs.PathLemmas.{congruent_reflexive, congruent_symmetric, congruent_transitive}
+use Rattle.kb_word.proofs.PathLemmas.{congruent_reflexive, congruent_symmetric, congruent_transitive, congruent_sides}
 use Rattle.kb_axioms.specs.Structure.{Structure, IsGenerator, AreOverGenerators, AreEqual, Accepts, Multiplies, Follows, IsRepresentative, IsProduct, IsAutomaticStructure}
 use Rattle.kb_axioms.specs.Certificates.{PrefixNotAccepted, PairOutsideAcceptor, PairOfOtherElements, WordWithoutImage, TwoImages, ExtensionMissing, ImageNotLeast, RelationBroken}
 use Rattle.kb_axioms.specs.Certificates.PrefixNotAccepted.{empty_word, prefix}
 use Rattle.kb_axioms.proofs.Letters.{over_first, over_later, over_last}
 use Rattle.kb_axioms.proofs.Representatives.{empty_representative, prefix_representative, one_representative, least_of_class, not_without_least}
 use Rattle.kb_axioms.proofs.Following.{follows_product}
-use Rattle.kb_axioms.proofs.Words.{equal_over, equal_sides_behind}
+use Rattle.kb_axioms.proofs.Words.{equal_over, congruent_behind}
 
 module _ (structure : Structure) (own : IsAutomaticStructure structure) where
   pub no_prefix_refused : (u : List ℕ) → ¬ PrefixNotAccepted structure u
@@ -106,7 +106,7 @@ module _ (structure : Structure) (own : IsAutomaticStructure structure) where
         let least = at.0 certificate.accepted in
         let left = leads_to_product relation.0 u a letters.0 certificate.left in
         let right = leads_to_product relation.1 u b letters.1 certificate.right in
-        let sides : AreEqual structure (u ++ relation.0) (u ++ relation.1) = equal_sides_behind structure u relation one in
+        let sides : AreEqual structure (u ++ relation.0) (u ++ relation.1) = congruent_behind u (congruent_sides relation one) in
         certificate.different (one_representative structure a b
         (leads_to_representative relation.0 u a letters.0 least certificate.left)
         (leads_to_representative relation.1 u b letters.1 least certificate.right)

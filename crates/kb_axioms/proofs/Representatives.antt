@@ -8,8 +8,9 @@ use Rattle.kb_word.specs.WordOrders.{Below}
 use Rattle.kb_word.specs.WordOrderLaws.{word_orders}
 use Rattle.kb_word.specs.Congruence.{Congruent, IsLeast}
 use Rattle.kb_word.specs.Relations.{IsOver}
-use Rattle.kb_word.proofs.PathLemmas.{congruent_reflexive, congruent_symmetric, congruent_transitive, congruent_between}
+use Rattle.kb_word.proofs.PathLemmas.{congruent_reflexive, congruent_symmetric, congruent_transitive}
 use Rattle.kb_axioms.specs.Structure.{Structure, AreEqual, IsRepresentative}
+use Rattle.kb_axioms.proofs.Words.{congruent_before}
 use Rattle.kb_axioms.proofs.Letters.{over_empty, over_front}
 
 no_descent : {below : List ℕ → List ℕ → Type 0} → IsReductionOrder below → (v : List ℕ) → below v []
@@ -49,7 +50,7 @@ module _ (structure : Structure) where
         letters = over_front structure.n u w whole.letters;
         least = record {
           congruent = congruent_reflexive u;
-          least = λ v equal less. whole.least.least (v ++ w) (congruent_between [] w equal) (order.kept [] w v u less);
+          least = λ v equal less. whole.least.least (v ++ w) (congruent_before w equal) (order.kept [] w v u less);
         };
       }
 

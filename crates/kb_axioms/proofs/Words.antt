@@ -2,21 +2,23 @@
 use Rattle.std.proofs.Common.{◌≡◌, ℕ, List, [], ◌++◌, sym, subst, inl, inr}
 use Rattle.std.proofs.lemmas.List.{append-nil}
 use Rattle.kb_word.specs.Words.{Pair, OneOf}
-use Rattle.kb_word.specs.Congruence.{Touches}
+use Rattle.kb_word.specs.Congruence.{Touches, Congruent}
 use Rattle.kb_word.specs.Relations.{IsOver}
-use Rattle.kb_word.proofs.PathLemmas.{path_keeps, congruent_sides, congruent_between}
+use Rattle.kb_word.proofs.PathLemmas.{path_keeps, congruent_between}
 use Rattle.kb_axioms.specs.Structure.{Structure, AreOverGenerators, AreEqual}
 use Rattle.kb_axioms.proofs.Letters.{over_replaced}
 
--- the sides of a relation are equal behind a word
-pub equal_sides_behind : (structure : Structure) (u : List ℕ) (relation : Pair) → OneOf structure.relations relation
-    → AreEqual structure (u ++ relation.0) (u ++ relation.1)
-equal_sides_behind structure u relation one =
-    let between : AreEqual structure ((u ++ relation.0) ++ []) ((u ++ relation.1) ++ []) =
-    congruent_between u [] (congruent_sides relation one) in
-    let P : List ℕ → Type 0 = λ w. AreEqual structure w ((u ++ relation.1) ++ []) in
-    let Q : List ℕ → Type 0 = λ w. AreEqual structure (u ++ relation.0) w in
-    subst Q (append-nil (u ++ relation.1)) (subst P (append-nil (u ++ relation.0)) between)
+-- congruent words stay so behind a word, and before one
+pub congruent_behind : {allowed : Pair → Type 0} (front : List ℕ) {u v : List ℕ} → Congruent allowed u v
+    → Congruent allowed (front ++ u) (front ++ v)
+congruent_behind {allowed = allowed} front {u = u} {v = v} equal =
+    let P : List ℕ → Type 0 = λ w. Congruent allowed w (front ++ v ++ []) in
+    let Q : List ℕ → Type 0 = λ w. Congruent allowed (front ++ u) w in
+    subst Q (append-nil (front ++ v)) (subst P (append-nil (front ++ u)) (congruent_between front [] equal))
+
+pub congruent_before : {allowed : Pair → Type 0} (after : List ℕ) {u v : List ℕ} → Congruent allowed u v
+    → Congruent allowed (u ++ after) (v ++ after)
+congruent_before after equal = congruent_between [] after equal
 
 module _ (structure : Structure) (over : AreOverGenerators structure) where
   replaced_over : (w other before left right after : List ℕ) → w ≡ before ++ left ++ after → other ≡ before ++ right ++ after

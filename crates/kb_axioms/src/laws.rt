@@ -1,10 +1,13 @@
 //! The laws of automatic structures. They do nothing when they run.
 
-ghost use Rattle.std.specs.Prelude.{ℕ};
+ghost use Rattle.std.specs.Prelude.{ℕ, [], ◌∷◌, ◌++◌};
 ghost use Rattle.kb_word.specs.Words.{Letters};
+ghost use Rattle.kb_word.specs.Relations.{IsOver};
+ghost use Rattle.kb_fsa.specs.Language.{AcceptsPair};
 ghost use Rattle.kb_axioms.specs.Structure.{Structure, AreOverGenerators, IsAutomaticStructure};
 ghost use Rattle.kb_axioms.specs.Axioms.{SatisfiesAxioms};
 ghost use Rattle.kb_axioms.specs.Certificates.{PrefixNotAccepted, PairOutsideAcceptor, PairOfOtherElements, WordWithoutImage, TwoImages, ExtensionMissing, ImageNotLeast, RelationBroken};
+ghost use Rattle.kb_axioms.specs.Labels.{Labelling, AreSame, HasInverses, LabelWordsAgree, letters};
 
 /// A word acceptor and multipliers that satisfy the axioms are the group's own: exactly the least words are accepted,
 /// and each multiplier has exactly the pairs of least words that differ by its generator.
@@ -32,4 +35,12 @@ pub fn automatic_structures_have_no_certificate()
         → ¬ ImageNotLeast structure x u v }
     ensures n8 { (structure : Structure) (index : ℕ) (u a b : Letters) → AreOverGenerators structure
         → IsAutomaticStructure structure → ¬ RelationBroken structure index u a b }
+{}
+
+/// Where the label words of each state are the same element, a multiplier relates only words that differ by its generator.
+pub fn label_words_make_multipliers_true()
+    ensures { (labelling : Labelling) (u v : Letters) → HasInverses labelling → LabelWordsAgree labelling
+        → IsOver (letters labelling) u → IsOver (letters labelling) v
+        → AcceptsPair labelling.multiplier u v
+        → AreSame labelling (u ++ labelling.x ∷ []) v }
 {}

@@ -3,4 +3,7 @@
 
 mod laws;
 
-pub use laws::{automatic_structures_have_no_certificate, axioms_make_automatic_structures};
+pub use laws::{
+    automatic_structures_have_no_certificate, axioms_make_automatic_structures,
+    label_words_make_multipliers_true,
+};
