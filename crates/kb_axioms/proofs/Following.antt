@@ -7,6 +7,7 @@ use Rattle.kb_word.specs.Relations.{IsOver}
 use Rattle.kb_word.proofs.PathLemmas.{path_equal, congruent_transitive}
 use Rattle.kb_axioms.specs.Structure.{Structure, IsGenerator, AreEqual, Accepts, Multiplies, Follows}
 use Rattle.kb_axioms.specs.Axioms.{SatisfiesAxioms}
+use Rattle.kb_axioms.specs.Certificates.{IsTrueToGroup}
 use Rattle.kb_axioms.proofs.Words.{congruent_before}
 use Rattle.kb_axioms.proofs.Letters.{over_first, over_later, over_rest}
 
@@ -26,18 +27,17 @@ follows_split structure (x ∷ w) more u v follows =
     (rest.0, ((follows.0, (follows.1.0, rest.1.0)), rest.1.1))
 
 -- Where multipliers lead only to the products in the group, following a word leads to the product with the word.
-pub follows_product : (structure : Structure)
-    → ((x : ℕ) → IsGenerator structure x → (u v : List ℕ) → Multiplies structure x u v → AreEqual structure (u ++ x ∷ []) v)
+pub follows_product : (structure : Structure) → IsTrueToGroup structure
     → (w u v : List ℕ) → IsOver structure.n w → Follows structure w u v → AreEqual structure (u ++ w) v
-follows_product structure products [] u v over same = path_equal (u ++ []) v (append-nil u ∙ same)
-follows_product structure products (x ∷ w) u v over follows =
+follows_product structure true_to_group [] u v over same = path_equal (u ++ []) v (append-nil u ∙ same)
+follows_product structure true_to_group (x ∷ w) u v over follows =
     let next : List ℕ = follows.0 in
     let first : AreEqual structure (u ++ x ∷ []) next =
-    products x (over_first structure.n x w over) u next follows.1.0 in
+    true_to_group x u next (over_first structure.n x w over) follows.1.0 in
     let P : List ℕ → Type 0 = λ z. AreEqual structure z (next ++ w) in
     let both : AreEqual structure (u ++ x ∷ w) (next ++ w) =
     subst P (append_assoc u (x ∷ []) w) (congruent_before w first) in
-    congruent_transitive both (follows_product structure products w next v (over_later structure.n x w over) follows.1.1)
+    congruent_transitive both (follows_product structure true_to_group w next v (over_later structure.n x w over) follows.1.1)
 
 module _ (structure : Structure) (axioms : SatisfiesAxioms structure) where
   -- A word acts on accepted words: from each of them it leads to a word,
@@ -90,7 +90,7 @@ module _ (structure : Structure) (axioms : SatisfiesAxioms structure) where
   -- a word leads from u to what is equal to u followed by the word
   pub leads_to_equal : (w u v : List ℕ) → IsOver structure.n w → Follows structure w u v → AreEqual structure (u ++ w) v
   leads_to_equal w u v over follows =
-      follows_product structure (λ x generator. let by_letter = axioms.multipliers x generator in by_letter.true_to_the_group) w u
+      follows_product structure (λ x u v generator. let by_letter = axioms.multipliers x generator in by_letter.true_to_the_group u v) w u
       v over follows
 
   -- and to nothing greater

@@ -5,5 +5,6 @@ pub mod Following
 pub mod Acting
 pub mod OwnStructure
 pub mod Refuting
+pub mod Holding
 pub mod InverseRelations
 pub mod LabelWords

@@ -8,7 +8,7 @@ use Rattle.kb_word.specs.Congruence.{IsLeast}
 use Rattle.kb_word.specs.Relations.{IsOver}
 use Rattle.kb_word.proofs.PathLemmas.{congruent_reflexive, congruent_symmetric, congruent_transitive, congruent_sides}
 use Rattle.kb_axioms.specs.Structure.{Structure, IsGenerator, AreOverGenerators, AreEqual, Accepts, Multiplies, Follows, IsRepresentative, IsProduct, IsAutomaticStructure}
-use Rattle.kb_axioms.specs.Certificates.{PrefixNotAccepted, PairOutsideAcceptor, PairOfOtherElements, WordWithoutImage, TwoImages, ExtensionMissing, ImageNotLeast, RelationBroken}
+use Rattle.kb_axioms.specs.Certificates.{PrefixNotAccepted, PairOutsideAcceptor, PairOfOtherElements, WordWithoutImage, TwoImages, ExtensionMissing, ImageNotLeast, RelationBroken, HasNoCertificate}
 use Rattle.kb_axioms.specs.Certificates.PrefixNotAccepted.{empty_word, prefix}
 use Rattle.kb_axioms.proofs.Letters.{over_first, over_later, over_last}
 use Rattle.kb_axioms.proofs.Representatives.{empty_representative, prefix_representative, one_representative, least_of_class, not_without_least}
@@ -16,7 +16,7 @@ use Rattle.kb_axioms.proofs.Following.{follows_product}
 use Rattle.kb_axioms.proofs.Words.{equal_over, congruent_behind}
 
 module _ (structure : Structure) (own : IsAutomaticStructure structure) where
-  pub no_prefix_refused : (u : List ℕ) → ¬ PrefixNotAccepted structure u
+  no_prefix_refused : (u : List ℕ) → ¬ PrefixNotAccepted structure u
   no_prefix_refused u (empty_word same refused) =
       let P : List ℕ → Type 0 = Accepts structure in
       let empty = own.acceptor [] in
@@ -30,7 +30,7 @@ module _ (structure : Structure) (own : IsAutomaticStructure structure) where
   product : (x : ℕ) → IsGenerator structure x → (u v : List ℕ) → Multiplies structure x u v → IsProduct structure x u v
   product x generator u v multiplies = let by_letter = own.multipliers x generator u v in by_letter.0 multiplies
 
-  pub no_pair_outside : (x : ℕ) (u v : List ℕ) → ¬ PairOutsideAcceptor structure x u v
+  no_pair_outside : (x : ℕ) (u v : List ℕ) → ¬ PairOutsideAcceptor structure x u v
   no_pair_outside x u v certificate =
       let pair = product x certificate.generator u v certificate.multiplies in
       let first = own.acceptor u in
@@ -40,19 +40,19 @@ module _ (structure : Structure) (own : IsAutomaticStructure structure) where
         | inr refused ↦ refused (second.1 pair.second)
       ]
 
-  pub no_other_elements : (x : ℕ) (u v : List ℕ) → ¬ PairOfOtherElements structure x u v
+  no_other_elements : (x : ℕ) (u v : List ℕ) → ¬ PairOfOtherElements structure x u v
   no_other_elements x u v certificate =
       let pair = product x certificate.generator u v certificate.multiplies in
       certificate.different pair.equal
 
-  pub no_two_images : (x : ℕ) (u v other : List ℕ) → ¬ TwoImages structure x u v other
+  no_two_images : (x : ℕ) (u v other : List ℕ) → ¬ TwoImages structure x u v other
   no_two_images x u v other certificate =
       let one = product x certificate.generator u v certificate.one in
       let two = product x certificate.generator u other certificate.two in
       certificate.different (one_representative structure v other one.second two.second
       (congruent_transitive (congruent_symmetric one.equal) two.equal))
 
-  pub no_missing_extension : (x : ℕ) (u : List ℕ) → ¬ ExtensionMissing structure x u
+  no_missing_extension : (x : ℕ) (u : List ℕ) → ¬ ExtensionMissing structure x u
   no_missing_extension x u certificate =
       let longer = u ++ x ∷ [] in
       let whole = own.acceptor longer in
@@ -64,7 +64,7 @@ module _ (structure : Structure) (own : IsAutomaticStructure structure) where
         equal = congruent_reflexive longer;
       }))
 
-  pub no_greater_image : (x : ℕ) (u v : List ℕ) → ¬ ImageNotLeast structure x u v
+  no_greater_image : (x : ℕ) (u v : List ℕ) → ¬ ImageNotLeast structure x u v
   no_greater_image x u v certificate =
       let pair = product x certificate.generator u v certificate.multiplies in
       pair.second.least.least (u ++ x ∷ []) (congruent_symmetric pair.equal) certificate.greater
@@ -78,11 +78,11 @@ module _ (structure : Structure) (own : IsAutomaticStructure structure) where
 
   leads_to_product : (w u v : List ℕ) → IsOver structure.n w → Follows structure w u v → AreEqual structure (u ++ w) v
   leads_to_product w u v over follows =
-      follows_product structure (λ x generator u v multiplies. let pair = product x generator u v multiplies in pair.equal) w u v over
+      follows_product structure (λ x u v generator multiplies. let pair = product x generator u v multiplies in pair.equal) w u v over
       follows
 
   module _ (over : AreOverGenerators structure) where
-    pub no_word_without_image : (x : ℕ) (u : List ℕ) → ¬ WordWithoutImage structure x u
+    no_word_without_image : (x : ℕ) (u : List ℕ) → ¬ WordWithoutImage structure x u
     no_word_without_image x u certificate =
         let longer = u ++ x ∷ [] in
         let order = word_orders structure.order in
@@ -97,7 +97,7 @@ module _ (structure : Structure) (own : IsAutomaticStructure structure) where
             })) in
         not_without_least structure.relations longer longer (order.well_founded longer) (congruent_reflexive longer) none
 
-    pub no_relation_broken : (index : ℕ) (u a b : List ℕ) → ¬ RelationBroken structure index u a b
+    no_relation_broken : (index : ℕ) (u a b : List ℕ) → ¬ RelationBroken structure index u a b
     no_relation_broken index u a b certificate =
         let relation = certificate.relation in
         let one : OneOf structure.relations relation = (index, certificate.is_relation) in
@@ -111,3 +111,15 @@ module _ (structure : Structure) (own : IsAutomaticStructure structure) where
         (leads_to_representative relation.0 u a letters.0 least certificate.left)
         (leads_to_representative relation.1 u b letters.1 least certificate.right)
         (congruent_transitive (congruent_symmetric left) (congruent_transitive sides right)))
+
+    pub no_certificate : HasNoCertificate structure
+    no_certificate = record {
+      n1 = no_prefix_refused;
+      n2 = no_pair_outside;
+      n3 = no_other_elements;
+      n4 = no_word_without_image;
+      n5 = no_two_images;
+      n6 = no_missing_extension;
+      n7 = no_greater_image;
+      n8 = no_relation_broken;
+    }

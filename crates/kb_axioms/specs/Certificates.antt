@@ -57,3 +57,26 @@ pub record RelationBroken (structure : Structure) (index : ℕ) (u a b : List �
   pub left : Follows structure relation.0 u a
   pub right : Follows structure relation.1 u b
   pub different : a ≢ b
+
+-- there is no certificate against the structure
+pub record HasNoCertificate (structure : Structure) : Type 0 where
+  pub n1 : (u : List ℕ) → ¬ PrefixNotAccepted structure u
+  pub n2 : (x : ℕ) (u v : List ℕ) → ¬ PairOutsideAcceptor structure x u v
+  pub n3 : (x : ℕ) (u v : List ℕ) → ¬ PairOfOtherElements structure x u v
+  pub n4 : (x : ℕ) (u : List ℕ) → ¬ WordWithoutImage structure x u
+  pub n5 : (x : ℕ) (u v other : List ℕ) → ¬ TwoImages structure x u v other
+  pub n6 : (x : ℕ) (u : List ℕ) → ¬ ExtensionMissing structure x u
+  pub n7 : (x : ℕ) (u v : List ℕ) → ¬ ImageNotLeast structure x u v
+  pub n8 : (index : ℕ) (u a b : List ℕ) → ¬ RelationBroken structure index u a b
+
+-- What the lack of certificates N4 and N3 says only that it can't fail: each accepted word has an image under each
+-- generator,
+abbrev pub HasImages : Structure → Type 0
+HasImages structure = (x : ℕ) (u : List ℕ) → IsGenerator structure x → Accepts structure u
+    → (v : List ℕ) × Multiplies structure x u v
+
+-- and the words of each pair in a multiplier differ by its generator in the group.
+abbrev pub IsTrueToGroup : Structure → Type 0
+IsTrueToGroup structure = (x : ℕ) (u v : List ℕ) → IsGenerator structure x
+    → Multiplies structure x u v
+    → AreEqual structure (u ++ x ∷ []) v

@@ -1,12 +1,12 @@
 //! The laws of automatic structures. They do nothing when they run.
 
-ghost use Rattle.std.specs.Prelude.{ℕ, [], ◌∷◌, ◌++◌};
+ghost use Rattle.std.specs.Prelude.{[], ◌∷◌, ◌++◌};
 ghost use Rattle.kb_word.specs.Words.{Letters};
 ghost use Rattle.kb_word.specs.Relations.{IsOver};
 ghost use Rattle.kb_fsa.specs.Language.{AcceptsPair};
 ghost use Rattle.kb_axioms.specs.Structure.{Structure, AreOverGenerators, IsAutomaticStructure};
 ghost use Rattle.kb_axioms.specs.Axioms.{SatisfiesAxioms};
-ghost use Rattle.kb_axioms.specs.Certificates.{PrefixNotAccepted, PairOutsideAcceptor, PairOfOtherElements, WordWithoutImage, TwoImages, ExtensionMissing, ImageNotLeast, RelationBroken};
+ghost use Rattle.kb_axioms.specs.Certificates.{HasNoCertificate, HasImages, IsTrueToGroup};
 ghost use Rattle.kb_axioms.specs.Labels.{Labelling, AreSame, HasInverses, LabelWordsAgree, letters};
 
 /// A word acceptor and multipliers that satisfy the axioms are the group's own: exactly the least words are accepted,
@@ -17,24 +17,17 @@ pub fn axioms_make_automatic_structures()
         → IsAutomaticStructure structure }
 {}
 
-/// Where a word acceptor and multipliers are the group's own, there is no certificate that they aren't.
+/// Against the group's own word acceptor and multipliers there is no certificate.
 pub fn automatic_structures_have_no_certificate()
-    ensures n1 { (structure : Structure) (u : Letters) → IsAutomaticStructure structure
-        → ¬ PrefixNotAccepted structure u }
-    ensures n2 { (structure : Structure) (x : ℕ) (u v : Letters) → IsAutomaticStructure structure
-        → ¬ PairOutsideAcceptor structure x u v }
-    ensures n3 { (structure : Structure) (x : ℕ) (u v : Letters) → IsAutomaticStructure structure
-        → ¬ PairOfOtherElements structure x u v }
-    ensures n4 { (structure : Structure) (x : ℕ) (u : Letters) → AreOverGenerators structure
-        → IsAutomaticStructure structure → ¬ WordWithoutImage structure x u }
-    ensures n5 { (structure : Structure) (x : ℕ) (u v other : Letters) → IsAutomaticStructure structure
-        → ¬ TwoImages structure x u v other }
-    ensures n6 { (structure : Structure) (x : ℕ) (u : Letters) → IsAutomaticStructure structure
-        → ¬ ExtensionMissing structure x u }
-    ensures n7 { (structure : Structure) (x : ℕ) (u v : Letters) → IsAutomaticStructure structure
-        → ¬ ImageNotLeast structure x u v }
-    ensures n8 { (structure : Structure) (index : ℕ) (u a b : Letters) → AreOverGenerators structure
-        → IsAutomaticStructure structure → ¬ RelationBroken structure index u a b }
+    ensures { (structure : Structure) → AreOverGenerators structure → IsAutomaticStructure structure
+        → HasNoCertificate structure }
+{}
+
+/// A word acceptor and multipliers satisfy the axioms where there is no certificate against them, images are known,
+/// and the multipliers are true to the group.
+pub fn axioms_hold_without_certificate()
+    ensures { (structure : Structure) → HasNoCertificate structure → HasImages structure
+        → IsTrueToGroup structure → SatisfiesAxioms structure }
 {}
 
 /// Where the label words of each state are the same element, a multiplier relates only words that differ by its generator.
