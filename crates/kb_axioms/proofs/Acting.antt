@@ -1,12 +1,12 @@
 -- Congruent words act alike.
 use Rattle.std.proofs.Common.{◌≡◌, ℕ, List, ◌++◌, sym, subst, inl, inr}
-use Rattle.kb_word.specs.Words.{Pair, OneOf}
-use Rattle.kb_word.specs.Congruence.{Replaces, Touches}
+use Rattle.kb_word.specs.Words.{OneOf}
+use Rattle.kb_word.specs.Congruence.{Touches}
 use Rattle.kb_word.specs.Relations.{IsOver}
 use Rattle.kb_word.proofs.PathLemmas.{path_keeps}
 use Rattle.kb_axioms.specs.Structure.{Structure, AreOverGenerators, AreEqual, Accepts, Follows}
 use Rattle.kb_axioms.specs.Axioms.{SatisfiesAxioms, ActAlike}
-use Rattle.kb_axioms.proofs.Letters.{over_front, over_rest, over_replaced}
+use Rattle.kb_axioms.proofs.Letters.{over_front, over_replaced}
 use Rattle.kb_axioms.proofs.Following.{follows_join, follows_split, leads_somewhere, leads_inside}
 
 -- the word over the generators leads from u to v

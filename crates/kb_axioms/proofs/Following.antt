@@ -5,7 +5,7 @@ use Rattle.kb_word.specs.WordOrders.{Below}
 use Rattle.kb_word.specs.WordOrderLaws.{word_orders}
 use Rattle.kb_word.specs.Relations.{IsOver}
 use Rattle.kb_word.proofs.PathLemmas.{path_equal, congruent_transitive}
-use Rattle.kb_axioms.specs.Structure.{Structure, IsGenerator, AreEqual, Accepts, Multiplies, Follows}
+use Rattle.kb_axioms.specs.Structure.{Structure, AreEqual, Accepts, Follows}
 use Rattle.kb_axioms.specs.Axioms.{SatisfiesAxioms}
 use Rattle.kb_axioms.specs.Certificates.{IsTrueToGroup}
 use Rattle.kb_axioms.proofs.Words.{congruent_before}

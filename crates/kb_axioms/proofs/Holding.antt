@@ -7,7 +7,7 @@ use Rattle.kb_word.specs.Words.{Less}
 use Rattle.kb_word.specs.Relations.{IsOver}
 use Rattle.kb_axioms.specs.Structure.{Structure, IsGenerator, Accepts, Multiplies}
 use Rattle.kb_axioms.specs.Axioms.{SatisfiesMultiplierAxioms, ActAlike, SatisfiesAxioms}
-use Rattle.kb_axioms.specs.Certificates.{PrefixNotAccepted, HasNoCertificate, HasImages, IsTrueToGroup}
+use Rattle.kb_axioms.specs.Certificates.{HasNoCertificate, HasImages, IsTrueToGroup}
 use Rattle.kb_axioms.specs.Certificates.PrefixNotAccepted.{empty_word, prefix}
 use Rattle.kb_axioms.proofs.Letters.{over_empty, over_front}
 
@@ -63,9 +63,9 @@ module _ (structure : Structure) (none : HasNoCertificate structure) where
     multiplier_axioms x generator = record {
       inside = λ u v multiplies. (
         accepts_decided structure u multiplies.first_letters
-        (λ refused. none.n2 x u v (record { generator = generator; multiplies = multiplies; outside = inl refused })),
+            (λ refused. none.n2 x u v (record { generator = generator; multiplies = multiplies; outside = inl refused })),
         accepts_decided structure v multiplies.second_letters
-        (λ refused. none.n2 x u v (record { generator = generator; multiplies = multiplies; outside = inr refused })),
+            (λ refused. none.n2 x u v (record { generator = generator; multiplies = multiplies; outside = inr refused })),
       );
       total = λ u accepted. images x u generator accepted;
       single_valued = λ u v other one two. same_word v other

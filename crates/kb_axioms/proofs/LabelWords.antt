@@ -1,13 +1,14 @@
 -- Where the label words of each state agree, the label of a state is what the words read so far differ by.
-use Rattle.std.proofs.Common.{◌≡◌, ◌≢◌, ℕ, ◌+◌, ◌<◌, ◌≤◌, IsTrue, List, [], ◌∷◌, ◌++◌, All, Some, refl, sym, ap, ◌∙◌, subst, inl, inr, arith, append_assoc}
+use Rattle.std.proofs.Common.{◌≡◌, ℕ, ◌+◌, ◌<◌, ◌≤◌, List, [], ◌∷◌, ◌++◌, All, Some, refl, sym, ap, ◌∙◌, subst, inl, inr, arith, append_assoc}
 use Rattle.std.specs.Option.{option_map, option_and_then}
 use Rattle.std.proofs.lemmas.Bool.{cases_eq, eq-eqb, ne_eqb}
 use Rattle.std.proofs.lemmas.List.{append-nil}
 use Rattle.std.proofs.lemmas.List.Elements.{All-head, All-tail}
 use Rattle.kb_word.specs.Words.{OneOf}
-use Rattle.kb_word.specs.Relations.{IsOver, inverse_letter, inverse_word, relations_of}
+use Rattle.kb_word.specs.Congruence.{Congruent}
+use Rattle.kb_word.specs.Relations.{IsOver, inverse_letter, inverse_word}
 use Rattle.kb_word.proofs.PathLemmas.{congruent_reflexive, congruent_symmetric, congruent_transitive}
-use Rattle.kb_fsa.specs.Table.{Table, step, state_after, AcceptsFrom, after}
+use Rattle.kb_fsa.specs.Table.{step, state_after, AcceptsFrom}
 use Rattle.kb_fsa.specs.PairSymbols.{first_letter, second_letter}
 use Rattle.kb_fsa.specs.Padding.{padded, letters_of, first_letters, second_letters}
 use Rattle.kb_fsa.specs.Language.{AcceptsPair}
@@ -15,10 +16,14 @@ use Rattle.kb_fsa.proofs.PairSymbolLaws.{IsPairSymbol, first_within}
 use Rattle.kb_fsa.proofs.Paddings.{symbols_of_padded}
 use Rattle.kb_fsa.proofs.Unpadding.{first_letters-padded, second_letters-padded}
 use Rattle.kb_fsa.proofs.Lookups.{after-append}
-use Rattle.kb_axioms.specs.Labels.{Labelling, AreSame, letters, HasInverses, LiesOnAcceptedText, IsLabelWord, LabelWordsAgree}
+use Rattle.kb_axioms.specs.Labels.{Labelling, relations, generators_of, HaveInverses, LiesOnAcceptedText, LabelWordsAgree}
 use Rattle.kb_axioms.specs.Labels.IsLabelWord.{own, at_start, at_end, along}
 use Rattle.kb_axioms.proofs.Words.{congruent_behind, congruent_before}
 use Rattle.kb_axioms.proofs.InverseRelations.{letter_cancels}
+
+-- the words are the same element of the group
+abbrev AreSame : Labelling → List ℕ → List ℕ → Type 0
+AreSame labelling = Congruent (OneOf (relations labelling))
 
 -- the word has an inverse, with which it cancels
 record Cancels (labelling : Labelling) (word : List ℕ) : Type 0 where
@@ -37,10 +42,10 @@ letter_alone_cancels labelling a b is = record {
 }
 
 -- so has a letter, and the padding, which counts as nothing
-letters_cancel : (labelling : Labelling) (number : ℕ) → HasInverses labelling → 0 < number → number ≤ letters labelling + 1
-    → Cancels labelling (letters_of (letters labelling) number)
+letters_cancel : (labelling : Labelling) (number : ℕ) → HaveInverses labelling → 0 < number → number ≤ generators_of labelling + 1
+    → Cancels labelling (letters_of (generators_of labelling) number)
 letters_cancel labelling number inverses positive within =
-    let n = letters labelling in
+    let n = generators_of labelling in
     let P : List ℕ → Type 0 = Cancels labelling in
     elim (cases_eq number (n + 1)) [
       | inl padding ↦
@@ -65,12 +70,12 @@ one_more labelling front inverse d back next u v cancels leads rest =
     congruent_transitive (congruent_behind front rest)
     (congruent_transitive both (congruent_before (d ++ (back ++ v)) cancels))
 
-module _ (labelling : Labelling) (inverses : HasInverses labelling) (agree : LabelWordsAgree labelling) where
+module _ (labelling : Labelling) (inverses : HaveInverses labelling) (agree : LabelWordsAgree labelling) where
   -- From a state that is reached, the rest of an accepted text has words that differ by x, but for the state's label.
-  rest_differs : (text before : List ℕ) (state : ℕ) → All (IsPairSymbol (letters labelling)) text
+  rest_differs : (text before : List ℕ) (state : ℕ) → All (IsPairSymbol (generators_of labelling)) text
       → state_after labelling.multiplier.table before ≡ state → AcceptsFrom labelling.multiplier.table state text
-      → AreSame labelling (first_letters (letters labelling) text ++ labelling.x ∷ [])
-      (labelling.label state ++ second_letters (letters labelling) text)
+      → AreSame labelling (first_letters (generators_of labelling) text ++ labelling.x ∷ [])
+      (labelling.label state ++ second_letters (generators_of labelling) text)
   rest_differs [] before state symbols leads accepts =
       let lies : LiesOnAcceptedText labelling.multiplier.table state = record { text = before; leads = leads; live = ([], accepts) } in
       let same : AreSame labelling (labelling.x ∷ []) (labelling.label state) =
@@ -78,7 +83,7 @@ module _ (labelling : Labelling) (inverses : HasInverses labelling) (agree : Lab
       let P : List ℕ → Type 0 = AreSame labelling (labelling.x ∷ []) in
       subst P (sym (append-nil (labelling.label state))) same
   rest_differs (symbol ∷ text) before state symbols leads accepts =
-      let n = letters labelling in
+      let n = generators_of labelling in
       let table = labelling.multiplier.table in
       let next : ℕ = step table state symbol in
       let here : LiesOnAcceptedText table state = record { text = before; leads = leads; live = (symbol ∷ text, accepts) } in
@@ -99,10 +104,10 @@ module _ (labelling : Labelling) (inverses : HasInverses labelling) (agree : Lab
       (first_letters n text ++ labelling.x ∷ []) (second_letters n text) first.cancels step_leads rest)
 
   -- the multiplier relates only words that differ by x
-  pub pairs_differ : (u v : List ℕ) → IsOver (letters labelling) u → IsOver (letters labelling) v
-      → AcceptsPair labelling.multiplier u v → AreSame labelling (u ++ labelling.x ∷ []) v
+  pub pairs_differ : (u v : List ℕ) → IsOver (generators_of labelling) u → IsOver (generators_of labelling) v
+      → AcceptsPair labelling.multiplier u v → Congruent (OneOf (relations labelling)) (u ++ labelling.x ∷ []) v
   pairs_differ u v over also accepts =
-      let n = letters labelling in
+      let n = generators_of labelling in
       let table = labelling.multiplier.table in
       let text : List ℕ = padded n u v in
       let start : List ℕ = labelling.label table.initial in

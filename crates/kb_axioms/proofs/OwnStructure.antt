@@ -1,10 +1,7 @@
 -- A structure that satisfies the axioms is the group's own.
-use Rattle.std.proofs.Common.{◌≡◌, ◌↔◌, ℕ, List, [], ◌∷◌, ◌++◌, sym, subst, inl, inr}
-use Rattle.kb_word.specs.WordOrders.{Below}
-use Rattle.kb_word.specs.WordOrderLaws.{word_orders}
-use Rattle.kb_word.specs.Relations.{IsOver}
+use Rattle.std.proofs.Common.{ℕ, List, [], sym, subst}
 use Rattle.kb_word.proofs.PathLemmas.{congruent_reflexive, congruent_symmetric, congruent_transitive}
-use Rattle.kb_axioms.specs.Structure.{Structure, IsGenerator, AreOverGenerators, AreEqual, Accepts, Multiplies, Follows, IsRepresentative, IsProduct, IsAutomaticStructure}
+use Rattle.kb_axioms.specs.Structure.{Structure, IsGenerator, AreOverGenerators, AreEqual, Accepts, Multiplies, IsRepresentative, IsProduct, IsAutomaticStructure}
 use Rattle.kb_axioms.specs.Axioms.{SatisfiesAxioms}
 use Rattle.kb_axioms.proofs.Representatives.{one_representative}
 use Rattle.kb_axioms.proofs.Following.{leads_somewhere, leads_inside, leads_to_itself, leads_to_equal, leads_to_no_greater}

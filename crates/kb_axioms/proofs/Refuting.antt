@@ -1,6 +1,5 @@
 -- Where a structure is the group's own, there is no certificate that it isn't.
-use Rattle.std.proofs.Common.{◌≡◌, ◌≢◌, ℕ, List, [], ◌∷◌, ◌++◌, Some, sym, subst, inl, inr}
-use Rattle.std.specs.Prelude.{slice_get}
+use Rattle.std.proofs.Common.{ℕ, List, [], ◌∷◌, ◌++◌, sym, subst, inl, inr}
 use Rattle.kb_word.specs.Words.{OneOf}
 use Rattle.kb_word.specs.WordOrders.{Below}
 use Rattle.kb_word.specs.WordOrderLaws.{word_orders}
@@ -8,7 +7,7 @@ use Rattle.kb_word.specs.Congruence.{IsLeast}
 use Rattle.kb_word.specs.Relations.{IsOver}
 use Rattle.kb_word.proofs.PathLemmas.{congruent_reflexive, congruent_symmetric, congruent_transitive, congruent_sides}
 use Rattle.kb_axioms.specs.Structure.{Structure, IsGenerator, AreOverGenerators, AreEqual, Accepts, Multiplies, Follows, IsRepresentative, IsProduct, IsAutomaticStructure}
-use Rattle.kb_axioms.specs.Certificates.{PrefixNotAccepted, PairOutsideAcceptor, PairOfOtherElements, WordWithoutImage, TwoImages, ExtensionMissing, ImageNotLeast, RelationBroken, HasNoCertificate}
+use Rattle.kb_axioms.specs.Certificates.{PrefixNotAccepted, PairOutsideAcceptor, PairOfDifferentElements, WordWithoutImage, TwoImages, MissingExtension, ImageNotLeast, RelationBroken, HasNoCertificate}
 use Rattle.kb_axioms.specs.Certificates.PrefixNotAccepted.{empty_word, prefix}
 use Rattle.kb_axioms.proofs.Letters.{over_first, over_later, over_last}
 use Rattle.kb_axioms.proofs.Representatives.{empty_representative, prefix_representative, one_representative, least_of_class, not_without_least}
@@ -40,7 +39,7 @@ module _ (structure : Structure) (own : IsAutomaticStructure structure) where
         | inr refused ↦ refused (second.1 pair.second)
       ]
 
-  no_other_elements : (x : ℕ) (u v : List ℕ) → ¬ PairOfOtherElements structure x u v
+  no_other_elements : (x : ℕ) (u v : List ℕ) → ¬ PairOfDifferentElements structure x u v
   no_other_elements x u v certificate =
       let pair = product x certificate.generator u v certificate.multiplies in
       certificate.different pair.equal
@@ -52,7 +51,7 @@ module _ (structure : Structure) (own : IsAutomaticStructure structure) where
       certificate.different (one_representative structure v other one.second two.second
       (congruent_transitive (congruent_symmetric one.equal) two.equal))
 
-  no_missing_extension : (x : ℕ) (u : List ℕ) → ¬ ExtensionMissing structure x u
+  no_missing_extension : (x : ℕ) (u : List ℕ) → ¬ MissingExtension structure x u
   no_missing_extension x u certificate =
       let longer = u ++ x ∷ [] in
       let whole = own.acceptor longer in
@@ -89,12 +88,12 @@ module _ (structure : Structure) (own : IsAutomaticStructure structure) where
         let letters : IsOver structure.n longer = over_last structure.n u x certificate.accepted.letters certificate.generator in
         let at = own.acceptor u in
         let none : (m : List ℕ) → ¬ IsLeast (Below structure.order) structure.relations longer m = λ m least.
-            let by_letter = own.multipliers x certificate.generator u m in
-            certificate.no_image m (by_letter.1 (record {
-              first = at.0 certificate.accepted;
-              second = least_of_class structure longer m (equal_over structure over longer m least.congruent letters) least;
-              equal = least.congruent;
-            })) in
+        let by_letter = own.multipliers x certificate.generator u m in
+        certificate.no_image m (by_letter.1 (record {
+          first = at.0 certificate.accepted;
+          second = least_of_class structure longer m (equal_over structure over longer m least.congruent letters) least;
+          equal = least.congruent;
+        })) in
         not_without_least structure.relations longer longer (order.well_founded longer) (congruent_reflexive longer) none
 
     no_relation_broken : (index : ℕ) (u a b : List ℕ) → ¬ RelationBroken structure index u a b

@@ -1,12 +1,12 @@
--- The axioms of automatic structures whose words are the least of their classes.
--- Epstein et al., Word Processing in Groups, 5.1; Holt, Eick, O'Brien, Handbook of Computational Group Theory, 13.2.
+-- The axioms of automatic structures whose accepted words are the least ones. Epstein et al., Word Processing in Groups,
+-- chapter 5; Holt, Eick, O'Brien, Handbook of Computational Group Theory, chapter 13.
 use Rattle.std.specs.Prelude.{◌≡◌, ℕ, List, [], ◌∷◌, ◌++◌}
 use Rattle.kb_word.specs.Words.{Pair, OneOf}
 use Rattle.kb_word.specs.WordOrders.{Below}
 use Rattle.kb_axioms.specs.Structure.{Structure, IsGenerator, AreEqual, Accepts, Multiplies, Follows}
 
--- The axioms of a generator's multiplier: it relates accepted words alone, each of them to exactly one word, and to its
--- extension by the generator where that is accepted; to none that is greater than that extension, or another element.
+-- The axioms of a generator's multiplier: it relates accepted words alone, each of them to exactly one word, which is
+-- its extension by the generator where that is accepted, is no greater than that, and is the same element.
 pub record SatisfiesMultiplierAxioms (structure : Structure) (x : ℕ) : Type 0 where
   pub inside : (u v : List ℕ) → Multiplies structure x u v
       → Accepts structure u × Accepts structure v

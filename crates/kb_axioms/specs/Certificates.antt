@@ -1,10 +1,10 @@
--- Certificates that a structure isn't the group's own. Each shows words for which an axiom doesn't hold.
+-- Certificates that a structure isn't the group's own: words for which an axiom doesn't hold.
 use Rattle.std.specs.Prelude.{◌≡◌, ◌≢◌, ◌⊎◌, ℕ, List, [], ◌∷◌, ◌++◌, slice_get, Some}
 use Rattle.kb_word.specs.Words.{Pair}
 use Rattle.kb_word.specs.WordOrders.{Below}
 use Rattle.kb_axioms.specs.Structure.{Structure, IsGenerator, AreEqual, Accepts, Multiplies, Follows}
 
--- Certificate N1: the word is accepted, and a prefix of it isn't; or it is the empty word, and isn't accepted itself.
+-- certificate N1: the word is accepted, and a prefix of it isn't; or it is the empty word, and isn't accepted
 pub data PrefixNotAccepted (structure : Structure) (u : List ℕ) : Type 0 where
   empty_word : u ≡ [] → ¬ Accepts structure u → PrefixNotAccepted structure u
   prefix : (front rest : List ℕ) → u ≡ front ++ rest → Accepts structure u
@@ -17,8 +17,8 @@ pub record PairOutsideAcceptor (structure : Structure) (x : ℕ) (u v : List ℕ
   pub multiplies : Multiplies structure x u v
   pub outside : ¬ Accepts structure u ⊎ ¬ Accepts structure v
 
--- certificate N3: the multiplier of x has a pair of words that don't differ by x in the group
-pub record PairOfOtherElements (structure : Structure) (x : ℕ) (u v : List ℕ) : Type 0 where
+-- certificate N3: the multiplier of x has a pair of words that don't differ by x
+pub record PairOfDifferentElements (structure : Structure) (x : ℕ) (u v : List ℕ) : Type 0 where
   pub generator : IsGenerator structure x
   pub multiplies : Multiplies structure x u v
   pub different : ¬ AreEqual structure (u ++ x ∷ []) v
@@ -37,7 +37,7 @@ pub record TwoImages (structure : Structure) (x : ℕ) (u v other : List ℕ) : 
   pub different : v ≢ other
 
 -- certificate N6: u followed by x is accepted, and the multiplier of x doesn't lead there from u
-pub record ExtensionMissing (structure : Structure) (x : ℕ) (u : List ℕ) : Type 0 where
+pub record MissingExtension (structure : Structure) (x : ℕ) (u : List ℕ) : Type 0 where
   pub generator : IsGenerator structure x
   pub accepted : Accepts structure (u ++ x ∷ [])
   pub missing : ¬ Multiplies structure x u (u ++ x ∷ [])
@@ -62,20 +62,21 @@ pub record RelationBroken (structure : Structure) (index : ℕ) (u a b : List �
 pub record HasNoCertificate (structure : Structure) : Type 0 where
   pub n1 : (u : List ℕ) → ¬ PrefixNotAccepted structure u
   pub n2 : (x : ℕ) (u v : List ℕ) → ¬ PairOutsideAcceptor structure x u v
-  pub n3 : (x : ℕ) (u v : List ℕ) → ¬ PairOfOtherElements structure x u v
+  pub n3 : (x : ℕ) (u v : List ℕ) → ¬ PairOfDifferentElements structure x u v
   pub n4 : (x : ℕ) (u : List ℕ) → ¬ WordWithoutImage structure x u
   pub n5 : (x : ℕ) (u v other : List ℕ) → ¬ TwoImages structure x u v other
-  pub n6 : (x : ℕ) (u : List ℕ) → ¬ ExtensionMissing structure x u
+  pub n6 : (x : ℕ) (u : List ℕ) → ¬ MissingExtension structure x u
   pub n7 : (x : ℕ) (u v : List ℕ) → ¬ ImageNotLeast structure x u v
   pub n8 : (index : ℕ) (u a b : List ℕ) → ¬ RelationBroken structure index u a b
 
--- What the lack of certificates N4 and N3 says only that it can't fail: each accepted word has an image under each
--- generator,
+-- Each accepted word has an image under each generator. That there is no certificate N4 says only that it can't be that
+-- there is none.
 abbrev pub HasImages : Structure → Type 0
 HasImages structure = (x : ℕ) (u : List ℕ) → IsGenerator structure x → Accepts structure u
     → (v : List ℕ) × Multiplies structure x u v
 
--- and the words of each pair in a multiplier differ by its generator in the group.
+-- The words of each pair in a multiplier differ by its generator. That there is no certificate N3 says only that it
+-- can't be that they don't.
 abbrev pub IsTrueToGroup : Structure → Type 0
 IsTrueToGroup structure = (x : ℕ) (u v : List ℕ) → IsGenerator structure x
     → Multiplies structure x u v

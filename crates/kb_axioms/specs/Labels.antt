@@ -1,6 +1,5 @@
--- Labels of a multiplier's states, which show that it relates only words that differ by its generator. Label words are
--- word differences: Epstein et al., Word Processing in Groups, 2.3; Holt, Eick, O'Brien, Handbook of Computational Group
--- Theory, 13.2.
+-- Labels of a multiplier's states, by which its words are seen to differ by its generator. They are word differences:
+-- Epstein et al., Word Processing in Groups, 2.3; Holt, Eick, O'Brien, Handbook of Computational Group Theory, 13.2.
 use Rattle.std.specs.Prelude.{◌≡◌, ℕ, ◌<◌, ◌≤◌, IsTrue, List, [], ◌∷◌, ◌++◌, Option, Some}
 use Rattle.kb_word.specs.Words.{Pair, OneOf}
 use Rattle.kb_word.specs.Congruence.{Congruent}
@@ -18,27 +17,36 @@ pub record Labelling : Type 0 where
   pub multiplier : Automaton
   pub label : ℕ → List ℕ
 
--- the words are the same element of the group
-abbrev pub AreSame : Labelling → List ℕ → List ℕ → Type 0
-AreSame labelling = Congruent (OneOf (relations_of labelling.inverses labelling.equations))
+-- the relations of the group
+abbrev pub relations : Labelling → List Pair
+relations labelling = relations_of labelling.inverses labelling.equations
 
--- the generators of the words that the multiplier relates
-abbrev pub letters : Labelling → ℕ
-letters labelling = generators labelling.multiplier.alphabet
+-- how many generators it has
+abbrev pub generators_of : Labelling → ℕ
+generators_of labelling = generators labelling.multiplier.alphabet
 
--- each generator has an inverse, as those of a group have
-abbrev pub HasInverses : Labelling → Type 0
-HasInverses labelling = (a : ℕ) → 0 < a → a ≤ letters labelling
+-- each generator has an inverse
+abbrev pub HaveInverses : Labelling → Type 0
+HaveInverses labelling = (a : ℕ) → 0 < a → a ≤ generators_of labelling
     → (b : ℕ) × (inverse_letter labelling.inverses a ≡ Some b)
 
--- a text leads to the state, and a text leads on from it to acceptance
+-- the letter that a symbol has of the first word, and of the second; padding counts as nothing
+abbrev pub first_of : Labelling → ℕ → List ℕ
+first_of labelling symbol =
+    letters_of (generators_of labelling) (first_letter (generators_of labelling) symbol)
+
+abbrev pub second_of : Labelling → ℕ → List ℕ
+second_of labelling symbol =
+    letters_of (generators_of labelling) (second_letter (generators_of labelling) symbol)
+
+-- the state lies on an accepted text: one leads to it, and another leads on from it to acceptance
 pub record LiesOnAcceptedText (table : Table) (state : ℕ) : Type 0 where
   pub text : List ℕ
   pub leads : state_after table text ≡ state
   pub live : IsLive table state
 
--- The label words of a state: its label; the empty word at the initial state; x at an accepting one; and for each move
--- into it from a state with label d, by letters a and b, the word a^-1 d b. Padding counts as nothing.
+-- The label words of a state: its label; the empty word at the initial state; x at an accepting one; and a^-1 d b for each
+-- move into it, by letters a and b, from a state with label d that lies on an accepted text.
 pub data IsLabelWord (labelling : Labelling) (state : ℕ) : List ℕ → Type 0 where
   own : IsLabelWord labelling state (labelling.label state)
   at_start : state ≡ labelling.multiplier.table.initial → IsLabelWord labelling state []
@@ -47,14 +55,12 @@ pub data IsLabelWord (labelling : Labelling) (state : ℕ) : List ℕ → Type 0
   along : {from : ℕ} (symbol : ℕ) {inverse : List ℕ}
       → LiesOnAcceptedText labelling.multiplier.table from
       → step labelling.multiplier.table from symbol ≡ state
-      → inverse_word labelling.inverses
-      (letters_of (letters labelling) (first_letter (letters labelling) symbol)) ≡ Some inverse
-      → IsLabelWord labelling state
-      (inverse ++ labelling.label from
-      ++ letters_of (letters labelling) (second_letter (letters labelling) symbol))
+      → inverse_word labelling.inverses (first_of labelling symbol) ≡ Some inverse
+      → IsLabelWord labelling state (inverse ++ labelling.label from ++ second_of labelling symbol)
 
--- the label words of each state on accepted texts are the same element
+-- the label words of each state that lies on an accepted text are the same element
 abbrev pub LabelWordsAgree : Labelling → Type 0
 LabelWordsAgree labelling =
     (state : ℕ) → LiesOnAcceptedText labelling.multiplier.table state → (word other : List ℕ)
-    → IsLabelWord labelling state word → IsLabelWord labelling state other → AreSame labelling word other
+    → IsLabelWord labelling state word → IsLabelWord labelling state other
+    → Congruent (OneOf (relations labelling)) word other
