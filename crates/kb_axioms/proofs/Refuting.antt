@@ -7,7 +7,7 @@ use Rattle.kb_word.specs.Congruence.{IsLeast}
 use Rattle.kb_word.specs.Relations.{IsOver}
 use Rattle.kb_word.proofs.PathLemmas.{congruent_reflexive, congruent_symmetric, congruent_transitive, congruent_sides}
 use Rattle.kb_axioms.specs.Structure.{Structure, IsGenerator, AreOverGenerators, AreEqual, Accepts, Multiplies, Follows, IsRepresentative, IsProduct, IsAutomaticStructure}
-use Rattle.kb_axioms.specs.Certificates.{PrefixNotAccepted, PairOutsideAcceptor, PairOfDifferentElements, WordWithoutImage, TwoImages, MissingExtension, ImageNotLeast, RelationBroken, HasNoCertificate}
+use Rattle.kb_axioms.specs.Certificates.{PrefixNotAccepted, PairOutsideAcceptor, PairOfDifferentElements, WordWithoutImage, TwoImages, MissingExtension, ImageNotLeast, RelationBroken, HasNoCertificate, IsTrueToGroup}
 use Rattle.kb_axioms.specs.Certificates.PrefixNotAccepted.{empty_word, prefix}
 use Rattle.kb_axioms.proofs.Letters.{over_first, over_later, over_last}
 use Rattle.kb_axioms.proofs.Representatives.{empty_representative, prefix_representative, one_representative, least_of_class, not_without_least}
@@ -75,10 +75,12 @@ module _ (structure : Structure) (own : IsAutomaticStructure structure) where
       let pair = product x (over_first structure.n x w over) u follows.0 follows.1.0 in
       leads_to_representative w follows.0 v (over_later structure.n x w over) pair.second follows.1.1
 
+  -- the group's own multipliers are true to it
+  pub own_is_true : IsTrueToGroup structure
+  own_is_true x u v generator multiplies = let pair = product x generator u v multiplies in pair.equal
+
   leads_to_product : (w u v : List ℕ) → IsOver structure.n w → Follows structure w u v → AreEqual structure (u ++ w) v
-  leads_to_product w u v over follows =
-      follows_product structure (λ x u v generator multiplies. let pair = product x generator u v multiplies in pair.equal) w u v over
-      follows
+  leads_to_product w u v over follows = follows_product structure own_is_true w u v over follows
 
   module _ (over : AreOverGenerators structure) where
     no_word_without_image : (x : ℕ) (u : List ℕ) → ¬ WordWithoutImage structure x u

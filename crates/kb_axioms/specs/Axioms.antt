@@ -1,5 +1,5 @@
--- The axioms of automatic structures whose accepted words are the least ones. Epstein et al., Word Processing in Groups,
--- chapter 5; Holt, Eick, O'Brien, Handbook of Computational Group Theory, chapter 13.
+-- The axioms of automatic structures whose accepted words are the least ones. Epstein et al., Word Processing in
+-- Groups, chapter 5; Holt, Eick, O'Brien, Handbook of Computational Group Theory, chapter 13.
 use Rattle.std.specs.Prelude.{◌≡◌, ℕ, List, [], ◌∷◌, ◌++◌}
 use Rattle.kb_word.specs.Words.{Pair, OneOf}
 use Rattle.kb_word.specs.WordOrders.{Below}

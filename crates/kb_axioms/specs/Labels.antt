@@ -45,8 +45,8 @@ pub record LiesOnAcceptedText (table : Table) (state : ℕ) : Type 0 where
   pub leads : state_after table text ≡ state
   pub live : IsLive table state
 
--- The label words of a state: its label; the empty word at the initial state; x at an accepting one; and a^-1 d b for each
--- move into it, by letters a and b, from a state with label d that lies on an accepted text.
+-- The label words of a state: its label; the empty word at the initial state; x at an accepting one; and a^-1 d b for
+-- each move into it, by letters a and b, from a state with label d that lies on an accepted text.
 pub data IsLabelWord (labelling : Labelling) (state : ℕ) : List ℕ → Type 0 where
   own : IsLabelWord labelling state (labelling.label state)
   at_start : state ≡ labelling.multiplier.table.initial → IsLabelWord labelling state []

@@ -1,5 +1,5 @@
--- Automatic structures of groups, whose accepted words are the least ones. Epstein et al., Word Processing in Groups, 2.3 and
--- 2.5; Holt, Eick, O'Brien, Handbook of Computational Group Theory, chapter 13.
+-- Automatic structures of groups, whose accepted words are the least ones. Epstein et al., Word Processing in Groups,
+-- 2.3 and 2.5; Holt, Eick, O'Brien, Handbook of Computational Group Theory, chapter 13.
 use Rattle.std.specs.Prelude.{◌≡◌, ◌↔◌, ℕ, ◌<◌, ◌≤◌, Bool, IsTrue, List, [], ◌∷◌, ◌++◌}
 use Rattle.kb_word.specs.Words.{Pair, OneOf}
 use Rattle.kb_word.specs.WordOrders.{Below}
@@ -7,8 +7,8 @@ use Rattle.kb_word.specs.Congruence.{Congruent, IsLeast}
 use Rattle.kb_word.specs.Relations.{IsOver}
 use Rattle.kb_word.specs.declared.word_order.WordOrder.{WordOrder}
 
--- A word acceptor, and a multiplier for each of n generators, as tests of words and of pairs of words; with the order of
--- words and the relations of the group whose structure they may be.
+-- A word acceptor, and a multiplier for each of n generators, as tests of words and of pairs of words; with the order
+-- of words and the relations of the group whose structure they may be.
 pub record Structure : Type 0 where
   pub n : ℕ
   pub order : WordOrder

@@ -19,6 +19,12 @@ pub fn axioms_make_automatic_structures()
         → IsAutomaticStructure structure }
 {}
 
+/// The group's own structure satisfies the axioms, where its images are given.
+pub fn automatic_structures_satisfy_the_axioms()
+    ensures { (structure : Structure) → AreOverGenerators structure → IsAutomaticStructure structure
+        → HasImages structure → SatisfiesAxioms structure }
+{}
+
 /// There is no certificate against the group's own structure.
 pub fn automatic_structures_have_no_certificate()
     ensures { (structure : Structure) → AreOverGenerators structure → IsAutomaticStructure structure
