@@ -4,26 +4,20 @@ use Rattle.std.specs.Option.{option_map, option_and_then}
 use Rattle.std.proofs.lemmas.Bool.{cases_eq, eq-eqb, ne_eqb}
 use Rattle.std.proofs.lemmas.List.{append-nil}
 use Rattle.std.proofs.lemmas.List.Elements.{All-head, All-tail}
-use Rattle.kb_word.specs.Words.{OneOf}
-use Rattle.kb_word.specs.Congruence.{Congruent}
-use Rattle.kb_word.specs.Relations.{IsOver, inverse_letter, inverse_word}
+use Rattle.kb_word.specs.Relations.{inverse_letter, inverse_word}
 use Rattle.kb_word.proofs.PathLemmas.{congruent_reflexive, congruent_symmetric, congruent_transitive}
 use Rattle.kb_fsa.specs.Table.{step, state_after, AcceptsFrom}
 use Rattle.kb_fsa.specs.PairSymbols.{first_letter, second_letter}
 use Rattle.kb_fsa.specs.Padding.{padded, letters_of, first_letters, second_letters}
-use Rattle.kb_fsa.specs.Language.{AcceptsPair}
 use Rattle.kb_fsa.proofs.PairSymbolLaws.{IsPairSymbol, first_within}
 use Rattle.kb_fsa.proofs.Paddings.{symbols_of_padded}
 use Rattle.kb_fsa.proofs.Unpadding.{first_letters-padded, second_letters-padded}
 use Rattle.kb_fsa.proofs.Lookups.{after-append}
-use Rattle.kb_axioms.specs.Labels.{Labelling, relations, generators_of, HaveInverses, LiesOnAcceptedText, LabelWordsAgree}
+use Rattle.kb_axioms.specs.Labels.{Labelling, RelatesProducts, generators_of, IsGroup, LiesOnAcceptedText, LabelWordsAgree}
 use Rattle.kb_axioms.specs.Labels.IsLabelWord.{own, at_start, at_end, along}
 use Rattle.kb_axioms.proofs.Words.{congruent_behind, congruent_before}
+use Rattle.kb_axioms.proofs.Cancelling.{AreSame}
 use Rattle.kb_axioms.proofs.InverseRelations.{letter_cancels}
-
--- the words are the same element of the group
-abbrev AreSame : Labelling → List ℕ → List ℕ → Type 0
-AreSame labelling = Congruent (OneOf (relations labelling))
 
 -- the word has an inverse, with which it cancels
 record Cancels (labelling : Labelling) (word : List ℕ) : Type 0 where
@@ -42,9 +36,9 @@ letter_alone_cancels labelling a b is = record {
 }
 
 -- so has a letter, and the padding, which counts as nothing
-letters_cancel : (labelling : Labelling) (number : ℕ) → HaveInverses labelling → 0 < number → number ≤ generators_of labelling + 1
+letters_cancel : (labelling : Labelling) (number : ℕ) → IsGroup labelling → 0 < number → number ≤ generators_of labelling + 1
     → Cancels labelling (letters_of (generators_of labelling) number)
-letters_cancel labelling number inverses positive within =
+letters_cancel labelling number group positive within =
     let n = generators_of labelling in
     let P : List ℕ → Type 0 = Cancels labelling in
     elim (cases_eq number (n + 1)) [
@@ -53,7 +47,7 @@ letters_cancel labelling number inverses positive within =
           subst P (sym none) (empty_cancels labelling)
       | inr differ ↦
           let one : letters_of n number ≡ number ∷ [] = rw (ne_eqb number (n + 1) differ) refl in
-          let inverse = inverses number positive (omega arith) in
+          let inverse = group.each number positive (omega arith) in
           subst P (sym one) (letter_alone_cancels labelling number inverse.0 inverse.1)
     ]
 
@@ -70,7 +64,7 @@ one_more labelling front inverse d back next u v cancels leads rest =
     congruent_transitive (congruent_behind front rest)
     (congruent_transitive both (congruent_before (d ++ (back ++ v)) cancels))
 
-module _ (labelling : Labelling) (inverses : HaveInverses labelling) (agree : LabelWordsAgree labelling) where
+module _ (labelling : Labelling) (group : IsGroup labelling) (agree : LabelWordsAgree labelling) where
   -- From a state that is reached, the rest of an accepted text has words that differ by x, but for the state's label.
   rest_differs : (text before : List ℕ) (state : ℕ) → All (IsPairSymbol (generators_of labelling)) text
       → state_after labelling.multiplier.table before ≡ state → AcceptsFrom labelling.multiplier.table state text
@@ -92,7 +86,7 @@ module _ (labelling : Labelling) (inverses : HaveInverses labelling) (agree : La
       let there : LiesOnAcceptedText table next = record { text = before ++ symbol ∷ []; leads = longer; live = (text, accepts) } in
       let is : IsPairSymbol n symbol = All-head (IsPairSymbol n) symbol text symbols in
       let low = first_within n symbol is in
-      let first = letters_cancel labelling (first_letter n symbol) inverses (omega arith) (omega arith) in
+      let first = letters_cancel labelling (first_letter n symbol) group (omega arith) (omega arith) in
       let front : List ℕ = letters_of n (first_letter n symbol) in
       let back : List ℕ = letters_of n (second_letter n symbol) in
       let step_leads : AreSame labelling (first.inverse ++ labelling.label state ++ back) (labelling.label next) =
@@ -104,8 +98,7 @@ module _ (labelling : Labelling) (inverses : HaveInverses labelling) (agree : La
       (first_letters n text ++ labelling.x ∷ []) (second_letters n text) first.cancels step_leads rest)
 
   -- the multiplier relates only words that differ by x
-  pub pairs_differ : (u v : List ℕ) → IsOver (generators_of labelling) u → IsOver (generators_of labelling) v
-      → AcceptsPair labelling.multiplier u v → Congruent (OneOf (relations labelling)) (u ++ labelling.x ∷ []) v
+  pub pairs_differ : RelatesProducts labelling
   pairs_differ u v over also accepts =
       let n = generators_of labelling in
       let table = labelling.multiplier.table in

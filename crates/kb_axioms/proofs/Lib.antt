@@ -7,4 +7,6 @@ pub mod OwnStructure
 pub mod Refuting
 pub mod Holding
 pub mod InverseRelations
+pub mod Cancelling
 pub mod LabelWords
+pub mod TrueLabels

@@ -3,11 +3,11 @@
 use Rattle.std.specs.Prelude.{◌≡◌, ℕ, ◌<◌, ◌≤◌, IsTrue, List, [], ◌∷◌, ◌++◌, Option, Some}
 use Rattle.kb_word.specs.Words.{Pair, OneOf}
 use Rattle.kb_word.specs.Congruence.{Congruent}
-use Rattle.kb_word.specs.Relations.{inverse_letter, inverse_word, relations_of}
+use Rattle.kb_word.specs.Relations.{IsOver, inverse_letter, inverse_word, relations_of}
 use Rattle.kb_fsa.specs.Table.{Table, step, state_after, is_accepting, IsLive}
 use Rattle.kb_fsa.specs.PairSymbols.{first_letter, second_letter}
-use Rattle.kb_fsa.specs.Padding.{letters_of}
-use Rattle.kb_fsa.specs.Language.{Automaton, generators}
+use Rattle.kb_fsa.specs.Padding.{letters_of, first_letters, second_letters}
+use Rattle.kb_fsa.specs.Language.{Automaton, AcceptsPair, generators}
 
 -- a multiplier of the generator x, with a word for each state as its label, and the presentation of the group
 pub record Labelling : Type 0 where
@@ -25,10 +25,19 @@ relations labelling = relations_of labelling.inverses labelling.equations
 abbrev pub generators_of : Labelling → ℕ
 generators_of labelling = generators labelling.multiplier.alphabet
 
--- each generator has an inverse
-abbrev pub HaveInverses : Labelling → Type 0
-HaveInverses labelling = (a : ℕ) → 0 < a → a ≤ generators_of labelling
-    → (b : ℕ) × (inverse_letter labelling.inverses a ≡ Some b)
+-- the presentation is that of a group: each generator has an inverse, whose inverse it is
+pub record IsGroup (labelling : Labelling) : Type 0 where
+  pub each : (a : ℕ) → 0 < a → a ≤ generators_of labelling
+      → (b : ℕ) × (inverse_letter labelling.inverses a ≡ Some b)
+  pub mutual_inverses : (a b : ℕ) → inverse_letter labelling.inverses a ≡ Some b
+      → inverse_letter labelling.inverses b ≡ Some a
+
+-- the words of each pair that the multiplier accepts differ by x
+abbrev pub RelatesProducts : Labelling → Type 0
+RelatesProducts labelling =
+    (u v : List ℕ) → IsOver (generators_of labelling) u → IsOver (generators_of labelling) v
+    → AcceptsPair labelling.multiplier u v
+    → Congruent (OneOf (relations labelling)) (u ++ labelling.x ∷ []) v
 
 -- the letter that a symbol has of the first word, and of the second; padding counts as nothing
 abbrev pub first_of : Labelling → ℕ → List ℕ
@@ -64,3 +73,16 @@ LabelWordsAgree labelling =
     (state : ℕ) → LiesOnAcceptedText labelling.multiplier.table state → (word other : List ℕ)
     → IsLabelWord labelling state word → IsLabelWord labelling state other
     → Congruent (OneOf (relations labelling)) word other
+
+-- the label of the state is the difference of the words of some text that leads to it
+pub record IsDifferenceLabel (labelling : Labelling) (state : ℕ) : Type 0 where
+  pub text : List ℕ
+  pub leads : state_after labelling.multiplier.table text ≡ state
+  pub differs : Congruent (OneOf (relations labelling))
+      (first_letters (generators_of labelling) text ++ labelling.label state)
+      (second_letters (generators_of labelling) text)
+
+-- the label of each state that lies on an accepted text is such a difference
+abbrev pub LabelsAreDifferences : Labelling → Type 0
+LabelsAreDifferences labelling = (state : ℕ)
+    → LiesOnAcceptedText labelling.multiplier.table state → IsDifferenceLabel labelling state

@@ -1,14 +1,12 @@
 //! The laws of automatic structures. They do nothing when they run.
 
-ghost use Rattle.std.specs.Prelude.{[], ◌∷◌, ◌++◌};
-ghost use Rattle.kb_word.specs.Words.{Letters, OneOf};
-ghost use Rattle.kb_word.specs.Congruence.{Congruent};
-ghost use Rattle.kb_word.specs.Relations.{IsOver};
-ghost use Rattle.kb_fsa.specs.Language.{AcceptsPair};
+ghost use Rattle.std.specs.Prelude.{◌≡◌};
+ghost use Rattle.kb_fsa.specs.declared.alphabet.Alphabet.TheVariants.{Pair};
+ghost use Rattle.kb_fsa.specs.Language.{IsAutomaton};
 ghost use Rattle.kb_axioms.specs.Structure.{Structure, AreOverGenerators, IsAutomaticStructure};
 ghost use Rattle.kb_axioms.specs.Axioms.{SatisfiesAxioms};
 ghost use Rattle.kb_axioms.specs.Certificates.{HasNoCertificate, HasImages, IsTrueToGroup};
-ghost use Rattle.kb_axioms.specs.Labels.{Labelling, HaveInverses, LabelWordsAgree, generators_of, relations};
+ghost use Rattle.kb_axioms.specs.Labels.{Labelling, IsGroup, LabelWordsAgree, LabelsAreDifferences, RelatesProducts, generators_of};
 
 /// A structure that satisfies the axioms is the group's own: exactly the least words are accepted, and each multiplier
 /// has exactly the pairs of least words that differ by its generator.
@@ -41,8 +39,15 @@ pub fn axioms_hold_without_certificate()
 /// Where the label words of each state are the same element, the multiplier relates only words that differ by its
 /// generator.
 pub fn label_words_make_multipliers_true()
-    ensures { (labelling : Labelling) (u v : Letters) → HaveInverses labelling → LabelWordsAgree labelling
-        → IsOver (generators_of labelling) u → IsOver (generators_of labelling) v
-        → AcceptsPair labelling.multiplier u v
-        → Congruent (OneOf (relations labelling)) (u ++ labelling.x ∷ []) v }
+    ensures { (labelling : Labelling) → IsGroup labelling → LabelWordsAgree labelling
+        → RelatesProducts labelling }
+{}
+
+/// Where the multiplier relates only words that differ by its generator, the label words of each state are the same
+/// element, if labels are the differences of words that lead to the states.
+pub fn label_words_of_true_multipliers_agree()
+    ensures { (labelling : Labelling) → IsGroup labelling → IsAutomaton labelling.multiplier
+        → labelling.multiplier.alphabet ≡ Pair (generators_of labelling)
+        → LabelsAreDifferences labelling → RelatesProducts labelling
+        → LabelWordsAgree labelling }
 {}

@@ -22,10 +22,11 @@
 //! [`automatic_structures_have_no_certificate`] there is none against the group's own structure, and by
 //! [`axioms_hold_without_certificate`] the axioms hold where there is none. Two of them have to be given for that,
 //! since no certificate shows only that they can't fail: that accepted words have images, and that the multipliers
-//! are true to the group. The latter follows from label words, finitely many for each state of a multiplier
-//! (`specs/Labels.antt`), by [`label_words_make_multipliers_true`].
+//! are true to the group. The latter holds exactly where label words agree, which are finitely many for each state of a
+//! multiplier (`specs/Labels.antt`): by [`label_words_make_multipliers_true`], and by
+//! [`label_words_of_true_multipliers_agree`] for labels that are differences of words.
 //!
-//! The laws hold by any order of words that a presentation may have. But for the last one they don't ask for
+//! The laws hold by any order of words that a presentation may have. But for those on labels they don't ask for
 //! inverses, and hold of a monoid's relations too.
 //!
 //! # How the law of the axioms is proved
@@ -43,10 +44,13 @@
 //! product is in the multiplier (`product_is_multiplied`), since the image is least and of its class. That images
 //! are single follows from the others, and is an axiom all the same: two images are a certificate.
 //!
-//! `proofs/Refuting.antt` shows of each certificate that there is none against the group's own structure. No decision
-//! procedure for the congruence is asked for: an accepted word can't be without an image, since a class can't be
-//! without a least word (`proofs/Representatives.antt`). In `proofs/LabelWords.antt` two words are read side by
-//! side, and the label of the state stays what they differ by.
+//! `proofs/Refuting.antt` shows of each certificate that there is none against the group's own structure. No
+//! decision procedure for the congruence is asked for: an accepted word can't be without an image, since a class
+//! can't be without a least word (`proofs/Representatives.antt`). `proofs/Holding.antt` has the axioms where there
+//! is no certificate: a structure's tests decide which words and pairs are accepted. In `proofs/LabelWords.antt` two
+//! words are read side by side, and the label of the state stays what they differ by. In `proofs/TrueLabels.antt` a
+//! label word and the label have the same words behind them on an accepted text, which cancel
+//! (`proofs/Cancelling.antt`).
 //!
 //! Below are `kb_word`, and `kb_fsa` for the labels of automata.
 #![tactic(auto)]
@@ -56,5 +60,5 @@ mod laws;
 pub use laws::{
     automatic_structures_have_no_certificate, automatic_structures_satisfy_the_axioms,
     axioms_hold_without_certificate, axioms_make_automatic_structures,
-    label_words_make_multipliers_true,
+    label_words_make_multipliers_true, label_words_of_true_multipliers_agree,
 };
