@@ -1,0 +1,12 @@
+pub mod Letters
+pub mod Words
+pub mod Representatives
+pub mod Following
+pub mod Acting
+pub mod OwnStructure
+pub mod Refuting
+pub mod Holding
+pub mod InverseRelations
+pub mod Cancelling
+pub mod LabelWords
+pub mod TrueLabels

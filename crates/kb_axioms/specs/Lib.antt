@@ -1,0 +1,4 @@
+pub mod Structure
+pub mod Axioms
+pub mod Certificates
+pub mod Labels
