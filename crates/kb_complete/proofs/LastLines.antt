@@ -14,7 +14,7 @@ use Rattle.kb_machine.specs.Lines.{numbered, rules_of, IsPairOf}
 use Rattle.kb_machine.specs.declared.origin.Origin.{Origin}
 use Rattle.kb_machine.specs.declared.origin.Origin.TheVariants as origins
 use Rattle.kb_machine.proofs.Logs.{justified_rules, justified_decreases}
-use Rattle.kb_machine.specs.States.{Problem, State, relations, live_rules, IsLiveRule, IsPendingPair}
+use Rattle.kb_machine.specs.States.{Problem, State, live_rules, IsLiveRule, IsPendingPair}
 use Rattle.kb_machine.specs.Course.{Course, IsSound}
 use Rattle.kb_book.specs.Answers.{DropsPair}
 use Rattle.kb_share.specs.Versions.{IsRuleOfLine, version_of}
@@ -77,7 +77,7 @@ pub apart_stays : (before after : Course) → FirstIsApart before → DropsPair 
 apart_stays before after apart drops =
     let normal = drops.normal in
     let origin : normal.origin ≡ origins.Overlap apart.i apart.j apart.place = head-injective (sym normal.pending ∙ apart.pending) in
-    let pair = subst (λ (o : Origin). IsPairOf (relations before.problem) (rules_of before.state.lines) o normal.pair) origin normal.is_pair in
+    let pair = subst (λ (o : Origin). IsPairOf before.problem.relations (rules_of before.state.lines) o normal.pair) origin normal.is_pair in
     let first : pair.first ≡ apart.first = some-injective (sym pair.overlap.is_first ∙ apart.is_first) in
     let second : pair.second ≡ apart.second = some-injective (sym pair.overlap.is_second ∙ apart.is_second) in
     let same : normal.pair ≡ critical_pair apart.first apart.second apart.place =
@@ -101,7 +101,7 @@ none_pending xs x none at =
 
 -- where nothing is pending the live rules generate the congruence of the relations
 pub live_same : (problem : Problem) (state : State) → IsSound problem state → state.pending ≡ []
-    → SameCongruence (live_rules state) (relations problem)
+    → SameCongruence (live_rules state) problem.relations
 live_same problem state sound none = record {
   covered = λ pair one. sound.congruence.rules_hold pair (live_rule_is problem state pair sound one);
   covers = λ pair one. congruent_implied (λ (rule : Pair) (allowed : IsLiveRule state rule ⊎ IsPendingPair problem state rule).
@@ -149,12 +149,12 @@ KeepsCongruent = (live lines : List Pair) → ((line : Pair) → OneOf lines lin
 -- the completion is at its end
 pub is_completed : KeepsReduced → KeepsConfluent → KeepsCongruent → (course : Course) (live reduced : OrderedRules)
     → IsSound course.problem course.state → IsSettled course → live.rules ≡ live_rules course.state
-    → live.order ≡ course.problem.presentation.order → IsConfluent live.rules → reduced.order ≡ live.order
+    → live.order ≡ course.problem.order → IsConfluent live.rules → reduced.order ≡ live.order
     → IsReducedComplete (Below live.order) live.rules reduced.rules → IsCompleted course reduced
 is_completed keeps_reduced keeps_confluent keeps_congruent course live reduced sound settled is order confluent order' complete =
     let rules = live_rules course.state in
     let lines = rules_of course.state.lines in
-    let own = course.problem.presentation.order in
+    let own = course.problem.order in
     let same = live_same course.problem course.state sound settled.settled in
     let confluent' : IsConfluent rules = subst IsConfluent is confluent in
     let here : IsReducedComplete (Below own) rules reduced.rules =
@@ -164,7 +164,7 @@ is_completed keeps_reduced keeps_confluent keeps_congruent course live reduced s
     let covers = line_rules course.problem course.state sound in
     record {
       order = order' ∙ order;
-      reduced = keeps_reduced own rules (relations course.problem) reduced.rules same here;
+      reduced = keeps_reduced own rules course.problem.relations reduced.rules same here;
       settled = settled.settled;
       running = settled.running;
       confluent = keeps_confluent own rules lines (live_rules_decrease course.problem course.state sound) confluent'

@@ -4,7 +4,7 @@ use Rattle.kb_word.specs.Congruence.{SameCongruence}
 use Rattle.kb_word.specs.Overlap.{IsConfluent}
 use Rattle.kb_rules.specs.OrderedRules.{OrderedRules}
 use Rattle.kb_machine.specs.Lines.{rules_of}
-use Rattle.kb_machine.specs.States.{Problem, relations, below}
+use Rattle.kb_machine.specs.States.{Problem, below}
 use Rattle.kb_machine.specs.Course.{Course}
 use Rattle.kb_machine.specs.declared.halt.Halt.{Halt}
 use Rattle.kb_share.specs.Versions.{IsPublished}
@@ -32,12 +32,12 @@ pub record Grows (before after : Course) : Type 0 where
 -- The completion is at its end: these rules are the reduced complete system of its problem, and the rules of all its
 -- lines are confluent and generate the congruence of the relations.
 pub record IsCompleted (course : Course) (list : OrderedRules) : Type 0 where
-  pub order : list.order ≡ course.problem.presentation.order
-  pub reduced : IsReducedComplete (below course.problem) (relations course.problem) list.rules
+  pub order : list.order ≡ course.problem.order
+  pub reduced : IsReducedComplete (below course.problem) course.problem.relations list.rules
   pub settled : course.state.pending ≡ []
   pub running : course.state.halt ≡ None
   pub confluent : IsConfluent (rules_of course.state.lines)
-  pub same : SameCongruence (relations course.problem) (rules_of course.state.lines)
+  pub same : SameCongruence course.problem.relations (rules_of course.state.lines)
 
 -- the completion is halted: a pair waits, and this limit is reached
 pub record IsHalted (course : Course) : Type 0 where

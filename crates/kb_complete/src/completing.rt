@@ -2,7 +2,7 @@
 
 ghost use Rattle.std.specs.Prelude.{◌≡◌, IfOk};
 ghost use Rattle.kb_word.specs.Presentations.{parts_of};
-ghost use Rattle.kb_machine.specs.States.{Problem};
+ghost use Rattle.kb_book.specs.Problems.{problem_of};
 ghost use Rattle.kb_complete.specs.Completing.{AreReduced, CompleteSays};
 
 use crate::answers::{Grown, Outcome};
@@ -26,11 +26,7 @@ pub fn complete<R: HasAutomaton + Send + Sync, G: Gate, T: Threads + Wait + Sync
     workers: &Workers<'_, G>,
 ) -> Result<Outcome<R>, Memory>
     ensures { IfOk result (CompleteSays
-        (record {
-          presentation = parts_of presentation.now;
-          most_lines = limits.now.rules;
-          most_letters = limits.now.len;
-        })) }
+        (problem_of (parts_of presentation.now) limits.now.rules limits.now.len)) }
 {
     complete_watched(rt, alloc, presentation, limits, workers, &mut Silent)
 }
@@ -45,11 +41,7 @@ pub fn complete_watched<R: HasAutomaton + Send + Sync, G: Gate, W: Watch, T: Thr
     watch: &mut W,
 ) -> Result<Outcome<R>, Memory>
     ensures { IfOk result (CompleteSays
-        (record {
-          presentation = parts_of presentation.now;
-          most_lines = limits.now.rules;
-          most_letters = limits.now.len;
-        })) }
+        (problem_of (parts_of presentation.now) limits.now.rules limits.now.len)) }
 {
     let book = Book::new(alloc, presentation, limits)?;
     grow_all(rt, alloc, book, workers, watch)

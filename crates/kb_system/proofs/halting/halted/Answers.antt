@@ -8,7 +8,7 @@ returns g c limits parts same =
     let course = c.args.book.course in
     let first = c.first_pending-origin.ensures in
     let rules = c.in_ok-rules.ensures in (
-      rules.order ∙ ap (λ (problem : Problem). problem.presentation.order) same,
+      rules.order ∙ ap (λ (problem : Problem). problem.order) same,
       ends_halted limits parts course.problem course.state course.journal c.log_and_halt-lines.result.1 c.first_pending-origin.result first.0 c.log_and_halt-lines.result.0.items
           c.waiting_line-waiting.result c.in_ok-rules.rules.rules c.reached_by-reached.result same c.book_is_sound.ensures c.log_and_halt-lines.ensures.halt first.1 c.requires.reduced
           c.log_and_halt-lines.ensures.lines c.waiting_line-waiting.ensures rules.rules c.reached_by-reached.ensures,
