@@ -7,7 +7,7 @@ use kb_book::{Book, Limits};
 use kb_machine::Line;
 use kb_presfile::read;
 use kb_rules::Scan;
-use kb_share::{Silent, settle};
+use kb_share::{Finder, Silent, settle};
 use kb_word::Memory;
 use std::alloc::Global;
 
@@ -27,7 +27,7 @@ pub(crate) fn published(alloc: Global, text: &str) -> Result<Book<Scan>, Memory>
 pub(crate) fn settled(alloc: Global, mut book: Book<Scan>) -> Result<Book<Scan>, Memory>
     ensures { IfOk result (λ book. IsPublished book.course.state) }
 {
-    settle(alloc, &mut book, &mut Silent)?;
+    settle(alloc, &mut book, &mut Finder::new(alloc), &mut Silent)?;
     book.publish()?;
     Ok(book)
 }

@@ -9,8 +9,8 @@ use Rattle.kb_machine.specs.Course.{Course, Takes, IsSound}
 use Rattle.kb_machine.specs.declared.halt.Halt.{Halt}
 use Rattle.kb_machine.specs.declared.event.Event.TheVariants.{Published, Made}
 use Rattle.kb_rules.specs.OrderedRules.{OrderedRules}
-use Rattle.kb_complete.specs.Completing.{AreReduced, Continues, Grows, GrowSays, IsCompleted, IsHalted}
-use Rattle.kb_complete.specs.Working.{IsIdle, IsSettled, StandsAs, AdvanceSays}
+use Rattle.kb_complete.specs.Completing.{AreReduced, Continues, Grows, GrowSays, IsCompleted, IsHalted, KnowsGrown}
+use Rattle.kb_complete.specs.Working.{IsIdle, IsSettled, StandsAs, AdvanceSays, KnowsRound}
 use Rattle.kb_book.specs.Answers.{MakeSays, HaltsAt, IsHalted as IsHaltedAlready}
 use Rattle.kb_book.specs.Books.{BookParts}
 use Rattle.kb_book.specs.declared.answers.Make.{Make}
@@ -22,8 +22,11 @@ use Rattle.kb_complete.specs.declared.publishing.Standing.TheVariants as standin
 use Rattle.kb_complete.specs.declared.answers.Grown.{Grown}
 use Rattle.kb_complete.specs.declared.answers.Grown.TheVariants as grown
 use Rattle.kb_share.proofs.Stages.{later_itself, later_then, made_settles, made_more, halt_given, make_said}
+use Rattle.kb_share.proofs.Staying.{knows_same}
+use Rattle.kb_share.specs.Finding.{Knows}
+use Rattle.kb_share.specs.declared.finding.Finder.{Finder}
 use Rattle.kb_share.specs.Later.{IsLater, OnlyEnters}
-use Rattle.kb_share.specs.Interreduced.{LeftSidesAreReduced, RightSidesAreReduced, RightSidesAreReducedOrFull, StaysReduced}
+use Rattle.kb_share.specs.Interreduced.{LeftSidesAreReduced, RightSidesAreReduced, StaysReduced}
 use Rattle.kb_threads.specs.Passes.{PassSays}
 use Rattle.kb_threads.specs.declared.passed.Passed.{Passed}
 use Rattle.kb_threads.specs.declared.passed.Passed.TheVariants as passed
@@ -257,3 +260,30 @@ confluent_same before after same confluent = subst (λ (c : Course). IsConfluent
 
 pub grow_same : {R : Type 0} (before after : Course) (answer : Grown R) → after ≡ before → GrowSays after answer → GrowSays before answer
 grow_same {R = R} before after answer same says = subst (λ (c : Course). GrowSays c answer) same says
+
+-- ---- what a finder knows
+
+-- publishing leaves the lines as they are, and so does a pass
+pub known_published : (finder : Finder) (before after : Course) → Takes Published before after → Knows finder before.state
+    → Knows finder after.state
+known_published finder before after takes =
+    knows_same finder before.state after.state (ap (λ (t : State). t.lines) takes.step) (ap (λ (t : State). t.live) takes.step)
+
+pub known_entered : (finder : Finder) (before after : Course) → OnlyEnters before after → Knows finder before.state → Knows finder after.state
+known_entered finder before after only = knows_same finder before.state after.state only.lines only.live
+
+pub known_passed : {R : Type 0} (finder : Finder) (before : Course) (answer : Passed R) (after : BookParts) → answer ≡ passed.Entered after
+    → PassSays before answer → Knows finder before.state → Knows finder after.course.state
+known_passed {R = R} finder before answer after same says =
+    known_entered finder before after.course (subst (λ (a : Passed R). PassSays before a) same says)
+
+pub known_itself : (finder : Finder) (before after : Course) → after ≡ before → Knows finder before.state → Knows finder after.state
+known_itself finder before after same = subst (λ (c : Course). Knows finder c.state) (sym same)
+
+-- by the answer, or the round, that it is
+pub known_grown : {R : Type 0} (finder : Finder) (given answer : Grown R) → given ≡ answer → KnowsGrown finder given → KnowsGrown finder answer
+known_grown {R = R} finder given answer same knows = subst (λ (a : Grown R). KnowsGrown finder a) same knows
+
+pub known_over : {R : Type 0} (finder : Finder) (round : Round R) (answer : Grown R) → round ≡ rounds.Over answer
+    → KnowsRound finder round → KnowsGrown finder answer
+known_over {R = R} finder round answer same knows = subst (λ (r : Round R). KnowsRound finder r) same knows

@@ -7,7 +7,9 @@ use Rattle.kb_machine.specs.Lines.{rules_of}
 use Rattle.kb_machine.specs.States.{Problem, below}
 use Rattle.kb_machine.specs.Course.{Course}
 use Rattle.kb_machine.specs.declared.halt.Halt.{Halt}
+use Rattle.kb_share.specs.Finding.{Knows}
 use Rattle.kb_share.specs.Versions.{IsPublished}
+use Rattle.kb_share.specs.declared.finding.Finder.{Finder}
 use Rattle.kb_reduced.specs.Reduced.{IsReducedComplete}
 use Rattle.kb_complete.specs.declared.answers.Grown.{Grown}
 use Rattle.kb_complete.specs.declared.answers.Grown.TheVariants as grown
@@ -50,6 +52,12 @@ GrowSays before (grown.More after) = Grows before after.course
 GrowSays before (grown.Confluent rules after) =
     Continues before after.course × IsCompleted after.course rules
 GrowSays before (grown.Halted after) = Continues before after.course × IsHalted after.course
+
+-- the finder knows the book that `grow` answers
+abbrev pub KnowsGrown : {R : Type 0} → Finder → Grown R → Type 0
+KnowsGrown finder (grown.More after) = Knows finder after.course.state
+KnowsGrown finder (grown.Confluent rules after) = Knows finder after.course.state
+KnowsGrown finder (grown.Halted after) = Knows finder after.course.state
 
 -- the live rules of a completion are interreduced, but for right sides where the log is full
 pub record AreReduced (course : Course) : Type 0 where

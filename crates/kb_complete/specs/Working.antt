@@ -7,13 +7,15 @@ use Rattle.kb_machine.specs.declared.origin.Origin.{Origin}
 use Rattle.kb_machine.specs.declared.origin.Origin.TheVariants as origins
 use Rattle.kb_machine.specs.States.{live_rules}
 use Rattle.kb_machine.specs.Course.{Course}
+use Rattle.kb_share.specs.Finding.{Knows}
 use Rattle.kb_share.specs.Versions.{IsPublished}
+use Rattle.kb_share.specs.declared.finding.Finder.{Finder}
 use Rattle.kb_complete.specs.declared.answers.Grown.TheVariants as grown
 use Rattle.kb_complete.specs.declared.growing.Round.{Round}
 use Rattle.kb_complete.specs.declared.growing.Round.TheVariants as rounds
 use Rattle.kb_complete.specs.declared.publishing.Standing.{Standing}
 use Rattle.kb_complete.specs.declared.publishing.Standing.TheVariants as standings
-use Rattle.kb_complete.specs.Completing.{Continues, IsHalted}
+use Rattle.kb_complete.specs.Completing.{Continues, IsHalted, KnowsGrown}
 
 -- nothing is pending, and no limit is reached
 pub record IsIdle (course : Course) : Type 0 where
@@ -39,6 +41,11 @@ AdvanceSays given before (rounds.Over (grown.Confluent rules after)) = ⊥
 AdvanceSays given before (rounds.Over (grown.Halted after)) =
     Continues before after.course × IsHalted after.course
 AdvanceSays given before (rounds.Open after) = Continues before after.course × IsSettled after.course
+
+-- the finder knows the book to which a round has come
+abbrev pub KnowsRound : {R : Type 0} → Finder → Round R → Type 0
+KnowsRound finder (rounds.Over answer) = KnowsGrown finder answer
+KnowsRound finder (rounds.Open after) = Knows finder after.course.state
 
 -- the first pending origin is an overlap, and the words of its pair have different normal forms by the live rules
 pub record FirstIsApart (course : Course) : Type 0 where

@@ -3,6 +3,7 @@
 ghost use Rattle.std.specs.Prelude.{◌≡◌, IfOk};
 ghost use Rattle.kb_word.specs.Presentations.{parts_of};
 ghost use Rattle.kb_book.specs.Problems.{problem_of};
+ghost use Rattle.kb_share.specs.Finding.{Knows};
 ghost use Rattle.kb_complete.specs.Completing.{AreReduced, CompleteSays};
 
 use crate::answers::{Grown, Outcome};
@@ -10,7 +11,7 @@ use crate::growing::grow;
 use kb_book::{Book, Limits};
 use kb_index::HasAutomaton;
 use kb_io::Gate;
-use kb_share::{Silent, Watch, book_is_sound};
+use kb_share::{Finder, Silent, Watch, book_is_sound};
 use kb_threads::Workers;
 use kb_word::{Memory, Presentation};
 use std::alloc::Global;
@@ -44,7 +45,8 @@ pub fn complete_watched<R: HasAutomaton + Send + Sync, G: Gate, W: Watch, T: Thr
         (problem_of (parts_of presentation.now) limits.now.rules limits.now.len)) }
 {
     let book = Book::new(alloc, presentation, limits)?;
-    grow_all(rt, alloc, book, workers, watch)
+    let mut finder = Finder::new(alloc);
+    grow_all(rt, alloc, book, &mut finder, workers, watch)
 }
 
 /// Grows the book until the completion is at its end.
@@ -52,14 +54,16 @@ fn grow_all<R: HasAutomaton + Send + Sync, G: Gate, W: Watch, T: Threads + Wait 
     rt: &T,
     alloc: Global,
     mut book: Book<R>,
+    finder: &mut Finder,
     workers: &Workers<'_, G>,
     watch: &mut W,
 ) -> Result<Outcome<R>, Memory>
-    requires { AreReduced book.course }
+    requires reduced { AreReduced book.course }
+    requires known { Knows finder.old book.course.state }
     ensures { IfOk result (CompleteSays book.course.problem) }
 {
     'growing: loop {
-        match grow(rt, alloc, book, workers, watch)? {
+        match grow(rt, alloc, book, finder, workers, watch)? {
             Grown::More(next) => book = next,
             Grown::Confluent(rules, book) => return Ok(Outcome::Confluent(rules, book)),
             Grown::Halted(book) => return Ok(Outcome::Halted(book)),

@@ -5,7 +5,9 @@ ghost use Rattle.kb_word.specs.Overlap.{IsConfluent};
 ghost use Rattle.kb_machine.specs.States.{live_rules as rules_that_live};
 ghost use Rattle.kb_machine.specs.Course.{Course, Takes};
 ghost use Rattle.kb_machine.specs.declared.event.Event.TheVariants.{Made};
-ghost use Rattle.kb_complete.specs.Completing.{Continues, GrowSays, IsHalted};
+ghost use Rattle.kb_share.specs.Finding.{Knows};
+ghost use Rattle.kb_share.specs.declared.finding.Finder.{Finder as FinderParts};
+ghost use Rattle.kb_complete.specs.Completing.{Continues, GrowSays, IsHalted, KnowsGrown};
 ghost use Rattle.kb_complete.specs.Working.{FirstIsApart, IsSettled};
 
 use crate::answers::Grown;
@@ -23,16 +25,19 @@ use std::alloc::Global;
 pub(crate) fn end<R: Reducer, W: Watch>(
     alloc: Global,
     mut book: Book<R>,
+    finder: &mut Finder,
     watch: &mut W,
 ) -> Result<Grown<R>, Memory>
-    requires { IsSettled book.course }
-    ensures { IfOk result (GrowSays book.course) }
+    requires settled { IsSettled book.course }
+    requires known { Knows finder.old book.course.state }
+    ensures says { IfOk result (GrowSays book.course) }
+    ensures known { IfOk result (KnowsGrown finder.new) }
 {
     book_is_sound(&book);
     if OneByOne.enter_apart(alloc, &mut book)? == 0 {
         Ok(completed(alloc, book)?)
     } else {
-        Ok(grow_by_first(alloc, book, watch)?)
+        Ok(grow_by_first(alloc, book, finder, watch)?)
     }
 }
 
@@ -40,7 +45,9 @@ pub(crate) fn end<R: Reducer, W: Watch>(
 pub(crate) fn completed<R: Reducer>(alloc: Global, book: Book<R>) -> Result<Grown<R>, Memory>
     requires settled { IsSettled book.course }
     requires confluent { IsConfluent (rules_that_live book.course.state) }
-    ensures { IfOk result (GrowSays book.course) }
+    ensures says { IfOk result (GrowSays book.course) }
+    ensures known { (finder : FinderParts) → Knows finder book.course.state
+        → IfOk result (KnowsGrown finder) }
 {
     book_is_sound(&book);
     let rules = live_rules(alloc, &book)?;
@@ -54,15 +61,18 @@ pub(crate) fn completed<R: Reducer>(alloc: Global, book: Book<R>) -> Result<Grow
 fn grow_by_first<R: Reducer, W: Watch>(
     alloc: Global,
     mut book: Book<R>,
+    finder: &mut Finder,
     watch: &mut W,
 ) -> Result<Grown<R>, Memory>
-    requires { FirstIsApart book.course }
-    ensures { IfOk result (GrowSays book.course) }
+    requires apart { FirstIsApart book.course }
+    requires known { Knows finder.old book.course.state }
+    ensures says { IfOk result (GrowSays book.course) }
+    ensures known { IfOk result (KnowsGrown finder.new) }
 {
     let Some(k) = make_line(alloc, &mut book)? else {
         return Ok(Grown::Halted(book));
     };
-    Ok(grow_by_line(alloc, book, k, watch)?)
+    Ok(grow_by_line(alloc, book, k, finder, watch)?)
 }
 
 /// Makes a line of the first pending pair, whose words have different normal forms, unless the book halts.
@@ -72,6 +82,8 @@ fn make_line<R: Reducer>(alloc: Global, book: &mut Book<R>) -> Result<Option<u32
         (λ made. IfSome made (λ k. Takes (Made k) book.old.course book.new.course)) }
     ensures halted { IfOk result (λ made. IfNone made
         (Continues book.old.course book.new.course × IsHalted book.new.course)) }
+    ensures known { (finder : FinderParts) → Knows finder book.old.course.state
+        → Knows finder book.new.course.state }
 {
     match book.make(alloc)? {
         Make::Made(k) => Ok(Some(k)),
@@ -86,14 +98,16 @@ fn grow_by_line<R: Reducer, W: Watch>(
     alloc: Global,
     mut book: Book<R>,
     k: u32,
+    finder: &mut Finder,
     watch: &mut W,
 ) -> Result<Grown<R>, Memory>
-    ensures { (start : Course) → Takes (Made k) start book.course
+    requires { Knows finder.old book.course.state }
+    ensures says { (start : Course) → Takes (Made k) start book.course
         → IfOk result (GrowSays start) }
+    ensures known { IfOk result (KnowsGrown finder.new) }
 {
-    let mut finder = Finder::new(alloc);
-    line_made(alloc, &mut book, k, &mut finder, watch)?;
-    match settle_and_publish(alloc, &mut book, watch)? {
+    line_made(alloc, &mut book, k, finder, watch)?;
+    match settle_and_publish(alloc, &mut book, finder, watch)? {
         Standing::Published => Ok(Grown::More(book)),
         Standing::Halted => Ok(Grown::Halted(book)),
     }

@@ -2,8 +2,9 @@
 
 ghost use Rattle.std.specs.Prelude.{◌≡◌, IfOk, length};
 ghost use Rattle.kb_machine.specs.Course.{Course};
-ghost use Rattle.kb_complete.specs.Completing.{Continues, GrowSays};
-ghost use Rattle.kb_complete.specs.Working.{IsSettled, AdvanceSays};
+ghost use Rattle.kb_share.specs.Finding.{Knows};
+ghost use Rattle.kb_complete.specs.Completing.{Continues, GrowSays, KnowsGrown};
+ghost use Rattle.kb_complete.specs.Working.{IsSettled, AdvanceSays, KnowsRound};
 
 use crate::answers::Grown;
 use crate::ending::{completed, end};
@@ -12,7 +13,7 @@ use kb_book::Book;
 use kb_index::HasAutomaton;
 use kb_io::Gate;
 use kb_rules::Reducer;
-use kb_share::Watch;
+use kb_share::{Finder, Watch};
 use kb_threads::{Passed, Workers};
 use kb_word::Memory;
 use std::alloc::Global;
@@ -28,21 +29,25 @@ pub(crate) enum Round<R: Reducer> {
     Open(Book<R>),
 }
 
-/// Goes on until there is a line more than the book given has, or the completion is at its end.
-/// After want of memory the book is gone.
+/// Goes on until there is a line more than the book given has, or the completion is at its end. The
+/// finder knows the book's live lines, or is new, and knows those of the answer's book afterwards: one
+/// finder serves a book as long as it lives. After want of memory the book is gone.
 pub fn grow<R: HasAutomaton + Send + Sync, G: Gate, W: Watch, T: Threads + Wait + Sync>(
     rt: &T,
     alloc: Global,
     book: Book<R>,
+    finder: &mut Finder,
     workers: &Workers<'_, G>,
     watch: &mut W,
 ) -> Result<Grown<R>, Memory>
-    ensures { IfOk result (GrowSays book.course) }
+    requires { Knows finder.old book.course.state }
+    ensures says { IfOk result (GrowSays book.course) }
+    ensures known { IfOk result (KnowsGrown finder.new) }
 {
     let given = book.lines().len();
-    match advance(alloc, book, given, watch)? {
+    match advance(alloc, book, given, finder, watch)? {
         Round::Over(grown) => Ok(grown),
-        Round::Open(settled) => Ok(look_for_more(rt, alloc, settled, workers, watch)?),
+        Round::Open(settled) => Ok(look_for_more(rt, alloc, settled, finder, workers, watch)?),
     }
 }
 
@@ -51,16 +56,19 @@ fn look_for_more<R: HasAutomaton + Send + Sync, G: Gate, W: Watch, T: Threads + 
     rt: &T,
     alloc: Global,
     book: Book<R>,
+    finder: &mut Finder,
     workers: &Workers<'_, G>,
     watch: &mut W,
 ) -> Result<Grown<R>, Memory>
-    requires { IsSettled book.course }
-    ensures { IfOk result (GrowSays book.course) }
+    requires settled { IsSettled book.course }
+    requires known { Knows finder.old book.course.state }
+    ensures says { IfOk result (GrowSays book.course) }
+    ensures known { IfOk result (KnowsGrown finder.new) }
 {
     let given = book.lines().len();
     match workers.pass(rt, alloc, book)? {
         Passed::Confluent(same) => Ok(completed(alloc, same)?),
-        Passed::Entered(passed) => Ok(go_on(alloc, passed, given, watch)?),
+        Passed::Entered(passed) => Ok(go_on(alloc, passed, given, finder, watch)?),
     }
 }
 
@@ -70,14 +78,17 @@ fn go_on<R: Reducer, W: Watch>(
     alloc: Global,
     book: Book<R>,
     given: usize,
+    finder: &mut Finder,
     watch: &mut W,
 ) -> Result<Grown<R>, Memory>
-    ensures { (start : Course) → Continues start book.course
+    requires { Knows finder.old book.course.state }
+    ensures says { (start : Course) → Continues start book.course
         → length start.state.lines ≡ given → IfOk result (GrowSays start) }
+    ensures known { IfOk result (KnowsGrown finder.new) }
 {
-    match advance(alloc, book, given, watch)? {
+    match advance(alloc, book, given, finder, watch)? {
         Round::Over(grown) => Ok(grown),
-        Round::Open(settled) => Ok(end(alloc, settled, watch)?),
+        Round::Open(settled) => Ok(end(alloc, settled, finder, watch)?),
     }
 }
 
@@ -87,11 +98,14 @@ fn advance<R: Reducer, W: Watch>(
     alloc: Global,
     mut book: Book<R>,
     given: usize,
+    finder: &mut Finder,
     watch: &mut W,
 ) -> Result<Round<R>, Memory>
-    ensures { IfOk result (AdvanceSays given book.course) }
+    requires { Knows finder.old book.course.state }
+    ensures says { IfOk result (AdvanceSays given book.course) }
+    ensures known { IfOk result (KnowsRound finder.new) }
 {
-    if let Standing::Halted = settle_and_publish(alloc, &mut book, watch)? {
+    if let Standing::Halted = settle_and_publish(alloc, &mut book, finder, watch)? {
         return Ok(Round::Over(Grown::Halted(book)));
     }
     if book.lines().len() > given {

@@ -7,7 +7,8 @@
 //!   book that is halted at a limit, with a pair that waits. Either carries the book, whose lines are
 //!   the log; with `Confluent` the rules of all its lines are confluent, and generate the congruence of
 //!   the relations (`IsCompleted` of `specs/Completing.antt`).
-//! - [`grow`] is one round of it: it answers `More` as soon as there is a line more, and nothing is pending.
+//! - [`grow`] is one round of it: it answers `More` as soon as there is a line more, and nothing is pending. It is given
+//!   the `kb_share::Finder` of the book, or a new one, and leaves it to the next round (`KnowsGrown`).
 //!
 //! That `More` can't come for ever rests on the limit of lines, and says nothing of whether the
 //! presentation has a finite complete system.

@@ -4,4 +4,6 @@ use Rattle.kb_complete.proofs.completing.complete_watched.Goals as goal
 pub grow_all-requires : goal.grow_all-requires
 grow_all-requires g c =
     let bounds = c.type_bounds in
-    (bounds.send-R, (bounds.sync-R, (bounds.sync-G, (bounds.sync-T, start_is_reduced c.in_ok-book.book.course c.in_ok-book.ensures.state))))
+    let course = c.in_ok-book.book.course in
+    let reduced = start_is_reduced course c.in_ok-book.ensures.state in
+    (bounds.send-R, (bounds.sync-R, (bounds.sync-G, (bounds.sync-T, (reduced, c.new-finder.ensures course.state)))))

@@ -12,8 +12,8 @@ pub reduced_complete-requires-clause-confluent : goal.reduced_complete-requires-
 reduced_complete-requires-clause-confluent g c =
     subst (λ (r : List Pair). IsConfluent r) (sym c.in_ok-rules.ensures.rules) c.requires.confluent
 
-pub returns : goal.returns
-returns g c =
+pub returns-clause-says : goal.returns-clause-says
+returns-clause-says g c =
     let course = c.args.book.course in
     let rules = c.in_ok-rules.ensures in (
       continues_itself course,
@@ -23,3 +23,6 @@ returns g c =
           (subst (λ (r : List Pair). IsConfluent r) (sym rules.rules) c.requires.confluent)
           c.in_ok-reduced.ensures.order c.in_ok-reduced.ensures.reduced,
     )
+
+pub returns-clause-known : goal.returns-clause-known
+returns-clause-known g c = λ finder knows. knows

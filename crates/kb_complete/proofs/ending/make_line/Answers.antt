@@ -1,5 +1,6 @@
 use Rattle.kb_book.specs.declared.answers.Make.TheVariants as makes
 use Rattle.kb_share.proofs.Stages.{make_said}
+use Rattle.kb_share.proofs.Staying.{knows_make}
 use Rattle.kb_complete.proofs.LastLines.{apart_stays, apart_pending}
 use Rattle.kb_complete.proofs.Rounds.{halts_continues, make_halts}
 use Rattle.kb_complete.proofs.ending.make_line.Goals as goal
@@ -40,3 +41,6 @@ unreachable-requires-in-Idle g c =
     let after = c.make.new.self.course in
     let says = make_said before after c.in_ok-k.field-0 makes.Idle c.in-Idle.is c.in_ok-k.ensures in
     apart_pending before c.requires says.0
+
+pub returns-clause-known : goal.returns-clause-known
+returns-clause-known g c = λ finder. knows_make finder c.args.book.now.course c.make.new.self.course c.make.result c.make.ensures

@@ -2,7 +2,7 @@ use Rattle.std.proofs.Common.{subst}
 use Rattle.kb_machine.specs.Course.{Takes}
 use Rattle.kb_machine.specs.declared.event.Event.TheVariants.{Published}
 use Rattle.kb_book.specs.Books.{BookParts}
-use Rattle.kb_complete.proofs.Rounds.{continues_then, published_continues, published_settled, settled_halts, settled_idles}
+use Rattle.kb_complete.proofs.Rounds.{continues_then, known_published, published_continues, published_settled, settled_halts, settled_idles}
 use Rattle.kb_complete.proofs.publishing.settle_and_publish.Goals as goal
 
 pub returns-in-Halted-clause-continues : goal.returns-in-Halted-clause-continues
@@ -30,3 +30,13 @@ returns-clause-stands g c =
     let takes = subst (λ (book : BookParts). Takes Published book.course after) c.tidy.ensures c.in_ok-publish.ensures.says.0 in
     published_settled settled after takes
     (settled_idles before settled c.in_ok-settle.field-0 c.in_default.not-Halted c.in_ok-settle.ensures.says)
+
+pub returns-in-Halted-clause-known : goal.returns-in-Halted-clause-known
+returns-in-Halted-clause-known g c = c.in_ok-settle.ensures.known
+
+pub returns-clause-known : goal.returns-clause-known
+returns-clause-known g c =
+    let settled = c.settle.new.book.course in
+    let after = c.publish.new.self.course in
+    let takes = subst (λ (book : BookParts). Takes Published book.course after) c.tidy.ensures c.in_ok-publish.ensures.says.0 in
+    known_published c.settle.new.finder settled after takes c.in_ok-settle.ensures.known
