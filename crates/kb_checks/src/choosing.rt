@@ -93,7 +93,7 @@ fn apart(
         Joinability::Joined => Ok(None),
         Joinability::Apart => Ok(Some(Apart {
             found: *one,
-            letters: (pair.first().len() + pair.second().len()) as u64,
+            letters: pair.first().len().saturating_add(pair.second().len()) as u64,
         })),
     }
 }
