@@ -5,11 +5,11 @@ use Rattle.kb_word.specs.Words.{Pair, OneOf}
 use Rattle.kb_word.specs.ShortlexLaws.{shortlex_total, shortlex_irreflexive}
 use Rattle.kb_word.specs.Words.{Less}
 use Rattle.kb_word.specs.Relations.{IsOver}
-use Rattle.kb_axioms.specs.Structure.{Structure, IsGenerator, Accepts, Multiplies}
-use Rattle.kb_axioms.specs.Axioms.{SatisfiesMultiplierAxioms, ActAlike, SatisfiesAxioms}
-use Rattle.kb_axioms.specs.Certificates.{HasNoCertificate, HasImages, IsTrueToGroup}
-use Rattle.kb_axioms.specs.Certificates.PrefixNotAccepted.{empty_word, prefix}
-use Rattle.kb_axioms.proofs.Letters.{over_empty, over_front}
+use Rattle.kb_structure.specs.Structure.{Structure, IsGenerator, Accepts, Multiplies}
+use Rattle.kb_structure.specs.Axioms.{SatisfiesMultiplierAxioms, ActAlike, SatisfiesAxioms}
+use Rattle.kb_structure.specs.Certificates.{HasNoCertificate, HasImages, IsTrueToGroup}
+use Rattle.kb_structure.specs.Certificates.PrefixNotAccepted.{empty_word, prefix}
+use Rattle.kb_structure.proofs.Letters.{over_empty, over_front}
 
 decided : (b : Bool) → (¬ IsTrue b → ⊥) → IsTrue b
 decided true never = refl

@@ -5,8 +5,8 @@ use Rattle.kb_word.specs.Words.{Pair, OneOf}
 use Rattle.kb_word.specs.Congruence.{Touches, Congruent}
 use Rattle.kb_word.specs.Relations.{IsOver}
 use Rattle.kb_word.proofs.PathLemmas.{path_keeps, congruent_between}
-use Rattle.kb_axioms.specs.Structure.{Structure, AreOverGenerators, AreEqual}
-use Rattle.kb_axioms.proofs.Letters.{over_replaced}
+use Rattle.kb_structure.specs.Structure.{Structure, AreOverGenerators, AreEqual}
+use Rattle.kb_structure.proofs.Letters.{over_replaced}
 
 -- congruent words stay so behind a word, and before one
 pub congruent_behind : {allowed : Pair → Type 0} (front : List ℕ) {u v : List ℕ} → Congruent allowed u v

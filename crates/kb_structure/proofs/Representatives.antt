@@ -8,9 +8,9 @@ use Rattle.kb_word.specs.WordOrderLaws.{word_orders}
 use Rattle.kb_word.specs.Congruence.{Congruent, IsLeast}
 use Rattle.kb_word.specs.Relations.{IsOver}
 use Rattle.kb_word.proofs.PathLemmas.{congruent_reflexive, congruent_symmetric, congruent_transitive}
-use Rattle.kb_axioms.specs.Structure.{Structure, AreEqual, IsRepresentative}
-use Rattle.kb_axioms.proofs.Words.{congruent_before}
-use Rattle.kb_axioms.proofs.Letters.{over_empty, over_front}
+use Rattle.kb_structure.specs.Structure.{Structure, AreEqual, IsRepresentative}
+use Rattle.kb_structure.proofs.Words.{congruent_before}
+use Rattle.kb_structure.proofs.Letters.{over_empty, over_front}
 
 no_descent : {below : List ℕ → List ℕ → Type 0} → IsReductionOrder below → (v : List ℕ) → below v []
     → (u : List ℕ) → Accessible below u → ⊥

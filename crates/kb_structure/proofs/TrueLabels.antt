@@ -11,11 +11,11 @@ use Rattle.kb_fsa.specs.PairSymbols.{first_letter, second_letter}
 use Rattle.kb_fsa.specs.Language.{AcceptsText, IsAutomaton, IsTextOf}
 use Rattle.kb_fsa.proofs.Unpadding.{first_letters-padded, second_letters-padded}
 use Rattle.kb_fsa.proofs.Lookups.{after-append}
-use Rattle.kb_axioms.specs.Labels.{Labelling, IsGroup, generators_of, RelatesProducts, LiesOnAcceptedText, IsLabelWord, LabelWordsAgree, LabelsAreDifferences, first_of, second_of}
-use Rattle.kb_axioms.specs.Labels.IsLabelWord.{own, at_start, at_end, along}
-use Rattle.kb_axioms.proofs.Letters.{over_empty, over_front, over_rest}
-use Rattle.kb_axioms.proofs.Words.{congruent_behind, congruent_before}
-use Rattle.kb_axioms.proofs.Cancelling.{AreSame, cancel_left, cancel_right, inverse_cancels}
+use Rattle.kb_structure.specs.Labels.{Labelling, IsGroup, generators_of, RelatesProducts, LiesOnAcceptedText, IsLabelWord, LabelWordsAgree, LabelsAreDifferences, first_of, second_of}
+use Rattle.kb_structure.specs.Labels.IsLabelWord.{own, at_start, at_end, along}
+use Rattle.kb_structure.proofs.Letters.{over_empty, over_front, over_rest}
+use Rattle.kb_structure.proofs.Words.{congruent_behind, congruent_before}
+use Rattle.kb_structure.proofs.Cancelling.{AreSame, cancel_left, cancel_right, inverse_cancels}
 
 first_letters-append : (n : ℕ) (text more : List ℕ) → first_letters n (text ++ more) ≡ first_letters n text ++ first_letters n more
 first_letters-append n [] more = refl

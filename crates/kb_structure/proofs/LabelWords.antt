@@ -13,11 +13,11 @@ use Rattle.kb_fsa.proofs.PairSymbolLaws.{IsPairSymbol, first_within}
 use Rattle.kb_fsa.proofs.Paddings.{symbols_of_padded}
 use Rattle.kb_fsa.proofs.Unpadding.{first_letters-padded, second_letters-padded}
 use Rattle.kb_fsa.proofs.Lookups.{after-append}
-use Rattle.kb_axioms.specs.Labels.{Labelling, RelatesProducts, generators_of, IsGroup, LiesOnAcceptedText, LabelWordsAgree}
-use Rattle.kb_axioms.specs.Labels.IsLabelWord.{own, at_start, at_end, along}
-use Rattle.kb_axioms.proofs.Words.{congruent_behind, congruent_before}
-use Rattle.kb_axioms.proofs.Cancelling.{AreSame}
-use Rattle.kb_axioms.proofs.InverseRelations.{letter_cancels}
+use Rattle.kb_structure.specs.Labels.{Labelling, RelatesProducts, generators_of, IsGroup, LiesOnAcceptedText, LabelWordsAgree}
+use Rattle.kb_structure.specs.Labels.IsLabelWord.{own, at_start, at_end, along}
+use Rattle.kb_structure.proofs.Words.{congruent_behind, congruent_before}
+use Rattle.kb_structure.proofs.Cancelling.{AreSame}
+use Rattle.kb_structure.proofs.InverseRelations.{letter_cancels}
 
 -- the word has an inverse, with which it cancels
 record Cancels (labelling : Labelling) (word : List ℕ) : Type 0 where

@@ -2,7 +2,7 @@
 use Rattle.std.specs.Prelude.{◌≡◌, ◌≢◌, ◌⊎◌, ℕ, List, [], ◌∷◌, ◌++◌, slice_get, Some}
 use Rattle.kb_word.specs.Words.{Pair}
 use Rattle.kb_word.specs.WordOrders.{Below}
-use Rattle.kb_axioms.specs.Structure.{Structure, IsGenerator, AreEqual, Accepts, Multiplies, Follows}
+use Rattle.kb_structure.specs.Structure.{Structure, IsGenerator, AreEqual, Accepts, Multiplies, Follows}
 
 -- certificate N1: the word is accepted, and a prefix of it isn't; or it is the empty word, and isn't accepted
 pub data PrefixNotAccepted (structure : Structure) (u : List ℕ) : Type 0 where

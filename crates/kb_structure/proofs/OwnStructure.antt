@@ -1,11 +1,11 @@
 -- A structure that satisfies the axioms is the group's own.
 use Rattle.std.proofs.Common.{ℕ, List, [], sym, subst}
 use Rattle.kb_word.proofs.PathLemmas.{congruent_reflexive, congruent_symmetric, congruent_transitive}
-use Rattle.kb_axioms.specs.Structure.{Structure, IsGenerator, AreOverGenerators, AreEqual, Accepts, Multiplies, IsRepresentative, IsProduct, IsAutomaticStructure}
-use Rattle.kb_axioms.specs.Axioms.{SatisfiesAxioms}
-use Rattle.kb_axioms.proofs.Representatives.{one_representative}
-use Rattle.kb_axioms.proofs.Following.{leads_somewhere, leads_inside, leads_to_itself, leads_to_equal, leads_to_no_greater}
-use Rattle.kb_axioms.proofs.Acting.{Leads, leads_equally}
+use Rattle.kb_structure.specs.Structure.{Structure, IsGenerator, AreOverGenerators, AreEqual, Accepts, Multiplies, IsRepresentative, IsProduct, IsAutomaticStructure}
+use Rattle.kb_structure.specs.Axioms.{SatisfiesAxioms}
+use Rattle.kb_structure.proofs.Representatives.{one_representative}
+use Rattle.kb_structure.proofs.Following.{leads_somewhere, leads_inside, leads_to_itself, leads_to_equal, leads_to_no_greater}
+use Rattle.kb_structure.proofs.Acting.{Leads, leads_equally}
 
 module _ (structure : Structure) (over : AreOverGenerators structure) (axioms : SatisfiesAxioms structure) where
   -- an accepted word is least: a congruent word leads from the empty word to it too, and to nothing greater

@@ -3,10 +3,10 @@
 ghost use Rattle.std.specs.Prelude.{◌≡◌};
 ghost use Rattle.kb_fsa.specs.declared.alphabet.Alphabet.TheVariants.{Pair};
 ghost use Rattle.kb_fsa.specs.Language.{IsAutomaton};
-ghost use Rattle.kb_axioms.specs.Structure.{Structure, AreOverGenerators, IsAutomaticStructure};
-ghost use Rattle.kb_axioms.specs.Axioms.{SatisfiesAxioms};
-ghost use Rattle.kb_axioms.specs.Certificates.{HasNoCertificate, HasImages, IsTrueToGroup};
-ghost use Rattle.kb_axioms.specs.Labels.{Labelling, IsGroup, LabelWordsAgree, LabelsAreDifferences, RelatesProducts, generators_of};
+ghost use Rattle.kb_structure.specs.Structure.{Structure, AreOverGenerators, IsAutomaticStructure};
+ghost use Rattle.kb_structure.specs.Axioms.{SatisfiesAxioms};
+ghost use Rattle.kb_structure.specs.Certificates.{HasNoCertificate, HasImages, IsTrueToGroup};
+ghost use Rattle.kb_structure.specs.Labels.{Labelling, IsGroup, LabelWordsAgree, LabelsAreDifferences, RelatesProducts, generators_of};
 
 /// A structure that satisfies the axioms is the group's own: exactly the least words are accepted, and each multiplier
 /// has exactly the pairs of least words that differ by its generator.

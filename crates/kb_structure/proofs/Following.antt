@@ -5,11 +5,11 @@ use Rattle.kb_word.specs.WordOrders.{Below}
 use Rattle.kb_word.specs.WordOrderLaws.{word_orders}
 use Rattle.kb_word.specs.Relations.{IsOver}
 use Rattle.kb_word.proofs.PathLemmas.{path_equal, congruent_transitive}
-use Rattle.kb_axioms.specs.Structure.{Structure, AreEqual, Accepts, Follows}
-use Rattle.kb_axioms.specs.Axioms.{SatisfiesAxioms}
-use Rattle.kb_axioms.specs.Certificates.{IsTrueToGroup}
-use Rattle.kb_axioms.proofs.Words.{congruent_before}
-use Rattle.kb_axioms.proofs.Letters.{over_first, over_later, over_rest}
+use Rattle.kb_structure.specs.Structure.{Structure, AreEqual, Accepts, Follows}
+use Rattle.kb_structure.specs.Axioms.{SatisfiesAxioms}
+use Rattle.kb_structure.specs.Certificates.{IsTrueToGroup}
+use Rattle.kb_structure.proofs.Words.{congruent_before}
+use Rattle.kb_structure.proofs.Letters.{over_first, over_later, over_rest}
 
 -- following two words one after another is following the word that they make
 pub follows_join : (structure : Structure) (w more u middle v : List ℕ) → Follows structure w u middle

@@ -6,13 +6,13 @@ use Rattle.kb_word.specs.WordOrderLaws.{word_orders}
 use Rattle.kb_word.specs.Congruence.{IsLeast}
 use Rattle.kb_word.specs.Relations.{IsOver}
 use Rattle.kb_word.proofs.PathLemmas.{congruent_reflexive, congruent_symmetric, congruent_transitive, congruent_sides}
-use Rattle.kb_axioms.specs.Structure.{Structure, IsGenerator, AreOverGenerators, AreEqual, Accepts, Multiplies, Follows, IsRepresentative, IsProduct, IsAutomaticStructure}
-use Rattle.kb_axioms.specs.Certificates.{PrefixNotAccepted, PairOutsideAcceptor, PairOfDifferentElements, WordWithoutImage, TwoImages, MissingExtension, ImageNotLeast, RelationBroken, HasNoCertificate, IsTrueToGroup}
-use Rattle.kb_axioms.specs.Certificates.PrefixNotAccepted.{empty_word, prefix}
-use Rattle.kb_axioms.proofs.Letters.{over_first, over_later, over_last}
-use Rattle.kb_axioms.proofs.Representatives.{empty_representative, prefix_representative, one_representative, least_of_class, not_without_least}
-use Rattle.kb_axioms.proofs.Following.{follows_product}
-use Rattle.kb_axioms.proofs.Words.{equal_over, congruent_behind}
+use Rattle.kb_structure.specs.Structure.{Structure, IsGenerator, AreOverGenerators, AreEqual, Accepts, Multiplies, Follows, IsRepresentative, IsProduct, IsAutomaticStructure}
+use Rattle.kb_structure.specs.Certificates.{PrefixNotAccepted, PairOutsideAcceptor, PairOfDifferentElements, WordWithoutImage, TwoImages, MissingExtension, ImageNotLeast, RelationBroken, HasNoCertificate, IsTrueToGroup}
+use Rattle.kb_structure.specs.Certificates.PrefixNotAccepted.{empty_word, prefix}
+use Rattle.kb_structure.proofs.Letters.{over_first, over_later, over_last}
+use Rattle.kb_structure.proofs.Representatives.{empty_representative, prefix_representative, one_representative, least_of_class, not_without_least}
+use Rattle.kb_structure.proofs.Following.{follows_product}
+use Rattle.kb_structure.proofs.Words.{equal_over, congruent_behind}
 
 module _ (structure : Structure) (own : IsAutomaticStructure structure) where
   no_prefix_refused : (u : List ℕ) → ¬ PrefixNotAccepted structure u

@@ -6,10 +6,10 @@ use Rattle.kb_word.specs.Words.{OneOf}
 use Rattle.kb_word.specs.Congruence.{Congruent}
 use Rattle.kb_word.specs.Relations.{IsOver, inverse_letter, inverse_word}
 use Rattle.kb_word.proofs.PathLemmas.{congruent_reflexive, congruent_symmetric, congruent_transitive}
-use Rattle.kb_axioms.specs.Labels.{Labelling, IsGroup, relations, generators_of}
-use Rattle.kb_axioms.proofs.Letters.{over_first, over_later}
-use Rattle.kb_axioms.proofs.Words.{congruent_behind, congruent_before}
-use Rattle.kb_axioms.proofs.InverseRelations.{letter_cancels}
+use Rattle.kb_structure.specs.Labels.{Labelling, IsGroup, relations, generators_of}
+use Rattle.kb_structure.proofs.Letters.{over_first, over_later}
+use Rattle.kb_structure.proofs.Words.{congruent_behind, congruent_before}
+use Rattle.kb_structure.proofs.InverseRelations.{letter_cancels}
 
 -- the words are the same element of the group
 abbrev pub AreSame : Labelling → List ℕ → List ℕ → Type 0

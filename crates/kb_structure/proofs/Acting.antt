@@ -4,10 +4,10 @@ use Rattle.kb_word.specs.Words.{OneOf}
 use Rattle.kb_word.specs.Congruence.{Touches}
 use Rattle.kb_word.specs.Relations.{IsOver}
 use Rattle.kb_word.proofs.PathLemmas.{path_keeps}
-use Rattle.kb_axioms.specs.Structure.{Structure, AreOverGenerators, AreEqual, Accepts, Follows}
-use Rattle.kb_axioms.specs.Axioms.{SatisfiesAxioms, ActAlike}
-use Rattle.kb_axioms.proofs.Letters.{over_front, over_replaced}
-use Rattle.kb_axioms.proofs.Following.{follows_join, follows_split, leads_somewhere, leads_inside}
+use Rattle.kb_structure.specs.Structure.{Structure, AreOverGenerators, AreEqual, Accepts, Follows}
+use Rattle.kb_structure.specs.Axioms.{SatisfiesAxioms, ActAlike}
+use Rattle.kb_structure.proofs.Letters.{over_front, over_replaced}
+use Rattle.kb_structure.proofs.Following.{follows_join, follows_split, leads_somewhere, leads_inside}
 
 -- the word over the generators leads from u to v
 pub record Leads (structure : Structure) (u v w : List ℕ) : Type 0 where

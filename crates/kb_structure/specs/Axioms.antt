@@ -3,7 +3,7 @@
 use Rattle.std.specs.Prelude.{◌≡◌, ℕ, List, [], ◌∷◌, ◌++◌}
 use Rattle.kb_word.specs.Words.{Pair, OneOf}
 use Rattle.kb_word.specs.WordOrders.{Below}
-use Rattle.kb_axioms.specs.Structure.{Structure, IsGenerator, AreEqual, Accepts, Multiplies, Follows}
+use Rattle.kb_structure.specs.Structure.{Structure, IsGenerator, AreEqual, Accepts, Multiplies, Follows}
 
 -- The axioms of a generator's multiplier: it relates accepted words alone, each of them to exactly one word, which is
 -- its extension by the generator where that is accepted, is no greater than that, and is the same element.

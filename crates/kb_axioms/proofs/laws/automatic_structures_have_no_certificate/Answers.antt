@@ -1,5 +1,0 @@
-use Rattle.kb_axioms.proofs.Refuting.{no_certificate}
-use Rattle.kb_axioms.proofs.laws.automatic_structures_have_no_certificate.Goals as goal
-
-pub returns : goal.returns
-returns c structure over own = no_certificate structure own over

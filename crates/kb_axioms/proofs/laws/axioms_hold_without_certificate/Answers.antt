@@ -1,5 +1,0 @@
-use Rattle.kb_axioms.proofs.Holding.{axioms_hold}
-use Rattle.kb_axioms.proofs.laws.axioms_hold_without_certificate.Goals as goal
-
-pub returns : goal.returns
-returns c structure none images true_to_group = axioms_hold structure none images true_to_group

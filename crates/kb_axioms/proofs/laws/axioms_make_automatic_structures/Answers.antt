@@ -1,5 +1,0 @@
-use Rattle.kb_axioms.proofs.OwnStructure.{own_structure}
-use Rattle.kb_axioms.proofs.laws.axioms_make_automatic_structures.Goals as goal
-
-pub returns : goal.returns
-returns c structure over axioms = own_structure structure over axioms

@@ -1,5 +1,0 @@
-use Rattle.kb_axioms.proofs.LabelWords.{pairs_differ}
-use Rattle.kb_axioms.proofs.laws.label_words_make_multipliers_true.Goals as goal
-
-pub returns : goal.returns
-returns c labelling group agree = pairs_differ labelling group agree
