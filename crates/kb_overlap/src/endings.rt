@@ -44,8 +44,8 @@ impl<'a> Prefixes<'a> {
             beyond) found.old.items found.new.items) }
     {
         let mut end = self.automaton.ends[state] as usize;
-        while self.lengths[end] as usize > beyond {
-            let place = read - self.lengths[end] as usize;
+        while self.lengths[end] > beyond {
+            let place = read - self.lengths[end];
             self.add_chain(index, end, place, found)?;
             end = self.automaton.ends[self.automaton.links[end] as usize] as usize;
         }

@@ -21,7 +21,7 @@ pub struct PrimeOverlaps<'r> {
     rules: &'r [Rule],
     automaton: Arc<Automaton>,
     /// For each state the length of its word.
-    lengths: Vec<u32>,
+    lengths: Vec<usize>,
 }
 
 impl<'r> Model for PrimeOverlaps<'r> {
