@@ -31,6 +31,8 @@ pub fn trie_of(alloc: Global, rules: &[Rule]) -> Result<Vec<Edge>, Memory>
     for depth in 0..longest(&sides) {
         waiting = grow_level(alloc, &sides, depth, &waiting, &mut edges)?;
     }
+    // They are kept for long, and grow no more.
+    edges.shrink_to_fit();
     Ok(edges)
 }
 
