@@ -50,7 +50,9 @@ pub(crate) fn completed<R: Reducer>(alloc: Global, book: Book<R>) -> Result<Grow
         → IfOk result (KnowsGrown finder) }
 {
     book_is_sound(&book);
-    let reduced = reduced_complete(alloc, book.reducer().list(), book.reducer())?;
+    let reducer = book.reducer();
+    let rules = reducer.list();
+    let reduced = reduced_complete(alloc, rules, reducer)?;
     reduced_by_the_same_congruence();
     rules_that_cover_are_confluent();
     Ok(Grown::Confluent(reduced, book))

@@ -27,11 +27,7 @@ pub fn firsts_of(alloc: Global, edges: &[Edge]) -> Result<Vec<u32>, Memory>
 }
 
 /// The children of state 0 by their letters, with 0 for none. The row ends with the last letter that has one.
-pub fn root_children_of(
-    alloc: Global,
-    edges: &[Edge],
-    firsts: &[u32],
-) -> Result<Vec<usize>, Memory>
+pub fn root_children_of(alloc: Global, edges: &[Edge], firsts: &[u32]) -> Result<Vec<usize>, Memory>
     requires edges { AreEdges edges.now }
     requires firsts { AreFirsts edges.now firsts.now }
     ensures { IfOk result (λ row. AreRootChildren edges.now row.items) }
