@@ -10,7 +10,7 @@ use crate::answers::Make;
 use crate::book::Book;
 use crate::copies::{copy_halt, copy_rule};
 use crate::pairs::put_pair;
-use crate::room::{add, make_line_room};
+use crate::room::{add, grow, make_line_room};
 use crate::steps::{log_steps, ordered};
 use kb_machine::{Event, Halt, Line, Origin};
 use kb_overlap::Joinability;
@@ -44,7 +44,7 @@ impl<R: Reducer> Book<R> {
         requires joined { PairIsJoined self.old.course origin }
         ensures { MakeSays self.old.course self.new.course result }
     {
-        self.journal.reserve(1)?;
+        grow(&mut self.journal, 1)?;
         let _ = self.pending.pop_front();
         add(&mut self.journal, Event::Dropped);
         Ok(Make::Dropped)
@@ -118,7 +118,7 @@ impl<R: Reducer> Book<R> {
         ensures { MakeSays self.old.course self.new.course result }
     {
         let copy = copy_halt(alloc, &halt)?;
-        self.journal.reserve(1)?;
+        grow(&mut self.journal, 1)?;
         self.halt = Some(halt);
         add(&mut self.journal, Event::Halted);
         Ok(Make::Halted(copy))

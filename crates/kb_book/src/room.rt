@@ -8,6 +8,21 @@ use kb_machine::{Event, Line, Origin};
 use kb_word::Memory;
 use std::collections::VecDeque;
 
+/// Makes room for n more items. A list that is full grows by an eighth of its length, so that little of its memory is
+/// never used.
+pub(crate) fn grow<T: Drop>(list: &mut Vec<T>, n: usize) -> Result<(), Memory>
+    ensures items { list.new.items ≡ list.old.items }
+    ensures len { vec_len list.new ≡ vec_len list.old }
+    ensures room { OnOk result (vec_len list.new + n ≤ vec_capacity list.new) }
+    ensures full { OnErr result (vec_capacity list.old - vec_len list.old < n) }
+    ensures kept { vec_capacity list.old ≤ vec_capacity list.new }
+{
+    if list.capacity() - list.len() < n {
+        list.reserve_exact(n.max(list.len() / 8 + 4))?;
+    }
+    Ok(())
+}
+
 /// Makes room for n more events and as many more pending pairs.
 pub(crate) fn make_room(
     journal: &mut Vec<Event>,
@@ -25,7 +40,7 @@ pub(crate) fn make_room(
         min (vec_capacity journal.new - vec_len journal.new)
         (deque_capacity pending.new - deque_len pending.new) }
 {
-    journal.reserve(n)?;
+    grow(journal, n)?;
     pending.reserve(n)?;
     Ok(())
 }
@@ -49,9 +64,9 @@ pub(crate) fn make_line_room(
     ensures room_of_live { OnOk result (vec_len live.new < vec_capacity live.new) }
     ensures room_of_versions { OnOk result (0 < versions.new.room) }
 {
-    journal.reserve(1)?;
-    lines.reserve(1)?;
-    live.reserve(1)?;
+    grow(journal, 1)?;
+    grow(lines, 1)?;
+    grow(live, 1)?;
     versions.reserve()
 }
 

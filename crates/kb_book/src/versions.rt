@@ -5,7 +5,7 @@ ghost use Rattle.std.specs.List.{Contains, remove};
 ghost use Rattle.kb_machine.specs.Lines.{numbered};
 ghost use Rattle.kb_book.specs.Lives.{is_in, numbers_from};
 
-use crate::room::add;
+use crate::room::{add, grow};
 use kb_word::Memory;
 use std::alloc::Global;
 use std::marker::Model;
@@ -82,7 +82,7 @@ impl Versions {
         ensures live { self.new.live ≡ self.old.live }
         ensures lines { self.new.lines ≡ self.old.lines }
     {
-        self.lives.reserve(1)?;
+        grow(&mut self.lives, 1)?;
         Ok(())
     }
 

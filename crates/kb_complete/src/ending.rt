@@ -17,7 +17,7 @@ use kb_reduced::{
     reduced_by_the_same_congruence, reduced_complete, rules_that_cover_are_confluent,
 };
 use kb_rules::Reducer;
-use kb_share::{Finder, OneByOne, Watch, book_is_sound, line_made, live_rules};
+use kb_share::{Finder, OneByOne, Watch, book_is_sound, line_made};
 use kb_word::Memory;
 use std::alloc::Global;
 
@@ -50,8 +50,9 @@ pub(crate) fn completed<R: Reducer>(alloc: Global, book: Book<R>) -> Result<Grow
         → IfOk result (KnowsGrown finder) }
 {
     book_is_sound(&book);
-    let rules = live_rules(alloc, &book)?;
-    let reduced = reduced_complete(alloc, &rules, book.reducer())?;
+    let reducer = book.reducer();
+    let rules = reducer.list();
+    let reduced = reduced_complete(alloc, rules, reducer)?;
     reduced_by_the_same_congruence();
     rules_that_cover_are_confluent();
     Ok(Grown::Confluent(reduced, book))

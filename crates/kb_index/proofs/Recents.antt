@@ -1,5 +1,5 @@
 -- The trie of the rules that came later: with a state more, and with a rule more.
-use Rattle.std.proofs.Common.{◌≡◌, ◌≢◌, Result, Ok, Err, OnOk, ℕ, ◌+◌, ◌<◌, ◌≤◌, Bool, true, false, ◌&&◌, eqb, List, [], ◌∷◌, ◌++◌, length, get_or, set, replicate, reverse, refl, sym, ap, ◌∙◌, subst, inl, inr, arith, length-set}
+use Rattle.std.proofs.Common.{◌≡◌, ◌≢◌, Result, Ok, Err, OnOk, ℕ, ◌+◌, ◌^◌, ◌<◌, ◌≤◌, Bool, true, false, ◌&&◌, eqb, List, [], ◌∷◌, ◌++◌, length, get_or, set, replicate, reverse, refl, sym, ap, ◌∙◌, subst, inl, inr, arith, length-set}
 use Rattle.std.proofs.lemmas.List.{get_or_append_left, get_or_push, length_push, reverse-reverse}
 use Rattle.std.specs.List.{list_any}
 use Rattle.std.proofs.lemmas.List.{get_or_default}
@@ -38,6 +38,7 @@ recent_none recent keys children heads before =
     record {
       lefts = λ place within. absurd (omega arith);
       tree = subst IsTree (sym keys) tree_none;
+      few = omega (arith, ap length keys);
       children = subst C (sym keys) children;
       complete = λ place within. absurd (omega arith);
       head_count = omega (arith, ap length heads, ap length keys);
@@ -100,10 +101,11 @@ new_head rules recent is edge parent none =
 
 pub recent_grown : (rules : List Pair) (recent recent' : Recent) (edge : Edge) → IsRecent rules recent → edge.parent ≤ length recent.edges.keys
     → IsNoChild recent.edges.keys edge.parent edge.letter → recent'.edges.keys ≡ recent.edges.keys ++ edge ∷ []
+    → length recent'.edges.keys < 2 ^ 32
     → AreShortChildren (recent.edges.keys ++ edge ∷ []) recent'.children.width recent'.children.rows.items
     → recent'.chains.heads.items ≡ recent.chains.heads.items ++ 0 ∷ [] → recent'.chains.before.items ≡ recent.chains.before.items
     → IsRecent rules recent'
-recent_grown rules recent recent' edge is parent none keys children heads before =
+recent_grown rules recent recent' edge is parent none keys few children heads before =
     let edges : List Edge = recent.edges.keys in
     let after : List Edge = edges ++ edge ∷ [] in
     let old_heads : List ℕ = recent.chains.heads.items in
@@ -144,6 +146,7 @@ recent_grown rules recent recent' edge is parent none keys children heads before
     record {
       lefts = is.lefts;
       tree = subst IsTree (sym keys) (tree_push edges edge is.tree parent new);
+      few = few;
       children = subst R (sym keys) children;
       complete = subst C (sym keys) complete;
       head_count =
@@ -165,6 +168,7 @@ recent_kept rules recent recent' is keys children heads before =
     record {
       lefts = is.lefts;
       tree = subst IsTree (sym keys) is.tree;
+      few = omega (arith, ap length keys, is.few);
       children = subst R (sym keys) children;
       complete = subst C (sym keys) is.complete;
       head_count = omega (arith, ap length heads, ap length keys, is.head_count);
@@ -233,6 +237,7 @@ recent_added rules rule recent recent' state is in_edges spells some keys width 
                 λ none. some (sym (left_new rules rule) ∙ ap (left_at more) same ∙ none)
           ];
       tree = subst IsTree (sym keys) is.tree;
+      few = omega (arith, ap length keys, is.few);
       children = subst R (sym keys) (subst W (sym width) (subst (AreShortChildren edges recent.children.width) (sym children) is.children));
       complete = subst C (sym keys) complete;
       head_count = omega (arith, ap length heads_are, length-set old_heads state (n + 1), ap length keys, is.head_count);

@@ -1,5 +1,5 @@
 -- The rules that came after the automaton was made.
-use Rattle.std.specs.Prelude.{◌≡◌, ℕ, ◌+◌, ◌<◌, List, length, reverse}
+use Rattle.std.specs.Prelude.{◌≡◌, ℕ, ◌+◌, ◌<◌, ◌^◌, List, length, reverse}
 use Rattle.kb_word.specs.Words.{Pair}
 use Rattle.kb_index.specs.declared.recent.Recent.{Recent}
 use Rattle.kb_index.specs.Edges.{IsTree, word}
@@ -12,6 +12,7 @@ use Rattle.kb_index.specs.Automata.{HaveLefts}
 pub record IsRecent (rules : List Pair) (recent : Recent) : Type 0 where
   pub lefts : HaveLefts rules
   pub tree : IsTree recent.edges.keys
+  pub few : length recent.edges.keys < 2 ^ 32
   pub children : AreShortChildren recent.edges.keys recent.children.width
       recent.children.rows.items
   pub complete : (place : ℕ) → place < length rules

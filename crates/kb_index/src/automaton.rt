@@ -26,12 +26,12 @@ use std::alloc::Global;
 #[derive(Debug, Drop)]
 pub struct Automaton {
     pub edges: Vec<Edge>,
-    pub firsts: Vec<usize>,
+    pub firsts: Vec<u32>,
     pub roots: Vec<usize>,
-    pub links: Vec<usize>,
+    pub links: Vec<u32>,
     pub table: Table,
     pub chains: Chains,
-    pub ends: Vec<usize>,
+    pub ends: Vec<u32>,
 }
 
 impl Automaton {
@@ -71,11 +71,11 @@ impl Automaton {
             → IsFirstSuch (EndsWith read) rules 0 numbers.now result }
     {
         let mut best = numbers.len();
-        let mut end = self.ends[state];
+        let mut end = self.ends[state] as usize;
         while end > 0 {
             let head = self.chains.heads[end];
             best = best.min(first_live(numbers, 0, &self.chains.before, head));
-            end = self.ends[self.links[end]];
+            end = self.ends[self.links[end] as usize] as usize;
         }
         best
     }
@@ -86,9 +86,9 @@ fn chains_of(
     alloc: Global,
     rules: &[Rule],
     edges: &[Edge],
-    firsts: &[usize],
+    firsts: &[u32],
     roots: &[usize],
-    links: &[usize],
+    links: &[u32],
     table: &Table,
 ) -> Result<Chains, Memory>
     requires trie { IsTrie rules.now edges.now }

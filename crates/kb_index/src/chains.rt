@@ -13,9 +13,9 @@ use std::alloc::Global;
 #[derive(Debug, Drop)]
 pub struct Chains {
     /// For each state the last of its rules.
-    pub heads: Vec<usize>,
+    pub heads: Vec<u32>,
     /// For each rule the one before it that has the same state.
-    pub before: Vec<usize>,
+    pub before: Vec<u32>,
 }
 
 impl Chains {
@@ -41,7 +41,7 @@ impl Chains {
         Ok(Chains { heads, before })
     }
 
-    /// A rule more, for the state.
+    /// A rule more, for the state. There are fewer than 2^32: where more are wanted, memory is.
     pub fn add(&mut self, state: usize) -> Result<(), Memory>
         requires { state < length self.old.heads.items }
         ensures heads { OnOk result
@@ -52,15 +52,18 @@ impl Chains {
         ensures err_heads { OnErr result (self.new.heads.items ≡ self.old.heads.items) }
         ensures err_before { OnErr result (self.new.before.items ≡ self.old.before.items) }
     {
+        if self.before.len() >= u32::MAX as usize {
+            return Err(Memory);
+        }
         self.before.push(self.heads[state])?;
-        self.heads[state] = self.before.len();
+        self.heads[state] = self.before.len() as u32;
         Ok(())
     }
 }
 
 /// The first place among the numbers at which one of the chain's rules stands, or how many numbers there are.
 /// The rules of the chain have the numbers from the first one on.
-pub fn first_live(numbers: &[usize], first: usize, before: &[usize], head: usize) -> usize
+pub fn first_live(numbers: &[usize], first: usize, before: &[u32], head: u32) -> usize
     requires rise { Rise numbers.now }
     requires first { first + length before.now < 2 ^ 64 }
     requires chain { (rules : List Pair) × (w : List ℕ) × AreBefore rules before.now
@@ -70,10 +73,10 @@ pub fn first_live(numbers: &[usize], first: usize, before: &[usize], head: usize
         → IsFirstSuch (λ left. left ≡ w) rules first numbers.now result }
 {
     let mut best = numbers.len();
-    let mut rest = head;
+    let mut rest = head as usize;
     while rest > 0 {
         best = best.min(place_of(numbers, first + (rest - 1)));
-        rest = before[rest - 1];
+        rest = before[rest - 1] as usize;
     }
     best
 }

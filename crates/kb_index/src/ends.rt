@@ -1,6 +1,6 @@
 //! The states at which rules apply.
 
-ghost use Rattle.std.specs.Prelude.{◌≡◌, ◌+◌, IfOk, length};
+ghost use Rattle.std.specs.Prelude.{◌≡◌, ◌<◌, ◌+◌, ◌^◌, IfOk, length};
 ghost use Rattle.kb_index.specs.Edges.{AreEdges};
 ghost use Rattle.kb_index.specs.Links.{AreLinks};
 ghost use Rattle.kb_index.specs.Ends.{AreEnds};
@@ -13,10 +13,11 @@ use std::alloc::Global;
 pub fn ends_of(
     alloc: Global,
     edges: &[Edge],
-    links: &[usize],
-    heads: &[usize],
-) -> Result<Vec<usize>, Memory>
+    links: &[u32],
+    heads: &[u32],
+) -> Result<Vec<u32>, Memory>
     requires edges { AreEdges edges.now }
+    requires few { length edges.now < 2 ^ 32 }
     requires links { AreLinks edges.now links.now }
     requires count { length links.now ≡ length edges.now + 1 }
     requires heads { length heads.now ≡ length edges.now + 1 }
@@ -27,9 +28,9 @@ pub fn ends_of(
     ends.push(0)?;
     for state in 1..heads.len() {
         let end = if heads[state] > 0 {
-            state
+            state as u32
         } else {
-            ends[links[state]]
+            ends[links[state] as usize]
         };
         ends.push(end)?;
     }

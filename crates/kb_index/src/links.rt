@@ -11,9 +11,9 @@ use crate::edge::Edge;
 /// The state after a letter more: the child by the letter of the first state that has one, along the links.
 pub fn step(
     edges: &[Edge],
-    firsts: &[usize],
+    firsts: &[u32],
     roots: &[usize],
-    links: &[usize],
+    links: &[u32],
     state: usize,
     letter: u16,
 ) -> usize
@@ -32,7 +32,7 @@ pub fn step(
         if let Some(child) = child(edges, firsts, at, letter) {
             return child;
         }
-        at = links[at];
+        at = links[at] as usize;
     }
     roots.get(letter as usize).copied().unwrap_or(0)
 }

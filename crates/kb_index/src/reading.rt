@@ -48,10 +48,9 @@ pub fn trace(alloc: Global, list: &Rules, lookup: &Lookup, w: &Word) -> Result<T
     while let Some(step) = next_step(list, lookup, &mut workspace)? {
         steps.push(step)?;
     }
-    Ok(Trace {
-        word: workspace.front,
-        steps,
-    })
+    // What is kept of it, as in a line of a log, takes no more memory than its letters.
+    let word = workspace.front.copy(alloc)?;
+    Ok(Trace { word, steps })
 }
 
 /// Has a word to read, from state 0 on.

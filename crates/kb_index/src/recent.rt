@@ -87,7 +87,7 @@ impl Recent {
         self.children.make_room(next)?;
         self.chains.heads.reserve(1)?;
         self.edges.insert(Edge {
-            parent: state,
+            parent: state as u32,
             letter,
         })?;
         self.chains.heads.push(0)?;
@@ -111,12 +111,13 @@ impl Recent {
 
     /// The state to which the letter leads from a state, by the list of all edges.
     fn listed_child(&self, state: usize, letter: u16) -> Option<usize>
-        requires { (rules : List Pair) × IsRecent rules self.now }
+        requires recent { (rules : List Pair) × IsRecent rules self.now }
+        requires state { state ≤ length self.now.edges.keys }
         ensures some { IfSome result (IsChild self.now.edges.keys state letter) }
         ensures none { IfNone result (IsNoChild self.now.edges.keys state letter) }
     {
         let edge = Edge {
-            parent: state,
+            parent: state as u32,
             letter,
         };
         let place = self.edges.get_index_of(&edge)?;

@@ -41,8 +41,8 @@ impl Table {
         &mut self,
         state: usize,
         edges: &[Edge],
-        firsts: &[usize],
-        links: &[usize],
+        firsts: &[u32],
+        links: &[u32],
     ) -> Result<(), Memory>
         requires width { self.old.width ≤ 2 ^ 16 }
         requires rows { AreRows edges.now state self.old.width self.old.rows.items }
@@ -70,8 +70,8 @@ impl Table {
         state: usize,
         letter: u16,
         edges: &[Edge],
-        firsts: &[usize],
-        links: &[usize],
+        firsts: &[u32],
+        links: &[u32],
     ) -> usize
         requires letter { letter < self.now.width }
         requires rows { state * self.now.width ≤ length self.now.rows.items }
@@ -86,7 +86,7 @@ impl Table {
         match child(edges, firsts, state, letter) {
             Some(child) => child,
             None if state == 0 => 0,
-            None => self.rows[links[state] * self.width + letter as usize] as usize,
+            None => self.rows[links[state] as usize * self.width + letter as usize] as usize,
         }
     }
 
@@ -110,9 +110,9 @@ impl Table {
     pub fn step(
         &self,
         edges: &[Edge],
-        firsts: &[usize],
+        firsts: &[u32],
         roots: &[usize],
-        links: &[usize],
+        links: &[u32],
         state: usize,
         letter: u16,
     ) -> usize
@@ -136,9 +136,9 @@ impl Table {
     pub fn state_after(
         &self,
         edges: &[Edge],
-        firsts: &[usize],
+        firsts: &[u32],
         roots: &[usize],
-        links: &[usize],
+        links: &[u32],
         read: &Word,
     ) -> usize
         requires edges { AreEdges edges.now }
@@ -163,9 +163,9 @@ impl Table {
         &self,
         place: usize,
         edges: &[Edge],
-        firsts: &[usize],
+        firsts: &[u32],
         roots: &[usize],
-        links: &[usize],
+        links: &[u32],
     ) -> usize
         requires place { place < length edges.now }
         requires edges { AreEdges edges.now }
@@ -182,7 +182,7 @@ impl Table {
         if edge.parent == 0 {
             return 0;
         }
-        let link = links[edge.parent];
+        let link = links[edge.parent as usize] as usize;
         self.step(edges, firsts, roots, links, link, edge.letter)
     }
 }
@@ -192,9 +192,9 @@ impl Table {
 pub fn links_and_table(
     alloc: Global,
     edges: &[Edge],
-    firsts: &[usize],
+    firsts: &[u32],
     roots: &[usize],
-) -> Result<(Vec<usize>, Table), Memory>
+) -> Result<(Vec<u32>, Table), Memory>
     requires edges { AreEdges edges.now }
     requires few { length edges.now < 2 ^ 32 }
     requires firsts { AreFirsts edges.now firsts.now }
@@ -210,7 +210,7 @@ pub fn links_and_table(
     for place in 0..edges.len() {
         table.add_row(place, edges, firsts, &links)?;
         let link = table.link(place, edges, firsts, roots, &links);
-        links.push(link)?;
+        links.push(link as u32)?;
     }
     table.add_row(edges.len(), edges, firsts, &links)?;
     Ok((links, table))

@@ -31,6 +31,8 @@ pub fn trie_of(alloc: Global, rules: &[Rule]) -> Result<Vec<Edge>, Memory>
     for depth in 0..longest(&sides) {
         waiting = grow_level(alloc, &sides, depth, &waiting, &mut edges)?;
     }
+    // They are kept for long, and grow no more.
+    edges.shrink_to_fit();
     Ok(edges)
 }
 
@@ -62,7 +64,7 @@ fn wait(
     sides: &[Side],
     side: usize,
     depth: usize,
-    state: usize,
+    state: u32,
     waiting: &mut Vec<Waiting>,
 ) -> Result<(), Memory>
     requires { side < length sides.now }
@@ -98,7 +100,8 @@ fn grow_level(
     let mut next = Vec::with_capacity(alloc, waiting.len())?;
     for waiting in waiting {
         follow(edges, waiting.edge)?;
-        wait(sides, waiting.side, depth + 1, edges.len(), &mut next)?;
+        let state = last_state(edges)?;
+        wait(sides, waiting.side, depth + 1, state, &mut next)?;
     }
     Ok(next)
 }
@@ -116,6 +119,16 @@ fn follow(edges: &mut Vec<Edge>, edge: Edge) -> Result<(), Memory>
         edges.push(edge)?;
     }
     Ok(())
+}
+
+/// The last state. There are fewer than 2^32: where more are wanted, memory is.
+fn last_state(edges: &[Edge]) -> Result<u32, Memory>
+    ensures { IfOk result (λ state. state ≡ length edges.now) }
+{
+    if edges.len() > u32::MAX as usize {
+        return Err(Memory);
+    }
+    Ok(edges.len() as u32)
 }
 
 /// Whether this is the last edge.

@@ -112,7 +112,7 @@ impl<'a> Prefixes<'a> {
         let mut at = state;
         while self.lengths[at] > count {
             self.add_children(state, at, next)?;
-            at = self.automaton.links[at];
+            at = self.automaton.links[at] as usize;
         }
         Ok(())
     }
@@ -125,7 +125,7 @@ impl<'a> Prefixes<'a> {
         ensures { OnOk result (Gains (LeadsToChild self.now.automaton.now.edges.items state at)
             next.old.items next.new.items) }
     {
-        for place in self.automaton.firsts[at]..self.automaton.firsts[at + 1] {
+        for place in self.automaton.firsts[at] as usize..self.automaton.firsts[at + 1] as usize {
             self.add_child(state, place, next)?;
         }
         Ok(())

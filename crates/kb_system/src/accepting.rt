@@ -35,12 +35,11 @@ pub(crate) fn completed<R: Reducer>(
     ensures { IfOk result (EndsAs (limits_of limits.now) (parts_of presentation.now)) }
 {
     book_is_sound(&book);
+    // The log alone may still be asked for: the rest of the book gives its memory to the acceptor.
+    let (lines, _) = book.into_log();
     match word_acceptor(alloc, presentation, &rules, limits.states)? {
         Some(acceptor) => Ok(Ending::Completed { rules, acceptor }),
-        None => Ok(Ending::TooLarge {
-            lines: book.into_log().0,
-            rules,
-        }),
+        None => Ok(Ending::TooLarge { lines, rules }),
     }
 }
 

@@ -1,7 +1,7 @@
 use Rattle.std.proofs.Common.{◌≡◌, ◌<◌, ◌^◌, [], ◌++◌, All, ℕ, List, subst, sym, ap, ◌∙◌}
 use Rattle.kb_word.specs.Words.{OneOf}
 use Rattle.kb_word.specs.WordOrderLaws.{word_orders}
-use Rattle.kb_word.specs.Rewriting.{IsIrreducible}
+use Rattle.kb_word.specs.Rewriting.{IsIrreducible, NormalForm}
 use Rattle.kb_rules.specs.declared.trace.Step.{Step}
 use Rattle.kb_rules.specs.Steps.{IsFirstStep, Leads}
 use Rattle.kb_rules.proofs.Exists.{empty_irreducible}
@@ -56,11 +56,13 @@ pub returns-clause-steps : goal.returns-clause-steps
 returns-clause-steps c =
     let read = rw c.in_default.is at c.in_ok-step.ensures.none in
     let L : List ℕ → Type 0 = λ v. Leads (IsFirstStep c.args.list.now.rules) c.args.w.now c.loop-steps.steps.items v in
-    subst L (sym read) c.loop-steps.invariant.leads
+    subst L (sym c.in_ok-word.ensures) (subst L (sym read) c.loop-steps.invariant.leads)
 
 pub returns-clause-normal : goal.returns-clause-normal
 returns-clause-normal c =
     let read = rw c.in_default.is at c.in_ok-step.ensures.none in
     let L : List ℕ → Type 0 = λ v. Leads (IsFirstStep c.args.list.now.rules) c.args.w.now c.loop-steps.steps.items v in
-    leads_normal c.args.w.now c.loop-steps.steps.items c.next_step.new.workspace.front (subst L (sym read) c.loop-steps.invariant.leads)
-    c.in_ok-step.ensures.irreducible
+    let N : List ℕ → Type 0 = λ v. NormalForm c.args.list.now.rules c.args.w.now v in
+    subst N (sym c.in_ok-word.ensures)
+    (leads_normal c.args.w.now c.loop-steps.steps.items c.next_step.new.workspace.front (subst L (sym read) c.loop-steps.invariant.leads)
+    c.in_ok-step.ensures.irreducible)

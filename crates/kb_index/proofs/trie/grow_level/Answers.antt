@@ -22,7 +22,7 @@ loop-waiting-preserved c =
     let is = are.each i none within in
     let there : one.side < length c.args.sides.now = omega (arith, is.rule, sided_length c.args.sides.now) in
     let after : List Edge = c.follow.new.edges.items in
-    let long : c.len.result ≡ length after = omega (arith, c.len.ensures, c.follow.new.edges.ok) in
+    let long : c.in_ok-state.state ≡ length after = c.in_ok-state.ensures ∙ ap length c.deref.ensures.value in
     growing_more lefts c.args.edges.now.items c.args.depth are.start waiting i c.loop-waiting.edges.items c.loop-waiting.next.items
     c.loop-waiting.invariant within
     (ranks_rise c.args.sides.now c.args.edges.now.items c.args.depth are.start waiting c.requires.order are.each are.parents_rise are.sides_rise)

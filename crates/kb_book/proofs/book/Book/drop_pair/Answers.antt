@@ -14,7 +14,7 @@ invariant_of-self-2 g c =
     let next = subst N (sym c.self.view_is) c.requires.next in
     let one = subst O (sym c.self.view_is) c.requires.joined in
     let numbers = (course_keeps _ c.self.invariant.is_course).numbers in
-    let events = c.add.ensures.items ∙ ap (λ (l : List Event). l ++ Dropped ∷ []) c.reserve.ensures.items in
+    let events = c.add.ensures.items ∙ ap (λ (l : List Event). l ++ Dropped ∷ []) c.grow.ensures.items in
     book_after c.self.invariant (dropped _ c.args.origin _ _ next one numbers c.pop_front.ensures.rest events).takes
     c.self.invariant.reduces refl c.self.invariant.has_live c.self.invariant.has_lines
 
@@ -25,6 +25,6 @@ returns g c =
     let next = subst N (sym c.self.view_is) c.requires.next in
     let one = subst O (sym c.self.view_is) c.requires.joined in
     let numbers = (course_keeps _ c.self.invariant.is_course).numbers in
-    let events = c.add.ensures.items ∙ ap (λ (l : List Event). l ++ Dropped ∷ []) c.reserve.ensures.items in
+    let events = c.add.ensures.items ∙ ap (λ (l : List Event). l ++ Dropped ∷ []) c.grow.ensures.items in
     let after = dropped _ c.args.origin _ _ next one numbers c.pop_front.ensures.rest events in
     rw (← c.self.view_is) after

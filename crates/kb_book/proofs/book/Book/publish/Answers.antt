@@ -6,7 +6,7 @@ use Rattle.kb_book.proofs.book.Book.publish.Goals as goal
 
 pub invariant_of-self-2 : goal.invariant_of-self-2
 invariant_of-self-2 g c =
-    let events = c.add.ensures.items ∙ ap (λ (l : List Event). l ++ Published ∷ []) c.reserve.ensures.items in
+    let events = c.add.ensures.items ∙ ap (λ (l : List Event). l ++ Published ∷ []) c.grow.ensures.items in
     let versions = c.publish.ensures.published ∙ ap (λ (l : List ℕ). c.self.inside.versions.published ++ l ∷ []) c.self.invariant.has_live in
     book_after {event = Published} c.self.invariant (record { problem = refl; journal = events; step = cc versions })
     c.self.invariant.reduces refl (c.publish.ensures.live ∙ c.self.invariant.has_live) (c.publish.ensures.lines ∙ c.self.invariant.has_lines)

@@ -11,7 +11,7 @@ pub invariant_of-self-2 : goal.invariant_of-self-2
 invariant_of-self-2 g c =
     let L : BookParts → Type 0 = λ b. IsLimitOf b.course c.args.halt in
     let limit = subst L (sym c.self.view_is) c.requires in
-    let events = c.add.ensures.items ∙ ap (λ (l : List Event). l ++ Halted ∷ []) c.reserve.ensures.items in
+    let events = c.add.ensures.items ∙ ap (λ (l : List Event). l ++ Halted ∷ []) c.grow.ensures.items in
     book_after c.self.invariant
     (halted _ c.args.halt c.in_ok-copy.copy (Some c.args.halt) _ limit c.in_ok-copy.ensures refl events).takes
     c.self.invariant.reduces refl c.self.invariant.has_live c.self.invariant.has_lines
@@ -20,6 +20,6 @@ pub returns : goal.returns
 returns g c =
     let L : BookParts → Type 0 = λ b. IsLimitOf b.course c.args.halt in
     let limit = subst L (sym c.self.view_is) c.requires in
-    let events = c.add.ensures.items ∙ ap (λ (l : List Event). l ++ Halted ∷ []) c.reserve.ensures.items in
+    let events = c.add.ensures.items ∙ ap (λ (l : List Event). l ++ Halted ∷ []) c.grow.ensures.items in
     let after = halted _ c.args.halt c.in_ok-copy.copy (Some c.args.halt) _ limit c.in_ok-copy.ensures refl events in
     rw (← c.self.view_is) (inl after)

@@ -10,8 +10,8 @@ pub loop-end-init : goal.loop-end-init
 loop-end-init c =
     let automaton = c.args.self.now in
     let is = c.requires.automaton.1 in
-    let end : c.index-end.result.now ≡ get_or automaton.ends.items c.args.state 0 =
-    get_or_read automaton.ends.items c.args.state c.index-end.result.now (omega (arith, is.end_count, c.requires.state)) c.index-end.ensures 0 in
+    let end : c.index.result.now ≡ get_or automaton.ends.items c.args.state 0 =
+    get_or_read automaton.ends.items c.args.state c.index.result.now (omega (arith, is.end_count, c.requires.state)) c.index.ensures 0 in
     record {
       within = omega arith;
       state = omega (arith, (is.ends.each c.args.state (omega (arith, is.end_count, c.requires.state))).upto, c.requires.state);
@@ -32,10 +32,10 @@ loop-end-preserved c =
     let falls : get_or automaton.links.items state 0 < state = is.links.falls state some in_links in
     let head : c.index-head.result.now ≡ get_or automaton.chains.heads.items state 0 =
     get_or_read automaton.chains.heads.items state c.index-head.result.now (omega (arith, is.head_count)) c.index-head.ensures 0 in
-    let link : c.index.result.now ≡ get_or automaton.links.items state 0 =
-    get_or_read automaton.links.items state c.index.result.now in_links c.index.ensures 0 in
-    let end : c.index-end-in-loop-end.result.now ≡ get_or automaton.ends.items (get_or automaton.links.items state 0) 0 =
-    get_or_read automaton.ends.items c.index.result.now c.index-end-in-loop-end.result.now (omega (arith, is.end_count)) c.index-end-in-loop-end.ensures 0
+    let link : c.index-in-loop-end.result.now ≡ get_or automaton.links.items state 0 =
+    get_or_read automaton.links.items state c.index-in-loop-end.result.now in_links c.index-in-loop-end.ensures 0 in
+    let end : c.index-in-loop-end-2.result.now ≡ get_or automaton.ends.items (get_or automaton.links.items state 0) 0 =
+    get_or_read automaton.ends.items c.index-in-loop-end.result.now c.index-in-loop-end-2.result.now (omega (arith, is.end_count)) c.index-in-loop-end-2.ensures 0
     ∙ ap (λ (l : ℕ). get_or automaton.ends.items l 0) link in
     let upto = (is.ends.each (get_or automaton.links.items state 0) (omega (arith, is.end_count))).upto in
     record {

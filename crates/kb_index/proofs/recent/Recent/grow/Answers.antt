@@ -27,6 +27,7 @@ returns-clause-keeps c rules is =
     λ n. c.args.letter < width → c.note.new.self.rows.items ≡ set rows (c.args.state * width + c.args.letter) (n + 1) in
     let V : ℕ → Type 0 = λ n. AreShortChildren (old ++ edge ∷ []) n c.note.new.self.rows.items in
     recent_grown rules c.args.self.now _ edge is c.requires.state c.in_default.ensures.none keys
+    (omega (arith, ap length keys, length_push old edge, c.len-next.ensures.len, c.in_ok-make_room.ensures.few))
     (subst V (sym c.note.ensures.width)
     (children_push old edge width rows c.note.new.self.rows.items kept c.requires.state room (subst N c.len-next.ensures.len c.note.ensures.short)
     c.note.ensures.long))

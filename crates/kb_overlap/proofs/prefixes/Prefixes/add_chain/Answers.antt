@@ -11,7 +11,7 @@ loop-rest-init c =
     let are = c.requires.prefixes in
     let left : List ℕ = word prefixes.automaton.now.edges.items c.args.state in
     let P : ℕ → Type 0 = λ rest. Chaining prefixes.rules.now c.args.index left c.args.place rest c.args.found.now.items c.args.found.now.items in
-    subst P (sym (head_read are c.args.state c.index-rest.result.now c.requires.state c.index-rest.ensures))
+    subst P (sym (head_read are c.args.state c.index.result.now c.requires.state c.index.ensures))
     (chaining_first prefixes.rules.now c.args.index left c.args.place (get_or prefixes.automaton.now.chains.heads.items c.args.state 0)
     c.args.found.now.items (head_of are.is c.args.state c.requires.state))
 
@@ -25,8 +25,8 @@ loop-rest-preserved c =
     let some : 0 < rest = c.loop-rest-test.true in
     let within = c.loop-rest.invariant.within in
     let fits : rest - 1 < length before = omega (arith, are.is.rule_count) in
-    let next : c.index-rest-in-loop-rest.result.now ≡ get_or before (rest - 1) 0 =
-    get_or_read before (rest - 1) c.index-rest-in-loop-rest.result.now fits c.index-rest-in-loop-rest.ensures 0 in
+    let next : c.index-in-loop-rest.result.now ≡ get_or before (rest - 1) 0 =
+    get_or_read before (rest - 1) c.index-in-loop-rest.result.now fits c.index-in-loop-rest.ensures 0 in
     let P : ℕ → Type 0 =
     λ rest. Chaining prefixes.rules.now c.args.index left c.args.place rest c.args.found.now.items c.add_other.new.found.items in
     subst P (sym next)
@@ -42,8 +42,8 @@ loop-rest-smaller c =
     let some : 0 < rest = c.loop-rest-test.true in
     let within = c.loop-rest.invariant.within in
     let fits : rest - 1 < length before = omega (arith, are.is.rule_count) in
-    let next : c.index-rest-in-loop-rest.result.now ≡ get_or before (rest - 1) 0 =
-    get_or_read before (rest - 1) c.index-rest-in-loop-rest.result.now fits c.index-rest-in-loop-rest.ensures 0 in
+    let next : c.index-in-loop-rest.result.now ≡ get_or before (rest - 1) 0 =
+    get_or_read before (rest - 1) c.index-in-loop-rest.result.now fits c.index-in-loop-rest.ensures 0 in
     let head = are.is.before.each (rest - 1) fits in
     let upto : get_or before (rest - 1) 0 ≤ rest - 1 = head.within in
     omega arith

@@ -10,9 +10,9 @@ loop-place-preserved c =
     let at : ℕ = c.args.at in
     let place : ℕ = c.loop-place.place in
     let firsts : List ℕ = prefixes.automaton.now.firsts.items in
-    let first : c.index-place.result.now ≡ get_or firsts at 0 = first_read are at c.index-place.result.now (omega (arith, c.requires.at)) c.index-place.ensures in
-    let next : c.index-place-end.result.now ≡ get_or firsts (at + 1) 0 =
-    first_read are (at + 1) c.index-place-end.result.now (omega (arith, c.requires.at)) c.index-place-end.ensures in
+    let first : c.index.result.now ≡ get_or firsts at 0 = first_read are at c.index.result.now (omega (arith, c.requires.at)) c.index.ensures in
+    let next : c.index-2.result.now ≡ get_or firsts (at + 1) 0 =
+    first_read are (at + 1) c.index-2.result.now (omega (arith, c.requires.at)) c.index-2.ensures in
     let here = firsts_of are.is at (omega (arith, c.requires.at)) in
     let there = firsts_of are.is (at + 1) (omega (arith, c.requires.at)) in
     let from : get_or firsts at 0 ≤ place = omega (arith, c.loop-place.auto.place) in
@@ -27,7 +27,7 @@ returns c =
     let are = c.requires.prefixes in
     let at : ℕ = c.args.at in
     let firsts : List ℕ = prefixes.automaton.now.firsts.items in
-    let next : c.index-place-end.result.now ≡ get_or firsts (at + 1) 0 =
-    first_read are (at + 1) c.index-place-end.result.now (omega (arith, c.requires.at)) c.index-place-end.ensures in
+    let next : c.index-2.result.now ≡ get_or firsts (at + 1) 0 =
+    first_read are (at + 1) c.index-2.result.now (omega (arith, c.requires.at)) c.index-2.ensures in
     children_all are.is c.args.state at c.loop-place.place (get_or firsts (at + 1) 0) c.args.next.now.items c.loop-place.next.items
     (firsts_of are.is (at + 1) (omega (arith, c.requires.at))) (omega (arith, c.loop-place-test.false)) c.loop-place.invariant

@@ -15,7 +15,7 @@ loop-at-preserved c =
     let longer : c.args.count < length (word prefixes.automaton.now.edges.items at) = omega (arith, c.loop-at-test.true) in
     let P : ℕ → Type 0 =
     λ link. Linking prefixes.automaton.now.edges.items c.args.state c.args.count link c.args.next.now.items c.add_children.new.next.items in
-    subst P (sym (link_read are at c.index-at.result.now linking.within c.index-at.ensures))
+    subst P (sym (link_read are at c.index.result.now linking.within c.index.ensures))
     (linking_more are.is c.args.state c.args.count at c.args.next.now.items c.loop-at.next.items c.add_children.new.next.items longer linking
     c.in_ok-add_children.ensures)
 
@@ -27,7 +27,7 @@ loop-at-smaller c =
     let linking = c.loop-at.invariant in
     let long : get_or prefixes.lengths.now at 0 ≡ length (word prefixes.automaton.now.edges.items at) = length_at are at linking.within in
     let longer : c.args.count < length (word prefixes.automaton.now.edges.items at) = omega (arith, c.loop-at-test.true) in
-    let link : c.index-at.result.now ≡ get_or prefixes.automaton.now.links.items at 0 =
-    link_read are at c.index-at.result.now linking.within c.index-at.ensures in
+    let link : c.index.result.now ≡ get_or prefixes.automaton.now.links.items at 0 =
+    link_read are at c.index.result.now linking.within c.index.ensures in
     let below = link_below are.is at (longer_some are.is at c.args.count longer) linking.within in
     omega arith

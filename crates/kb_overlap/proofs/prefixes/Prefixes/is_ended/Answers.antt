@@ -9,7 +9,7 @@ loop-end-init c =
     let prefixes = c.args.self.now in
     let are = c.requires.prefixes in
     let P : ℕ → Type 0 = λ end. Looking prefixes.rules.now prefixes.automaton.now c.args.state end in
-    subst P (sym (end_read are c.args.state c.index-end.result.now c.requires.state c.index-end.ensures))
+    subst P (sym (end_read are c.args.state c.index.result.now c.requires.state c.index.ensures))
     (looking_first are.is c.args.state c.requires.state)
 
 pub loop-end-preserved : goal.loop-end-preserved
@@ -22,8 +22,8 @@ loop-end-preserved c =
     let head : c.index-head.result.now ≡ get_or prefixes.automaton.now.chains.heads.items end 0 =
     head_read are end c.index-head.result.now looking.within c.index-head.ensures in
     let none : c.index-head.result.now ≤ 0 = c.if-head-gt0.false in
-    let next : c.index-end-in-loop-end.result.now ≡ next_end prefixes.automaton.now end =
-    next_read are end c.index.result.now c.index-end-in-loop-end.result.now some looking.within c.index.ensures c.index-end-in-loop-end.ensures in
+    let next : c.index-in-loop-end-2.result.now ≡ next_end prefixes.automaton.now end =
+    next_read are end c.index-in-loop-end.result.now c.index-in-loop-end-2.result.now some looking.within c.index-in-loop-end.ensures c.index-in-loop-end-2.ensures in
     let P : ℕ → Type 0 = λ end. Looking prefixes.rules.now prefixes.automaton.now c.args.state end in
     subst P (sym next) (looking_more are.is c.args.state end some (omega arith) looking)
 
@@ -34,8 +34,8 @@ loop-end-smaller c =
     let end : ℕ = c.loop-end.end in
     let some : 0 < end = c.loop-end-test.true in
     let within = c.loop-end.invariant.within in
-    let next : c.index-end-in-loop-end.result.now ≡ next_end prefixes.automaton.now end =
-    next_read are end c.index.result.now c.index-end-in-loop-end.result.now some within c.index.ensures c.index-end-in-loop-end.ensures in
+    let next : c.index-in-loop-end-2.result.now ≡ next_end prefixes.automaton.now end =
+    next_read are end c.index-in-loop-end.result.now c.index-in-loop-end-2.result.now some within c.index-in-loop-end.ensures c.index-in-loop-end-2.ensures in
     let below : next_end prefixes.automaton.now end < end = next_below are.is end some within in
     omega arith
 
