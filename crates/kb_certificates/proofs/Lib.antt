@@ -3,6 +3,6 @@ pub mod Loops
 pub mod LedWords
 pub mod Prefixes
 pub mod Extensions
-pub mod Images
+pub mod FirstWords
 pub mod OutsidePairs
 pub mod GreaterImages

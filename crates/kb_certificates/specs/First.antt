@@ -38,17 +38,7 @@ pub record IsFirstPair (Certificate : ℕ → List ℕ → List ℕ → Type 0) 
   pub no_earlier : (y : ℕ) (first second : List ℕ) → y < x → ¬ Certificate y first second
   pub least : IsLeastPair (Certificate x) u v
 
--- the first words of a generator's multiplier have more sets of states than the limit, and no lesser generator has a
--- certificate
-pub record IsCountedFirst (Certificate : ℕ → List ℕ → Type 0) (multipliers : List Automaton)
-    (limit : ℕ) : Type 0 where
-  pub x : ℕ
-  pub multiplier : Automaton
-  pub is_multiplier : multiplier_of multipliers x ≡ Some multiplier
-  pub counted : CountedExists multiplier limit
-  pub no_earlier : (y : ℕ) (u : List ℕ) → y < x → ¬ Certificate y u
-
--- up to a generator none has so many
+-- the first words of no multiplier up to this generator's have more sets of states than the limit
 abbrev pub NoneCountedUpTo : List Automaton → ℕ → ℕ → Type 0
 NoneCountedUpTo multipliers limit x = (y : ℕ) (multiplier : Automaton) → y ≤ x
     → multiplier_of multipliers y ≡ Some multiplier → ¬ CountedExists multiplier limit

@@ -1,18 +1,16 @@
 //! Certificates N4: accepted words without an image.
 
-ghost use Rattle.std.specs.Prelude.{◌≡◌, ℕ, Err, IsOk, IfOk, IfSome, IfNone};
+ghost use Rattle.std.specs.Prelude.{IfOk};
 ghost use Rattle.std.proofs.lemmas.Bool.{eqb-true};
-ghost use Rattle.kb_explore.specs.declared.det.Det.TheVariants.{TooManyStates};
-ghost use Rattle.kb_structure.specs.Certificates.{WordWithoutImage};
 ghost use Rattle.kb_structure.specs.StructureOf.{FitTogether};
-ghost use Rattle.kb_certificates.specs.First.{HasNone, IsCountedFirst, IsFirstWord, OfAutomata};
+ghost use Rattle.kb_certificates.specs.Images.{ImagesSay};
 ghost use Rattle.kb_certificates.specs.Followers.{other_state};
 
 use crate::least::least_word;
 use kb_cascade::Follower;
 use kb_fsa::Fsa;
 use kb_fsadet::{Det, exists};
-use kb_word::{Letter, Word};
+use kb_word::{Letter, Memory, Word};
 use std::alloc::Global;
 
 /// Along the acceptor's words, another automaton's state.
@@ -42,36 +40,44 @@ impl<'a> Follower for OtherState<'a> {
     ghost same_state = { eqb-true };
 }
 
-/// The first generator whose multiplier relates an accepted word to none; and the least such word. The first words of
-/// each generator's multiplier are counted before its certificate.
-pub fn word_without_image(
+/// Whether each accepted word has an image under each generator.
+#[derive(Debug, Drop)]
+pub enum Images {
+    /// Each has.
+    Given,
+    /// The first generator whose multiplier relates an accepted word to none, and the least such word.
+    Lacking { x: Letter, word: Word },
+    /// The first words of this generator's multiplier have more sets of states than the limit, and no certificate comes
+    /// before that.
+    TooManyStates { x: Letter },
+}
+
+/// Whether each accepted word has an image under each generator. The first words of each generator's multiplier are
+/// counted before its words without an image are looked for.
+pub fn check_images(
     alloc: Global,
     acceptor: &Fsa,
     multipliers: &[Fsa],
     limit: u32,
-) -> Result<Option<(Letter, Word)>, Det>
+) -> Result<Images, Memory>
     requires { FitTogether acceptor.now multipliers.now }
-    ensures found { IfOk result (λ found. IfSome found (λ certificate.
-        OfAutomata acceptor.now multipliers.now (λ structure.
-        IsFirstWord (WordWithoutImage structure) certificate.0 certificate.1))) }
-    ensures none { IfOk result (λ found. IfNone found
-        (OfAutomata acceptor.now multipliers.now (λ structure.
-        HasNone (WordWithoutImage structure)))) }
-    ensures few { IsOk result → OfAutomata acceptor.now multipliers.now (λ structure.
-        ¬ IsCountedFirst (WordWithoutImage structure) multipliers.now limit) }
-    ensures many { (most : ℕ) → result ≡ Err (TooManyStates most) → (most ≡ limit)
-        × OfAutomata acceptor.now multipliers.now (λ structure.
-        IsCountedFirst (WordWithoutImage structure) multipliers.now limit) }
+    ensures { IfOk result (ImagesSay acceptor.now multipliers.now limit) }
 {
+    let _n = acceptor.alphabet().generators();
     for (place, multiplier) in multipliers.iter().enumerate() {
-        let images = exists(alloc, multiplier, limit)?;
+        let x = Letter::new(place as u16 + 1);
+        let first_words = match exists(alloc, multiplier, limit) {
+            Ok(first_words) => first_words,
+            Err(Det::TooManyStates { .. }) => return Ok(Images::TooManyStates { x }),
+            Err(Det::Memory) => return Err(Memory),
+        };
         let follower = OtherState {
             acceptor,
-            other: &images,
+            other: &first_words,
         };
         if let Some(word) = least_word(alloc, acceptor, &follower)? {
-            return Ok(Some((Letter::new(place as u16 + 1), word)));
+            return Ok(Images::Lacking { x, word });
         }
     }
-    Ok(None)
+    Ok(Images::Given)
 }

@@ -13,7 +13,7 @@ mod word_states;
 pub use comparison::Comparison;
 pub use extension::missing_extension;
 pub use greater::image_not_least;
-pub use image::word_without_image;
+pub use image::{Images, check_images};
 pub use outside::pair_outside_acceptor;
 pub use prefix::prefix_not_accepted;
 pub use word_states::WordStates;

@@ -1,12 +1,12 @@
 -- Accepted words without an image.
-use Rattle.std.proofs.Common.{◌≡◌, ◌↔◌, ℕ, ◌+◌, ◌<◌, ◌≤◌, Bool, true, not, ◌&&◌, IsTrue, List, [], ◌∷◌, length, Some, refl, sym, ap, ◌∙◌, subst, inl, inr, arith}
-use Rattle.std.proofs.lemmas.Bool.{and_from, and_parts, cases_lt, not-true, not_from_false, false_from_ne_true, true≢false}
+use Rattle.std.proofs.Common.{◌≡◌, ◌↔◌, ℕ, ◌+◌, ◌<◌, ◌≤◌, Bool, not, List, [], ◌∷◌, Some, refl, sym, ap, ◌∙◌, subst, inl, inr, arith}
+use Rattle.std.proofs.lemmas.Bool.{and_from, and_parts, cases_lt, cases_Bool, not-true, not_from_false, false_from_ne_true, true≢false}
 use Rattle.std.proofs.lemmas.Option.{none-some, same_Some}
 use Rattle.kb_word.specs.Words.{Pair as Sides}
 use Rattle.kb_word.specs.Relations.{IsOver}
 use Rattle.kb_word.specs.declared.word_order.WordOrder.{WordOrder}
 use Rattle.kb_fsa.specs.Table.{Table, after, is_accepting, state_after, step}
-use Rattle.kb_fsa.specs.Language.{Automaton, IsAutomaton, AcceptsText, AcceptsPair, generators}
+use Rattle.kb_fsa.specs.Language.{Automaton, IsAutomaton, AcceptsText, generators}
 use Rattle.kb_fsa.specs.Counted.{CountedExists}
 use Rattle.kb_cascade.specs.Cascade.{AcceptsLed, IsLeastLed, followed}
 use Rattle.kb_fsadet.specs.Projection.{HasSecond, IsProjection}
@@ -15,10 +15,10 @@ use Rattle.kb_structure.specs.Structure.{Structure, Accepts, Multiplies}
 use Rattle.kb_structure.specs.StructureOf.{FitTogether, multiplier_of, structure_of}
 use Rattle.kb_structure.specs.Certificates.{WordWithoutImage}
 use Rattle.kb_structure.proofs.OfAutomata.{accepts_word, multiplied_pair, pair_multiplied}
-use Rattle.kb_certificates.specs.First.{IsCountedFirst, NoneCountedUpTo, NoneUpTo}
+use Rattle.kb_certificates.specs.First.{NoneCountedUpTo}
+use Rattle.kb_certificates.specs.Images.{HasImagesUpTo}
 use Rattle.kb_certificates.specs.Followers.{other_state}
 use Rattle.kb_certificates.proofs.Leasts.{least_word_led}
-use Rattle.kb_certificates.proofs.Loops.{multiplier_within}
 
 -- along a word the other automaton goes along it
 other_run : (table other : Table) (state beside : ℕ) (word : List ℕ)
@@ -99,17 +99,26 @@ module _ (order : WordOrder) (relations : List Sides) (acceptor : Automaton) (mu
   pub none_without : ((word : List ℕ) → ¬ Led word) → (word : List ℕ) → ¬ WordWithoutImage structure x word
   none_without none word certificate = none word ((led_without certificate.generator word).1 certificate)
 
+  -- where no word is led so, each accepted word has an image
+  pub given_image : ((word : List ℕ) → ¬ Led word) → (word : List ℕ) → Accepts structure word → (v : List ℕ) × Multiplies structure x word v
+  given_image none word accepted = elim (cases_Bool (has_image word)) [
+    | inl given ↦ let has = (projects word).0 (has_image_is word ∙ given) in (has.second, image_of word has)
+    | inr lacking ↦ absurd (none word (and_from (accepts word) (not (has_image word)) ((means word).0 accepted) (not_from_false (has_image word) lacking)))
+  ]
+
+-- a generator more under which each accepted word has an image
+pub images_more : (structure : Structure) (x : ℕ) → HasImagesUpTo structure x
+    → ((u : List ℕ) → Accepts structure u → (v : List ℕ) × Multiplies structure (x + 1) u v) → HasImagesUpTo structure (x + 1)
+images_more structure x images here y u letter low accepted = elim (cases_lt x y) [
+  | inl above ↦
+      let P : ℕ → Type 0 = λ z. (v : List ℕ) × Multiplies structure z u v in
+      let is : x + 1 ≡ y = omega arith in subst P is (here u accepted)
+  | inr within ↦ images y u letter within accepted
+]
+
 -- ---- what is counted
 
 module _ (multipliers : List Automaton) (limit : ℕ) where
-  -- no sets are counted too many up to the generator, which has a certificate
-  pub none_counted_first : (Certificate : ℕ → List ℕ → Type 0) (x : ℕ) (u : List ℕ) → NoneCountedUpTo multipliers limit x → Certificate x u
-      → ¬ IsCountedFirst Certificate multipliers limit
-  none_counted_first Certificate x u few certificate counted = elim (cases_lt x counted.x) [
-    | inl above ↦ counted.no_earlier x u above certificate
-    | inr within ↦ few counted.x counted.multiplier within counted.is_multiplier counted.counted
-  ]
-
   pub counted_more : (x : ℕ) (multiplier : Automaton) → multiplier_of multipliers (x + 1) ≡ Some multiplier → NoneCountedUpTo multipliers limit x
       → ¬ CountedExists multiplier limit → NoneCountedUpTo multipliers limit (x + 1)
   counted_more x multiplier at few here y other low is counted = elim (cases_lt x y) [
@@ -124,10 +133,3 @@ module _ (multipliers : List Automaton) (limit : ℕ) where
   none_counted_yet y other low is counted =
       let none : y ≡ 0 = omega arith in
       none-some other (sym (ap (multiplier_of multipliers) none) ∙ is)
-
-  -- nor of any
-  pub none_counted : (x : ℕ) → length multipliers ≤ x → NoneCountedUpTo multipliers limit x → (Certificate : ℕ → List ℕ → Type 0)
-      → ¬ IsCountedFirst Certificate multipliers limit
-  none_counted x all few Certificate counted =
-      few counted.x counted.multiplier (let within = multiplier_within multipliers counted.x counted.multiplier counted.is_multiplier in omega arith)
-      counted.is_multiplier counted.counted
