@@ -1,0 +1,4 @@
+pub mod Composition
+pub mod StatePairs
+pub mod Tails
+pub mod Progress
