@@ -10,3 +10,5 @@ pub mod Languages
 pub mod CountedSets
 pub mod SetSteps
 pub mod Whole
+pub mod Identities
+pub mod Chains

@@ -4,6 +4,11 @@
 //! word w, of any length, such that the first automaton accepts (u, w) and the second one (w, v). It answers
 //! `TooManyStates` exactly where there are more different sets of pairs of states, to which texts lead, than the limit.
 //!
+//! `along` composes the multipliers of a word's letters one after another, from the identity on an acceptor on: it returns
+//! an automaton of exactly the pairs (u, v) such that u is accepted and following the word from u leads to v. Each
+//! composite is made canonical before the next, and the last one too; `TooManyStates` comes exactly where one of them
+//! counts more than the limit.
+//!
 //! # How it works
 //!
 //! The composite is a subset construction: a text of a pair (u, v) leads to the set of the pairs (p, q) of states such
@@ -18,7 +23,7 @@
 //! A set accepts where the middle word may go on, behind both outer words, to acceptance: all pairs of all sets are the
 //! seeds of one graph, whose live states are marked backwards.
 //!
-//! Below are `kb_fsa`, `kb_explore` and `kb_fsadet`.
+//! Below are `kb_fsa`, `kb_explore`, `kb_fsamin` and `kb_fsadet`.
 //!
 //! # Where the proofs are
 //!
@@ -31,11 +36,14 @@
 //! - `Endings`: the rests of the middle word.
 //! - `CountedSets` and `SetSteps`: how many sets there are, and their counting one after another.
 //! - `Languages` and `Whole`: what is accepted, and all that the contract of `compose` says.
+//! - `Identities` and `Chains`: the identity on an acceptor, and the composites along a word.
 #![tactic(auto)]
 
+mod chain;
 mod composite;
 mod counting;
 mod grouping;
+mod identity;
 mod joining;
 mod machine;
 mod pair_set;
@@ -43,5 +51,6 @@ mod place;
 mod tail;
 mod tails;
 
+pub use chain::along;
 pub use composite::compose;
 pub use kb_explore::Det;
