@@ -13,8 +13,8 @@ use Rattle.kb_explore.specs.Exploration.IsTraced.{at_start, along}
 use Rattle.kb_explore.proofs.ExplorationLemmas.{numbered_within, accepts_same}
 use Rattle.kb_fsabool.specs.declared.connective.Connective.TheVariants.{Xor}
 use Rattle.kb_fsabool.specs.declared.connective.StatePair.{StatePair}
-use Rattle.kb_fsabool.specs.Products.{holds, product, IsFirstAccepting, NoneAccepts}
-use Rattle.kb_fsabool.specs.Answers.{IsInOne, IsLeastDifference}
+use Rattle.kb_fsabool.specs.Products.{holds, product, IsCombination, IsFirstAccepting, NoneAccepts}
+use Rattle.kb_fsabool.specs.Answers.{IsInOne, IsLeastDifference, IsSymmetricDifference}
 use Rattle.kb_fsabool.proofs.ProductLemmas.{xor_cases, xor_from, product_accepts}
 
 -- ---- texts by origins
@@ -36,10 +36,10 @@ traced_once {origins} (along {parent = parent} {symbol = symbol} {text = text} o
 
 -- ---- one of the two accepts
 
--- the product accepts what is in exactly one
-in_one : (one two : Automaton) (text : List ℕ) → IsInOne one two text ↔ MachineAccepts (product Xor one.table two.table) text
-in_one one two text =
-    let means = product_accepts Xor one.table two.table text in
+-- exactly one of the two answers is yes
+in_one_answers : (one two : Automaton) (text : List ℕ) → IsInOne one two text
+    ↔ IsTrue (holds Xor (is_accepting one.table (state_after one.table text)) (is_accepting two.table (state_after two.table text)))
+in_one_answers one two text =
     let first = is_accepting one.table (state_after one.table text) in
     let second = is_accepting two.table (state_after two.table text) in
     let back : IsTrue (holds Xor first second) → IsInOne one two text = λ h. elim (xor_cases first second h) [
@@ -50,7 +50,21 @@ in_one one two text =
       | inl parts ↦ inl (parts.0, false_from_ne_true second parts.1)
       | inr parts ↦ inr (parts.0, false_from_ne_true first parts.1)
     ]) in
-    (λ h. means.1 (forth h), λ accepts. back (means.0 accepts))
+    (forth, back)
+
+-- the product accepts what is in exactly one
+in_one : (one two : Automaton) (text : List ℕ) → IsInOne one two text ↔ MachineAccepts (product Xor one.table two.table) text
+in_one one two text =
+    let means = product_accepts Xor one.table two.table text in
+    let answers = in_one_answers one two text in
+    (λ h. means.1 (answers.0 h), λ accepts. answers.1 (means.0 accepts))
+
+-- an automaton of the texts for which exactly one answer is yes
+pub is_symmetric_difference : (one two difference : Automaton) → IsCombination Xor one two difference → IsSymmetricDifference one two difference
+is_symmetric_difference one two difference is text =
+    let answers = in_one_answers one two text in
+    let accepted = is text in
+    (λ accepts. answers.1 (accepted.0 accepts), λ h. accepted.1 (answers.0 h))
 
 module _ (one two : Automaton) {table : Table} {states : List StatePair} {origins : List (ℕ × ℕ)}
     (explored : IsExploration (product Xor one.table two.table) table states origins) where

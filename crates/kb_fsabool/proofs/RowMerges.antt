@@ -1,15 +1,14 @@
 -- The merging of two rows.
 use Rattle.std.proofs.Common.{◌≡◌, ◌≢◌, ℕ, zero, suc, ◌+◌, ◌<◌, ◌≤◌, min, List, [], ◌∷◌, ◌++◌, length, get_or, slice_get, Some, None, refl, sym, ap, ◌∙◌, subst, inl, inr, append_assoc, arith}
 use Rattle.std.specs.List.{All, Contains}
-use Rattle.std.specs.Option.{unwrap_or}
 use Rattle.std.proofs.lemmas.Bool.{cases_eq, cases_lt}
 use Rattle.std.proofs.lemmas.List.{append-nil}
-use Rattle.std.proofs.lemmas.List.Elements.{All-nil, All-cons, All-head, All-tail, All-contains}
+use Rattle.std.proofs.lemmas.List.Elements.{All-nil, All-cons, All-contains}
 use Rattle.std.proofs.lemmas.Option.{none-some, same_Some}
 use Rattle.kb_fsa.specs.Table.{Moves, Ascends, IsRow, IsSplit, lookup, target}
 use Rattle.kb_fsa.specs.Table.IsSplit.{without, with_move}
 use Rattle.kb_fsa.proofs.RowSplits.{IsRest, rest_of_split}
-use Rattle.kb_fsa.proofs.Lookups.{lookup_here, lookup_there, lookup_below, lookup_at, target_none, target_some, Ascends-tail, Ascends-head}
+use Rattle.kb_fsa.proofs.Lookups.{lookup_here, lookup_there, lookup_below, lookup_at, target_none, Ascends-head}
 use Rattle.kb_fsabool.specs.declared.connective.Connective.{Connective}
 use Rattle.kb_fsabool.specs.declared.connective.Connective.TheVariants.{And, Or, Xor}
 use Rattle.kb_fsabool.specs.declared.connective.StatePair.{StatePair}

@@ -27,6 +27,11 @@ IsInOne one two text =
     (AcceptsText one text × ¬ AcceptsText two text)
     ⊎ (AcceptsText two text × ¬ AcceptsText one text)
 
+-- the automaton accepts what exactly one accepts
+abbrev pub IsSymmetricDifference : Automaton → Automaton → Automaton → Type 0
+IsSymmetricDifference one two difference =
+    (text : List ℕ) → AcceptsText difference text ↔ IsInOne one two text
+
 -- the least text that exactly one of the two accepts
 pub record IsLeastDifference (one two : Automaton) (text : List ℕ) : Type 0 where
   pub differs : IsInOne one two text

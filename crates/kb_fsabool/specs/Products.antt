@@ -1,5 +1,5 @@
 -- Products of two tables: their states are pairs of states, and each symbol leads both on.
-use Rattle.std.specs.Prelude.{◌≡◌, ◌≢◌, ◌↔◌, ◌⊎◌, ℕ, ◌<◌, ◌≤◌, Bool, true, false, not, ◌&&◌, ◌||◌, nat_eq, IsTrue, List, ◌∷◌, ◌++◌, All, Contains, Option, Some, None, if◌then◌else◌}
+use Rattle.std.specs.Prelude.{◌≡◌, ◌≢◌, ◌↔◌, ◌⊎◌, ℕ, ◌<◌, ◌≤◌, Bool, true, false, not, ◌&&◌, ◌||◌, nat_eq, IsTrue, List, ◌++◌, All, Contains, Option, Some, None, if◌then◌else◌}
 use Rattle.kb_fsa.specs.Table.{Table, Moves, IsRow, Ascends, lookup, target, step, is_accepting, state_after}
 use Rattle.kb_fsa.specs.Language.{Automaton, AcceptsText}
 use Rattle.kb_fsa.specs.Counted.{MoreThan, SameTwo}

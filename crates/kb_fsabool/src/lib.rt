@@ -1,8 +1,8 @@
 //! Boolean operations on automata, and the comparison of their languages.
 //!
-//! The public contract: `and`, `or` and `not` give an automaton of exactly the stated language, `not` for pairs
-//! among the padded texts, and `equal` says that two languages are the same or gives the shortlex least text in
-//! exactly one. Each answers `TooManyStates` exactly where its construction counts more states than the limit,
+//! The public contract: `and`, `or`, `not` and `symmetric_difference` give an automaton of exactly the stated
+//! language, `not` for pairs among the padded texts, and `equal` says that two languages are the same or gives the
+//! shortlex least text in exactly one. Each answers `TooManyStates` exactly where its construction counts more states than the limit,
 //! by the definitions in `specs/Counted.antt` of `kb_fsa`.
 //!
 //! Each operation is a machine that `kb_explore` explores: pairs of states, or a state with which words of a
@@ -19,6 +19,7 @@
 mod comparison;
 mod complement;
 mod connective;
+mod difference;
 mod equality;
 mod intersection;
 mod merging;
@@ -28,6 +29,7 @@ mod union;
 
 pub use comparison::equal;
 pub use complement::not;
+pub use difference::symmetric_difference;
 pub use equality::Equality;
 pub use intersection::and;
 pub use kb_explore::Det;

@@ -14,7 +14,7 @@ use std::alloc::Global;
 
 /// The automaton that reads first words alone. It accepts where the second word may end the pair, at once or with
 /// letters of its own after the first word's end.
-pub(crate) fn first_words(alloc: Global, pairs: &Fsa) -> Result<Nfa, Memory>
+pub fn automaton_of_first_words(alloc: Global, pairs: &Fsa) -> Result<Nfa, Memory>
     requires { (n : ℕ) × (pairs.now.alphabet ≡ Pair n) }
     ensures reads { IfOk result (IsFirstWords pairs.now) }
     ensures automaton { IsAutomaton pairs.now }

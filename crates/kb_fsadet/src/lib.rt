@@ -4,7 +4,8 @@
 //! construction, with one state for each set of states to which texts lead, and `exists` one of the words beside
 //! which an automaton of pairs accepts some word, of whatever length. `avoiding` returns one of the texts that lead
 //! somewhere and of which no prefix is accepted. Each answers `TooManyStates` exactly where there are more sets of
-//! states, to which texts lead, than the limit; `avoiding` counts those of its own texts.
+//! states, to which texts lead, than the limit; `avoiding` counts those of its own texts. `exists` makes the automaton
+//! deterministic that `automaton_of_first_words` returns.
 //!
 //! The subset construction is a machine that `kb_explore` explores. A set of states is kept as the ascending list
 //! of their numbers, and its moves (transitions) are those of its states in groups, one for each symbol. Where the
@@ -36,6 +37,7 @@ mod subset;
 
 pub use avoidance::avoiding;
 pub use determined::determinise;
+pub use first_words::automaton_of_first_words;
 pub use kb_explore::Det;
 pub use nfa::{Branches, Nfa, moves_at};
 pub use projection::exists;

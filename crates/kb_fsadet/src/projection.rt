@@ -8,7 +8,7 @@ ghost use Rattle.kb_explore.specs.declared.det.Det.TheVariants.{TooManyStates};
 ghost use Rattle.kb_fsadet.specs.Projection.{IsProjection};
 
 use crate::determined::determinise;
-use crate::first_words::first_words;
+use crate::first_words::automaton_of_first_words;
 use kb_explore::Det;
 use kb_fsa::Fsa;
 use std::alloc::Global;
@@ -23,6 +23,6 @@ pub fn exists(alloc: Global, pairs: &Fsa, limit: u32) -> Result<Fsa, Det>
     ensures many { (most : ℕ) → result ≡ Err (TooManyStates most)
         → (most ≡ limit) × CountedExists pairs.now limit }
 {
-    let words = first_words(alloc, pairs)?;
+    let words = automaton_of_first_words(alloc, pairs)?;
     determinise(alloc, &words, limit)
 }

@@ -10,3 +10,4 @@ pub mod InverseRelations
 pub mod Cancelling
 pub mod LabelWords
 pub mod TrueLabels
+pub mod OfAutomata

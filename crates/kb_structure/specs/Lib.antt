@@ -2,3 +2,4 @@ pub mod Structure
 pub mod Axioms
 pub mod Certificates
 pub mod Labels
+pub mod StructureOf

@@ -6,7 +6,7 @@ use Rattle.kb_fsa.specs.Language.{Automaton, generators}
 use Rattle.kb_fsadet.specs.Nondeterministic.{Nondeterministic, IsNondeterministic}
 use Rattle.kb_fsadet.specs.FirstWords.{first_words, where_some, by_first, AreEnds, IsFirstWords}
 use Rattle.kb_fsadet.proofs.Projections.{are_first_words, words_automaton, symbols_of_pairs, texts_of_pairs}
-use Rattle.kb_fsadet.proofs.first_words.first_words.Goals as goal
+use Rattle.kb_fsadet.proofs.first_words.automaton_of_first_words.Goals as goal
 
 -- the parts make the automaton of first words
 built : (pairs : Automaton) (count : ℕ) (table : Table) (initial : List ℕ) (table_rows rows : List Moves) (marks : List Bool)

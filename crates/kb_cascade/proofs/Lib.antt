@@ -1,0 +1,2 @@
+pub mod LedMoves
+pub mod LedRuns

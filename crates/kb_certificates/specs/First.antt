@@ -1,0 +1,44 @@
+-- First certificates: of the least generator that has one, with the least words.
+use Rattle.std.specs.Prelude.{◌≡◌, ℕ, ◌<◌, ◌≤◌, List, Some}
+use Rattle.kb_word.specs.Words.{Pair as Sides}
+use Rattle.kb_word.specs.declared.word_order.WordOrder.{WordOrder}
+use Rattle.kb_fsa.specs.Language.{Automaton}
+use Rattle.kb_fsa.specs.Counted.{CountedExists}
+use Rattle.kb_leastpair.specs.LeastPair.{IsLeastWord, IsLeastPair}
+use Rattle.kb_structure.specs.Structure.{Structure}
+use Rattle.kb_structure.specs.StructureOf.{multiplier_of, structure_of}
+
+-- the fact holds of the structure that the automata are, whatever the order and the relations
+abbrev pub OfAutomata : Automaton → List Automaton → (Structure → Type 0) → Type 0
+OfAutomata acceptor multipliers Holds = (order : WordOrder) (relations : List Sides)
+    → Holds (structure_of order relations acceptor multipliers)
+
+-- no generator up to this one has a certificate with a word
+abbrev pub NoneUpTo : (ℕ → List ℕ → Type 0) → ℕ → Type 0
+NoneUpTo Certificate x = (y : ℕ) (u : List ℕ) → y ≤ x → ¬ Certificate y u
+
+-- no generator has one
+abbrev pub HasNone : (ℕ → List ℕ → Type 0) → Type 0
+HasNone Certificate = (x : ℕ) (u : List ℕ) → ¬ Certificate x u
+
+-- no lesser generator has a certificate with a word, and the word is the least of this one
+pub record IsFirstWord (Certificate : ℕ → List ℕ → Type 0) (x : ℕ) (u : List ℕ) : Type 0 where
+  pub no_earlier : (y : ℕ) (v : List ℕ) → y < x → ¬ Certificate y v
+  pub least : IsLeastWord (Certificate x) u
+
+-- the same three of certificates with two words
+abbrev pub NoPairUpTo : (ℕ → List ℕ → List ℕ → Type 0) → ℕ → Type 0
+NoPairUpTo Certificate x = (y : ℕ) (u v : List ℕ) → y ≤ x → ¬ Certificate y u v
+
+abbrev pub HasNoPair : (ℕ → List ℕ → List ℕ → Type 0) → Type 0
+HasNoPair Certificate = (x : ℕ) (u v : List ℕ) → ¬ Certificate x u v
+
+pub record IsFirstPair (Certificate : ℕ → List ℕ → List ℕ → Type 0) (x : ℕ)
+    (u v : List ℕ) : Type 0 where
+  pub no_earlier : (y : ℕ) (first second : List ℕ) → y < x → ¬ Certificate y first second
+  pub least : IsLeastPair (Certificate x) u v
+
+-- the first words of no multiplier up to this generator's have more sets of states than the limit
+abbrev pub NoneCountedUpTo : List Automaton → ℕ → ℕ → Type 0
+NoneCountedUpTo multipliers limit x = (y : ℕ) (multiplier : Automaton) → y ≤ x
+    → multiplier_of multipliers y ≡ Some multiplier → ¬ CountedExists multiplier limit

@@ -1,0 +1,4 @@
+pub mod First
+pub mod Followers
+pub mod LedPairs
+pub mod Images

@@ -1,0 +1,105 @@
+//! Certificates N7: images that are greater than the word with the generator after it.
+
+ghost use Rattle.std.specs.Prelude.{◌≡◌, List, IfOk, IfSome, IfNone};
+ghost use Rattle.std.proofs.Common.{rules};
+ghost use Rattle.kb_word.specs.Words.{Pair as Sides};
+ghost use Rattle.kb_word.specs.declared.word_order.WordOrder.TheVariants.{ShortLex};
+ghost use Rattle.kb_structure.specs.Certificates.{ImageNotLeast};
+ghost use Rattle.kb_structure.specs.StructureOf.{FitTogether, structure_of};
+ghost use Rattle.kb_certificates.specs.First.{HasNoPair, IsFirstPair};
+ghost use Rattle.kb_certificates.specs.Followers.{compared, comparing, is_lower, lengthened, outlasted};
+
+use crate::comparison::Comparison;
+use crate::least::least_led_pair;
+use kb_cascade::Follower;
+use kb_fsa::{Fsa, PairSymbols};
+use kb_word::{Letter, Memory, Word};
+use std::alloc::Global;
+
+/// Along a multiplier's pairs, how the first word with the generator after it compares with the second.
+#[derive(Drop)]
+struct Comparing<'a> {
+    multiplier: &'a Fsa,
+    symbols: PairSymbols,
+    x: u32,
+}
+
+impl<'a> Follower for Comparing<'a> {
+    type State = Comparison;
+
+    ghost follower = { λ it. comparing it.symbols.n it.x it.multiplier.now.table };
+
+    fn start(&self) -> Comparison {
+        Comparison::Same
+    }
+
+    fn next(&self, _leader: u32, comparison: &Comparison, symbol: u32) -> Comparison {
+        let first = self.symbols.first(symbol);
+        let second = self.symbols.second(symbol);
+        if second == self.symbols.padding() {
+            Comparison::Later
+        } else if first == self.symbols.padding() {
+            outlasted(self.x, *comparison, second)
+        } else {
+            lengthened(*comparison, first, second)
+        }
+    }
+
+    fn accepts(&self, leader: u32, comparison: &Comparison) -> bool {
+        self.multiplier.is_accepting(leader) && *comparison == Comparison::Lower
+    }
+
+    ghost same_state = { Prim.search rules };
+}
+
+/// How the words compare after a letter of each.
+fn lengthened(comparison: Comparison, first: u32, second: u32) -> Comparison
+    ensures { result ≡ lengthened comparison first second }
+{
+    match comparison {
+        Comparison::Same if first < second => Comparison::Earlier,
+        Comparison::Same if first > second => Comparison::Later,
+        _ => comparison,
+    }
+}
+
+/// How they compare after a letter of the second, where the first has ended.
+fn outlasted(x: u32, comparison: Comparison, second: u32) -> Comparison
+    ensures { result ≡ outlasted x comparison second }
+{
+    match comparison {
+        Comparison::Same if x >= second => Comparison::Reached,
+        Comparison::Later => Comparison::Reached,
+        _ => Comparison::Lower,
+    }
+}
+
+/// The first generator x whose multiplier relates a word to one that is greater, in the shortlex order, than the word
+/// with x after it; with the least first word, and the least second word beside it.
+pub fn image_not_least(
+    alloc: Global,
+    acceptor: &Fsa,
+    multipliers: &[Fsa],
+) -> Result<Option<(Letter, Word, Word)>, Memory>
+    requires { FitTogether acceptor.now multipliers.now }
+    ensures found { IfOk result (λ found. IfSome found (λ certificate. (relations : List Sides)
+        → IsFirstPair
+        (ImageNotLeast (structure_of ShortLex relations acceptor.now multipliers.now))
+        certificate.0 certificate.1 certificate.2)) }
+    ensures none { IfOk result (λ found. IfNone found ((relations : List Sides) → HasNoPair
+        (ImageNotLeast (structure_of ShortLex relations acceptor.now multipliers.now)))) }
+{
+    let n = acceptor.alphabet().generators();
+    for (place, multiplier) in multipliers.iter().enumerate() {
+        let x = place as u16 + 1;
+        let follower = Comparing {
+            multiplier,
+            symbols: PairSymbols { n },
+            x: u32::from(x),
+        };
+        if let Some((first, second)) = least_led_pair(alloc, multiplier, &follower)? {
+            return Ok(Some((Letter::new(x), first, second)));
+        }
+    }
+    Ok(None)
+}

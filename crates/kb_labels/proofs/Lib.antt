@@ -1,0 +1,9 @@
+pub mod Unique
+pub mod MarkedMoves
+pub mod LiveStates
+pub mod Placing
+pub mod LabelTexts
+pub mod Comparisons
+pub mod MoveWords
+pub mod Answering
+pub mod Consequences

@@ -1,0 +1,4 @@
+pub mod Labels
+pub mod Places
+pub mod LivePart
+pub mod Comparing

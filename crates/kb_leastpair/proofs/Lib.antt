@@ -1,0 +1,3 @@
+pub mod SecondMoves
+pub mod SecondRuns
+pub mod Pairs

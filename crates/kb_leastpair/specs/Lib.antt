@@ -1,0 +1,2 @@
+pub mod LeastPair
+pub mod SecondWords
