@@ -1,0 +1,14 @@
+pub mod Numbers
+pub mod Texts
+pub mod Stepping
+pub mod Joins
+pub mod Blocks
+pub mod Groupings
+pub mod PlacesAfter
+pub mod Endings
+pub mod Languages
+pub mod CountedSets
+pub mod SetSteps
+pub mod Whole
+pub mod Identities
+pub mod Chains

@@ -1,0 +1,5 @@
+pub mod Composition
+pub mod StatePairs
+pub mod Tails
+pub mod Progress
+pub mod Along
