@@ -8,11 +8,6 @@ use Rattle.kb_leastpair.specs.LeastPair.{IsAccepted, IsLeastWord, IsLeastPair}
 use Rattle.kb_structure.specs.Structure.{Structure}
 use Rattle.kb_structure.specs.StructureOf.{multiplier_of, structure_of}
 
--- the fact holds of the structure that the automata are, whatever the order and the relations
-abbrev pub OfAutomata : Automaton → List Automaton → (Structure → Type 0) → Type 0
-OfAutomata acceptor multipliers Holds = (order : WordOrder) (relations : List Sides)
-    → Holds (structure_of order relations acceptor multipliers)
-
 -- no generator up to this one has a certificate with a word
 abbrev pub NoneUpTo : (ℕ → List ℕ → Type 0) → ℕ → Type 0
 NoneUpTo Certificate x = (y : ℕ) (u : List ℕ) → y ≤ x → ¬ Certificate y u

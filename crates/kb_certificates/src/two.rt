@@ -4,8 +4,8 @@ ghost use Rattle.std.specs.Prelude.{◌≡◌, List, ℕ, IfOk, IfSome, IfNone};
 ghost use Rattle.kb_fsa.specs.Language.{generators};
 ghost use Rattle.kb_fsa.specs.declared.alphabet.Alphabet.TheVariants.{Pair};
 ghost use Rattle.kb_structure.specs.Certificates.{TwoImages};
-ghost use Rattle.kb_structure.specs.StructureOf.{FitTogether};
-ghost use Rattle.kb_certificates.specs.First.{HasNoTriple, HasTwo, IsFirstTriple, IsLeastTriple, OfAutomata};
+ghost use Rattle.kb_structure.specs.StructureOf.{FitTogether, OfAutomata};
+ghost use Rattle.kb_certificates.specs.First.{HasNoTriple, HasTwo, IsFirstTriple, IsLeastTriple};
 
 use kb_fsa::Fsa;
 use kb_laterpairs::later_pairs;

@@ -1,5 +1,6 @@
 use Rattle.kb_structure.specs.Certificates.{TwoImages}
-use Rattle.kb_certificates.specs.First.{NoTripleUpTo, OfAutomata}
+use Rattle.kb_structure.specs.StructureOf.{OfAutomata}
+use Rattle.kb_certificates.specs.First.{NoTripleUpTo}
 use Rattle.kb_certificates.proofs.two.two_images.Given as goal
 
 -- no generator so far has a certificate
