@@ -14,9 +14,11 @@
 #![tactic(auto)]
 
 mod answers;
+mod automata;
 mod cert;
 mod truth;
 
 pub use answers::{Automata, Construction, Truth};
+pub use automata::check_automata;
 pub use cert::Cert;
 pub use truth::check_truth;
