@@ -36,6 +36,11 @@ checked_of acceptor multipliers relations limit =
       limit = limit;
     }
 
+-- the structure that the automata are, with the shortlex order and these relations
+abbrev pub own_structure : Checked → Structure
+own_structure checked =
+    structure_of ShortLex checked.relations checked.acceptor checked.multipliers
+
 -- the fact holds of the structure that the automata are, whatever the order and the relations
 abbrev pub Of : Checked → (Structure → Type 0) → Type 0
 Of checked = OfAutomata checked.acceptor checked.multipliers

@@ -9,8 +9,8 @@ ghost use Rattle.kb_axioms.specs.Checked.{AutomataSay, Checked, PassesImages, Pa
 use crate::answers::{Automata, Construction};
 use crate::cert::Cert;
 use kb_certificates::{
-    Images, check_images, image_not_least, missing_extension, pair_outside_acceptor, prefix_not_accepted,
-    two_images,
+    Images, check_images, image_not_least, missing_extension, pair_outside_acceptor,
+    prefix_not_accepted, two_images,
 };
 use kb_fsa::Fsa;
 use kb_relations::{Acting, broken_relation};

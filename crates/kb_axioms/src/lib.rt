@@ -16,9 +16,11 @@
 mod answers;
 mod automata;
 mod cert;
+mod laws;
 mod truth;
 
 pub use answers::{Automata, Construction, Truth};
 pub use automata::check_automata;
 pub use cert::Cert;
+pub use laws::{automata_that_pass_are_the_groups_own, certificates_refute_automata};
 pub use truth::check_truth;
