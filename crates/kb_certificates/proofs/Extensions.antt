@@ -1,20 +1,18 @@
 -- Accepted extensions to which a multiplier doesn't lead.
-use Rattle.std.proofs.Common.{◌≡◌, ◌↔◌, ℕ, ◌+◌, ◌<◌, ◌≤◌, Bool, true, false, not, ◌&&◌, IsTrue, List, [], ◌∷◌, ◌++◌, Some, if◌then◌else◌, refl, sym, ap, ◌∙◌, subst}
+use Rattle.std.proofs.Common.{◌≡◌, ◌↔◌, ℕ, ◌+◌, ◌<◌, ◌≤◌, Bool, not, List, [], ◌∷◌, ◌++◌, Some, if◌then◌else◌, refl, sym, ap, ◌∙◌, subst}
 use Rattle.std.proofs.lemmas.Bool.{and_from, and_parts, not-true, not_from_false, false_from_ne_true, true≢false}
 use Rattle.kb_word.specs.Words.{Pair as Sides}
 use Rattle.kb_word.specs.Relations.{IsOver}
 use Rattle.kb_word.specs.declared.word_order.WordOrder.{WordOrder}
-use Rattle.kb_fsa.specs.declared.alphabet.Alphabet.TheVariants.{Plain, Pair}
 use Rattle.kb_fsa.specs.Table.{Table, after, is_accepting, state_after, step}
 use Rattle.kb_fsa.specs.PairSymbols.{pair_symbol}
 use Rattle.kb_fsa.specs.Padding.{padded}
-use Rattle.kb_fsa.specs.EndedWords.{is_symbol}
-use Rattle.kb_fsa.specs.Language.{Automaton, IsAutomaton, AcceptsText, AcceptsPair, generators}
+use Rattle.kb_fsa.specs.Language.{Automaton, IsAutomaton, AcceptsText, generators}
 use Rattle.kb_fsa.proofs.Lookups.{after-append}
 use Rattle.kb_cascade.specs.Cascade.{AcceptsLed, IsLeastLed, followed}
 use Rattle.kb_leastpair.specs.LeastPair.{IsLeastWord}
 use Rattle.kb_leastpair.proofs.SecondMoves.{letter_true}
-use Rattle.kb_structure.specs.Structure.{Structure, Accepts, Multiplies}
+use Rattle.kb_structure.specs.Structure.{Structure, Accepts}
 use Rattle.kb_structure.specs.StructureOf.{FitTogether, multiplier_of, structure_of}
 use Rattle.kb_structure.specs.Certificates.{MissingExtension}
 use Rattle.kb_structure.proofs.Letters.{over_first, over_front, over_later}

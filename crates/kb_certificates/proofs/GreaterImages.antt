@@ -1,14 +1,14 @@
 -- Images that are greater than the word with the generator after it.
-use Rattle.std.proofs.Common.{◌≡◌, ◌↔◌, ℕ, zero, suc, ◌+◌, ◌<◌, ◌≤◌, Bool, true, false, ◌&&◌, nat_eq, nat_lt, IsTrue, List, [], ◌∷◌, ◌++◌, length, Some, if◌then◌else◌, refl, sym, ap, ap₂, ◌∙◌, subst, inl, inr, arith, length-append}
+use Rattle.std.proofs.Common.{◌≡◌, ◌↔◌, ℕ, zero, suc, ◌+◌, ◌<◌, ◌≤◌, Bool, true, nat_eq, List, [], ◌∷◌, ◌++◌, length, Some, if◌then◌else◌, refl, sym, ap, ap₂, ◌∙◌, subst, inl, inr, arith, length-append}
 use Rattle.std.proofs.lemmas.Bool.{and_from, and_parts, cases_lt, cases_order, eq-eqb, false≢true, le-ltb, lt-ltb, ne_eqb}
 use Rattle.kb_word.specs.Words.{IsEarlier, Less, Pair as Sides}
 use Rattle.kb_word.specs.Words.Less.{earlier, shorter}
 use Rattle.kb_word.specs.Relations.{IsOver}
 use Rattle.kb_word.specs.declared.word_order.WordOrder.TheVariants.{ShortLex}
 use Rattle.kb_fsa.specs.Table.{Table, is_accepting, state_after, step}
-use Rattle.kb_fsa.specs.PairSymbols.{first_letter, pair_symbol, second_letter}
+use Rattle.kb_fsa.specs.PairSymbols.{pair_symbol}
 use Rattle.kb_fsa.specs.Padding.{padded}
-use Rattle.kb_fsa.specs.Language.{Automaton, IsAutomaton, generators}
+use Rattle.kb_fsa.specs.Language.{Automaton, generators}
 use Rattle.kb_fsa.proofs.PairSymbolLaws.{first_letter-pair_symbol, second_letter-pair_symbol}
 use Rattle.kb_cascade.specs.Cascade.{followed}
 use Rattle.kb_leastpair.specs.LeastPair.{IsLeastPair}

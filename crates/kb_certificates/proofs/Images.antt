@@ -1,12 +1,12 @@
 -- Accepted words without an image.
-use Rattle.std.proofs.Common.{◌≡◌, ◌↔◌, ℕ, ◌+◌, ◌<◌, ◌≤◌, Bool, true, not, ◌&&◌, IsTrue, List, [], ◌∷◌, length, Some, refl, sym, ap, ◌∙◌, subst, inl, inr, arith}
+use Rattle.std.proofs.Common.{◌≡◌, ◌↔◌, ℕ, ◌+◌, ◌<◌, ◌≤◌, Bool, not, List, [], ◌∷◌, length, Some, refl, sym, ap, ◌∙◌, subst, inl, inr, arith}
 use Rattle.std.proofs.lemmas.Bool.{and_from, and_parts, cases_lt, not-true, not_from_false, false_from_ne_true, true≢false}
 use Rattle.std.proofs.lemmas.Option.{none-some, same_Some}
 use Rattle.kb_word.specs.Words.{Pair as Sides}
 use Rattle.kb_word.specs.Relations.{IsOver}
 use Rattle.kb_word.specs.declared.word_order.WordOrder.{WordOrder}
 use Rattle.kb_fsa.specs.Table.{Table, after, is_accepting, state_after, step}
-use Rattle.kb_fsa.specs.Language.{Automaton, IsAutomaton, AcceptsText, AcceptsPair, generators}
+use Rattle.kb_fsa.specs.Language.{Automaton, IsAutomaton, AcceptsText, generators}
 use Rattle.kb_fsa.specs.Counted.{CountedExists}
 use Rattle.kb_cascade.specs.Cascade.{AcceptsLed, IsLeastLed, followed}
 use Rattle.kb_fsadet.specs.Projection.{HasSecond, IsProjection}
@@ -15,7 +15,7 @@ use Rattle.kb_structure.specs.Structure.{Structure, Accepts, Multiplies}
 use Rattle.kb_structure.specs.StructureOf.{FitTogether, multiplier_of, structure_of}
 use Rattle.kb_structure.specs.Certificates.{WordWithoutImage}
 use Rattle.kb_structure.proofs.OfAutomata.{accepts_word, multiplied_pair, pair_multiplied}
-use Rattle.kb_certificates.specs.First.{IsCountedFirst, NoneCountedUpTo, NoneUpTo}
+use Rattle.kb_certificates.specs.First.{IsCountedFirst, NoneCountedUpTo}
 use Rattle.kb_certificates.specs.Followers.{other_state}
 use Rattle.kb_certificates.proofs.Leasts.{least_word_led}
 use Rattle.kb_certificates.proofs.Loops.{multiplier_within}

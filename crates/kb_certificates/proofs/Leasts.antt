@@ -1,5 +1,5 @@
 -- The least words of facts that say the same.
-use Rattle.std.proofs.Common.{◌≡◌, ◌↔◌, ℕ, List, [], ◌∷◌, arith}
+use Rattle.std.proofs.Common.{◌↔◌, ℕ, List, [], ◌∷◌, arith}
 use Rattle.kb_word.specs.Words.{Less}
 use Rattle.kb_word.specs.Words.Less.{shorter, earlier}
 use Rattle.kb_fsa.specs.Table.{Table}

@@ -1,17 +1,17 @@
 -- Pairs of a multiplier with a word that isn't accepted.
-use Rattle.std.proofs.Common.{◌≡◌, ◌↔◌, ◌⊎◌, ℕ, ◌+◌, ◌<◌, ◌≤◌, Bool, true, false, not, ◌&&◌, nat_eq, IsTrue, List, [], ◌∷◌, Some, if◌then◌else◌, refl, sym, ap, ap₂, ◌∙◌, subst, inl, inr, arith}
+use Rattle.std.proofs.Common.{◌≡◌, ◌↔◌, ◌⊎◌, ℕ, ◌+◌, ◌<◌, ◌≤◌, Bool, true, not, ◌&&◌, IsTrue, List, [], ◌∷◌, Some, if◌then◌else◌, refl, sym, ap, ap₂, ◌∙◌, subst, inl, inr, arith}
 use Rattle.std.proofs.lemmas.Bool.{and_from, and_left, and_parts, and_right, cases_Bool, eq-eqb, false_from_ne_true, ne_eqb, not-true, not_from_false, true≢false}
 use Rattle.kb_word.specs.Words.{Pair as Sides}
 use Rattle.kb_word.specs.Relations.{IsOver}
 use Rattle.kb_word.specs.declared.word_order.WordOrder.{WordOrder}
 use Rattle.kb_fsa.specs.Table.{Table, after, is_accepting, state_after, step}
-use Rattle.kb_fsa.specs.PairSymbols.{first_letter, pair_symbol, second_letter}
+use Rattle.kb_fsa.specs.PairSymbols.{pair_symbol}
 use Rattle.kb_fsa.specs.Padding.{padded}
-use Rattle.kb_fsa.specs.Language.{Automaton, IsAutomaton, AcceptsText, AcceptsPair, generators}
+use Rattle.kb_fsa.specs.Language.{Automaton, IsAutomaton, AcceptsText, generators}
 use Rattle.kb_fsa.proofs.PairSymbolLaws.{first_letter-pair_symbol, second_letter-pair_symbol}
 use Rattle.kb_cascade.specs.Cascade.{followed}
 use Rattle.kb_leastpair.specs.LeastPair.{IsLeastPair}
-use Rattle.kb_structure.specs.Structure.{Structure, Accepts, Multiplies}
+use Rattle.kb_structure.specs.Structure.{Structure, Accepts}
 use Rattle.kb_structure.specs.StructureOf.{FitTogether, multiplier_of, structure_of}
 use Rattle.kb_structure.specs.Certificates.{PairOutsideAcceptor}
 use Rattle.kb_structure.proofs.Letters.{over_first, over_later}

@@ -1,5 +1,5 @@
 -- What is carried along the acceptor's words and the multipliers' pairs, in the search for certificates.
-use Rattle.std.specs.Prelude.{◌≡◌, ℕ, ◌+◌, Bool, true, false, not, ◌&&◌, ◌||◌, nat_eq, nat_lt, List, refl, if◌then◌else◌}
+use Rattle.std.specs.Prelude.{ℕ, ◌+◌, Bool, true, false, not, ◌&&◌, ◌||◌, nat_eq, nat_lt, refl, if◌then◌else◌}
 use Rattle.kb_fsa.specs.declared.alphabet.Alphabet.TheVariants.{Plain}
 use Rattle.kb_fsa.specs.Table.{Table, step, is_accepting}
 use Rattle.kb_fsa.specs.PairSymbols.{pair_symbol, first_letter, second_letter}

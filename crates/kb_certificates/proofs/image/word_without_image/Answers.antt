@@ -1,11 +1,11 @@
-use Rattle.std.proofs.Common.{◌≡◌, ◌+◌, ◌<◌, ◌≤◌, ℕ, List, length, Err, Some, sym, ap, ◌∙◌, subst, arith, rules}
+use Rattle.std.proofs.Common.{◌≡◌, ◌+◌, ◌<◌, ℕ, length, Err, sym, ap, subst, arith, rules}
 use Rattle.kb_fsa.specs.Language.{generators}
 use Rattle.kb_explore.specs.declared.det.Det.TheVariants.{TooManyStates}
-use Rattle.kb_structure.specs.StructureOf.{multiplier_of, structure_of}
+use Rattle.kb_structure.specs.StructureOf.{structure_of}
 use Rattle.kb_structure.specs.Certificates.{WordWithoutImage}
 use Rattle.kb_certificates.specs.First.{IsFirstWord}
 use Rattle.kb_certificates.proofs.Loops.{first_word, multiplier_at, none_more}
-use Rattle.kb_certificates.proofs.Images.{counted_more, least_without, none_counted, none_counted_first, none_counted_yet, none_without}
+use Rattle.kb_certificates.proofs.Images.{counted_more, least_without, none_counted, none_counted_first, none_without}
 use Rattle.kb_certificates.proofs.image.word_without_image.Goals as goal
 
 pub exists-requires : goal.exists-requires

@@ -1,6 +1,6 @@
-use Rattle.std.proofs.Common.{◌≡◌, ◌+◌, ◌<◌, ◌≤◌, ℕ, List, length, Some, sym, ap, ◌∙◌, subst, arith}
+use Rattle.std.proofs.Common.{◌≡◌, ◌+◌, ◌<◌, ℕ, length, sym, ap, ◌∙◌, subst, arith}
 use Rattle.kb_fsa.specs.Language.{generators}
-use Rattle.kb_structure.specs.StructureOf.{multiplier_of, structure_of}
+use Rattle.kb_structure.specs.StructureOf.{structure_of}
 use Rattle.kb_structure.specs.Certificates.{PairOutsideAcceptor}
 use Rattle.kb_certificates.specs.First.{IsFirstPair}
 use Rattle.kb_certificates.proofs.Loops.{first_pair, multiplier_at, no_pair_more, own_generators, own_pairs}

@@ -2,7 +2,7 @@ use Rattle.std.proofs.Common.{◌≡◌, true, IfSome, IfNone, List, ℕ, sym, a
 use Rattle.std.proofs.lemmas.Option.{IfSome_then}
 use Rattle.std.proofs.lemmas.Result.{IfOk-weaker}
 use Rattle.kb_fsa.specs.Table.{is_accepting}
-use Rattle.kb_fsa.specs.Language.{Automaton, AcceptsText}
+use Rattle.kb_fsa.specs.Language.{Automaton}
 use Rattle.kb_cascade.specs.Cascade.{AcceptsLed, IsLeastLed}
 use Rattle.kb_leastpair.specs.LeastPair.{IsLeastWord}
 use Rattle.kb_leastpair.proofs.Pairs.{none_kept}
