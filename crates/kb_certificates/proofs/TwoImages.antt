@@ -1,5 +1,5 @@
 -- Words with two images.
-use Rattle.std.proofs.Common.{◌≡◌, ◌≢◌, ◌↔◌, ◌⊎◌, ℕ, ◌<◌, ◌≤◌, List, Some, refl, sym, ap, subst, inl, inr}
+use Rattle.std.proofs.Common.{◌≡◌, ◌↔◌, ◌⊎◌, ℕ, ◌<◌, ◌≤◌, List, Some, sym, ap, subst, inl, inr}
 use Rattle.kb_word.specs.Words.{Less, Pair as Sides}
 use Rattle.kb_word.specs.ShortlexLaws.{shortlex_total}
 use Rattle.kb_word.specs.Relations.{IsOver}

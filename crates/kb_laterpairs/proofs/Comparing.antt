@@ -1,7 +1,7 @@
 -- How a rival compares with the second word of a pair, letter by letter.
-use Rattle.std.proofs.Common.{◌≡◌, ◌≢◌, ◌⊎◌, ℕ, zero, suc, ◌+◌, ◌<◌, ◌≤◌, Bool, true, false, not, nat_eq, nat_lt, List, [], ◌∷◌, length, if◌then◌else◌, refl, sym, ap, ◌∙◌, subst, inl, inr, arith}
+use Rattle.std.proofs.Common.{◌≡◌, ◌≢◌, ℕ, ◌+◌, ◌<◌, ◌≤◌, Bool, true, false, not, nat_eq, List, [], ◌∷◌, length, if◌then◌else◌, refl, sym, ap, ◌∙◌, subst, inl, inr, arith}
 use Rattle.std.proofs.lemmas.Bool.{cases_lt, cases_order, eq-eqb, false≢true, le-ltb, lt-ltb, ne_eqb, not-true, true≢false}
-use Rattle.kb_word.specs.Words.{IsEarlier, Less}
+use Rattle.kb_word.specs.Words.{Less}
 use Rattle.kb_word.specs.Words.Less.{earlier, shorter}
 use Rattle.kb_word.specs.Relations.{IsOver}
 use Rattle.kb_laterpairs.specs.declared.relation.Relation.{Relation}

@@ -1,11 +1,9 @@
 -- The automaton that is made of the machine accepts the later pairs.
-use Rattle.std.proofs.Common.{◌≡◌, ◌≢◌, ◌↔◌, ℕ, ◌<◌, ◌≤◌, IsSome, IfOk, IsTrue, List, Result, Ok, Err, refl, sym, ap, is_some, ◌∙◌, subst, arith}
+use Rattle.std.proofs.Common.{◌≡◌, ◌↔◌, ℕ, IfOk, List, Result, Ok, Err, sym, ap, is_some, ◌∙◌, subst, arith}
 use Rattle.kb_word.specs.Relations.{IsOver}
 use Rattle.kb_fsa.specs.declared.alphabet.Alphabet.{Alphabet}
 use Rattle.kb_fsa.specs.declared.alphabet.Alphabet.TheVariants.{Pair}
-use Rattle.kb_fsa.specs.declared.ended.Ended.TheVariants.{Neither}
-use Rattle.kb_fsa.specs.EndedWords.{ended_by}
-use Rattle.kb_fsa.specs.Table.{Table, IsTable, AcceptsFrom, state_after}
+use Rattle.kb_fsa.specs.Table.{Table, IsTable, AcceptsFrom}
 use Rattle.kb_fsa.specs.Padding.{padded}
 use Rattle.kb_fsa.specs.Language.{Automaton, IsAutomaton, IsTextOf, AcceptsText, generators}
 use Rattle.kb_fsa.proofs.PaddedRuns.{run_of_text}

@@ -1,5 +1,5 @@
 -- Moves that the machine has.
-use Rattle.std.proofs.Common.{◌≡◌, ℕ, zero, suc, ◌<◌, List, [], arith}
+use Rattle.std.proofs.Common.{ℕ, zero, suc, ◌<◌, [], arith}
 use Rattle.std.specs.List.{Contains}
 use Rattle.kb_fsa.specs.Table.{Table, moves_of, step}
 use Rattle.kb_fsadet.proofs.Sets.{Contains-here}

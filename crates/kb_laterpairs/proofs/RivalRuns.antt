@@ -1,7 +1,7 @@
 -- The pairs that the machine accepts.
-use Rattle.std.proofs.Common.{◌≡◌, ◌↔◌, ℕ, zero, suc, ◌+◌, ◌<◌, ◌≤◌, Bool, true, false, not, ◌&&◌, nat_eq, nat_le, IsTrue, List, [], ◌∷◌, ◌++◌, Option, Some, None, if◌then◌else◌, refl, sym, ap, ◌∙◌, subst, inl, inr, arith}
+use Rattle.std.proofs.Common.{◌≡◌, ℕ, zero, suc, ◌+◌, ◌<◌, ◌≤◌, Bool, true, false, not, ◌&&◌, nat_eq, IsTrue, List, [], ◌∷◌, ◌++◌, Option, Some, None, if◌then◌else◌, refl, sym, ap, ◌∙◌, subst, inl, inr, arith}
 use Rattle.std.specs.List.{Contains, filter_map}
-use Rattle.std.proofs.lemmas.Bool.{and_from, and_parts, cases_Bool, cases_lt, eq-eqb, eqb-false, eqb-true, false≢true, le-leb, lt-leb, ne_eqb, not-true, not_from_false}
+use Rattle.std.proofs.lemmas.Bool.{and_from, and_parts, cases_Bool, eq-eqb, eqb-false, eqb-true, false≢true, le-leb, lt-leb, ne_eqb, not-true, not_from_false}
 use Rattle.std.proofs.lemmas.Option.{none-some, same_Some}
 use Rattle.std.proofs.lemmas.List.Elements.{All-cons, All-head, All-nil, All-tail, Contains-append_cases, Contains-append_left, Contains-append_right}
 use Rattle.kb_word.specs.Relations.{IsOver}
@@ -14,7 +14,7 @@ use Rattle.kb_fsadet.proofs.FirstWordLemmas.{Contains-filter_map, filter_map_con
 use Rattle.kb_fsadet.proofs.Sets.{Contains-cons_cases, Contains-here, Contains-none}
 use Rattle.kb_branching.specs.Branching.{LeadsFrom}
 use Rattle.kb_laterpairs.specs.declared.relation.Relation.{Relation}
-use Rattle.kb_laterpairs.specs.declared.relation.Relation.TheVariants.{Same, Earlier, Later, Ended}
+use Rattle.kb_laterpairs.specs.declared.relation.Relation.TheVariants.{Ended}
 use Rattle.kb_laterpairs.specs.declared.rivals.Rivals.{Rivals}
 use Rattle.kb_laterpairs.specs.Rivalry.{compared, goes_on, is_less, paused, rival_at, rival_by, rivals_by, rivalry}
 use Rattle.kb_laterpairs.specs.Containing.{move_of_step, step_of_move}

@@ -1,5 +1,5 @@
 -- What lists have that are made from others.
-use Rattle.std.proofs.Common.{◌≡◌, ◌≢◌, ℕ, ◌<◌, List, [], ◌∷◌, ◌++◌, map, refl, sym, ap, ◌∙◌, subst, inl, inr, nat_lt}
+use Rattle.std.proofs.Common.{◌≡◌, ◌≢◌, ℕ, ◌<◌, List, [], ◌∷◌, map, refl, sym, ap, ◌∙◌, subst, inl, inr, nat_lt}
 use Rattle.std.specs.List.{Contains, flat_map}
 use Rattle.std.proofs.lemmas.Bool.{lt-ltb, true≢false}
 use Rattle.std.proofs.lemmas.List.Concat.{flat_map-cons}

@@ -1,5 +1,5 @@
 -- The branching machine that reads a pair, and guesses a lesser second word, its rival, beside the same first word.
-use Rattle.std.specs.Prelude.{◌≡◌, ℕ, zero, suc, ◌+◌, Bool, true, false, not, ◌&&◌, nat_eq, nat_le, nat_lt, List, [], ◌∷◌, ◌++◌, map, Option, Some, None, if◌then◌else◌}
+use Rattle.std.specs.Prelude.{ℕ, zero, suc, ◌+◌, Bool, true, false, not, ◌&&◌, nat_eq, nat_le, nat_lt, List, [], ◌∷◌, ◌++◌, map, Option, Some, None, if◌then◌else◌}
 use Rattle.std.specs.List.{filter_map, flat_map}
 use Rattle.kb_fsa.specs.declared.alphabet.Alphabet.TheVariants.{Pair}
 use Rattle.kb_fsa.specs.Table.{Table, is_accepting, moves_of, step}

@@ -14,7 +14,8 @@ use kb_fsadet::{Nfa, determinise};
 use kb_word::Memory;
 use std::alloc::Global;
 
-/// An automaton of the accepted pairs beside which a pair with the same first word and a lesser second word is accepted.
+/// An automaton of the accepted pairs beside which a pair with the same first word and a lesser second word is
+/// accepted.
 pub fn later_pairs(alloc: Global, pairs: &Fsa) -> Result<Fsa, Memory>
     requires { pairs.now.alphabet ≡ Pair (generators pairs.now.alphabet) }
     ensures language { IfOk result (λ later. (first second : List ℕ)

@@ -1,4 +1,4 @@
-use Rattle.std.proofs.Common.{◌≡◌, ◌+◌, ◌<◌, ◌≤◌, ℕ, List, length, Some, sym, ap, ◌∙◌, subst, arith}
+use Rattle.std.proofs.Common.{◌+◌, ◌<◌, ℕ, length, sym, subst, arith}
 use Rattle.kb_structure.specs.StructureOf.{structure_of}
 use Rattle.kb_structure.specs.Certificates.{TwoImages}
 use Rattle.kb_certificates.specs.First.{IsFirstTriple}

@@ -1,6 +1,6 @@
 use Rattle.std.proofs.Common.{◌≡◌, ◌↔◌, ℕ, List, sym, ap, ◌∙◌}
 use Rattle.kb_fsa.specs.declared.alphabet.Alphabet.TheVariants.{Pair}
-use Rattle.kb_fsa.specs.Language.{Automaton, AcceptsText, generators}
+use Rattle.kb_fsa.specs.Language.{AcceptsText, generators}
 use Rattle.kb_fsadet.specs.Nondeterministic.{AcceptsSomehow}
 use Rattle.kb_leastpair.specs.LeastPair.{IsAccepted}
 use Rattle.kb_laterpairs.specs.Later.{IsLater}

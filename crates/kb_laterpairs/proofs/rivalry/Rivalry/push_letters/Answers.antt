@@ -1,4 +1,4 @@
-use Rattle.std.proofs.Common.{◌≡◌, ℕ, ◌+◌, List, [], ◌∷◌, ◌++◌, Option, get_or, take, sym, ap, ◌∙◌, append_assoc}
+use Rattle.std.proofs.Common.{ℕ, List, [], ◌∷◌, ◌++◌, Option, take, sym, ap, ◌∙◌, append_assoc}
 use Rattle.std.specs.List.{filter_map}
 use Rattle.kb_fsadet.proofs.FirstWordLemmas.{filter_map_more_none, filter_map_more_some}
 use Rattle.kb_laterpairs.specs.declared.relation.Relation.{Relation}
