@@ -1,11 +1,11 @@
 -- Where texts lead in a cascade product, and which it accepts.
-use Rattle.std.proofs.Common.{◌≡◌, ◌≢◌, ◌↔◌, ℕ, zero, suc, ◌<◌, true, IsTrue, IfNone, List, [], ◌∷◌, Option, Some, None, refl, sym, ap, ◌∙◌, subst, arith}
+use Rattle.std.proofs.Common.{◌≡◌, ◌≢◌, ◌↔◌, ℕ, zero, suc, ◌<◌, IsTrue, IfNone, List, [], ◌∷◌, Option, Some, None, refl, sym, ap, ◌∙◌, subst, arith}
 use Rattle.std.proofs.lemmas.Bool.{false≢true}
 use Rattle.std.proofs.lemmas.Option.{none-some, same_Some}
 use Rattle.kb_fsa.specs.Table.{Table, HasSymbols, AcceptsFrom, after, state_after, step}
 use Rattle.kb_fsa.specs.Language.{Automaton, IsAutomaton, symbols}
 use Rattle.kb_fsa.proofs.Lookups.{after_none}
-use Rattle.kb_explore.specs.Machine.{Machine, MachineAccepts, lead, leads}
+use Rattle.kb_explore.specs.Machine.{MachineAccepts, lead, leads}
 use Rattle.kb_explore.specs.Exploration.{IsExploration}
 use Rattle.kb_explore.specs.FirstAccepted.{IsLeastAccepted}
 use Rattle.kb_explore.proofs.ExplorationLemmas.{accepts_same, leads_nowhere}

@@ -1,5 +1,5 @@
--- Cascade products: a machine that leads, and one that follows it, moving by its states and by the symbols that it reads.
--- Ginzburg, Algebraic Theory of Automata; Holcombe, Algebraic Automata Theory, 2.3.
+-- Cascade products: a machine that leads, and one that follows it, moving by its states and by the symbols that it
+-- reads. Ginzburg, Algebraic Theory of Automata; Holcombe, Algebraic Automata Theory, 2.3.
 use Rattle.std.specs.Prelude.{◌≡◌, ℕ, zero, suc, Bool, false, IsTrue, List, [], ◌∷◌, Option, Some, None}
 use Rattle.kb_word.specs.Words.{Less}
 use Rattle.kb_fsa.specs.Table.{Table, step, state_after}

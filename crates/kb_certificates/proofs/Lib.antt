@@ -6,3 +6,4 @@ pub mod Extensions
 pub mod FirstWords
 pub mod OutsidePairs
 pub mod GreaterImages
+pub mod TwoImages

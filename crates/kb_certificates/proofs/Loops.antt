@@ -6,7 +6,7 @@ use Rattle.kb_fsa.specs.declared.alphabet.Alphabet.TheVariants.{Pair}
 use Rattle.kb_fsa.specs.Language.{Automaton, generators}
 use Rattle.kb_structure.specs.StructureOf.{FitTogether, multiplier_of}
 use Rattle.kb_leastpair.specs.LeastPair.{IsLeastWord, IsLeastPair}
-use Rattle.kb_certificates.specs.First.{IsFirstPair, IsFirstWord, NoPairUpTo, NoneUpTo}
+use Rattle.kb_certificates.specs.First.{IsFirstPair, IsFirstTriple, IsFirstWord, IsLeastTriple, NoPairUpTo, NoTripleUpTo, NoneUpTo}
 
 -- the multiplier at a place is that of the next number
 pub multiplier_at : (multipliers : List Automaton) (place : ℕ) (multiplier : Automaton) → place < length multipliers
@@ -47,6 +47,20 @@ module _ (Certificate : ℕ → List ℕ → List ℕ → Type 0) where
 
   pub first_pair : (x : ℕ) (u v : List ℕ) → NoPairUpTo Certificate x → IsLeastPair (Certificate (x + 1)) u v → IsFirstPair Certificate (x + 1) u v
   first_pair x u v none least = record { no_earlier = λ y first second less. none y first second (omega arith); least = least }
+
+module _ (Certificate : ℕ → List ℕ → List ℕ → List ℕ → Type 0) where
+  pub no_triple_more : (x : ℕ) → NoTripleUpTo Certificate x → ((u v w : List ℕ) → ¬ Certificate (x + 1) u v w)
+      → NoTripleUpTo Certificate (x + 1)
+  no_triple_more x none here y u v w low certificate = elim (cases_lt x y) [
+    | inl above ↦
+        let P : ℕ → Type 0 = λ z. Certificate z u v w in
+        let is : y ≡ x + 1 = omega arith in here u v w (subst P is certificate)
+    | inr within ↦ none y u v w within certificate
+  ]
+
+  pub first_triple : (x : ℕ) (u v w : List ℕ) → NoTripleUpTo Certificate x → IsLeastTriple (Certificate (x + 1)) u v w
+      → IsFirstTriple Certificate (x + 1) u v w
+  first_triple x u v w none least = record { no_earlier = λ y a b c less. none y a b c (omega arith); least = least }
 
 -- a multiplier's number is no greater than how many there are
 pub multiplier_within : (multipliers : List Automaton) (x : ℕ) (multiplier : Automaton) → multiplier_of multipliers x ≡ Some multiplier

@@ -1,17 +1,12 @@
 -- First certificates: of the least generator that has one, with the least words.
-use Rattle.std.specs.Prelude.{◌≡◌, ℕ, ◌<◌, ◌≤◌, List, Some}
-use Rattle.kb_word.specs.Words.{Pair as Sides}
+use Rattle.std.specs.Prelude.{◌≡◌, ◌≢◌, ℕ, ◌<◌, ◌≤◌, List, Some}
+use Rattle.kb_word.specs.Words.{Less, Pair as Sides}
 use Rattle.kb_word.specs.declared.word_order.WordOrder.{WordOrder}
 use Rattle.kb_fsa.specs.Language.{Automaton}
 use Rattle.kb_fsa.specs.Counted.{CountedExists}
-use Rattle.kb_leastpair.specs.LeastPair.{IsLeastWord, IsLeastPair}
+use Rattle.kb_leastpair.specs.LeastPair.{IsAccepted, IsLeastWord, IsLeastPair}
 use Rattle.kb_structure.specs.Structure.{Structure}
 use Rattle.kb_structure.specs.StructureOf.{multiplier_of, structure_of}
-
--- the fact holds of the structure that the automata are, whatever the order and the relations
-abbrev pub OfAutomata : Automaton → List Automaton → (Structure → Type 0) → Type 0
-OfAutomata acceptor multipliers Holds = (order : WordOrder) (relations : List Sides)
-    → Holds (structure_of order relations acceptor multipliers)
 
 -- no generator up to this one has a certificate with a word
 abbrev pub NoneUpTo : (ℕ → List ℕ → Type 0) → ℕ → Type 0
@@ -37,6 +32,31 @@ pub record IsFirstPair (Certificate : ℕ → List ℕ → List ℕ → Type 0) 
     (u v : List ℕ) : Type 0 where
   pub no_earlier : (y : ℕ) (first second : List ℕ) → y < x → ¬ Certificate y first second
   pub least : IsLeastPair (Certificate x) u v
+
+-- The fact holds of the three words; the first is the least, beside it the second, and beside both the third.
+pub record IsLeastTriple (Holds : List ℕ → List ℕ → List ℕ → Type 0) (u v w : List ℕ) : Type 0 where
+  pub holds : Holds u v w
+  pub least_first : (a b c : List ℕ) → Holds a b c → ¬ Less a u
+  pub least_second : (b c : List ℕ) → Holds u b c → ¬ Less b v
+  pub least_third : (c : List ℕ) → Holds u v c → ¬ Less c w
+
+-- the same three of certificates with three words
+abbrev pub NoTripleUpTo : (ℕ → List ℕ → List ℕ → List ℕ → Type 0) → ℕ → Type 0
+NoTripleUpTo Certificate x = (y : ℕ) (u v w : List ℕ) → y ≤ x → ¬ Certificate y u v w
+
+abbrev pub HasNoTriple : (ℕ → List ℕ → List ℕ → List ℕ → Type 0) → Type 0
+HasNoTriple Certificate = (x : ℕ) (u v w : List ℕ) → ¬ Certificate x u v w
+
+pub record IsFirstTriple (Certificate : ℕ → List ℕ → List ℕ → List ℕ → Type 0) (x : ℕ)
+    (u v w : List ℕ) : Type 0 where
+  pub no_earlier : (y : ℕ) (a b c : List ℕ) → y < x → ¬ Certificate y a b c
+  pub least : IsLeastTriple (Certificate x) u v w
+
+-- the automaton accepts the first word with both others, which are different
+pub record HasTwo (pairs : Automaton) (first second other : List ℕ) : Type 0 where
+  pub one : IsAccepted pairs first second
+  pub two : IsAccepted pairs first other
+  pub different : second ≢ other
 
 -- the first words of no multiplier up to this generator's have more sets of states than the limit
 abbrev pub NoneCountedUpTo : List Automaton → ℕ → ℕ → Type 0

@@ -3,11 +3,11 @@ use Rattle.std.specs.Prelude.{◌≡◌, ℕ, ◌<◌, ◌≤◌, List, length, 
 use Rattle.kb_fsa.specs.Language.{Automaton}
 use Rattle.kb_fsa.specs.Counted.{CountedExists}
 use Rattle.kb_structure.specs.Structure.{Structure, IsGenerator, Accepts, Multiplies}
-use Rattle.kb_structure.specs.StructureOf.{multiplier_of}
+use Rattle.kb_structure.specs.StructureOf.{multiplier_of, OfAutomata}
 use Rattle.kb_structure.specs.Certificates.{WordWithoutImage, HasImages}
 use Rattle.kb_certificates.specs.declared.image.Images.{Images}
 use Rattle.kb_certificates.specs.declared.image.Images.TheVariants.{Given, Lacking, TooManyStates}
-use Rattle.kb_certificates.specs.First.{IsFirstWord, NoneCountedUpTo, OfAutomata}
+use Rattle.kb_certificates.specs.First.{IsFirstWord, NoneCountedUpTo}
 
 -- each accepted word has images under the generators up to this one
 abbrev pub HasImagesUpTo : Structure → ℕ → Type 0

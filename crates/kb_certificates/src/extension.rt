@@ -3,8 +3,8 @@
 ghost use Rattle.std.specs.Prelude.{◌≡◌, ◌<◌, ◌≤◌, IfOk, IfSome, IfNone};
 ghost use Rattle.std.proofs.lemmas.Bool.{eqb-true};
 ghost use Rattle.kb_structure.specs.Certificates.{MissingExtension};
-ghost use Rattle.kb_structure.specs.StructureOf.{FitTogether};
-ghost use Rattle.kb_certificates.specs.First.{HasNone, IsFirstWord, OfAutomata};
+ghost use Rattle.kb_structure.specs.StructureOf.{FitTogether, OfAutomata};
+ghost use Rattle.kb_certificates.specs.First.{HasNone, IsFirstWord};
 ghost use Rattle.kb_certificates.specs.Followers.{own_pair};
 
 use crate::least::least_word;

@@ -3,8 +3,8 @@
 ghost use Rattle.std.specs.Prelude.{◌≡◌, IfOk, IfSome, IfNone};
 ghost use Rattle.std.proofs.Common.{rules};
 ghost use Rattle.kb_structure.specs.Certificates.{PairOutsideAcceptor};
-ghost use Rattle.kb_structure.specs.StructureOf.{FitTogether};
-ghost use Rattle.kb_certificates.specs.First.{HasNoPair, IsFirstPair, OfAutomata};
+ghost use Rattle.kb_structure.specs.StructureOf.{FitTogether, OfAutomata};
+ghost use Rattle.kb_certificates.specs.First.{HasNoPair, IsFirstPair};
 ghost use Rattle.kb_certificates.specs.Followers.{after_letter, word_states};
 
 use crate::least::least_led_pair;

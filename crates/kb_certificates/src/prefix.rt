@@ -6,7 +6,7 @@ ghost use Rattle.kb_fsa.specs.Language.{Automaton, generators};
 ghost use Rattle.kb_fsa.specs.declared.alphabet.Alphabet.TheVariants.{Plain};
 ghost use Rattle.kb_structure.specs.Certificates.{PrefixNotAccepted};
 ghost use Rattle.kb_leastpair.specs.LeastPair.{IsLeastWord};
-ghost use Rattle.kb_certificates.specs.First.{OfAutomata};
+ghost use Rattle.kb_structure.specs.StructureOf.{OfAutomata};
 ghost use Rattle.kb_certificates.specs.Followers.{rejected_prefix};
 
 use crate::least::least_word;

@@ -19,7 +19,7 @@ use Rattle.kb_fsadet.proofs.ExactSets.{IsSetOf}
 use Rattle.kb_compose.specs.declared.place.Place.{Place}
 use Rattle.kb_compose.specs.Composition.{IsPairAfter, CountedComposite}
 use Rattle.kb_compose.specs.StatePairs.{number_of, state_pairs}
-use Rattle.kb_compose.specs.Progress.{AreSetsOf, HaveMoreSets}
+use Rattle.kb_compose.specs.Progress.{HaveFewSets, HaveMoreSets}
 use Rattle.kb_compose.proofs.Stepping.{IsPairTable}
 use Rattle.kb_compose.proofs.PlacesAfter.{IsMember, IsPlaceAfter, HasPlace, place_after, states_of_member}
 
@@ -252,8 +252,10 @@ module _ (first second : Automaton) (pairs : first.alphabet ≡ Pair (generators
         }
 
     -- and no more sets than the places have
-    pub few_sets : (m : ℕ) (sets : List (List ℕ)) → AreSetsOf states sets → length sets ≤ m → ¬ CountedComposite first second m
-    few_sets m sets are le =
+    pub few_sets : (m : ℕ) → HaveFewSets states m → ¬ CountedComposite first second m
+    few_sets m are =
+        let sets = are.sets in
+        let le = are.few in
         MoreThan-numbered (λ text number. (set : List ℕ) × ((slice_get sets number ≡ Some set) × IsSetOf (Member text) set))
         (λ text some.
         let place = place_of_pair text (number_of some.0.0 some.0.1) (member_of_pair text some.0 some.1) in

@@ -1,16 +1,18 @@
 -- The rests of the middle word, behind both outer words.
-use Rattle.std.proofs.Common.{◌≡◌, ◌≢◌, ◌↔◌, ◌⊎◌, ℕ, zero, suc, ◌+◌, ◌<◌, ◌≤◌, ◌^◌, nat_eq, nat_lt, nat_le, ◌||◌, Bool, true, false, if◌then◌else◌, List, [], ◌∷◌, ◌++◌, length, get_or, slice_get, Contains, Option, Some, None, refl, sym, ap, ap₂, ◌∙◌, subst, inl, inr, arith}
+use Rattle.std.proofs.Common.{◌≡◌, ◌≢◌, ◌↔◌, ◌⊎◌, ℕ, zero, suc, ◌+◌, ◌-◌, ◌*◌, ◌<◌, ◌≤◌, ◌^◌, nat_eq, nat_lt, nat_le, ◌||◌, Bool, true, false, if◌then◌else◌, List, [], ◌∷◌, ◌++◌, length, get_or, slice_get, Contains, Option, Some, None, refl, sym, ap, ap₂, ◌∙◌, subst, inl, inr, arith}
 use Rattle.std.specs.List.{All}
 use Rattle.std.proofs.lemmas.Bool.{false≢true, cases_lt, cases_eq, eq-eqb, ne_eqb, lt-ltb, le-ltb, le-leb, lt-leb, and_from, and_left, and_right, and_parts, or_right}
 use Rattle.std.proofs.lemmas.List.{get_or_default}
 use Rattle.std.proofs.lemmas.List.Elements.{All-nil, All-cons, All-head, All-tail, All-push, Contains-push, Contains-push_cases, Contains-append_left}
-use Rattle.std.proofs.lemmas.Option.{none-some, same_Some, slice_get-get_or}
+use Rattle.std.proofs.lemmas.Option.{none-some, same_Some, slice_get-get_or, get_or_from_slice_get}
 use Rattle.kb_word.specs.Relations.{IsOver}
-use Rattle.kb_fsa.specs.Table.{Table, IsTable, AcceptsFrom, IsLive, lookup, step, after, is_accepting}
+use Rattle.kb_fsa.specs.Table.{Table, IsTable, IsRow, Moves, Ascends, AcceptsFrom, IsLive, lookup, target, moves_of, step, after, is_accepting}
 use Rattle.kb_fsa.specs.PairSymbols.{pair_symbol}
 use Rattle.kb_fsa.specs.Padding.{padded}
 use Rattle.kb_fsa.specs.Graphs.{IsMarked}
-use Rattle.kb_fsa.proofs.Lookups.{after_none, step_within, Ascends-push, lookup_above, lookup-push_same, lookup-push_other}
+use Rattle.kb_fsa.proofs.Lookups.{after_none, step_within, Ascends-push, lookup_above, lookup_nowhere, lookup-push_same, lookup-push_other, target_none}
+use Rattle.kb_fsa.proofs.PairSymbolLaws.{last_row}
+use Rattle.kb_explore.proofs.Lists.{item_within}
 use Rattle.kb_explore.specs.Machine.{Machine, AreMovesOf, lead}
 use Rattle.kb_explore.specs.Exploration.{numbered, IsExploration}
 use Rattle.kb_explore.proofs.ExplorationLemmas.{accepts_same}
@@ -312,3 +314,62 @@ slice_get_past (x ∷ xs) (suc place) past = slice_get_past xs place (omega arit
 pub no_place_past : (pairs : List ℕ) (number : ℕ) → length pairs < number → tail_of (numbered pairs number) ≡ None
 no_place_past pairs zero past = absurd (omega arith)
 no_place_past pairs (suc place) past = ap tail_of (slice_get_past pairs place (omega arith))
+
+-- ---- without a move behind the first outer word
+
+-- the last move of a row is by its greatest symbol
+all_low : (moves : Moves) (last : ℕ × ℕ) (bound : ℕ) → Ascends moves → slice_get moves (length moves - 1) ≡ Some last → last.0 ≤ bound
+    → All (λ move. move.0 ≤ bound) moves
+all_low moves last bound ascends is low = λ k d within.
+    let at = get_or_from_slice_get moves (length moves - 1) last d is in
+    elim (cases_lt k (length moves - 1)) [
+      | inl less ↦
+          let up = ascends k (length moves - 1) d less (omega arith) in
+          omega (arith, ap (λ (m : ℕ × ℕ). m.0) at)
+      | inr past ↦
+          let same : k ≡ length moves - 1 = omega arith in
+          omega (arith, ap (λ i. (get_or moves i d).0) same, ap (λ (m : ℕ × ℕ). m.0) at)
+    ]
+
+no_last : (moves : Moves) → slice_get moves (length moves - 1) ≡ None → length moves ≡ 0
+no_last [] none = refl
+no_last (move ∷ moves) none =
+    let some = item_within (move ∷ moves) (length (move ∷ moves) - 1) (omega arith) in absurd (none-some some.0 (sym none ∙ some.1))
+
+module _ (n : ℕ) (first second : Table) (pair : ℕ) (moves : Moves) (same : moves ≡ moves_of first (first_state pair)) where
+  no_letters : All (λ move. move.0 ≤ (n + 1) * n) moves → (letter : ℕ) → tail_after n first second pair letter ≡ None
+  no_letters low letter =
+      let p = step first (first_state pair) (pair_symbol n (n + 1) letter) in
+      let q = step second (second_state pair) (pair_symbol n letter (n + 1)) in
+      elim (cases_lt 0 letter) [
+        | inr none ↦ no_tail n first second pair letter (λ is. omega (arith, is.0))
+        | inl positive ↦ elim (cases_lt n letter) [
+          | inl above ↦ no_tail n first second pair letter (λ is. omega (arith, is.1))
+          | inr within ↦
+              let row = last_row n letter in
+              let nowhere = lookup_nowhere moves (pair_symbol n (n + 1) letter) (λ k d h is. omega (arith, low k d h)) in
+              let none : p ≡ 0 =
+              ap (λ (m : Moves). target m (pair_symbol n (n + 1) letter)) (sym same) ∙ target_none moves (pair_symbol n (n + 1) letter) nowhere in
+              tail_of_letter n first second pair letter positive within ∙ tail_at_none n first second p q (inl none)
+        ]
+      ]
+
+  pub no_letters_below : (last : ℕ × ℕ) → IsRow (moves_of first (first_state pair)) → slice_get moves (length moves - 1) ≡ Some last
+      → last.0 ≤ (n + 1) * n → (letter : ℕ) → tail_after n first second pair letter ≡ None
+  no_letters_below last row is low =
+      let P : Moves → Type 0 = λ m. Ascends m in
+      no_letters (all_low moves last ((n + 1) * n) (subst P (sym same) row.ascends) is low)
+
+  pub no_letters_at_all : slice_get moves (length moves - 1) ≡ None → (letter : ℕ) → tail_after n first second pair letter ≡ None
+  no_letters_at_all none = let nothing = no_last moves none in no_letters (λ k d within. absurd (omega arith))
+
+-- a pair from which no letter leads on has no moves
+pub no_moves : (n : ℕ) (first second : Table) (pairs : List ℕ) (k pair : ℕ) (moves : List (ℕ × Tail)) → moves ≡ []
+    → ((letter : ℕ) → tail_after n first second pair letter ≡ None) → AreMovesOf (tails n first second pairs) k (At pair) moves
+no_moves n first second pairs k pair moves none each =
+    let P : List (ℕ × Tail) → Type 0 = λ l. AreMovesOf (tails n first second pairs) k (At pair) l in
+    subst P (sym none) (record {
+      ascends = λ i j d less within. absurd (omega arith);
+      symbols = All-nil (λ (move : ℕ × Tail). (0 < move.0) × (move.0 ≤ k));
+      follow = λ letter. sym (each letter);
+    })

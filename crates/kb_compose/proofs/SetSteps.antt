@@ -1,17 +1,18 @@
 -- A set more among those of places.
-use Rattle.std.proofs.Common.{◌≡◌, ◌⊎◌, ℕ, ◌+◌, ◌<◌, Bool, true, false, nat_eq, List, [], ◌∷◌, ◌++◌, length, get_or, slice_get, take, drop, Contains, Some, refl, sym, ap, subst, ◌∙◌, inl, inr, arith, if◌then◌else◌, take-append-drop, true≢false}
+use Rattle.std.proofs.Common.{◌≡◌, ◌⊎◌, ℕ, ◌+◌, ◌<◌, ◌≤◌, Bool, true, false, nat_eq, List, [], ◌∷◌, ◌++◌, length, get_or, slice_get, take, drop, map, Contains, Some, refl, sym, ap, subst, ◌∙◌, inl, inr, arith, if◌then◌else◌, take-append-drop, true≢false}
 use Rattle.std.specs.Cmp.Lexicographic.{pointwise, nat_list_eq_equiv}
 use Rattle.std.specs.List.{All, IsDistinct, list_any}
 use Rattle.std.proofs.lemmas.Bool.{cases_order}
-use Rattle.std.proofs.lemmas.List.{take_more}
+use Rattle.std.proofs.lemmas.List.{take_more, take_all, length-map}
 use Rattle.std.proofs.lemmas.Map.Keys.{apart_from_distinct}
-use Rattle.std.proofs.lemmas.List.Elements.{All-nil, All-push, All-weaker, Contains-push, Contains-append_left}
+use Rattle.std.proofs.lemmas.List.Elements.{All-nil, All-cons, All-push, All-weaker, Contains-push, Contains-append_left}
 use Rattle.std.proofs.lemmas.Option.{get_or_from_slice_get, slice_get_within}
 use Rattle.indexmap.specs.IndexSet.{insert_key}
 use Rattle.kb_word.specs.Comparison.{same_from_pointwise}
+use Rattle.kb_fsadet.proofs.Sets.{Contains-here, Contains-there}
 use Rattle.kb_explore.specs.Progress.{AreDistinct}
 use Rattle.kb_compose.specs.declared.place.Place.{Place}
-use Rattle.kb_compose.specs.Progress.{AreSetsOf, HaveMoreSets}
+use Rattle.kb_compose.specs.Progress.{AreSetsOf, HaveFewSets, HaveMoreSets}
 
 -- the set is that of one of the places
 abbrev IsSetOfOne : List Place → List ℕ → Type 0
@@ -112,3 +113,28 @@ module _ (places : List Place) (index : ℕ) (d : Place) (within : index < lengt
             )) sets' are'.sound;
         more = more;
       }
+
+-- ---- few sets
+
+sets_of_places : (places : List Place) → All (λ place. Contains (map (λ (p : Place). p.pairs) places) place.pairs) places
+sets_of_places [] = All-nil (λ (place : Place). Contains (map (λ (p : Place). p.pairs) []) place.pairs)
+sets_of_places (place ∷ places) =
+    let sets = map (λ (p : Place). p.pairs) places in
+    let P = λ (other : Place). Contains (place.pairs ∷ sets) other.pairs in
+    All-cons P place places (Contains-here place.pairs sets)
+    (All-weaker (λ (other : Place). Contains sets other.pairs) P (λ other at. Contains-there place.pairs sets other.pairs at) places
+    (sets_of_places places))
+
+-- there are no more sets than places
+pub few_places : (places : List Place) (limit : ℕ) → length places ≤ limit → HaveFewSets places limit
+few_places places limit le = record {
+  sets = map (λ (p : Place). p.pairs) places;
+  all = sets_of_places places;
+  few = omega (arith, length-map places (λ (p : Place). p.pairs));
+}
+
+pub few_counted : (places : List Place) (index : ℕ) (sets : List (List ℕ)) (limit : ℕ) → length places ≤ index
+    → AreSetsOf (take index places) sets → length sets ≤ limit → HaveFewSets places limit
+few_counted places index sets limit past are le =
+    let P : List Place → Type 0 = λ l. All (λ place. Contains sets place.pairs) l in
+    record { sets = sets; all = subst P (take_all index places past) are.all; few = le }

@@ -1,5 +1,5 @@
 -- The composite of two automata of pairs: its language and its count.
-use Rattle.std.proofs.Common.{◌≡◌, ℕ, ◌*◌, ◌≤◌, List, length, sym, ap, ◌∙◌, subst}
+use Rattle.std.proofs.Common.{◌≡◌, ℕ, ◌*◌, ◌≤◌, List, sym, ap, ◌∙◌, subst}
 use Rattle.std.specs.List.{All, flat_map}
 use Rattle.kb_fsa.specs.declared.alphabet.Alphabet.TheVariants.{Pair}
 use Rattle.kb_fsa.specs.Table.{Table, Moves, HasSymbols}
@@ -11,7 +11,7 @@ use Rattle.kb_compose.specs.declared.place.Place.{Place}
 use Rattle.kb_compose.specs.Composition.{IsComposite, CountedComposite}
 use Rattle.kb_compose.specs.StatePairs.{state_pairs}
 use Rattle.kb_compose.specs.Tails.{AreEnding}
-use Rattle.kb_compose.specs.Progress.{AreSetsOf, HaveMoreSets}
+use Rattle.kb_compose.specs.Progress.{HaveFewSets, HaveMoreSets}
 use Rattle.kb_compose.proofs.Stepping.{IsPairTable, pair_table, pair_alphabet}
 use Rattle.kb_compose.proofs.CountedSets.{more_places, more_sets, few_sets}
 use Rattle.kb_compose.proofs.Languages.{is_composite, is_automaton}
@@ -47,8 +47,8 @@ module _ (first second : Automaton) (pairs : (n : ℕ) × (first.alphabet ≡ Pa
     pub sets_counted : (limit : ℕ) → HaveMoreSets states limit → CountedComposite first second limit
     sets_counted limit more = more_sets first second whole one_table two_table ending table states origins explored limit more
 
-    pub sets_few : (limit : ℕ) (sets : List (List ℕ)) → AreSetsOf states sets → length sets ≤ limit → ¬ CountedComposite first second limit
-    sets_few limit sets are le = few_sets first second whole one_table two_table ending table states origins explored limit sets are le
+    pub sets_few : (limit : ℕ) → HaveFewSets states limit → ¬ CountedComposite first second limit
+    sets_few limit are = few_sets first second whole one_table two_table ending table states origins explored limit are
 
     pub composed_automaton : AreEnding (generators first.alphabet) first.table second.table (all states) ending
         → HasSymbols (symbols first.alphabet) table → IsAutomaton (record { alphabet = first.alphabet; table = table })

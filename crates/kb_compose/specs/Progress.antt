@@ -1,5 +1,5 @@
 -- Loops on their way.
-use Rattle.std.specs.Prelude.{◌≡◌, ℕ, suc, ◌<◌, Bool, List, length, get_or, All, Contains, Option}
+use Rattle.std.specs.Prelude.{◌≡◌, ℕ, suc, ◌<◌, ◌≤◌, Bool, List, length, get_or, All, Contains, Option}
 use Rattle.kb_fsa.specs.Table.{Table, Ascends, lookup, step}
 use Rattle.kb_fsa.specs.Graphs.{IsMarked}
 use Rattle.kb_explore.specs.Progress.{AreDistinct}
@@ -10,6 +10,12 @@ pub record AreSetsOf (places : List Place) (sets : List (List ℕ)) : Type 0 whe
   pub distinct : AreDistinct sets
   pub all : All (λ place. Contains sets place.pairs) places
   pub sound : All (λ set. (place : Place) × (Contains places place × (place.pairs ≡ set))) sets
+
+-- so few sets have those of all places among them
+pub record HaveFewSets (places : List Place) (limit : ℕ) : Type 0 where
+  pub sets : List (List ℕ)
+  pub all : All (λ place. Contains sets place.pairs) places
+  pub few : length sets ≤ limit
 
 -- there are more different sets of places than the limit
 pub record HaveMoreSets (places : List Place) (limit : ℕ) : Type 0 where

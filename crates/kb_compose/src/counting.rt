@@ -3,7 +3,7 @@
 ghost use Rattle.std.specs.Prelude.{◌≡◌, ◌≤◌, true, false, ℕ, List, length, IfOk};
 ghost use Rattle.std.specs.List.{flat_map};
 ghost use Rattle.kb_fsadet.specs.SubsetConstruction.{set_of};
-ghost use Rattle.kb_compose.specs.Progress.{AreSetsOf, HaveMoreSets};
+ghost use Rattle.kb_compose.specs.Progress.{HaveFewSets, HaveMoreSets};
 
 use crate::pair_set::PairSet;
 use crate::place::Place;
@@ -14,8 +14,18 @@ use std::alloc::Global;
 /// Whether the places have more different sets than the limit. Sets alone are counted, without which word has ended.
 pub(crate) fn have_more_sets(alloc: Global, places: &[Place], limit: u32) -> Result<bool, Memory>
     ensures more { IfOk result (λ more. more ≡ true → HaveMoreSets places.now limit) }
-    ensures few { IfOk result (λ more. more ≡ false
-        → (sets : List (List ℕ)) × (AreSetsOf places.now sets × (length sets ≤ limit))) }
+    ensures few { IfOk result (λ more. more ≡ false → HaveFewSets places.now limit) }
+{
+    if places.len() <= limit as usize {
+        return Ok(false);
+    }
+    count_sets(alloc, places, limit)
+}
+
+/// The same for many places, whose sets are counted one after another.
+fn count_sets(alloc: Global, places: &[Place], limit: u32) -> Result<bool, Memory>
+    ensures more { IfOk result (λ more. more ≡ true → HaveMoreSets places.now limit) }
+    ensures few { IfOk result (λ more. more ≡ false → HaveFewSets places.now limit) }
 {
     let mut sets = IndexSet::new(alloc);
     for place in places {

@@ -1,6 +1,6 @@
 //! Where the middle word goes on behind both outer words.
 
-ghost use Rattle.std.specs.Prelude.{◌≡◌, ◌+◌, ◌<◌, ◌≤◌, ◌^◌, ℕ, List, max, length, IfOk};
+ghost use Rattle.std.specs.Prelude.{◌≡◌, false, ◌+◌, ◌<◌, ◌≤◌, ◌^◌, ℕ, List, max, length, IfOk};
 ghost use Rattle.std.proofs.Common.{rules};
 ghost use Rattle.kb_fsa.specs.Table.{IsTable};
 ghost use Rattle.kb_explore.specs.Machine.{AreMovesOf};
@@ -82,6 +82,9 @@ impl Tails<'_> {
     {
         let padding = self.symbols.padding();
         let mut moves = Vec::new(alloc);
+        if !self.may_go_on(pair) {
+            return Ok(moves);
+        }
         let mut letter = 1;
         while letter < padding {
             if let Some(tail) = self.after(pair, letter) {
@@ -90,6 +93,18 @@ impl Tails<'_> {
             letter += 1;
         }
         Ok(moves)
+    }
+
+    /// Whether the first automaton has a move behind the first outer word. Few pairs have one.
+    fn may_go_on(&self, pair: u64) -> bool
+        ensures { result ≡ false → (letter : ℕ) → tail_after self.now.symbols.n self.now.first.now
+            self.now.second.now pair letter ≡ None }
+    {
+        let others = self.symbols.padding() * u32::from(self.symbols.n);
+        match self.first.moves(first_state(pair)).as_slice().last() {
+            Some(entry) => entry.0 > others,
+            None => false,
+        }
     }
 
     /// Where one letter of it leads from the pair, if it leads to two states.

@@ -3,9 +3,7 @@ use Rattle.std.proofs.Common.{◌≡◌, ◌↔◌, ℕ, ◌^◌, ◌<◌, ◌�
 use Rattle.std.specs.List.{All}
 use Rattle.kb_word.specs.Relations.{IsOver}
 use Rattle.kb_fsa.specs.declared.alphabet.Alphabet.TheVariants.{Pair}
-use Rattle.kb_fsa.specs.Table.{AcceptsFrom}
-use Rattle.kb_fsa.specs.Padding.{padded}
-use Rattle.kb_fsa.specs.Language.{Automaton, IsAutomaton, AcceptsPair, generators}
+use Rattle.kb_fsa.specs.Language.{Automaton, IsAutomaton, generators}
 use Rattle.kb_explore.specs.Machine.{MachineAccepts}
 use Rattle.kb_explore.specs.FirstAccepted.{IsLeastAccepted as IsLeastRead}
 use Rattle.kb_fsadet.specs.Nondeterministic.{Nondeterministic, AcceptsSomehow}

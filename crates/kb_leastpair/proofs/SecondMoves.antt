@@ -4,7 +4,7 @@ use Rattle.std.specs.List.{All}
 use Rattle.std.proofs.lemmas.Bool.{and_from, and_left, and_right, cases_lt, cases_order, lt-ltb, le-ltb, le-leb, lt-leb}
 use Rattle.std.proofs.lemmas.List.Elements.{All-nil, All-push}
 use Rattle.kb_fsa.specs.declared.alphabet.Alphabet.TheVariants.{Plain}
-use Rattle.kb_fsa.specs.Table.{Table, Ascends, lookup, step}
+use Rattle.kb_fsa.specs.Table.{Table, lookup, step}
 use Rattle.kb_fsa.specs.PairSymbols.{pair_symbol}
 use Rattle.kb_fsa.specs.EndedWords.{is_symbol}
 use Rattle.kb_fsa.proofs.Lookups.{lookup_above, lookup_below, lookup-push_same, lookup-push_other, Ascends-push}

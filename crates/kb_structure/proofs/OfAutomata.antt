@@ -1,12 +1,11 @@
 -- The words and the pairs of the structure that automata are.
-use Rattle.std.proofs.Common.{◌≡◌, ◌≢◌, ◌↔◌, ℕ, ◌≤◌, IsTrue, List, Option, Some, sym, ap, subst, ◌∙◌, arith}
+use Rattle.std.proofs.Common.{◌≡◌, ◌↔◌, ℕ, IsTrue, List, Option, Some, sym, subst, arith}
 use Rattle.kb_word.specs.Words.{Pair as Sides}
 use Rattle.kb_word.specs.Relations.{IsOver}
 use Rattle.kb_word.specs.declared.word_order.WordOrder.{WordOrder}
 use Rattle.kb_fsa.specs.declared.alphabet.Alphabet.{Alphabet}
 use Rattle.kb_fsa.specs.declared.alphabet.Alphabet.TheVariants.{Plain}
 use Rattle.kb_fsa.specs.Table.{state_after}
-use Rattle.kb_fsa.specs.Padding.{padded}
 use Rattle.kb_fsa.specs.Language.{Automaton, IsAutomaton, IsTextOf, AcceptsText, AcceptsPair, generators}
 use Rattle.kb_fsa.proofs.Lookups.{accepting_positive}
 use Rattle.kb_structure.specs.Structure.{Structure, Accepts, Multiplies}

@@ -40,3 +40,8 @@ pub record FitTogether (acceptor : Automaton) (multipliers : List Automaton) : T
   pub one_each : length multipliers ≡ generators acceptor.alphabet
   pub pairs : (x : ℕ) (multiplier : Automaton) → multiplier_of multipliers x ≡ Some multiplier
       → multiplier.alphabet ≡ Pair (generators acceptor.alphabet)
+
+-- the fact holds of the structure that the automata are, whatever the order and the relations
+abbrev pub OfAutomata : Automaton → List Automaton → (Structure → Type 0) → Type 0
+OfAutomata acceptor multipliers Holds = (order : WordOrder) (relations : List Sides)
+    → Holds (structure_of order relations acceptor multipliers)

@@ -1,4 +1,4 @@
-use Rattle.std.proofs.Common.{◌≡◌, ◌↔◌, ℕ, List, sym, ap, subst}
+use Rattle.std.proofs.Common.{◌↔◌, ℕ, List, sym, ap, subst}
 use Rattle.kb_fsa.specs.Table.{Table, AcceptsFrom}
 use Rattle.kb_fsa.specs.Language.{IsAutomaton}
 use Rattle.kb_fsa.specs.declared.alphabet.Alphabet.{Alphabet}

@@ -1,5 +1,6 @@
 use Rattle.kb_structure.specs.Certificates.{MissingExtension}
-use Rattle.kb_certificates.specs.First.{NoneUpTo, OfAutomata}
+use Rattle.kb_structure.specs.StructureOf.{OfAutomata}
+use Rattle.kb_certificates.specs.First.{NoneUpTo}
 use Rattle.kb_certificates.proofs.extension.missing_extension.Given as goal
 
 -- no generator so far has a certificate

@@ -1,5 +1,6 @@
 use Rattle.kb_structure.specs.Certificates.{WordWithoutImage}
-use Rattle.kb_certificates.specs.First.{NoneCountedUpTo, NoneUpTo, OfAutomata}
+use Rattle.kb_structure.specs.StructureOf.{OfAutomata}
+use Rattle.kb_certificates.specs.First.{NoneCountedUpTo, NoneUpTo}
 use Rattle.kb_certificates.specs.Images.{HasImagesUpTo}
 use Rattle.kb_certificates.proofs.image.check_images.Given as goal
 

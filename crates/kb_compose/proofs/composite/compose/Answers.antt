@@ -8,7 +8,7 @@ use Rattle.kb_fsadet.specs.SubsetConstruction.{set_of}
 use Rattle.kb_compose.specs.declared.place.Place.{Place}
 use Rattle.kb_compose.specs.Composition.{IsComposite}
 use Rattle.kb_compose.specs.Tails.{AreEnding}
-use Rattle.kb_compose.specs.Progress.{AreSetsOf, HaveMoreSets}
+use Rattle.kb_compose.specs.Progress.{HaveFewSets, HaveMoreSets}
 use Rattle.kb_compose.proofs.Whole.{ending_along, places_counted, sets_counted, sets_few, composed_automaton, composed_language, symbols_along}
 use Rattle.kb_compose.proofs.composite.compose.Goals as goal
 
@@ -35,10 +35,10 @@ returns-then-branch-clause-many c = λ most e.
 
 pub returns-clause-few : goal.returns-clause-few
 returns-clause-few c = λ _ counted.
-    let few = c.in_ok-have_more_sets.ensures.few c.if-branch.false in
-    let P : List Place → Type 0 = λ l. AreSetsOf l few.0 in
+    let P : List Place → Type 0 = λ l. HaveFewSets l c.args.limit in
     sets_few c.args.first.now c.args.second.now c.requires.pairs c.requires.alike c.table-one.ensures.automaton
-    c.table-two.ensures.automaton _ c.in_ok-exploration.ensures.explored c.args.limit few.0 (subst P c.as_slice.ensures.keys few.1.0) few.1.1 counted
+    c.table-two.ensures.automaton _ c.in_ok-exploration.ensures.explored c.args.limit
+    (subst P c.as_slice.ensures.keys (c.in_ok-have_more_sets.ensures.few c.if-branch.false)) counted
 
 -- the pairs that end
 ending : (c : goal.After-alphabet-2) → AreEnding (generators c.args.first.now.alphabet) c.args.first.now.table c.args.second.now.table

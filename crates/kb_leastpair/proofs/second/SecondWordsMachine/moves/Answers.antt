@@ -1,4 +1,4 @@
-use Rattle.std.proofs.Common.{◌≡◌, ℕ, ◌+◌, List, sym, ap, ◌∙◌, subst, arith}
+use Rattle.std.proofs.Common.{ℕ, ◌+◌, List, sym, ap, ◌∙◌, subst, arith}
 use Rattle.kb_leastpair.specs.declared.reading.Reading.{Reading}
 use Rattle.kb_leastpair.specs.SecondWords.{AreMovesBefore, reading_at}
 use Rattle.kb_leastpair.proofs.SecondMoves.{all_moves, moves_with, moves_without, read_on_is, reading_some}

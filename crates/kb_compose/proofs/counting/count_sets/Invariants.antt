@@ -1,6 +1,6 @@
 use Rattle.std.proofs.Common.{◌≤◌, length, take}
 use Rattle.kb_compose.specs.Progress.{AreSetsOf}
-use Rattle.kb_compose.proofs.counting.have_more_sets.Given as goal
+use Rattle.kb_compose.proofs.counting.count_sets.Given as goal
 
 abbrev pub invariant-loop-place : goal.invariant-loop-place
 invariant-loop-place l =

@@ -1,0 +1,43 @@
+-- What label words show of multipliers, by rules of the group.
+-- Epstein et al., Word Processing in Groups, 2.3; Holt, Eick, O'Brien, Handbook of Computational Group Theory, 13.2.
+use Rattle.std.specs.Prelude.{◌≡◌, ℕ, ◌<◌, ◌≤◌, List, length, Some}
+use Rattle.kb_word.specs.Words.{Pair as Sides}
+use Rattle.kb_word.specs.declared.presentation.Presentation.{Presentation}
+use Rattle.kb_fsa.specs.declared.alphabet.Alphabet.TheVariants.{Pair}
+use Rattle.kb_fsa.specs.Language.{Automaton}
+use Rattle.kb_diff.specs.Groups.{group_of}
+use Rattle.kb_structure.specs.StructureOf.{multiplier_of}
+use Rattle.kb_labels.specs.Labels.{IsAnswered}
+use Rattle.kb_labels.specs.declared.labels.Labels.TheVariants.{Agree, Differ}
+use Rattle.kb_axioms.specs.declared.answers.Truth.{Truth}
+use Rattle.kb_axioms.specs.declared.answers.Truth.TheVariants.{True, Unresolved}
+
+-- there is a multiplier for each of n generators, which reads pairs of words over them
+pub record AreMultipliers (n : ℕ) (multipliers : List Automaton) : Type 0 where
+  pub one_each : length multipliers ≡ n
+  pub pairs : (x : ℕ) (multiplier : Automaton) → multiplier_of multipliers x ≡ Some multiplier
+      → multiplier.alphabet ≡ Pair n
+
+-- the label words of each state of the multipliers up to this generator's have one normal form
+abbrev pub AgreeUpTo : Presentation → List Sides → List Automaton → ℕ → Type 0
+AgreeUpTo presentation rules multipliers most = (x : ℕ) (multiplier : Automaton) → x ≤ most
+    → multiplier_of multipliers x ≡ Some multiplier
+    → IsAnswered (group_of presentation rules) presentation x multiplier Agree
+
+-- the generator is the first whose multiplier has a state with two label words of different normal forms: the first
+-- such state, with its label, and the least other one
+pub record IsFirstUnresolved (presentation : Presentation) (rules : List Sides)
+    (multipliers : List Automaton) (x state : ℕ) (label other : List ℕ) : Type 0 where
+  pub multiplier : Automaton
+  pub is_multiplier : multiplier_of multipliers x ≡ Some multiplier
+  pub answered : IsAnswered (group_of presentation rules) presentation x multiplier
+      (Differ state label other)
+  pub earlier : (y : ℕ) (before : Automaton) → y < x → multiplier_of multipliers y ≡ Some before
+      → IsAnswered (group_of presentation rules) presentation y before Agree
+
+-- what each answer says
+abbrev pub TruthSays : Presentation → List Sides → List Automaton → Truth → Type 0
+TruthSays presentation rules multipliers True =
+    AgreeUpTo presentation rules multipliers (length multipliers)
+TruthSays presentation rules multipliers (Unresolved x state label other) =
+    IsFirstUnresolved presentation rules multipliers x state label other

@@ -1,0 +1,4 @@
+pub mod RivalMoves
+pub mod Comparing
+pub mod RivalRuns
+pub mod LaterPairs

@@ -1,0 +1,4 @@
+pub mod Later
+pub mod Rivalry
+pub mod Containing
+pub mod Reading

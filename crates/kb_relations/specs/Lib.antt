@@ -1,0 +1,4 @@
+pub mod Images
+pub mod Composites
+pub mod Acts
+pub mod Progress
