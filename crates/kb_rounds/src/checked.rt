@@ -2,8 +2,7 @@
 
 ghost use Rattle.std.specs.Prelude.{◌≡◌};
 ghost use Rattle.kb_fsa.specs.declared.alphabet.Alphabet.TheVariants.{Plain};
-ghost use Rattle.kb_diff.specs.Groups.{EachInverts};
-ghost use Rattle.kb_axioms.specs.Truth.{AreMultipliers};
+ghost use Rattle.kb_structure.specs.StructureOf.{FitTogether};
 
 use crate::round::{MOST_STATES, Round};
 use crate::system::System;
@@ -55,19 +54,27 @@ pub(crate) fn verdict_on(alloc: Global, system: &System, round: &Round) -> anyho
         fit_together(&round.acceptor, &multipliers),
         "the automata don't fit together"
     );
-    let relations = system.group.relations(alloc)?;
-    relations_are_over_the_generators();
-    match check_automata(
-        alloc,
-        &round.acceptor,
-        &multipliers,
-        &relations,
-        MOST_STATES,
-    )? {
+    match checked(alloc, system, &round.acceptor, &multipliers)? {
         Automata::Pass => verdict_on_labels(alloc, system, &multipliers),
         Automata::No(_) => Ok(Verdict::Refuted),
         Automata::TooManyStates { .. } => Ok(Verdict::TooLarge),
     }
+}
+
+/// What the automata show, whatever the rules are.
+fn checked(
+    alloc: Global,
+    system: &System,
+    acceptor: &Fsa,
+    multipliers: &[Fsa],
+) -> anyhow::Result<Automata>
+    requires fit { FitTogether acceptor.now multipliers.now }
+    requires words { acceptor.now.alphabet ≡ Plain system.now.group.n }
+{
+    let relations = system.group.relations(alloc)?;
+    relations_are_over_the_generators();
+    let found = check_automata(alloc, acceptor, multipliers, &relations, MOST_STATES)?;
+    Ok(found)
 }
 
 /// What label words show of multipliers that pass.
