@@ -1,3 +1,4 @@
 pub mod Truths
 pub mod Passing
 pub mod Own
+pub mod GroupAutomata

@@ -1,7 +1,6 @@
 -- What passing and certificates say of the group's own structure.
-use Rattle.std.proofs.Common.{◌≡◌, ℕ, ◌<◌, List, length, Some, ◌∷◌, [], ◌++◌}
+use Rattle.std.proofs.Common.{◌<◌, length}
 use Rattle.std.proofs.lemmas.Option.{slice_get_within}
-use Rattle.kb_word.specs.Words.{Pair}
 use Rattle.kb_word.specs.declared.word_order.WordOrder.TheVariants.{ShortLex}
 use Rattle.kb_structure.specs.Structure.{AreOverGenerators, IsAutomaticStructure}
 use Rattle.kb_structure.specs.Certificates.{HasNoCertificate, IsTrueToGroup}

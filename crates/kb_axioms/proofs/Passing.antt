@@ -1,5 +1,4 @@
 -- Automata that pass the certificates of the kinds N1, N2, N4 and N5 can be followed.
-use Rattle.std.proofs.Common.{ℕ, List}
 use Rattle.kb_structure.specs.StructureOf.{FitTogether}
 use Rattle.kb_relations.specs.Images.{CanBeFollowed}
 use Rattle.kb_axioms.specs.Checked.{Checked, PassesSingle}

@@ -1,13 +1,11 @@
 -- From multiplier to multiplier, while label words agree.
-use Rattle.std.proofs.Common.{◌≡◌, ℕ, zero, suc, ◌+◌, ◌<◌, ◌≤◌, Bool, false, IsTrue, List, ◌∷◌, [], ◌++◌, length, Option, None, Some, refl, sym, ap, ◌∙◌, subst, inl, inr, arith}
+use Rattle.std.proofs.Common.{◌≡◌, ℕ, ◌+◌, ◌≤◌, IsTrue, List, [], length, Option, None, Some, refl, sym, ap, ◌∙◌, subst, inl, inr, arith}
 use Rattle.std.proofs.lemmas.Bool.{cases_lt, true≢false}
 use Rattle.std.proofs.lemmas.Option.{none-some, same_Some}
-use Rattle.kb_word.specs.Words.{Pair as Sides}
 use Rattle.kb_word.specs.Relations.{IsOver, relations_of}
-use Rattle.kb_word.specs.declared.word_order.WordOrder.{WordOrder}
 use Rattle.kb_word.specs.declared.presentation.Presentation.{Presentation}
 use Rattle.kb_fsa.specs.Language.{Automaton, generators}
-use Rattle.kb_structure.specs.Structure.{Structure, Multiplies}
+use Rattle.kb_structure.specs.Structure.{Structure}
 use Rattle.kb_structure.specs.StructureOf.{accepts_pair, multiplier_of, structure_of}
 use Rattle.kb_structure.specs.Certificates.{IsTrueToGroup}
 use Rattle.kb_structure.specs.Labels.{RelatesProducts}

@@ -13,7 +13,7 @@ pub enum Construction {
 }
 
 /// What is found of automata, whatever the rules of the group are.
-#[derive(Debug, Drop)]
+#[derive(Debug, Drop, PartialEq, Eq)]
 pub enum Automata {
     /// There is no certificate but perhaps of the kind N3.
     Pass,
@@ -24,7 +24,7 @@ pub enum Automata {
 }
 
 /// What label words show of multipliers.
-#[derive(Debug, Drop)]
+#[derive(Debug, Drop, PartialEq, Eq)]
 pub enum Truth {
     /// All label words of each state have one normal form.
     True,

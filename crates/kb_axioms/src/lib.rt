@@ -20,8 +20,11 @@
 //! certificate is ever found against the group's own structure. The least pair of words that don't differ by the
 //! generator, certificate N3, is not looked for yet.
 //!
+//! What the checks require of automata and presentations that were read from files is decided by [`fit_together`],
+//! [`are_multipliers`] and [`is_group`].
+//!
 //! In `proofs/`, `Passing` has that words can be followed by what passes the first kinds, `Truths` goes from multiplier to
-//! multiplier, and `Own` has the laws.
+//! multiplier, `GroupAutomata` has what the multipliers read, and `Own` has the laws.
 //!
 //! Below are the crates that look for one kind each or a few, `kb_certificates` and `kb_relations`, with `kb_labels` and
 //! `kb_structure`.
@@ -30,11 +33,13 @@
 mod answers;
 mod automata;
 mod cert;
+mod fitting;
 mod laws;
 mod truth;
 
 pub use answers::{Automata, Construction, Truth};
 pub use automata::check_automata;
 pub use cert::Cert;
+pub use fitting::{are_multipliers, fit_together, is_group};
 pub use laws::{automata_that_pass_are_the_groups_own, certificates_refute_automata};
 pub use truth::check_truth;

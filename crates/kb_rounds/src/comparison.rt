@@ -5,6 +5,7 @@ ghost use Rattle.kb_word.specs.Words.{IsFactor, Pair};
 ghost use Rattle.kb_fsa.specs.declared.alphabet.Alphabet.TheVariants.{Plain};
 ghost use Rattle.kb_wa.specs.Prefixes.{AreLeftSidesApart};
 
+use crate::checked::{Verdict, verdict_on};
 use crate::figures::Figures;
 use crate::round::{MOST_STATES, made};
 use crate::system::System;
@@ -28,15 +29,19 @@ const GROUPS: [&str; 5] = [
 
 /// Compares the acceptors of all groups, and prints how large they are.
 pub(crate) fn compare<R: Files + AllocGlobal + Print>(rt: &R) -> anyhow::Result<()> {
-    let mut same = true;
+    let mut all = true;
     for name in &GROUPS {
-        same &= compare_group(rt, name).context(format_args!("{name}"))?;
+        all &= compare_group(rt, name).context(format_args!("{name}"))?;
     }
-    ensure!(same, "an acceptor differs from that of the rules");
+    ensure!(
+        all,
+        "an acceptor differs from that of the rules, or automata are not the group's own"
+    );
     Ok(())
 }
 
-/// Prints how large the automata of a group are, and whether its acceptor is that of its rules, which is the result.
+/// Prints how large the automata of a group are, whether its acceptor is that of its rules, and whether they are found to be
+/// the group's own; whether both hold.
 fn compare_group<R: Files + AllocGlobal + Print>(rt: &R, name: &str) -> anyhow::Result<bool> {
     let file = format!(in rt.alloc(); "{name}.kbprog")?;
     let system = System::load(rt, file.as_str())?;
@@ -54,10 +59,13 @@ fn compare_system<R: AllocGlobal + Print>(
         print_automata(rt, system, &round)?;
     }
     let same = is_acceptor_of_rules(rt.alloc(), system, &round.acceptor)?;
-    let verdict = if same { "the same" } else { "another" };
+    let compared = if same { "the same" } else { "another" };
+    let verdict = verdict_on(rt.alloc(), system, &round)?;
     let figures = Figures::of(system, &round);
-    println!(rt; "{name}: {figures}; the acceptor of its rules is {verdict}")?;
-    Ok(same)
+    println!(rt;
+        "{name}: {figures}; the acceptor of its rules is {compared}; the automata are {verdict}"
+    )?;
+    Ok(same && verdict == Verdict::Own)
 }
 
 /// Whether an acceptor is that of a system's rules, by the printed texts of their canonical forms.

@@ -5,7 +5,8 @@
 //! that the differences of a complete system's rules are enough for its acceptor, which is then
 //! that of the words that the rules leave. The program goes over the groups of `data/`, each with a
 //! complete system of rules by the shortlex order, as `kb kbprog FILE` stores it in `FILE.kbprog`,
-//! and ends with status 1 where an acceptor differs from that of the rules:
+//! checks whether the automata are the group's own structure, and ends with status 1 where an acceptor differs from that
+//! of the rules or automata aren't found to be the group's own:
 //!
 //! - the infinite cyclic group, whose automata it prints, and the free abelian group of rank 2,
 //! - the Coxeter group B3, the symmetries of the cube, each of whose generators is its own inverse,
@@ -14,19 +15,21 @@
 //!
 //! With the words `round FILE` on the command line it makes one round for the complete system in that file, and prints
 //! how large it is: the differences of the rules, the normal forms that their machine takes, and how many states of the
-//! acceptor and of the multipliers were explored. bench/run times these runs.
+//! acceptor and of the multipliers were explored. With the words `check FILE` it checks the automata of that round, the
+//! multipliers in their canonical form, by the rules, and prints what is found. bench/run times these runs.
 //!
 //! # How it is made
 //!
 //! - `system` reads a complete system from a file, and `round` makes its automata.
-//! - `comparison` compares acceptors with those of rules, `texts` prints automata, and `measured` has the run that is
-//!   timed.
+//! - `comparison` compares acceptors with those of rules, `checked` asks whether automata are the group's own, `texts`
+//!   prints automata, and `measured` has the runs that are timed.
 //! - `figures` has how large a round is.
 //!
-//! Below are `kb_presfile`, which reads files, `kb_diff` and `kb_diffwa`, which make the automata, and `kb_wa` with the
-//! acceptor of rules.
+//! Below are `kb_presfile`, which reads files, `kb_diff` and `kb_diffwa`, which make the automata, `kb_wa` with the
+//! acceptor of rules, and `kb_axioms` with the check.
 #![tactic(auto)]
 
+mod checked;
 mod comparison;
 mod figures;
 mod measured;

@@ -1,5 +1,6 @@
 //! The run that is timed.
 
+use crate::checked::verdict_on;
 use crate::figures::Figures;
 use crate::round::made;
 use crate::system::System;
@@ -14,7 +15,8 @@ pub(crate) fn measure<R: Files + AllocGlobal + Print>(
     let mut texts = words.iter().map(|word| word.as_str());
     match (texts.next(), texts.next()) {
         (Some("round"), Some(file)) => measure_round(rt, file).context(format_args!("{file}")),
-        _ => bail!("usage: kb_rounds [round FILE]"),
+        (Some("check"), Some(file)) => measure_check(rt, file).context(format_args!("{file}")),
+        _ => bail!("usage: kb_rounds [round FILE | check FILE]"),
     }
 }
 
@@ -29,5 +31,14 @@ fn measure_system<R: AllocGlobal + Print>(rt: &R, system: &System) -> anyhow::Re
     let round = made(rt.alloc(), system)?;
     let figures = Figures::of(system, &round);
     println!(rt; "{figures}")?;
+    Ok(())
+}
+
+/// Makes one round for the complete system in a file, and checks whether its automata are the group's own.
+fn measure_check<R: Files + AllocGlobal + Print>(rt: &R, file: &str) -> anyhow::Result<()> {
+    let system = System::load(rt, file)?;
+    let round = made(rt.alloc(), &system)?;
+    let verdict = verdict_on(rt.alloc(), &system, &round)?;
+    println!(rt; "the automata are {verdict}")?;
     Ok(())
 }

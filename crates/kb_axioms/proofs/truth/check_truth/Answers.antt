@@ -1,7 +1,6 @@
-use Rattle.std.proofs.Common.{◌≡◌, ℕ, ◌+◌, ◌<◌, ◌≤◌, List, length, Ok, Some, sym, ap, ◌∙◌, subst, arith, rules}
+use Rattle.std.proofs.Common.{◌≡◌, ℕ, ◌+◌, List, sym, subst, arith, rules}
 use Rattle.kb_fsa.specs.Language.{Automaton}
 use Rattle.kb_diff.specs.Groups.{group_of}
-use Rattle.kb_structure.specs.StructureOf.{multiplier_of}
 use Rattle.kb_structure.specs.Labels.{RelatesProducts}
 use Rattle.kb_labels.specs.Labels.{IsAnswered, labelling_of}
 use Rattle.kb_labels.specs.declared.labels.Labels.TheVariants.{Agree, Differ}
