@@ -188,7 +188,8 @@ impl<'a, R: Reducer> Search<'a, R> {
         Ok(layer)
     }
 
-    /// The least first word that goes wrong; `None` where none does. It may take all memory where none does.
+    /// The least first word that goes wrong; `None` where none does. Where words of all lengths lead somewhere and none
+    /// goes wrong, the search has no end.
     pub(crate) fn least_first(&self, alloc: Global) -> Result<Option<Word>, Memory>
         requires group { EachInverts self.now.presentation.now.n self.now.presentation.now.inv }
         requires generators { self.now.presentation.now.n ≤ 65534 }
