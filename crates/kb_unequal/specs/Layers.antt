@@ -38,7 +38,8 @@ Reaches group table (suc size) word config =
     × (Reaches group table size before from × (IsMove group table from symbol config
     × (word ≡ longer group before symbol)))))
 
--- from the state a second word goes on alone to acceptance, and behind the label it has another normal form than the end
+-- from the state a second word goes on alone to acceptance, and behind the label it has another normal form than
+-- the end
 abbrev pub GoesWrong : Group → Table → List ℕ → Config → Type 0
 GoesWrong group table end config = (second : List ℕ)
     × IsOther group.n group.rules table config.state [] config.label end second
