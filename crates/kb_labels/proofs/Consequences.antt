@@ -35,7 +35,7 @@ use Rattle.kb_labels.specs.Labels.{Turns, IsAnswered, AreLabels, LabelsAgree, Ar
 use Rattle.kb_labels.proofs.LabelTexts.{turned_irreducible}
 
 -- a letter of pairs cancels with its inverse behind it
-front_cancels : (labelling : Labelling) (n number : ℕ) (inverse : List ℕ) → inverse_word labelling.inverses (letters_of n number) ≡ Some inverse
+pub front_cancels : (labelling : Labelling) (n number : ℕ) (inverse : List ℕ) → inverse_word labelling.inverses (letters_of n number) ≡ Some inverse
     → AreSame labelling (letters_of n number ++ inverse) []
 front_cancels labelling n number inverse is = by (letters_of n number) refl is
   where

@@ -52,3 +52,4 @@ mod turning;
 
 pub use labels::{Labels, check};
 pub use laws::labels_are_unique;
+pub use turning::{Scratch, turn};

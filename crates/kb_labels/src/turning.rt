@@ -15,16 +15,16 @@ use std::alloc::Global;
 
 /// What labels are computed in. It is kept for all of them, so that it takes memory only for longer words.
 #[derive(Debug, Drop)]
-pub(crate) struct Scratch {
+pub struct Scratch {
     /// The word to which a pair of letters turned a label.
-    pub(crate) word: Word,
+    pub word: Word,
     /// The memory that reductions work in.
     workspace: Workspace,
 }
 
 impl Scratch {
     /// No memory is taken yet.
-    pub(crate) fn new(alloc: Global) -> Scratch {
+    pub fn new(alloc: Global) -> Scratch {
         Scratch {
             word: Word::new(alloc),
             workspace: Workspace::new(alloc),
@@ -33,7 +33,7 @@ impl Scratch {
 }
 
 /// Has the word to which the pair of letters of the symbol turns the label.
-pub(crate) fn turn<R: Reducer>(
+pub fn turn<R: Reducer>(
     presentation: &Presentation,
     reducer: &R,
     label: &Word,

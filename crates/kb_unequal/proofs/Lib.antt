@@ -1,0 +1,7 @@
+pub mod SecondMoves
+pub mod SecondRuns
+pub mod UnequalPairs
+pub mod Adding
+pub mod Layering
+pub mod LayerMoves
+pub mod WrongPairs

@@ -1,0 +1,4 @@
+pub mod Unequal
+pub mod Seconds
+pub mod OrderProps
+pub mod Layers
