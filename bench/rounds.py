@@ -27,6 +27,11 @@ def measure_rounds(program, maker, room):
             figures = subprocess.run(words, capture_output=True, check=True, text=True).stdout.strip()
             print(f"{'':58} {figures}", flush=True)
             print(f"{'':58} {explored_in(figures) / run.spent:.3g} states and places explored a second", flush=True)
+        checked = [maker, "check", f"{file}.kbprog"]
+        run = measure(f"{what}, made and checked", checked)
+        if run:
+            verdict = subprocess.run(checked, capture_output=True, check=True, text=True).stdout.strip()
+            print(f"{'':58} {verdict}", flush=True)
 
 
 def explored_in(figures):
