@@ -31,15 +31,18 @@ less_prop u v (earlier alike one) (earlier also two) =
     ap₂ (λ p q. earlier p q) (eq_prop (length u) (length v) alike also) (earlier_prop u v one two)
 
 weight_prop : (weights u v : List ℕ) → IsProp (LessByWeight weights u v)
-weight_prop weights u v (lighter one) (lighter two) = ap (λ p. lighter p) (lt_prop (word_weight weights u) (word_weight weights v) one two)
+weight_prop weights u v (lighter one) (lighter two) =
+    ap (λ p. lighter p) (lt_prop (word_weight weights u) (word_weight weights v) one two)
 weight_prop weights u v (lighter one) (as_heavy alike two) = absurd (let no : ⊥ = omega arith in no)
 weight_prop weights u v (as_heavy alike one) (lighter two) = absurd (let no : ⊥ = omega arith in no)
 weight_prop weights u v (as_heavy alike one) (as_heavy also two) =
-    ap₂ (λ p q. as_heavy p q) (eq_prop (word_weight weights u) (word_weight weights v) alike also) (earlier_prop u v one two)
+    ap₂ (λ p q. as_heavy p q) (eq_prop (word_weight weights u) (word_weight weights v) alike also)
+    (earlier_prop u v one two)
 
 below_prop : (order : WordOrder) (u v : List ℕ) → IsProp (Below order u v)
 below_prop ShortLex u v = less_prop u v
 below_prop (WtLex weights) u v = weight_prop weights u v
 
 pub decreasing_prop : (order : WordOrder) (rules : List Pair) → IsProp (AreDecreasing (Below order) rules)
-decreasing_prop order rules = Π_prop (λ (rule : Pair). Π_prop (λ (one : OneOf rules rule). below_prop order rule.1 rule.0))
+decreasing_prop order rules =
+    Π_prop (λ (rule : Pair). Π_prop (λ (one : OneOf rules rule). below_prop order rule.1 rule.0))
