@@ -6,7 +6,7 @@ use Rattle.kb_structure.specs.Structure.{AreOverGenerators, IsAutomaticStructure
 use Rattle.kb_structure.specs.Certificates.{HasNoCertificate, IsTrueToGroup}
 use Rattle.kb_structure.proofs.Holding.{axioms_hold}
 use Rattle.kb_structure.proofs.OwnStructure as own
-use Rattle.kb_axioms.specs.declared.cert.Cert.{Cert}
+use Rattle.kb_structure.specs.declared.cert.Cert.{Cert}
 use Rattle.kb_axioms.specs.Checked.{Checked, IsFirstCertificate, PassesRelations, own_structure}
 use Rattle.kb_axioms.specs.Checked.IsFirstCertificate.{n1, n2, n4, n5, n6, n7, n8}
 

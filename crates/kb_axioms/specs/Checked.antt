@@ -12,8 +12,8 @@ use Rattle.kb_structure.specs.Certificates.{PrefixNotAccepted, PairOutsideAccept
 use Rattle.kb_certificates.specs.First.{HasNone, HasNoPair, HasNoTriple, IsFirstWord, IsFirstPair, IsFirstTriple, NoneCountedUpTo}
 use Rattle.kb_certificates.specs.Images.{IsFirstCounted as IsFirstCountedImages}
 use Rattle.kb_relations.specs.Acts.{ActAlikeBefore, AtNumber, IsFirstBroken, IsFirstCounted as IsFirstCountedRelation}
-use Rattle.kb_axioms.specs.declared.cert.Cert.{Cert}
-use Rattle.kb_axioms.specs.declared.cert.Cert.TheVariants.{N1, N2, N4, N5, N6, N7, N8}
+use Rattle.kb_structure.specs.declared.cert.Cert.{Cert}
+use Rattle.kb_structure.specs.declared.cert.Cert.TheVariants.{N1, N2, N4, N5, N6, N7, N8}
 use Rattle.kb_axioms.specs.declared.answers.Construction.{Construction}
 use Rattle.kb_axioms.specs.declared.answers.Construction.TheVariants.{Images, Relation}
 use Rattle.kb_axioms.specs.declared.answers.Automata.{Automata}

@@ -3,11 +3,11 @@
 ghost use Rattle.std.specs.Prelude.{◌≡◌, IfOk};
 ghost use Rattle.kb_structure.specs.StructureOf.{FitTogether};
 ghost use Rattle.kb_relations.specs.Acts.{AreOver, IsActing};
-ghost use Rattle.kb_axioms.specs.declared.cert.Cert.TheVariants.{N2, N5, N6, N7};
+ghost use Rattle.kb_structure.specs.declared.cert.Cert.TheVariants.{N2, N5, N6, N7};
 ghost use Rattle.kb_axioms.specs.Checked.{AutomataSay, Checked, PassesImages, PassesLeast, checked_of};
 
 use crate::answers::{Automata, Construction};
-use crate::cert::Cert;
+use kb_structure::Cert;
 use kb_certificates::{
     Images, check_images, image_not_least, missing_extension, pair_outside_acceptor,
     prefix_not_accepted, two_images,

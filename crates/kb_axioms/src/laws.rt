@@ -2,7 +2,7 @@
 
 ghost use Rattle.kb_structure.specs.Structure.{AreOverGenerators, IsAutomaticStructure};
 ghost use Rattle.kb_structure.specs.Certificates.{IsTrueToGroup};
-ghost use Rattle.kb_axioms.specs.declared.cert.Cert.{Cert};
+ghost use Rattle.kb_structure.specs.declared.cert.Cert.{Cert};
 ghost use Rattle.kb_axioms.specs.Checked.{Checked, IsFirstCertificate, PassesRelations, own_structure};
 
 /// Automata that pass, and whose multipliers relate only words that differ by their generators, are the group's own:

@@ -32,14 +32,14 @@
 
 mod answers;
 mod automata;
-mod cert;
+mod check;
 mod fitting;
 mod laws;
 mod truth;
 
-pub use answers::{Automata, Construction, Truth};
+pub use answers::{Automata, Axioms, Construction, Truth};
 pub use automata::check_automata;
-pub use cert::Cert;
+pub use check::check;
 pub use fitting::{are_multipliers, fit_together, is_group};
 pub use laws::{automata_that_pass_are_the_groups_own, certificates_refute_automata};
 pub use truth::check_truth;

@@ -24,11 +24,14 @@ pub fn check_truth<R: Reducer>(
     presentation: &Presentation,
     multipliers: &[Fsa],
     reducer: &R,
+    confluent: bool,
 ) -> Result<Truth, Memory>
     requires group { EachInverts presentation.now.n presentation.now.inv }
     requires multipliers { AreMultipliers presentation.now.n multipliers.now }
+    requires confluent { IsTrue confluent → AreConfluentRulesOf presentation.now
+        (R.rules reducer.now) }
     ensures says { IfOk result
-        (TruthSays presentation.now (R.rules reducer.now) multipliers.now) }
+        (TruthSays presentation.now (R.rules reducer.now) confluent multipliers.now) }
     ensures sound { result ≡ Ok True
         → AreEqualSides (relations_of presentation.now.inv presentation.now.eqs)
         (R.rules reducer.now)

@@ -16,7 +16,7 @@
 //!
 //! # The public contract
 //!
-//! It is laws alone. By [`axioms_make_automatic_structures`] a structure that satisfies the axioms is the group's
+//! It is laws, and the type [`Cert`] of certificates. By [`axioms_make_automatic_structures`] a structure that satisfies the axioms is the group's
 //! own, and by [`automatic_structures_satisfy_the_axioms`] the group's own satisfies them, if its images are given.
 //! What speaks against an axiom is a certificate, of one of the kinds N1 to N8 (`specs/Certificates.antt`). By
 //! [`automatic_structures_have_no_certificate`] there is none against the group's own structure, and by
@@ -55,8 +55,10 @@
 //! Below are `kb_word`, and `kb_fsa` for the labels of automata.
 #![tactic(auto)]
 
+mod cert;
 mod laws;
 
+pub use cert::Cert;
 pub use laws::{
     automatic_structures_have_no_certificate, automatic_structures_satisfy_the_axioms,
     axioms_hold_without_certificate, axioms_make_automatic_structures,

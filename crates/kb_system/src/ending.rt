@@ -30,6 +30,19 @@ pub enum Reached {
     Letters,
 }
 
+/// A completion that halted at a limit of the log.
+#[derive(Drop)]
+pub struct Halted {
+    /// The limit.
+    pub reached: Reached,
+    /// The log.
+    pub lines: Vec<Line>,
+    /// The line that would be made of the pair that waits.
+    pub waiting: Line,
+    /// The live rules in line order.
+    pub rules: Rules,
+}
+
 /// How a completion ended.
 #[derive(Drop)]
 pub enum Ending {
@@ -38,13 +51,8 @@ pub enum Ending {
         rules: Rules,
         acceptor: Fsa,
     },
-    /// At a limit of the log: its lines, the line that a pair waits to make, and the live rules in line order.
-    Halted {
-        reached: Reached,
-        lines: Vec<Line>,
-        waiting: Line,
-        rules: Rules,
-    },
+    /// At a limit of the log.
+    Halted(Halted),
     /// With the reduced complete system, whose word acceptor would have more states than it may have; and the log.
     TooLarge {
         lines: Vec<Line>,
@@ -66,6 +74,6 @@ pub fn complete_presentation<G: Gate, W: Watch, T: Threads + Wait + Sync>(
 {
     match complete_watched::<Index, G, W, T>(rt, alloc, presentation, limits, workers, watch)? {
         Outcome::Confluent(rules, book) => completed(alloc, presentation, limits, rules, book),
-        Outcome::Halted(book) => halted(alloc, book),
+        Outcome::Halted(book) => Ok(Ending::Halted(halted(alloc, book)?)),
     }
 }

@@ -7,9 +7,9 @@ ghost use Rattle.kb_machine.specs.Course.{waiting_line as line_of};
 ghost use Rattle.kb_complete.specs.Completing.{AreReduced, IsHalted};
 ghost use Rattle.kb_system.specs.Evidence.{Limits};
 ghost use Rattle.kb_system.specs.Problems.{problem_of, reached_by};
-ghost use Rattle.kb_system.specs.Ended.{EndsAs};
+ghost use Rattle.kb_system.specs.Ended.{ShowsHalt};
 
-use crate::ending::{Ending, Reached};
+use crate::ending::{Halted, Reached};
 use kb_book::Book;
 use kb_machine::{Halt, Line, Origin};
 use kb_rules::Reducer;
@@ -17,12 +17,12 @@ use kb_share::{book_is_sound, live_rules};
 use kb_word::Memory;
 use std::alloc::Global;
 
-/// The end of a completion that halted: its log, the line that waits, and its live rules.
-pub(crate) fn halted<R: Reducer>(alloc: Global, book: Book<R>) -> Result<Ending, Memory>
+/// What a completion shows that halted: its log, the line that waits, and its live rules.
+pub fn halted<R: Reducer>(alloc: Global, book: Book<R>) -> Result<Halted, Memory>
     requires halted { IsHalted book.course }
     requires reduced { AreReduced book.course }
-    ensures { IfOk result (λ ending. (limits : Limits) (parts : PresentationParts)
-        → book.course.problem ≡ problem_of limits parts → EndsAs limits parts ending) }
+    ensures { IfOk result (λ halted. (limits : Limits) (parts : PresentationParts)
+        → book.course.problem ≡ problem_of limits parts → ShowsHalt limits parts halted) }
 {
     book_is_sound(&book);
     let rules = live_rules(alloc, &book)?;
@@ -30,7 +30,7 @@ pub(crate) fn halted<R: Reducer>(alloc: Global, book: Book<R>) -> Result<Ending,
     let (lines, halt) = log_and_halt(book);
     let reached = reached_by(&halt);
     let waiting = waiting_line(origin, halt);
-    Ok(Ending::Halted {
+    Ok(Halted {
         reached,
         lines,
         waiting,

@@ -9,7 +9,7 @@
 //! `accepting` makes the word acceptor of the reduced complete system, in three steps: the left
 //! sides have no other letters than the relations, the automaton of the irreducible words accepts
 //! exactly the least ones, and the canonical automaton of that language is the word acceptor.
-//! `halting` reads the evidence from the book of a completion that halted, for which
+//! [`halted`] reads the evidence from the book of a completion that halted, for which
 //! `kb_machine::courses_are_sound` has said all along that it holds.
 //!
 //! Below are `kb_complete`, which completes, and `kb_wa` and `kb_fsamin`, which make the acceptor.
@@ -19,4 +19,5 @@ mod accepting;
 mod ending;
 mod halting;
 
-pub use ending::{Ending, Reached, complete_presentation};
+pub use ending::{Ending, Halted, Reached, complete_presentation};
+pub use halting::halted;

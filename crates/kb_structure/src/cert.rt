@@ -2,8 +2,8 @@
 
 use kb_word::{Letter, Word};
 
-/// Words that show that automata are not the group's own structure, of one of eight kinds (`specs/Certificates.antt` of
-/// `kb_structure`). They stand here in the order in which they are looked for.
+/// Words that show that automata are not the group's own structure, of one of eight kinds
+/// (`specs/Certificates.antt`). They stand here in the order in which they are looked for.
 #[derive(Debug, Drop, PartialEq, Eq)]
 pub enum Cert {
     /// The word is accepted, and a prefix of it isn't; or it is the empty word, and isn't accepted.
