@@ -8,7 +8,7 @@ from collections import defaultdict
 
 
 class Automaton:
-    """A deterministic automaton: for each state a dictionary from symbols to states; which states accept; where it starts."""
+    """A deterministic automaton: for each state a dictionary from symbols to states; which states accept; where it starts, if at all."""
 
     def __init__(self, rows, accepting, initial=0):
         self.rows, self.accepting, self.initial = rows, frozenset(accepting), initial
@@ -16,9 +16,9 @@ class Automaton:
     def accepts(self, text):
         state = self.initial
         for symbol in text:
-            state = self.rows[state].get(symbol)
             if state is None:
                 return False
+            state = self.rows[state].get(symbol)
         return state in self.accepting
 
     def live(self):
@@ -145,38 +145,38 @@ def _parts(changed, block, members, targets):
                 yield name, part
 
 
-def file_of_words(names, automaton):
-    """The file of an automaton of words."""
-    return _file(_words_alphabet(names), len(names), len(names), automaton)
+def file_of_words(names, automaton, sparse=False):
+    """The file of an automaton of words; the table is dense where it may be and nothing else is asked for."""
+    return _file(names, _words_alphabet(names), len(names), automaton, sparse)
 
 
-def file_of_pairs(names, automaton):
-    """The file of an automaton of pairs of words."""
-    size = (len(names) + 1) ** 2 - 1
+def file_of_pairs(names, automaton, sparse=False, both_padded=False):
+    """The file of an automaton of pairs of words, on request with the pair of two paddings as a symbol."""
+    size = (len(names) + 1) ** 2 - (0 if both_padded else 1)
     alphabet = {"type": '"product"', "size": size, "arity": 2, "padding": "_", "base": _words_alphabet(names)}
-    return _file(alphabet, size, len(names), automaton)
+    return _file(names, alphabet, size, automaton, sparse)
 
 
 def _words_alphabet(names):
     return {"type": '"identifiers"', "size": len(names), "format": '"dense"', "names": listed(names)}
 
 
-def _file(alphabet, width, letters, automaton):
+def _file(names, alphabet, width, automaton, sparse):
     states = len(automaton.rows)
     accepting = sorted(state + 1 for state in automaton.accepting)
-    if letters <= 126:
-        form = '"dense deterministic"'
-        rows = [listed(row.get(symbol, -1) + 1 for symbol in range(width)) for row in automaton.rows]
-    else:
+    if sparse or len(names) > 126:
         form = '"sparse"'
         rows = [listed(f"[{symbol + 1},{row[symbol] + 1}]" for symbol in sorted(row)) for row in automaton.rows]
+    else:
+        form = '"dense deterministic"'
+        rows = [listed(row.get(symbol, -1) + 1 for symbol in range(width)) for row in automaton.rows]
     moves = sum(map(len, automaton.rows))
     fields = {
         "isFSA": "true",
         "alphabet": alphabet,
         "states": {"type": '"simple"', "size": states},
         "flags": '["DFA","minimized","BFS","accessible","trim"]',
-        "initial": listed([automaton.initial + 1]),
+        "initial": listed([] if automaton.initial is None else [automaton.initial + 1]),
         "accepting": f"[1..{states}]" if len(accepting) == states >= 2 else listed(accepting),
         "table": {"format": form, "numTransitions": moves, "transitions": rows},
     }
