@@ -1,8 +1,10 @@
-"""Automatic structures of groups: the least words, and for each generator x the pairs of least words u and v with v = u x.
+"""Automatic structures of groups: the least words, and for each generator x the pairs of least words u and v with v = u
+x.
 
-Of a finite group the words are all written down. Of another the automata are made of word differences (Epstein et al., Word Processing in
-Groups, 2.3 and chapter 6): those that stand along the pairs of short words at first, and then those along each pair that is found to be
-missing. Elements are their least words, which a function finds, `normal`.
+Of a finite group the words are all written down. Of another the automata are made of word differences (Epstein et
+al., Word Processing in Groups, 2.3 and chapter 6): those that stand along the pairs of short words at first, and
+then those along each pair that is found to be missing. Elements are their least words, which a function finds,
+`normal`.
 """
 
 import typing
@@ -18,9 +20,9 @@ class Structure(typing.NamedTuple):
 
 
 class Group:
-    """A group by its presentation, by rules that hold in it, and by a function that finds the least word of an element. `acceptor`
-    accepts the least words, where that is known beforehand; where it isn't, `counts` gives their numbers up to a length, which are those of
-    a fraction of polynomials of degree at most `degree`."""
+    """A group by its presentation, by rules that hold in it, and by a function that finds the least word of an
+    element. `acceptor` accepts the least words, where that is known beforehand; where it isn't, `counts` gives their
+    numbers up to a length, which are those of a fraction of polynomials of degree at most `degree`."""
 
     def __init__(self, presentation, rules, normal, acceptor=None, counts=None, degree=0):
         self.presentation, self.rules, self.normal, self.acceptor = presentation, rules, normal, acceptor
@@ -29,7 +31,8 @@ class Group:
         self.padding = len(presentation.names)
 
     def is_finite(self):
-        """Whether the known acceptor's words are finitely many, so that none has as many letters as the acceptor has states."""
+        """Whether the known acceptor's words are finitely many, so that none has as many letters as the acceptor has
+        states."""
         if self.acceptor is None:
             return False
         size = len(self.acceptor.rows)
@@ -81,7 +84,8 @@ def finite_structure(group):
 
 
 def listing(texts):
-    """The canonical automaton of finitely many texts: their tree, of which equal parts are made one from the leaves on."""
+    """The canonical automaton of finitely many texts: their tree, of which equal parts are made one from the leaves
+    on."""
     rows, accepting = [{}], set()
     for text in texts:
         state = 0
@@ -137,7 +141,8 @@ class Differences:
         return len(self.kept) > size
 
     def make_moves(self):
-        """For each difference, for each first letter or padding, the second letters with the differences to which they lead."""
+        """For each difference, for each first letter or padding, the second letters with the differences to which
+        they lead."""
         group = self.group
         known = {}
         both = [*group.letters, group.padding]
@@ -162,7 +167,8 @@ EQUAL, LESS, GREATER, ENDED = range(4)
 
 
 def acceptor_by_differences(differences):
-    """The canonical automaton of the words no factor of which has a lesser word beside it that the differences show to be equal."""
+    """The canonical automaton of the words no factor of which has a lesser word beside it that the differences show
+    to be equal."""
     moves, padding = differences.moves, differences.group.padding
 
     def rivals_after(rivals, a):
@@ -249,7 +255,8 @@ def word_without_image(acceptor, multiplier, padding):
 
 
 def structure_by_differences(group, pairs, tell=lambda text: None):
-    """The structure of a group by word differences, at first those of these pairs of words and of each word's inverses."""
+    """The structure of a group by word differences, at first those of these pairs of words and of each word's
+    inverses."""
     differences = Differences(group)
     for pair in pairs:
         differences.add(*pair)
@@ -272,8 +279,9 @@ def structure_by_differences(group, pairs, tell=lambda text: None):
 
 
 def accepted_in_error(group, acceptor):
-    """The shortest accepted words that aren't least: there are none where the numbers of accepted words and of elements agree at each
-    length. Two sequences of which each is known by so many terms agree where they do for as many terms as for both together."""
+    """The shortest accepted words that aren't least: there are none where the numbers of accepted words and of
+    elements agree at each length. Two sequences of which each is known by so many terms agree where they do for as
+    many terms as for both together."""
     if group.acceptor is not None:
         return []
     terms = len(acceptor.rows) + group.degree

@@ -1,7 +1,9 @@
-"""The axioms of automatic structures, tried word by word from their definitions, by which the program's own check is tried.
+"""The axioms of automatic structures, tried word by word from their definitions, by which the program's own check is
+tried.
 
-Certificates are tuples: the kind, the place of the generator or of the relation, and words. First words of up to `longest` letters are
-looked at, beside second words of up to two more. Whether a certificate holds is told for words of any length.
+Certificates are tuples: the kind, the place of the generator or of the relation, and words. First words of up to
+`longest` letters are looked at, beside second words of up to two more. Whether a certificate holds is told for words
+of any length.
 """
 
 import functools
@@ -30,14 +32,18 @@ class Certificate(typing.NamedTuple):
         return KINDS.index(self.kind), -1 if self.place is None else self.place, tuple(map(shortlex, self.words))
 
     def is_within(self, longest):
-        """Its words are among those that are looked at: of N8 the two to which a relation leads follow from the first one."""
+        """Its words are among those that are looked at: of N8 the two to which a relation leads follow from the
+        first one."""
         first, *others = self.words[:1] if self.kind == "N8" else self.words
         return len(first) <= longest and all(len(word) <= longest + BEYOND for word in others)
 
     def printed(self, presentation):
         """The line of the program that gives it."""
-        place = [] if self.place is None else [str(self.place + 1) if self.kind == "N8" else presentation.names[self.place]]
-        return " ".join(["no", self.kind, *place, *map(presentation.printed, self.words)])
+        words = map(presentation.printed, self.words)
+        if self.place is None:
+            return " ".join(["no", self.kind, *words])
+        place = str(self.place + 1) if self.kind == "N8" else presentation.names[self.place]
+        return " ".join(["no", self.kind, place, *words])
 
 
 class Axioms:
@@ -201,7 +207,8 @@ class Reader:
         onward = [self.ending]
         for letter in reversed(word):
             after = onward[-1]
-            onward.append({state for state, moves in enumerate(self.moves) if any(a == letter and to in after for a, _, to in moves)})
+            leads = [any(a == letter and target in after for a, _, target in moves) for moves in self.moves]
+            onward.append({state for state, it in enumerate(leads) if it})
         onward.reverse()
         layer = {state: () for state in self.start if state in onward[0]}
         for place, letter in enumerate(word):

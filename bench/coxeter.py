@@ -1,8 +1,8 @@
 """Coxeter groups, exactly: the least word of an element, and how many elements there are of each length.
 
-The group acts on the dual of its reflection representation. The point whose coordinates are all 1 is moved by each element but the
-identity, and an element has a letter as a first letter of a shortest word where the letter's coordinate of the moved point is below
-0 (Humphreys, Reflection Groups and Coxeter Groups, 5.3 to 5.6, 5.13).
+The group acts on the dual of its reflection representation. The point whose coordinates are all 1 is moved by each
+element but the identity, and an element has a letter as a first letter of a shortest word where the letter's
+coordinate of the moved point is below 0 (Humphreys, Reflection Groups and Coxeter Groups, 5.3 to 5.6, 5.13).
 """
 
 import itertools
@@ -11,21 +11,23 @@ BITS = 512
 
 
 class CoxeterGroup:
-    """The group of a diagram: `labels` are its edges, the letters being numbered from 0. Labels are 3, and at most one other number
-    for which the ring of its cosine stands in RINGS."""
+    """The group of a diagram: `labels` are its edges, the letters being numbered from 0. Labels are 3, and at most
+    one other number for which the ring of its cosine stands in RINGS."""
 
     def __init__(self, rank, labels):
         self.rank = rank
         self.labels = {frozenset(edge): label for edge, label in labels.items()}
         self.order = max([label for label in self.labels.values() if label > 3], default=3)
         self.ring = RINGS[self.order]
-        self.near = [
-            [(other, self._label(letter, other)) for other in range(rank) if other != letter and self._label(letter, other) > 2]
-            for letter in range(rank)
-        ]
+        self.near = [self._near(letter) for letter in range(rank)]
 
     def _label(self, letter, other):
         return self.labels.get(frozenset((letter, other)), 2)
+
+    def _near(self, letter):
+        """The letters that don't commute with this one, with their labels."""
+        others = ((other, self._label(letter, other)) for other in range(self.rank) if other != letter)
+        return [(other, label) for other, label in others if label > 2]
 
     def normal(self, word):
         """The shortlex least word of the same element."""
@@ -57,14 +59,16 @@ class CoxeterGroup:
         return sum(a * b for a, b in zip(number, POWERS[self.order])) < 0
 
     def is_finite(self, letters):
-        """The subgroup of these letters is finite: each of its connected parts is one of two letters or less, or of type A, or H3."""
+        """The subgroup of these letters is finite: each connected part has at most two letters, or is of type A, H3 or
+        H4 (Humphreys, 6.4). Other labels than 3 and 5 occur in parts of two letters alone."""
         for part in self._parts(letters):
             labels = sorted(self._label(*edge) for edge in itertools.combinations(part, 2) if self._label(*edge) > 2)
             is_path = len(labels) == len(part) - 1 and all(self._degree(it, part) <= 2 for it in part)
             ends = [it for it in part if self._degree(it, part) <= 1]
             at_end = any(self._label(it, other) == 5 for it in ends for other in part if other != it)
-            is_known = labels[:-1] == [3] * (len(part) - 2) and (labels[-1:] == [3] or labels[-1:] == [5] and len(part) <= 4 and at_end)
-            if len(part) > 2 and not (is_path and is_known):
+            is_a = labels == [3] * (len(part) - 1)
+            is_h = labels == [*[3] * (len(part) - 2), 5] and len(part) <= 4 and at_end
+            if len(part) > 2 and not (is_path and (is_a or is_h)):
                 return False
         return True
 
@@ -93,8 +97,9 @@ class CoxeterGroup:
         return counts
 
     def counts(self, most):
-        """How many elements of each length up to `most` the group has, and a degree of what their series is a fraction of (Humphreys,
-        5.12: one over it at 1/t is the alternating sum, over the finite subgroups of letters, of one over theirs)."""
+        """How many elements of each length up to `most` the group has, and a degree of the polynomials of which their
+        series is a fraction. One over the series at 1/t is the alternating sum, over the finite subgroups of letters, of
+        one over theirs (R. Steinberg, Endomorphisms of linear algebraic groups, 1968, 1.28)."""
         total, degree = [0] * (most + 1), 0
         for size in range(self.rank + 1):
             for letters in itertools.combinations(range(self.rank), size):

@@ -1,14 +1,15 @@
 """Finite automata in Python: minimal, canonically numbered, and written as the program writes them.
 
-States and symbols are numbered from 0 here and from 1 in files. The symbol of two letters i and j over n letters is (n + 1) i + j,
-padding being letter n.
+States and symbols are numbered from 0 here and from 1 in files. The symbol of two letters i and j over n letters is
+(n + 1) i + j, padding being letter n.
 """
 
 from collections import defaultdict
 
 
 class Automaton:
-    """A deterministic automaton: for each state a dictionary from symbols to states; which states accept; where it starts, if at all."""
+    """A deterministic automaton: for each state a dictionary from symbols to states; which states accept; where it
+    starts, if at all."""
 
     def __init__(self, rows, accepting, initial=0):
         self.rows, self.accepting, self.initial = rows, frozenset(accepting), initial
@@ -30,7 +31,8 @@ class Automaton:
         return reached(self.accepting, before.__getitem__)
 
     def trimmed(self):
-        """The states that lie on accepted texts, numbered breadth first, and their moves in the order of the symbols."""
+        """The states that lie on accepted texts, numbered breadth first, and their moves in the order of the
+        symbols."""
         return self.trimmed_with(())[0]
 
     def trimmed_with(self, told):
@@ -50,13 +52,14 @@ class Automaton:
         return Automaton(moves, accepting), [told[state] for state in number] if told else []
 
     def canonical(self):
-        """The automaton of the same language that is minimal, with its states numbered breadth first in the order of the symbols."""
+        """The automaton of the same language that is minimal, with its states numbered breadth first in the order of
+        the symbols."""
         trim = self.trimmed()
         return trim.merged([state in trim.accepting for state in range(len(trim.rows))])[0].trimmed()
 
     def merged(self, told):
-        """The automaton with those states made one that can't be told apart by what is told of the states to which texts lead from
-        them, and which one each state is now."""
+        """The automaton with those states made one that can't be told apart by what is told of the states to which
+        texts lead from them, and which one each state is now."""
         block = blocks(self.rows, told)
         one = dict(zip(reversed(block), reversed(range(len(block)))))
         number = {name: place for place, name in enumerate(sorted(one, key=one.get))}
@@ -118,8 +121,8 @@ def blocks(rows, told):
 
 
 def _parts(changed, block, members, targets):
-    """What is to leave its block: where blocks fall into parts, all parts but the greatest. Only states of which a target was given
-    another block can differ from the rest of theirs."""
+    """What is to leave its block: where blocks fall into parts, all parts but the greatest. Only states of which a
+    target was given another block can differ from the rest of theirs."""
     touched = defaultdict(list)
     for state in changed:
         touched[block[state]].append(state)

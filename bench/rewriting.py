@@ -1,6 +1,7 @@
 """Presentations as the program reads them, and their rules: reduction, and a plain completion up to a limit.
 
-A word is a tuple of letters, which are numbered from 0. This shares nothing with the program, so that one can be tried by the other.
+A word is a tuple of letters, which are numbered from 0. This shares nothing with the program, so that one can be
+tried by the other.
 """
 
 import heapq

@@ -1,17 +1,22 @@
 #!/usr/bin/env python3
-"""Makes the automata of groups, for measuring and trying what reads them: bench/structures.py [--to FOLDER] [NAME | FILE]..
+"""Makes the automatic structures of groups, for measuring and trying what reads them.
 
-For each NAME of the list below, and with none for all, the folder FOLDER/NAME (bench/out/NAME, which git ignores) gets NAME, a
-presentation file, NAME.wa, the acceptor of the least words, and NAME.m1, NAME.m2 and so on, the multipliers of the generators, as the program
-writes automata. FILE is a presentation file with another group, of which a completion ends; the rules are read from
-FILE.kbprog where it stands. The automata are exact, and made without the program:
+Usage: bench/structures.py [--to FOLDER] [NAME | FILE]..
 
-- Where the completion ends, the least words are those without a left side. Of a finite group all pairs are then written down.
-- Else the acceptor is of word differences, first of those that the rules of a completion up to words of 60 letters have. It accepts each
-  least word, and is exact where it accepts as many words of each length as the group has elements of that length, which is known.
-- A multiplier of word differences has only true pairs of least words, and is exact where it has one from each least word.
+For each NAME of the list below, and with none for all, the folder FOLDER/NAME (bench/out/NAME, which git ignores) gets
+NAME, a presentation file, NAME.wa, the acceptor of the least words, and NAME.m1, NAME.m2 and so on, the multipliers of
+the generators, as the program writes automata. FILE is a presentation file with another group, of which a completion
+ends; the rules are read from FILE.kbprog where it stands. The automata are exact, and made without the program:
 
-Differences are taken in until that is so (automatic.py). All take some two minutes.
+- Where the completion ends, the least words are those without a left side. Of a finite group all pairs are then written
+  down.
+- Else the acceptor is of word differences, first of those that the rules of a completion up to words of 48 letters
+  have. It accepts each least word, and is exact where it accepts as many words of each length as the group has elements
+  of that length, which is known.
+- A multiplier of word differences has only true pairs of least words, and is exact where it has one from each least
+  word.
+
+Differences are taken in until that is so (automatic.py). All take half a minute of processor time, which is printed.
 """
 
 import os
@@ -27,7 +32,7 @@ from coxeter import CoxeterGroup, inverted
 from machines import file_of_pairs, file_of_words
 from rewriting import Rules, complete, read_presentation
 
-LONGEST = 60
+LONGEST = 48
 
 
 def of_file(path):
@@ -55,16 +60,16 @@ def by_rules(presentation, rules):
 
 
 def surface(genus):
-    """The fundamental group of a surface. How many elements it has of each length is known: J. W. Cannon, P. Wagreich, Growth functions
-    of surface groups (1992)."""
+    """The fundamental group of a surface. How many elements it has of each length is known: J. W. Cannon, P.
+    Wagreich, Growth functions of surface groups (1992)."""
     presentation = read_presentation(presentations.surface(genus))
     rules = complete(presentation, LONGEST)
     above = [1, *[2] * (2 * genus - 1), 1]
     below = [1, *[2 - 4 * genus] * (2 * genus - 1), 1]
 
     def counts(most):
-        inverse = inverted(below, most)
-        return [sum(above[it] * inverse[length - it] for it in range(min(length, 2 * genus) + 1)) for length in range(most + 1)]
+        inverse = [0] * (2 * genus) + inverted(below, most)
+        return [sum(it * inverse[length + 2 * genus - at] for at, it in enumerate(above)) for length in range(most + 1)]
 
     return Group(presentation, rules, rules.normal, counts=counts, degree=2 * genus)
 
@@ -73,8 +78,12 @@ def coxeter(rank, labels):
     """A Coxeter group of which the completion doesn't end, its letters being numbered from 1."""
     presentation = read_presentation(presentations.coxeter(rank, labels))
     group = CoxeterGroup(rank, {(i - 1, j - 1): label for (i, j), label in labels.items()})
-    _, degree = group.counts(0)
-    return Group(presentation, complete(presentation, LONGEST), group.normal, counts=lambda most: group.counts(most)[0], degree=degree)
+    rules = complete(presentation, LONGEST)
+
+    def counts(most):
+        return group.counts(most)[0]
+
+    return Group(presentation, rules, group.normal, counts=counts, degree=group.counts(0)[1])
 
 
 def from_text(text):
@@ -111,13 +120,12 @@ def structure_of(group, tell=lambda text: None):
     return structure_by_differences(group, ((left[:-1], right) for left, right in group.rules.right.items()), tell)
 
 
-def write(folder, name, text, group, structure):
+def write(folder, name, text, names, structure, sparse=False, both_padded=False):
     """Writes a presentation file and the automata beside it."""
     os.makedirs(folder, exist_ok=True)
-    names = group.presentation.names
-    files = {name: text, f"{name}.wa": file_of_words(names, structure.acceptor)}
+    files = {name: text, f"{name}.wa": file_of_words(names, structure.acceptor, sparse)}
     for number, multiplier in enumerate(structure.multipliers, 1):
-        files[f"{name}.m{number}"] = file_of_pairs(names, multiplier)
+        files[f"{name}.m{number}"] = file_of_pairs(names, multiplier, sparse, both_padded)
     for file, content in files.items():
         with open(f"{folder}/{file}", "w", encoding="latin-1") as it:
             it.write(content)
@@ -131,16 +139,16 @@ def main(words):
         if word not in GROUPS and not os.path.isfile(word):
             sys.exit(f"bench/structures.py: {word} is neither a file nor one of {', '.join(GROUPS)}")
     for word in words or GROUPS:
-        start = time.time()
+        start = time.process_time()
         name = word if word in GROUPS else os.path.basename(word)
         text, group = GROUPS[word]() if word in GROUPS else of_file(word)
         structure = structure_of(group)
-        write(f"{folder}/{name}", name, text, group, structure)
+        write(f"{folder}/{name}", name, text, group.presentation.names, structure)
         sizes = [len(it.rows) for it in structure.multipliers]
         moves = max(sum(map(len, it.rows)) for it in structure.multipliers)
         print(
-            f"{name}: {len(sizes)} generators, acceptor of {len(structure.acceptor.rows)} states, multipliers of {min(sizes)} to "
-            f"{max(sizes)} states and up to {moves} moves, {time.time() - start:.1f} s",
+            f"{name}: {len(sizes)} generators, acceptor of {len(structure.acceptor.rows)} states, multipliers of "
+            f"{min(sizes)} to {max(sizes)} states and up to {moves} moves, {time.process_time() - start:.1f} s",
             flush=True,
         )
 
