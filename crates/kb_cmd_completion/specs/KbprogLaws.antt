@@ -19,10 +19,11 @@ use Rattle.kb_task.specs.declared.status.Status.TheVariants.{Yes, Refused, Undec
 use Rattle.kb_task.proofs.LoadEnds.{memory_at_load, load_inconclusive}
 use Rattle.kb_system.specs.Completed.{IsLeastIn}
 use Rattle.kb_cmd_completion.specs.CompletionLaws.{one_held, one_rules, one_acceptor, one_yes}
-use Rattle.kb_cmd_completion.specs.Files.{rules_file, acceptor_file, completed_texts, AreCompleted}
+use Rattle.kb_evidence.specs.Files.{rules_file, acceptor_file}
+use Rattle.kb_cmd_completion.specs.Files.{completed_texts, AreCompleted}
 use Rattle.kb_cmd_completion.specs.Given.{KbprogGiven}
 use Rattle.kb_cmd_completion.specs.Kbprog.{streams_of, HasCompleted, AnswersMean, KbprogMeans, kbprog_may_store, IsKbprogUnrefused, kbprog_promise}
-use Rattle.kb_cmd_completion.specs.FileLaws.{first_contained, second_contained, contained_cases, log_beside_rules, log_beside_acceptor}
+use Rattle.kb_evidence.specs.FileLaws.{first_contained, second_contained, contained_cases, log_beside_rules, log_beside_acceptor}
 
 -- ---- what is unique
 

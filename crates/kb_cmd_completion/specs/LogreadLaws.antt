@@ -13,7 +13,7 @@ use Rattle.kb_task.specs.declared.status.Status.{Status}
 use Rattle.kb_task.specs.declared.status.Status.TheVariants.{Yes, Refused, Undecided, No, Memory, Fault, Usage}
 use Rattle.kb_task.proofs.LoadEnds.{memory_at_load, load_inconclusive}
 use Rattle.kb_cmd_completion.specs.CompletionLaws.{one_held, one_yes}
-use Rattle.kb_cmd_completion.specs.Files.{log_file}
+use Rattle.kb_evidence.specs.Files.{log_file}
 use Rattle.kb_cmd_completion.specs.Given.{LogreadGiven}
 use Rattle.kb_cmd_completion.specs.Logread.{LogMeans, LogFileMeans, LogreadMeans, IsLogreadUnrefused, StoresNothing, logread_line, logread_promise}
 use Rattle.kb_cmd_completion.specs.LogLaws.{names_apart, one_logread}

@@ -15,7 +15,7 @@ use Rattle.kb_task.specs.declared.loading.LoadStop.TheVariants as stops
 use Rattle.kb_task.specs.declared.loading.automata.Kind.{Kind}
 use Rattle.kb_task.specs.declared.loading.automata.Kind.TheVariants.{Words, Pairs}
 use Rattle.kb_task.specs.declared.status.FileFault.{FileFault}
-use Rattle.kb_task.specs.declared.status.FileFault.TheVariants.{Missing, TooLong, Presentation, Automaton as NoAutomaton, Log as NoLog, NotPlain, NotPairs, AlphabetsDiffer}
+use Rattle.kb_task.specs.declared.status.FileFault.TheVariants.{Missing, TooLong, Presentation, Automaton as NoAutomaton, Log as NoLog, NotPlain, NotPairs, AlphabetsDiffer, NeedsShortlex, NotGroup}
 use Rattle.kb_task.specs.declared.status.Status.{Status}
 
 -- lists of one length that are the same at each place
@@ -77,6 +77,8 @@ second_fault kind names alphabet files name NotPairs cause = cause
 second_fault kind names alphabet files name AlphabetsDiffer cause = absurd cause
 second_fault kind names alphabet files name (Presentation fault) cause = cause
 second_fault kind names alphabet files name (NoLog fault) cause = cause
+second_fault kind names alphabet files name NeedsShortlex cause = cause
+second_fault kind names alphabet files name (NotGroup generator) cause = cause
 
 pub second_cause : (kind : Kind) (names : List (List ℕ)) (alphabet : Alphabet) (files : Files) (name : List ℕ) (stop : LoadStop)
     → IsCause (IsAutomatonFault kind files name) stop → IsCause (IsSecondFault kind names alphabet files name) stop
