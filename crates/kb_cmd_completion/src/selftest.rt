@@ -180,7 +180,7 @@ fn halted_report(
     } = halted;
     let limit = limit_reached(reached);
     let names = &presentation.names;
-    let line = undecided_words_line(alloc, names, limit, &waiting.left, &waiting.right)?;
+    let line = undecided_words_line(alloc, names, &limit, &waiting.left, &waiting.right)?;
     let log = Log {
         version: Version::Two,
         lines,
@@ -200,7 +200,7 @@ fn too_large_report(alloc: Global, presentation: &Presentation) -> Result<Report
 {
     let limit = Limit::States(Construction::Acceptor);
     Ok(Report {
-        text: undecided_line(alloc, &presentation.names, limit)?,
+        text: undecided_line(alloc, &presentation.names, &limit)?,
         status: Status::Undecided(limit),
     })
 }

@@ -54,7 +54,7 @@ pub fn halted(
     let line = undecided_words_line(
         alloc,
         &presentation.names,
-        limit,
+        &limit,
         &waiting.left,
         &waiting.right,
     )?;
@@ -81,7 +81,7 @@ pub fn too_large(
         × (evidence.line.items ≡ undecided_line presentation.now.names (States Acceptor))) }
 {
     let limit = Limit::States(Construction::Acceptor);
-    let line = undecided_line(alloc, &presentation.names, limit)?;
+    let line = undecided_line(alloc, &presentation.names, &limit)?;
     let log = Log {
         version: Version::Two,
         lines,
@@ -126,11 +126,7 @@ fn evidence_files(
 }
 
 /// Two files in order.
-pub fn both(
-    alloc: Global,
-    first: TextFile,
-    second: TextFile,
-) -> Result<Vec<TextFile>, Memory>
+pub fn both(alloc: Global, first: TextFile, second: TextFile) -> Result<Vec<TextFile>, Memory>
     ensures { IfOk result (λ files. texts_of files.items
         ≡ text_of first ∷ text_of second ∷ []) }
 {

@@ -1,13 +1,14 @@
 //! The line that a status prints.
 
-ghost use Rattle.std.specs.Prelude.{◌≡◌, ◌++◌, IsTrue, IfOk, OnOk, decimal};
+ghost use Rattle.std.specs.Prelude.{◌≡◌, ◌++◌, ℕ, List, IsTrue, IfOk, OnOk};
 ghost use Rattle.kb_io.specs.Outside.{outside};
 ghost use Rattle.kb_io.specs.States.{ShelfState, SourceState, SinkGoesOn};
-ghost use Rattle.kb_word.specs.Printed.{letter_name};
 ghost use Rattle.kb_task.specs.Limits.{construction_name, limit_name, undecided_line, undecided_words_line};
 ghost use Rattle.kb_task.specs.Lines.{LineIsWritten, LimitIsPrinted};
 ghost use Rattle.kb_task.specs.Runs.{FaultIsCounted};
 ghost use Rattle.kb_task.specs.Statuses.{IsFaultless};
+ghost use Rattle.kb_task.specs.declared.status.Construction.TheVariants.{Images, Relation};
+ghost use Rattle.kb_task.specs.declared.status.Limit.TheVariants.{States};
 
 use crate::status::{Construction, Limit, Status, Which};
 use itoa::Buffer;
@@ -40,15 +41,15 @@ pub fn print_limit<O: Sink>(alloc: Global, names: &Names, limit: Limit, out: &mu
         (outside shelf input (O.state out.new)) result }
     ensures goes_on { SinkGoesOn (O.state out.old) (O.state out.new) }
 {
-    match undecided_line(alloc, names, limit) {
+    match undecided_line(alloc, names, &limit) {
         Ok(line) => print_line(&line, Status::Undecided(limit), out),
         Err(Memory) => Status::Memory,
     }
 }
 
 /// `undecided`, the limit, and a newline.
-pub fn undecided_line(alloc: Global, names: &Names, limit: Limit) -> Result<Vec<u8>, Memory>
-    ensures { IfOk result (λ line. line.items ≡ undecided_line names.now limit) }
+pub fn undecided_line(alloc: Global, names: &Names, limit: &Limit) -> Result<Vec<u8>, Memory>
+    ensures { IfOk result (λ line. line.items ≡ undecided_line names.now limit.now) }
 {
     let mut line = Vec::from_slice(alloc, b"undecided ")?;
     append_limit(names, limit, &mut line)?;
@@ -60,11 +61,11 @@ pub fn undecided_line(alloc: Global, names: &Names, limit: Limit) -> Result<Vec<
 pub fn undecided_words_line(
     alloc: Global,
     names: &Names,
-    limit: Limit,
+    limit: &Limit,
     u: &Word,
     v: &Word,
 ) -> Result<Vec<u8>, Memory>
-    ensures { IfOk result (λ line. line.items ≡ undecided_words_line names.now limit u.now v.now) }
+    ensures { IfOk result (λ line. line.items ≡ undecided_words_line names.now limit.now u.now v.now) }
 {
     let mut line = Vec::from_slice(alloc, b"undecided ")?;
     append_limit(names, limit, &mut line)?;
@@ -77,26 +78,31 @@ pub fn undecided_words_line(
 }
 
 /// Appends what a limit is called.
-fn append_limit(names: &Names, limit: Limit, line: &mut Vec<u8>) -> Result<(), Memory>
-    ensures { OnOk result (line.new.items ≡ line.old.items ++ limit_name names.now limit) }
+fn append_limit(names: &Names, limit: &Limit, line: &mut Vec<u8>) -> Result<(), Memory>
+    ensures { OnOk result (line.new.items ≡ line.old.items ++ limit_name names.now limit.now) }
 {
     match limit {
         Limit::Rules => append(b"rules", line),
         Limit::Length => append(b"length", line),
-        Limit::States(which) => {
-            append(b"states ", line)?;
-            append_construction(names, which, line)
-        }
+        Limit::States(which) => append_states(names, which, line),
     }
+}
+
+/// Appends `states` and what is constructed.
+fn append_states(names: &Names, which: &Construction, line: &mut Vec<u8>) -> Result<(), Memory>
+    ensures { OnOk result (line.new.items ≡ line.old.items ++ limit_name names.now (States which.now)) }
+{
+    append(b"states ", line)?;
+    append_construction(names, which, line)
 }
 
 /// Appends what a construction is called.
 fn append_construction(
     names: &Names,
-    which: Construction,
+    which: &Construction,
     line: &mut Vec<u8>,
 ) -> Result<(), Memory>
-    ensures { OnOk result (line.new.items ≡ line.old.items ++ construction_name names.now which) }
+    ensures { OnOk result (line.new.items ≡ line.old.items ++ construction_name names.now which.now) }
 {
     match which {
         Construction::And => append(b"and", line),
@@ -108,29 +114,27 @@ fn append_construction(
         Construction::Reverse => append(b"reverse", line),
         Construction::Equal => append(b"equal", line),
         Construction::Acceptor => append(b"acceptor", line),
-        Construction::Images(generator) => {
-            append(b"axiom N4 ", line)?;
-            append_letter(names, generator, line)
-        }
-        Construction::Relation(number) => {
-            append(b"axiom N8 ", line)?;
-            append_number(number, line)
-        }
+        Construction::Images(generator) => append_images(names, *generator, line),
+        Construction::Relation(number) => append_relation(*number, line),
     }
 }
 
-/// Appends the name of a letter.
-fn append_letter(names: &Names, letter: Letter, line: &mut Vec<u8>) -> Result<(), Memory>
-    ensures { OnOk result (line.new.items ≡ line.old.items ++ letter_name names.now letter) }
+/// Appends what the images by a generator are called.
+fn append_images(names: &Names, generator: Letter, line: &mut Vec<u8>) -> Result<(), Memory>
+    ensures { OnOk result
+        (line.new.items ≡ line.old.items ++ construction_name names.now (Images generator)) }
 {
-    let name = names.name_of(letter).unwrap_or("");
+    append(b"axiom N4 ", line)?;
+    let name = names.name_of(generator).unwrap_or("");
     append(name.as_bytes(), line)
 }
 
-/// Appends a number in decimal digits.
-fn append_number(number: usize, line: &mut Vec<u8>) -> Result<(), Memory>
-    ensures { OnOk result (line.new.items ≡ line.old.items ++ decimal number) }
+/// Appends what the composites of a relation are called.
+fn append_relation(number: usize, line: &mut Vec<u8>) -> Result<(), Memory>
+    ensures { (names : List (List ℕ)) → OnOk result
+        (line.new.items ≡ line.old.items ++ construction_name names (Relation number)) }
 {
+    append(b"axiom N8 ", line)?;
     let mut buffer = Buffer::new();
     append(buffer.format(number).as_bytes(), line)
 }

@@ -82,7 +82,14 @@ pub fn load_second<F: Shelf>(
         (outside (F.state shelf.new) input output) status) }
     ensures only_loads { OnlyLoads (F.state shelf.old) (F.state shelf.new) }
 {
-    match second_in(alloc, kind, &first.names, first.fsa.alphabet(), file.as_str(), shelf) {
+    match second_in(
+        alloc,
+        kind,
+        &first.names,
+        first.fsa.alphabet(),
+        file.as_str(),
+        shelf,
+    ) {
         Ok(fsa) => Ok(fsa),
         Err(stop) => Err(stop.status(file)),
     }
@@ -107,7 +114,14 @@ pub fn load_acceptor<F: Shelf>(
     ensures only_loads { OnlyLoads (F.state shelf.old) (F.state shelf.new) }
 {
     let alphabet = Alphabet::Plain(presentation.n);
-    match second_in(alloc, Kind::Words, &presentation.names, alphabet, file.as_str(), shelf) {
+    match second_in(
+        alloc,
+        Kind::Words,
+        &presentation.names,
+        alphabet,
+        file.as_str(),
+        shelf,
+    ) {
         Ok(fsa) => Ok(fsa),
         Err(stop) => Err(stop.status(file)),
     }
@@ -132,7 +146,14 @@ pub fn load_multiplier<F: Shelf>(
     ensures only_loads { OnlyLoads (F.state shelf.old) (F.state shelf.new) }
 {
     let alphabet = Alphabet::Pair(presentation.n);
-    match second_in(alloc, Kind::Pairs, &presentation.names, alphabet, file.as_str(), shelf) {
+    match second_in(
+        alloc,
+        Kind::Pairs,
+        &presentation.names,
+        alphabet,
+        file.as_str(),
+        shelf,
+    ) {
         Ok(fsa) => Ok(fsa),
         Err(stop) => Err(stop.status(file)),
     }

@@ -1,8 +1,9 @@
 //! Presentations from files.
 
-ghost use Rattle.std.specs.Prelude.{◌≡◌, ◌≢◌, ℕ, ◌<◌, ◌≤◌, List, None, length, IsTrue, IfOk, IfErr, IfNone, IfSome, OnOk};
+ghost use Rattle.std.specs.Prelude.{◌≡◌, ◌≢◌, ℕ, ◌<◌, ◌≤◌, List, None, Some, length, IsTrue, IfOk, IfErr, IfNone, IfSome, OnOk};
 ghost use Rattle.kb_io.specs.Outside.{outside};
 ghost use Rattle.kb_io.specs.States.{ShelfState, SourceState, SinkState};
+ghost use Rattle.kb_word.specs.Names.{name_of};
 ghost use Rattle.kb_word.specs.Presentations.{parts_of};
 ghost use Rattle.kb_word.specs.Relations.{inverse_letter};
 ghost use Rattle.kb_word.specs.declared.word_order.WordOrder.TheVariants.{ShortLex};
@@ -113,11 +114,7 @@ pub fn load_group<F: Shelf>(
 }
 
 /// The presentation of a group by shortlex that the file of this name holds.
-fn group_in<F: Shelf>(
-    alloc: Global,
-    name: &str,
-    shelf: &mut F,
-) -> Result<Presentation, LoadStop>
+fn group_in<F: Shelf>(alloc: Global, name: &str, shelf: &mut F) -> Result<Presentation, LoadStop>
     ensures holds { IsTrue (F.state shelf.old).told
         → IfOk result (λ presentation.
         HoldsPresentation (F.state shelf.old).holds name.now (parts_of presentation)) }
@@ -166,10 +163,25 @@ fn look_for_inverses(alloc: Global, presentation: &Presentation) -> Result<(), L
     let Some(generator) = first_without_inverse(presentation) else {
         return Ok(());
     };
-    let name = presentation.names.name_of(generator).unwrap_or("");
-    match OwnedText::from_str(alloc, name) {
+    match generator_name(alloc, presentation, generator) {
         Ok(name) => Err(LoadStop::Refused(FileFault::NotGroup(name))),
         Err(Memory) => Err(LoadStop::Memory),
+    }
+}
+
+/// The name of a generator.
+fn generator_name(
+    alloc: Global,
+    presentation: &Presentation,
+    generator: Letter,
+) -> Result<OwnedText, Memory>
+    requires positive { 0 < generator }
+    requires within { generator ≤ presentation.now.n }
+    ensures { IfOk result (λ name. name_of presentation.now.names generator ≡ Some name) }
+{
+    match presentation.names.name_of(generator) {
+        Some(name) => OwnedText::from_str(alloc, name),
+        None => unreachable!(),
     }
 }
 
