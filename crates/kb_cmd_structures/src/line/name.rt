@@ -51,7 +51,7 @@ impl Name {
                     "first certificate; or `undecided rules U V`, `undecided length U V`, `undecided states axiom N4 X` or",
                     "`undecided states axiom N8 I`. At a limit of rules or length FILE.kblog, the log, and FILE.kbprog, the rules so far,",
                     "are stored; otherwise no file is. Standard input is not read.",
-                    "Example: kb gpaxioms examples/free-abelian-2"
+                    "Example: kb gpaxioms examples/free-2"
                 ),
             },
         }
