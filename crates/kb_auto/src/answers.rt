@@ -3,6 +3,7 @@
 use kb_axioms::Construction;
 use kb_structure::Cert;
 use kb_system::Halted;
+use kb_word::{Letter, Word};
 
 /// What is found of automata that may be a group's own automatic structure.
 #[derive(Drop)]
@@ -13,6 +14,24 @@ pub enum Checked {
     No(Cert),
     /// A construction would have more states than it may have, and no certificate comes before it.
     TooManyStates { which: Construction },
+    /// The completion reached a limit, and its rules don't settle it.
+    Halted(Halted),
+}
+
+/// What a completion shows of multipliers.
+#[derive(Drop)]
+pub(crate) enum Decision {
+    /// They relate only words that differ by their generators.
+    True,
+    /// A multiplier relates words that don't differ by its generator.
+    Different {
+        /// The first such multiplier's generator.
+        x: Letter,
+        /// The least first word of such a pair.
+        u: Word,
+        /// The least second word beside it.
+        v: Word,
+    },
     /// The completion reached a limit, and its rules don't settle it.
     Halted(Halted),
 }

@@ -12,10 +12,13 @@ use Rattle.kb_cmd_automata.proofs.NameLemmas.{begins_otherwise}
 use Rattle.kb_cmd_completion.specs.Line.{IsCompletionTask, GivesTask as GivesCompletion, name_text as completion_text, name_of_task as completion_name}
 use Rattle.kb_cmd_completion.specs.declared.task.CompletionTask.{CompletionTask}
 use Rattle.kb_cmd_completion.proofs.LineLemmas.{one_completion_task}
-use Rattle.kb_cli.proofs.NameLemmas.{not_wordreduce, not_automata}
+use Rattle.kb_cmd_structures.specs.Line.{IsStructuresTask, GivesTask as GivesStructures, name_text as structures_text, name_of_task as structures_name}
+use Rattle.kb_cmd_structures.specs.declared.task.StructuresTask.{StructuresTask}
+use Rattle.kb_cmd_structures.proofs.LineLemmas.{one_structures_task}
+use Rattle.kb_cli.proofs.NameLemmas.{not_wordreduce, not_automata, structures_not_wordreduce, structures_not_automata, structures_not_completion}
 use Rattle.kb_cli.specs.CommandLine.{IsCommand}
 use Rattle.kb_cli.specs.declared.command.Command.{Command}
-use Rattle.kb_cli.specs.declared.command.Command.TheVariants.{WordReduce, Automata, Completion}
+use Rattle.kb_cli.specs.declared.command.Command.TheVariants.{WordReduce, Automata, Completion, Structures}
 
 -- no subcommand is a command of two families
 apart : (entered : Entered) (given : Given) (task : AutomataTask) → IsWordReduce entered given → ¬ IsAutomataTask entered task
@@ -30,6 +33,23 @@ apart_from_automata : (entered : Entered) (given : AutomataTask) (task : Complet
 apart_from_automata entered given task one other =
     not_automata given task (own_name entered (name_text (name_of_task given)) (completion_text (completion_name task)) one.rows (GivesCompletion task) one.is other)
 
+structures_from_wordreduce : (entered : Entered) (given : Given) (task : StructuresTask) → IsWordReduce entered given → ¬ IsStructuresTask entered task
+structures_from_wordreduce entered given task one other =
+    structures_not_wordreduce task
+    (own_name entered (codes "wordreduce") (structures_text (structures_name task)) one.rows (GivesStructures task) one.is other)
+
+structures_from_automata : (entered : Entered) (given : AutomataTask) (task : StructuresTask) → IsAutomataTask entered given
+    → ¬ IsStructuresTask entered task
+structures_from_automata entered given task one other =
+    structures_not_automata given task
+    (own_name entered (name_text (name_of_task given)) (structures_text (structures_name task)) one.rows (GivesStructures task) one.is other)
+
+structures_from_completion : (entered : Entered) (given : CompletionTask) (task : StructuresTask) → IsCompletionTask entered given
+    → ¬ IsStructuresTask entered task
+structures_from_completion entered given task one other =
+    structures_not_completion given task
+    (own_name entered (completion_text (completion_name given)) (structures_text (structures_name task)) one.rows (GivesStructures task) one.is other)
+
 -- one entered subcommand is one command at most
 pub one_command : (entered : Entered) (one other : Command) → IsCommand entered one → IsCommand entered other → one ≡ other
 one_command entered (WordReduce task) (WordReduce other) a b = ap WordReduce (one_wordreduce entered task other a b)
@@ -40,11 +60,20 @@ one_command entered (Completion task) (Completion other) a b = ap Completion (on
 one_command entered (WordReduce task) (Completion other) a b = absurd (apart_from_wordreduce entered task other a b)
 one_command entered (Completion task) (WordReduce other) a b = absurd (apart_from_wordreduce entered other task b a)
 one_command entered (Automata task) (Completion other) a b = absurd (apart_from_automata entered task other a b)
+one_command entered (Structures task) (Structures other) a b = ap Structures (one_structures_task entered task other a b)
+one_command entered (WordReduce task) (Structures other) a b = absurd (structures_from_wordreduce entered task other a b)
+one_command entered (Structures task) (WordReduce other) a b = absurd (structures_from_wordreduce entered other task b a)
+one_command entered (Automata task) (Structures other) a b = absurd (structures_from_automata entered task other a b)
+one_command entered (Structures task) (Automata other) a b = absurd (structures_from_automata entered other task b a)
+one_command entered (Completion task) (Structures other) a b = absurd (structures_from_completion entered task other a b)
+one_command entered (Structures task) (Completion other) a b = absurd (structures_from_completion entered other task b a)
 one_command entered (Completion task) (Automata other) a b = absurd (apart_from_automata entered other task b a)
 
 -- where no family's command was entered there is none
 pub no_command : (entered : Entered) → ((given : Given) → ¬ IsWordReduce entered given) → ((task : AutomataTask) → ¬ IsAutomataTask entered task)
-    → ((task : CompletionTask) → ¬ IsCompletionTask entered task) → (command : Command) → ¬ IsCommand entered command
-no_command entered no_wordreduce no_task no_completion (WordReduce task) = no_wordreduce task
-no_command entered no_wordreduce no_task no_completion (Automata task) = no_task task
-no_command entered no_wordreduce no_task no_completion (Completion task) = no_completion task
+    → ((task : CompletionTask) → ¬ IsCompletionTask entered task) → ((task : StructuresTask) → ¬ IsStructuresTask entered task)
+    → (command : Command) → ¬ IsCommand entered command
+no_command entered no_wordreduce no_task no_completion no_structures (WordReduce task) = no_wordreduce task
+no_command entered no_wordreduce no_task no_completion no_structures (Automata task) = no_task task
+no_command entered no_wordreduce no_task no_completion no_structures (Completion task) = no_completion task
+no_command entered no_wordreduce no_task no_completion no_structures (Structures task) = no_structures task

@@ -1,4 +1,4 @@
--- The names of the commands of completion are apart from those of other families.
+-- The names of the commands of completion, and of those on automatic structures, are apart from those of other families.
 use Rattle.std.proofs.Common.{◌≡◌, ◌≢◌, ◌∙◌, ℕ, sym, ap, arith, slice_index, refl, codes}
 use Rattle.clap.specs.Words.{Text}
 use Rattle.kb_cmd_automata.specs.Line.{name_text as automata_text, name_of_task as automata_name}
@@ -7,6 +7,9 @@ use Rattle.kb_cmd_automata.proofs.NameLemmas.{names_begin_with_f}
 use Rattle.kb_cmd_completion.specs.Line.{name_text, name_of_task}
 use Rattle.kb_cmd_completion.specs.declared.task.CompletionTask.{CompletionTask}
 use Rattle.kb_cmd_completion.specs.declared.task.CompletionTask.TheVariants.{Kbprog, Logread, SelfTest}
+use Rattle.kb_cmd_structures.specs.Line.{name_text as structures_text, name_of_task as structures_name}
+use Rattle.kb_cmd_structures.specs.declared.task.StructuresTask.{StructuresTask}
+use Rattle.kb_cmd_structures.specs.declared.task.StructuresTask.TheVariants.{Gpaxioms}
 
 first_byte : Text → ℕ
 first_byte text = slice_index text 0
@@ -50,3 +53,40 @@ not_automata task other same =
     let f = begins_with_f task in
     let own = begins other in
     (begin_other other).0 (sym own ∙ (sym bytes ∙ f))
+
+-- ---- names on automatic structures
+
+-- the first byte is that of g
+begins_with_g : (task : StructuresTask) → first_byte (structures_text (structures_name task)) ≡ 103
+unfolding first_byte
+begins_with_g (Gpaxioms task) = refl
+
+begin_below : (task : CompletionTask) → begin task ≢ 103
+begin_below (Kbprog task) same = omega (arith, same)
+begin_below (Logread task) same = omega (arith, same)
+begin_below (SelfTest task) same = omega (arith, same)
+
+pub structures_not_wordreduce : (task : StructuresTask) → codes "wordreduce" ≢ structures_text (structures_name task)
+structures_not_wordreduce task same =
+    let bytes = ap first_byte same in
+    let w = begins_with_w in
+    let own = begins_with_g task in
+    let apart : 119 ≡ 103 = sym w ∙ (bytes ∙ own) in
+    omega (arith, apart)
+
+pub structures_not_automata : (task : AutomataTask) (other : StructuresTask)
+    → automata_text (automata_name task) ≢ structures_text (structures_name other)
+structures_not_automata task other same =
+    let bytes = ap first_byte same in
+    let f = begins_with_f task in
+    let own = begins_with_g other in
+    let apart : 102 ≡ 103 = sym f ∙ (bytes ∙ own) in
+    omega (arith, apart)
+
+pub structures_not_completion : (task : CompletionTask) (other : StructuresTask)
+    → name_text (name_of_task task) ≢ structures_text (structures_name other)
+structures_not_completion task other same =
+    let bytes = ap first_byte same in
+    let first = begins task in
+    let own = begins_with_g other in
+    begin_below task (sym first ∙ (bytes ∙ own))

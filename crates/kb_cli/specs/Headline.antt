@@ -5,10 +5,11 @@
 -- that the oriented relations are that presentation's own and confluent; that each automaton stored
 -- is the canonical one of the stated language; that the words listed are the accepted ones; or that
 -- the rules stored are the reduced complete rewriting system of the presentation, and that the
--- automaton beside them accepts its least words. Status 3 shows why the relations are not
--- confluent, or the languages not the same. Status 2 comes exactly where a construction counts more
--- states than the limit; or a completion reached a limit, and then its log is stored, whose lines
--- are justified one by one.
+-- automaton beside them accepts its least words; or that automata are the word acceptor and the
+-- multipliers of the presented group. Status 3 shows why the relations are not confluent, the
+-- languages not the same, or the automata not the group's own. Status 2 comes exactly where a
+-- construction counts more states than the limit; or a completion reached a limit, and then its log
+-- is stored, whose lines are justified one by one.
 use Rattle.std.specs.Prelude.{ℕ, List}
 use Rattle.kb_io.specs.Outside.{Outside, IsUnchanged}
 use Rattle.kb_task.specs.declared.status.Status.{Status}

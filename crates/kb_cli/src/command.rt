@@ -2,6 +2,7 @@
 
 use kb_cmd_automata::AutomataTask;
 use kb_cmd_completion::CompletionTask;
+use kb_cmd_structures::StructuresTask;
 use kb_cmd_words::WordReduce;
 use kb_io::{Gate, Shelf, Sink, Source};
 use kb_task::{Status, Task};
@@ -18,6 +19,8 @@ pub enum Command {
     Automata(AutomataTask),
     /// Complete presentations.
     Completion(CompletionTask),
+    /// Check automatic structures.
+    Structures(StructuresTask),
 }
 
 impl Task for Command {
@@ -54,6 +57,7 @@ impl Command {
             Command::WordReduce(task) => task.run(rt, alloc, shelf, input, out, err),
             Command::Automata(task) => task.run(alloc, shelf, input, out),
             Command::Completion(task) => task.run(rt, alloc, gate, shelf, input, out, err),
+            Command::Structures(task) => task.run(rt, alloc, gate, shelf, input, out, err),
         }
     }
 }

@@ -51,13 +51,13 @@ module _ (IsMade : Automaton → Type 0) (Exceeds : Limit → Type 0) (out : Lis
 
   -- the limit that the construction exceeds is printed
   pub limit-means : (limit : Limit) (shelf : ShelfState) (input : SourceState) (before after : SinkState) (status : Status) → Exceeds limit
-      → LimitIsPrinted limit before after status → MakeMeans IsMade Exceeds out names (outside shelf input before) (outside shelf input after) status
+      → LimitIsPrinted names limit before after status → MakeMeans IsMade Exceeds out names (outside shelf input before) (outside shelf input after) status
   limit-means limit shelf input before after status exceeds (inl (inl said)) =
       subst (MakeMeans IsMade Exceeds out names (outside shelf input before) (outside shelf input after)) (sym said.0)
-      (exceeds, writes-printed shelf input before after (undecided_line limit) said.1)
+      (exceeds, writes-printed shelf input before after (undecided_line names limit) said.1)
   limit-means limit shelf input before after status exceeds (inl (inr failed)) =
       subst (MakeMeans IsMade Exceeds out names (outside shelf input before) (outside shelf input after)) (sym failed.0)
-      (limit, exceeds, front-printed shelf input before after (undecided_line limit) failed.1)
+      (limit, exceeds, front-printed shelf input before after (undecided_line names limit) failed.1)
   limit-means limit shelf input before after status exceeds (inr none) =
       subst (MakeMeans IsMade Exceeds out names (outside shelf input before) (outside shelf input after)) (sym none.0)
       (unchanged-printed shelf input before after none.1)

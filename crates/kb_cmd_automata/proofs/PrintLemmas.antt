@@ -68,7 +68,7 @@ module _ (names : List (List ℕ)) (one two : Automaton) (most : ℕ) (before af
       subst (ComparisonIsPrinted names one two most before.written after.written) (sym front.0) (failed is_line front.1)
 
   -- so is the line of a limit
-  pub limit-printed : CountedOr one.table two.table most → LimitIsPrinted (States Equal) before after result
+  pub limit-printed : CountedOr one.table two.table most → LimitIsPrinted names (States Equal) before after result
       → ComparisonIsPrinted names one two most before.written after.written result
   limit-printed many (inl said) = line-printed _ _ (undecided many) said
   limit-printed many (inr none) = subst (ComparisonIsPrinted names one two most before.written after.written) (sym none.0) (no_memory none.1)

@@ -38,7 +38,7 @@ module _ {Means : Outside → Outside → Status → Type 0} {MayStore : List �
         (store-means IsMade Exceeds out names made (outside loaded input output) (outside stored input output) status is_made few stores)))
 
     -- the limit that was reached is printed
-    pub run-limit : (limit : Limit) (written : SinkState) → (IsTrue output.told → LimitIsPrinted limit output written status)
+    pub run-limit : (limit : Limit) (written : SinkState) → (IsTrue output.told → LimitIsPrinted names limit output written status)
         → SinkGoesOn output written → FaultIsCounted (outside loaded input output) (outside loaded input written) status → Exceeds limit
         → (IsTold (outside before input output) → MakeMeans IsMade Exceeds out names (outside before input output) (outside loaded input written) status
         → Means (outside before input output) (outside loaded input written) status)
@@ -90,7 +90,7 @@ module _ {before between : ShelfState} {input : SourceState} {output : SinkState
         (made-same is_known made is_made) few (λ name is. is) (λ told means. loaded (holds told.shelf) is_kind means)
 
     -- the limit that was reached is printed
-    pub run-limited : {written : SinkState} (limit : Limit) → Exceeds one limit → (IsTrue output.told → LimitIsPrinted limit output written status)
+    pub run-limited : {written : SinkState} (limit : Limit) → Exceeds one limit → (IsTrue output.told → LimitIsPrinted names limit output written status)
         → SinkGoesOn output written
         → ((a : ShelfState) (b : SourceState) → FaultIsCounted (outside a b output) (outside a b written) status)
         → IsRun (MakingMeans own Exceeds) (λ name. name ≡ own.out) (outside before input output) (outside between input written) status

@@ -43,7 +43,7 @@ pub data IsComparisonLine (names : List (List ℕ)) (one two : Automaton) (most 
       → IsDifferenceLine names text one.alphabet line
       → IsComparisonLine names one two most line (No (NotEqual text))
   undecided : CountedOr one.table two.table most
-      → IsComparisonLine names one two most (undecided_line (States Equal))
+      → IsComparisonLine names one two most (undecided_line names (States Equal))
       (Undecided (States Equal))
 
 -- the comparison's line was written with its status; or the output failed in it, or memory ran out before

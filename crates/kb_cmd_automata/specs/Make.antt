@@ -56,11 +56,11 @@ abbrev pub MakeMeans : (Automaton → Type 0) → (Limit → Type 0) → List �
 MakeMeans IsMade Exceeds out names before after Yes =
     StoresMade IsMade out names before after × IsWithin Exceeds
 MakeMeans IsMade Exceeds out names before after (Undecided limit) =
-    Exceeds limit × Writes (undecided_line limit) before after
+    Exceeds limit × Writes (undecided_line names limit) before after
 MakeMeans IsMade Exceeds out names before after (Fault (Store name)) =
     (name ≡ out) × LeavesUnknown out before after × IsWithin Exceeds
 MakeMeans IsMade Exceeds out names before after (Fault Output) =
-    (limit : Limit) × Exceeds limit × WritesFront (undecided_line limit) before after
+    (limit : Limit) × Exceeds limit × WritesFront (undecided_line names limit) before after
 MakeMeans IsMade Exceeds out names before after Memory = IsUnchanged before after
 MakeMeans IsMade Exceeds out names before after _ = ⊥
 

@@ -82,7 +82,8 @@ impl Combine {
         match combined(alloc, self.operation, &first.fsa, &second, self.max_states) {
             Ok(made) => store_canonical(alloc, &first.names, &made, self.out, shelf),
             Err(Det::TooManyStates { .. }) => {
-                print_limit(alloc, Limit::States(self.operation.construction()), out)
+                let limit = Limit::States(self.operation.construction());
+                print_limit(alloc, &first.names, limit, out)
             }
             Err(Det::Memory) => Status::Memory,
         }

@@ -89,7 +89,7 @@ fn print_comparison<O: Sink>(
         Ok(Equality::Equal) => print_line(b"yes\n", Status::Yes, out),
         Ok(Equality::Differ(text)) => print_difference(alloc, &first.names, alphabet, text, out),
         Err(Det::TooManyStates { .. }) => {
-            print_limit(alloc, Limit::States(Construction::Equal), out)
+            print_limit(alloc, &first.names, Limit::States(Construction::Equal), out)
         }
         Err(Det::Memory) => Status::Memory,
     }

@@ -79,7 +79,8 @@ impl Transform {
         match transformed(alloc, self.operation, &given.fsa, self.max_states) {
             Ok(made) => store_canonical(alloc, &given.names, &made, self.out, shelf),
             Err(Det::TooManyStates { .. }) => {
-                print_limit(alloc, Limit::States(self.operation.construction()), out)
+                let limit = Limit::States(self.operation.construction());
+                print_limit(alloc, &given.names, limit, out)
             }
             Err(Det::Memory) => Status::Memory,
         }

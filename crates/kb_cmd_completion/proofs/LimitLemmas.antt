@@ -11,10 +11,11 @@ use Rattle.kb_task.specs.declared.status.Limit.{Limit}
 use Rattle.kb_task.specs.declared.status.Limit.TheVariants.{States}
 use Rattle.kb_system.specs.Evidence.{Limits, IsHalted, IsTooLarge}
 use Rattle.kb_system.specs.declared.ending.Reached.{Reached}
-use Rattle.kb_cmd_completion.specs.FileLaws.{both_differ, rules_beside_acceptor, log_beside_rules}
-use Rattle.kb_cmd_completion.specs.Files.{rules_file, acceptor_file, log_file, halted_texts, too_large_texts, limit_of, AreCompleted, ShowsLimit, halted, too_large}
+use Rattle.kb_evidence.specs.FileLaws.{both_differ, rules_beside_acceptor, log_beside_rules}
+use Rattle.kb_evidence.specs.Files.{rules_file, acceptor_file, log_file, halted_texts, too_large_texts, limit_of}
+use Rattle.kb_cmd_completion.specs.Files.{AreCompleted, ShowsLimit, halted, too_large}
 use Rattle.kb_cmd_completion.specs.Given.{KbprogGiven}
-use Rattle.kb_cmd_completion.specs.declared.evidence.Evidence.{Evidence}
+use Rattle.kb_evidence.specs.declared.evidence.Evidence.{Evidence}
 
 -- ---- a limit
 
@@ -36,7 +37,7 @@ module _ (given : KbprogGiven) (parts : PresentationParts) where
 
   shows_too_large : (lines : List Line) (rules : List Pair) (limit : Limit) (texts : List Text) (line : List ℕ)
       → IsTooLarge given.limits parts lines rules → limit ≡ States Acceptor
-      → texts ≡ too_large_texts given.file parts lines rules → line ≡ undecided_line (States Acceptor)
+      → texts ≡ too_large_texts given.file parts lines rules → line ≡ undecided_line parts.names (States Acceptor)
       → ShowsLimit given.limits given.file parts limit texts line
   shows_too_large lines rules limit texts line is limit_is texts_are line_is = shows_same (too_large is) limit_is texts_are line_is
 
@@ -59,7 +60,7 @@ module _ (given : KbprogGiven) (parts : PresentationParts) (own : List ℕ) (fil
   pub shown-too_large : (lines : List Line) (rules : List Pair) → IsTooLarge given.limits parts lines rules
       → ((shown.limit ≡ States Acceptor)
       × (texts_of shown.files.items ≡ too_large_texts own parts lines rules)
-      × (shown.line.items ≡ undecided_line (States Acceptor)))
+      × (shown.line.items ≡ undecided_line parts.names (States Acceptor)))
       → IsShown
   shown-too_large lines rules is are =
       let Holds : List ℕ → Type 0 = λ name. texts_of shown.files.items ≡ too_large_texts name parts lines rules in

@@ -17,7 +17,7 @@ use Rattle.kb_task.specs.declared.status.Which.TheVariants.{Load, Store, Input, 
 use Rattle.kb_task.proofs.EffectLemmas.{unchanged-later, writes-later, front-later, writes-printed, front-printed, unchanged-printed}
 use Rattle.kb_task.proofs.LoadEnds.{same_files}
 use Rattle.kb_task.proofs.RunLemmas.{counted_after, goes_on-loads, loads-along, run-after_loads, run-ends, run-prints, told-later, unchanged-loads}
-use Rattle.kb_cmd_completion.specs.Files.{log_file}
+use Rattle.kb_evidence.specs.Files.{log_file}
 use Rattle.kb_cmd_completion.specs.Given.{LogreadGiven}
 use Rattle.kb_cmd_completion.specs.Logread.{LogMeans, LogreadMeans, StoresNothing, logread_line}
 

@@ -26,10 +26,11 @@ use Rattle.kb_task.specs.declared.status.Which.TheVariants.{Load, Store, Input, 
 use Rattle.kb_task.proofs.EffectLemmas.{unchanged-later, unchanged-printed}
 use Rattle.kb_task.proofs.RunLemmas.{goes_on-along, counted_after, told-later, run-prints, run-after_loads, unchanged-loads}
 use Rattle.kb_system.specs.Completed.{IsLeastIn}
-use Rattle.kb_cmd_completion.specs.Files.{rules_file, acceptor_file, log_file, AreCompleted, ShowsLimit, halted, too_large}
+use Rattle.kb_evidence.specs.Files.{rules_file, acceptor_file, log_file}
+use Rattle.kb_cmd_completion.specs.Files.{AreCompleted, ShowsLimit, halted, too_large}
 use Rattle.kb_cmd_completion.specs.Given.{KbprogGiven}
 use Rattle.kb_cmd_completion.specs.Kbprog.{streams_of, HasCompleted, AreStored, LinesMean, AnswersMean, KbprogMeans, kbprog_may_store}
-use Rattle.kb_cmd_completion.specs.FileLaws.{contained_cases}
+use Rattle.kb_evidence.specs.FileLaws.{contained_cases}
 
 -- ---- the word lines
 

@@ -18,7 +18,7 @@ use Rattle.kb_task.proofs.EffectLemmas.{writes-printed, front-printed}
 use Rattle.kb_task.proofs.RunLemmas.{run-prints}
 use Rattle.kb_system.specs.Completed.{IsCompletion}
 use Rattle.kb_system.specs.Evidence.{IsHalted, IsTooLarge}
-use Rattle.kb_system.specs.declared.ending.Reached.{Reached}
+use Rattle.kb_system.specs.declared.ending.Halted.{Halted}
 use Rattle.kb_freeabelian.specs.FreeAbelian.{free_abelian}
 use Rattle.kb_cmd_completion.specs.Given.{SelfTestGiven}
 use Rattle.kb_cmd_completion.specs.SelfTest.{Reports, completed, halted, too_large, IsReport, summary_line, IsCompletedReport, IsHaltedReport, IsTooLargeReport, SelfTestMeans, selftest_promise}
@@ -53,24 +53,27 @@ module _ (given : SelfTestGiven) (report : Report) where
       subst (λ n. IsCompletedReport n (length rules) (length acceptor.table.rows) report) (sym same) is in
       reported Yes _ own_is.status own_is.text (completed own)
 
-  pub report-halted : (rank : ℕ) (names : List (List ℕ)) (reached : Reached) (lines : List Line) (waiting : Line) (rules : List Pair) → given.rank ≡ rank
-      → names ≡ (free_abelian rank).names → IsHalted given.limits (free_abelian rank) lines waiting rules reached
-      → IsHaltedReport names reached lines waiting report → IsReport given report
-  report-halted rank names reached lines waiting rules same named halts is =
-      let own : IsHalted given.limits (free_abelian given.rank) lines waiting rules reached =
-      subst (λ n. IsHalted given.limits (free_abelian n) lines waiting rules reached) (sym same) halts in
-      let renamed : IsHaltedReport (free_abelian rank).names reached lines waiting report =
-      subst (λ l. IsHaltedReport l reached lines waiting report) named is in
-      let own_is : IsHaltedReport (free_abelian given.rank).names reached lines waiting report =
-      subst (λ n. IsHaltedReport (free_abelian n).names reached lines waiting report) (sym same) renamed in
+  pub report-halted : (rank : ℕ) (names : List (List ℕ)) (shown : Halted) → given.rank ≡ rank → names ≡ (free_abelian rank).names
+      → IsHalted given.limits (free_abelian rank) shown.lines.items shown.waiting shown.rules.rules shown.reached
+      → IsHaltedReport names shown report → IsReport given report
+  report-halted rank names shown same named halts is =
+      let own : IsHalted given.limits (free_abelian given.rank) shown.lines.items shown.waiting shown.rules.rules shown.reached =
+      subst (λ n. IsHalted given.limits (free_abelian n) shown.lines.items shown.waiting shown.rules.rules shown.reached) (sym same) halts in
+      let renamed : IsHaltedReport (free_abelian rank).names shown report = subst (λ l. IsHaltedReport l shown report) named is in
+      let own_is : IsHaltedReport (free_abelian given.rank).names shown report =
+      subst (λ n. IsHaltedReport (free_abelian n).names shown report) (sym same) renamed in
       reported _ _ own_is.status own_is.text (halted own)
 
-  pub report-too_large : (rank : ℕ) (lines : List Line) (rules : List Pair) → given.rank ≡ rank
-      → IsTooLarge given.limits (free_abelian rank) lines rules → IsTooLargeReport report → IsReport given report
-  report-too_large rank lines rules same large is =
+  pub report-too_large : (rank : ℕ) (names : List (List ℕ)) (lines : List Line) (rules : List Pair) → given.rank ≡ rank
+      → names ≡ (free_abelian rank).names → IsTooLarge given.limits (free_abelian rank) lines rules → IsTooLargeReport names report
+      → IsReport given report
+  report-too_large rank names lines rules same named large is =
       let own : IsTooLarge given.limits (free_abelian given.rank) lines rules =
       subst (λ n. IsTooLarge given.limits (free_abelian n) lines rules) (sym same) large in
-      reported (Undecided (States Acceptor)) _ is.status is.text (too_large own)
+      let renamed : IsTooLargeReport (free_abelian rank).names report = subst (λ l. IsTooLargeReport l report) named is in
+      let own_is : IsTooLargeReport (free_abelian given.rank).names report =
+      subst (λ n. IsTooLargeReport (free_abelian n).names report) (sym same) renamed in
+      reported (Undecided (States Acceptor)) _ own_is.status own_is.text (too_large own)
 
 -- ---- runs
 

@@ -1,58 +1,26 @@
 -- The files that a completion stores.
-use Rattle.std.specs.Prelude.{◌≡◌, ℕ, List, [], ◌∷◌, ◌++◌, codes, Bool, true, false, Option, Some, None}
+use Rattle.std.specs.Prelude.{◌≡◌, ℕ, List, [], ◌∷◌, true}
 use Rattle.kb_word.specs.Words.{Pair}
 use Rattle.kb_word.specs.Presentations.{PresentationParts}
 use Rattle.kb_machine.specs.declared.line.Line.{Line}
 use Rattle.kb_fsa.specs.Language.{Automaton}
 use Rattle.kb_fsaprint.specs.Printed.{text_of_automaton}
 use Rattle.kb_presprint.specs.Printed.{text_of_presentation}
-use Rattle.kb_proof.specs.Printed.{header, text_of_body}
-use Rattle.kb_proof.specs.declared.log.Version.TheVariants.{Two}
 use Rattle.kb_system.specs.Completed.{IsCompletion}
 use Rattle.kb_system.specs.Evidence.{Limits, IsHalted, IsTooLarge}
 use Rattle.kb_system.specs.declared.ending.Reached.{Reached}
-use Rattle.kb_system.specs.declared.ending.Reached.TheVariants.{Lines, Letters}
 use Rattle.kb_task.specs.Limits.{undecided_line, undecided_words_line}
 use Rattle.kb_task.specs.Stores.{Text}
 use Rattle.kb_task.specs.declared.status.Construction.TheVariants.{Acceptor}
 use Rattle.kb_task.specs.declared.status.Limit.{Limit}
-use Rattle.kb_task.specs.declared.status.Limit.TheVariants.{Rules, Length, States}
-
--- the files of rules, of the word acceptor and of the log
-abbrev pub rules_file : List ℕ → List ℕ
-rules_file file = file ++ codes ".kbprog"
-
-abbrev pub acceptor_file : List ℕ → List ℕ
-acceptor_file file = file ++ codes ".wa"
-
-abbrev pub log_file : List ℕ → List ℕ
-log_file file = file ++ codes ".kblog"
+use Rattle.kb_task.specs.declared.status.Limit.TheVariants.{States}
+use Rattle.kb_evidence.specs.Files.{rules_file, acceptor_file, halted_texts, too_large_texts, limit_of}
 
 -- the files of a completed presentation
 abbrev pub completed_texts : List ℕ → PresentationParts → List Pair → Automaton → List Text
 completed_texts file parts rules acceptor =
     record { name = rules_file file; bytes = text_of_presentation parts rules true }
     ∷ record { name = acceptor_file file; bytes = text_of_automaton parts.names acceptor } ∷ []
-
--- a log of version 2 with these lines and the one that waits, as it is printed
-abbrev pub log_text : List (List ℕ) → List Line → Option Line → List ℕ
-log_text names lines waiting = header Two ++ text_of_body Two names lines waiting
-
--- the text of a log, and rules, as files
-abbrev pub evidence_texts : List ℕ → PresentationParts → List ℕ → List Pair → Bool → List Text
-evidence_texts file parts log rules confluent =
-    record { name = log_file file; bytes = log }
-    ∷ record { name = rules_file file; bytes = text_of_presentation parts rules confluent } ∷ []
-
--- the files of a completion that halted
-abbrev pub halted_texts : List ℕ → PresentationParts → List Line → Line → List Pair → List Text
-halted_texts file parts lines waiting rules =
-    evidence_texts file parts (log_text parts.names lines (Some waiting)) rules false
-
--- the files of a completion whose word acceptor would be too large
-abbrev pub too_large_texts : List ℕ → PresentationParts → List Line → List Pair → List Text
-too_large_texts file parts lines rules =
-    evidence_texts file parts (log_text parts.names lines None) rules true
 
 -- these are the files of the completed presentation
 pub record AreCompleted (file : List ℕ) (parts : PresentationParts)
@@ -61,11 +29,6 @@ pub record AreCompleted (file : List ℕ) (parts : PresentationParts)
   pub acceptor : Automaton
   pub completion : IsCompletion parts rules acceptor
   pub are : texts ≡ completed_texts file parts rules acceptor
-
--- what the limit of a log is called
-abbrev pub limit_of : Reached → Limit
-limit_of Lines = Rules
-limit_of Letters = Length
 
 -- the files that show that the completion reached the limit, and the line that says so
 pub data ShowsLimit (limits : Limits) (file : List ℕ) (parts : PresentationParts) : Limit
@@ -78,4 +41,4 @@ pub data ShowsLimit (limits : Limits) (file : List ℕ) (parts : PresentationPar
   too_large : {lines : List Line} {rules : List Pair}
       → IsTooLarge limits parts lines rules
       → ShowsLimit limits file parts (States Acceptor) (too_large_texts file parts lines rules)
-      (undecided_line (States Acceptor))
+      (undecided_line parts.names (States Acceptor))

@@ -21,7 +21,8 @@ use Rattle.kb_task.specs.declared.status.Status.{Status}
 use Rattle.kb_task.specs.declared.status.Status.TheVariants.{Yes, Refused, Undecided, Memory, Fault}
 use Rattle.kb_task.specs.declared.status.Which.TheVariants.{Store, Input, Output}
 use Rattle.kb_system.specs.Completed.{IsLeastIn}
-use Rattle.kb_cmd_completion.specs.Files.{rules_file, acceptor_file, log_file, AreCompleted, ShowsLimit}
+use Rattle.kb_evidence.specs.Files.{rules_file, acceptor_file, log_file}
+use Rattle.kb_cmd_completion.specs.Files.{AreCompleted, ShowsLimit}
 use Rattle.kb_cmd_completion.specs.Given.{KbprogGiven}
 
 -- the input and the output at one moment

@@ -8,7 +8,7 @@ use Rattle.kb_lines.proofs.UniqueLemmas.{one-answered}
 use Rattle.kb_fsaprint.specs.Printed.{text_of_automaton}
 use Rattle.kb_presprint.specs.Printed.{text_of_presentation}
 use Rattle.kb_task.specs.Presentations.{HoldsPresentation, IsPresentationFault}
-use Rattle.kb_task.specs.PromiseLaws.{yes-conclusive}
+use Rattle.kb_task.specs.PromiseLaws.{one_yes, yes-conclusive}
 use Rattle.kb_task.specs.Promises.{IsLawful}
 use Rattle.kb_task.specs.Runs.{HasSameEffect, LeavesSame, ReadsSame}
 use Rattle.kb_task.specs.Statuses.{AnswersYesOrLimit, IsFaultless, IsYes}
@@ -16,13 +16,14 @@ use Rattle.kb_task.specs.Stores.{Text, HoldsTexts, names_of}
 use Rattle.kb_task.specs.declared.status.Refusal.TheVariants.{File, Line, InputTooLong}
 use Rattle.kb_task.specs.declared.status.Status.{Status}
 use Rattle.kb_task.specs.declared.status.Status.TheVariants.{Yes, Refused, Undecided, No, Memory, Fault, Usage}
-use Rattle.kb_task.proofs.LoadEnds.{memory_at_load, load_inconclusive}
+use Rattle.kb_task.proofs.LoadEnds.{memory_at_load, load_inconclusive, one_presentation_held}
 use Rattle.kb_system.specs.Completed.{IsLeastIn}
-use Rattle.kb_cmd_completion.specs.CompletionLaws.{one_held, one_rules, one_acceptor, one_yes}
-use Rattle.kb_cmd_completion.specs.Files.{rules_file, acceptor_file, completed_texts, AreCompleted}
+use Rattle.kb_cmd_completion.specs.CompletionLaws.{one_rules, one_acceptor}
+use Rattle.kb_evidence.specs.Files.{rules_file, acceptor_file}
+use Rattle.kb_cmd_completion.specs.Files.{completed_texts, AreCompleted}
 use Rattle.kb_cmd_completion.specs.Given.{KbprogGiven}
 use Rattle.kb_cmd_completion.specs.Kbprog.{streams_of, HasCompleted, AnswersMean, KbprogMeans, kbprog_may_store, IsKbprogUnrefused, kbprog_promise}
-use Rattle.kb_cmd_completion.specs.FileLaws.{first_contained, second_contained, contained_cases, log_beside_rules, log_beside_acceptor}
+use Rattle.kb_evidence.specs.FileLaws.{first_contained, second_contained, contained_cases, log_beside_rules, log_beside_acceptor}
 
 -- ---- what is unique
 
@@ -182,7 +183,7 @@ one_function given other_given before after other_before other_after status othe
     (inr others) is_yes also file same input =
     let held = subst (λ name. HoldsPresentation other_before.shelf.holds name others.0)
     (sym file) others.1 in
-    let parts = one_held (same given.file refl) means.1 held in
+    let parts = one_presentation_held (same given.file refl) means.1 held in
     lines_same given other_given others.0 before after other_before other_after status
     other file is_yes also
     (subst (λ p. AnswersMean given p before after status) parts means.2) others.2 input

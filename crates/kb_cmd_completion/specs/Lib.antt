@@ -1,7 +1,6 @@
 pub mod Given
 pub mod Files
 pub mod Conclusions
-pub mod FileLaws
 pub mod CompletionLaws
 pub mod Kbprog
 pub mod KbprogLaws

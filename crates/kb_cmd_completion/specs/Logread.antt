@@ -18,7 +18,7 @@ use Rattle.kb_task.specs.Statuses.{AnswersYes, IsYes}
 use Rattle.kb_task.specs.declared.status.Status.{Status}
 use Rattle.kb_task.specs.declared.status.Status.TheVariants.{Yes, Memory, Fault}
 use Rattle.kb_task.specs.declared.status.Which.TheVariants.{Output}
-use Rattle.kb_cmd_completion.specs.Files.{log_file}
+use Rattle.kb_evidence.specs.Files.{log_file}
 use Rattle.kb_cmd_completion.specs.Given.{LogreadGiven}
 
 -- a command stores nothing

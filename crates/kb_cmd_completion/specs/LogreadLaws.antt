@@ -5,15 +5,14 @@ use Rattle.kb_word.specs.Presentations.{PresentationParts}
 use Rattle.kb_proof.specs.declared.log.Log.{Log}
 use Rattle.kb_task.specs.Logs.{HoldsLog, IsLogFault}
 use Rattle.kb_task.specs.Presentations.{HoldsPresentation, IsPresentationFault}
-use Rattle.kb_task.specs.PromiseLaws.{yes-conclusive}
+use Rattle.kb_task.specs.PromiseLaws.{one_yes, yes-conclusive}
 use Rattle.kb_task.specs.Promises.{IsLawful}
 use Rattle.kb_task.specs.Runs.{HasSameEffect}
 use Rattle.kb_task.specs.Statuses.{AnswersYes, IsFaultless, IsYes}
 use Rattle.kb_task.specs.declared.status.Status.{Status}
 use Rattle.kb_task.specs.declared.status.Status.TheVariants.{Yes, Refused, Undecided, No, Memory, Fault, Usage}
-use Rattle.kb_task.proofs.LoadEnds.{memory_at_load, load_inconclusive}
-use Rattle.kb_cmd_completion.specs.CompletionLaws.{one_held, one_yes}
-use Rattle.kb_cmd_completion.specs.Files.{log_file}
+use Rattle.kb_task.proofs.LoadEnds.{memory_at_load, load_inconclusive, one_presentation_held}
+use Rattle.kb_evidence.specs.Files.{log_file}
 use Rattle.kb_cmd_completion.specs.Given.{LogreadGiven}
 use Rattle.kb_cmd_completion.specs.Logread.{LogMeans, LogFileMeans, LogreadMeans, IsLogreadUnrefused, StoresNothing, logread_line, logread_promise}
 use Rattle.kb_cmd_completion.specs.LogLaws.{names_apart, one_logread}
@@ -114,7 +113,7 @@ same_effect : (given : LogreadGiven) (before after other_before other_after : Ou
     → before.shelf.holds (log_file given.file) ≡ other_before.shelf.holds (log_file given.file)
     → HasSameEffect StoresNothing before after other_before other_after
 same_effect given before after other_before other_after one other file log =
-    let parts = one_held file one.presents other.presents in
+    let parts = one_presentation_held file one.presents other.presents in
     let held = subst
     (λ p. HoldsLog before.shelf.holds (log_file given.file) p.names one.reads.log) parts
     one.reads.holds in

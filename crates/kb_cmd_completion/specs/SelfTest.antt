@@ -16,8 +16,9 @@ use Rattle.kb_task.specs.declared.status.Status.TheVariants.{Yes, Undecided, Mem
 use Rattle.kb_task.specs.declared.status.Which.TheVariants.{Output}
 use Rattle.kb_system.specs.Completed.{IsCompletion}
 use Rattle.kb_system.specs.Evidence.{IsHalted, IsTooLarge}
+use Rattle.kb_system.specs.declared.ending.Halted.{Halted}
 use Rattle.kb_system.specs.declared.ending.Reached.{Reached}
-use Rattle.kb_cmd_completion.specs.Files.{log_text, limit_of}
+use Rattle.kb_evidence.specs.Files.{log_text, limit_of}
 use Rattle.kb_freeabelian.specs.FreeAbelian.{free_abelian}
 use Rattle.kb_cmd_completion.specs.Given.{SelfTestGiven}
 use Rattle.kb_cmd_completion.specs.declared.selftest.Report.{Report}
@@ -42,7 +43,8 @@ pub data Reports (given : SelfTestGiven) : Status → List ℕ → Type 0 where
       waiting.left waiting.right)
   too_large : {lines : List Line} {rules : List Pair}
       → IsTooLarge given.limits (free_abelian given.rank) lines rules
-      → Reports given (Undecided (States Acceptor)) (undecided_line (States Acceptor))
+      → Reports given (Undecided (States Acceptor))
+      (undecided_line (free_abelian given.rank).names (States Acceptor))
 
 -- the report of a completion that was asked for
 abbrev pub IsReport : SelfTestGiven → Report → Type 0
@@ -54,17 +56,17 @@ pub record IsCompletedReport (rank rules states : ℕ) (report : Report) : Type 
   pub text : report.text.items ≡ summary_line rank rules states
 
 -- the report of a completion that halted: its log, and the line of the limit with the words that wait
-pub record IsHaltedReport (names : List (List ℕ)) (reached : Reached)
-    (lines : List Line) (waiting : Line)
+pub record IsHaltedReport (names : List (List ℕ)) (halted : Halted)
     (report : Report) : Type 0 where
-  pub status : report.status ≡ Undecided (limit_of reached)
-  pub text : report.text.items ≡ log_text names lines (Some waiting)
-      ++ undecided_words_line names (limit_of reached) waiting.left waiting.right
+  pub status : report.status ≡ Undecided (limit_of halted.reached)
+  pub text : report.text.items ≡ log_text names halted.lines.items (Some halted.waiting)
+      ++ undecided_words_line names (limit_of halted.reached) halted.waiting.left
+      halted.waiting.right
 
 -- the report of a completion whose acceptor would be too large
-pub record IsTooLargeReport (report : Report) : Type 0 where
+pub record IsTooLargeReport (names : List (List ℕ)) (report : Report) : Type 0 where
   pub status : report.status ≡ Undecided (States Acceptor)
-  pub text : report.text.items ≡ undecided_line (States Acceptor)
+  pub text : report.text.items ≡ undecided_line names (States Acceptor)
 
 -- What each status means: what it reports was written; or the output failed after a front of a report.
 abbrev pub SelfTestMeans : SelfTestGiven → Outside → Outside → Status → Type 0

@@ -6,9 +6,9 @@ ghost use Rattle.kb_system.specs.Completed.{IsCompletion};
 ghost use Rattle.kb_system.specs.Ended.{EndsAs};
 ghost use Rattle.kb_cmd_completion.specs.Conclusions.{ConcludesAs};
 
-use crate::evidence::{Evidence, halted, too_large};
 use crate::files::completed_files;
 use crate::kbprog::Kbprog;
+use kb_evidence::{Evidence, halted, too_large};
 use kb_fsa::Fsa;
 use kb_index::Index;
 use kb_reduce::NormalForms;
@@ -46,20 +46,9 @@ pub(crate) fn conclusion_of(
         Ending::Completed { rules, acceptor } => {
             Ok(completed(alloc, task, presentation, &rules, &acceptor)?)
         }
-        Ending::Halted {
-            reached,
-            lines,
-            waiting,
-            rules,
-        } => Ok(Conclusion::Limit(halted(
-            alloc,
-            &presentation,
-            file,
-            reached,
-            lines,
-            waiting,
-            &rules,
-        )?)),
+        Ending::Halted(shown) => {
+            Ok(Conclusion::Limit(halted(alloc, &presentation, file, shown)?))
+        }
         Ending::TooLarge { lines, rules } => Ok(Conclusion::Limit(too_large(
             alloc,
             &presentation,

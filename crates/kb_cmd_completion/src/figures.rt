@@ -11,7 +11,7 @@ pub(crate) fn figures_of(ending: &Ending, limits: &Limits) -> Summary {
             rules: rules.len(),
             states: acceptor.len(),
         },
-        Ending::Halted { reached, .. } => match reached {
+        Ending::Halted(halted) => match halted.reached {
             Reached::Lines => Summary::Lines(limits.rules),
             Reached::Letters => Summary::Letters(limits.len),
         },

@@ -1,12 +1,12 @@
 //! The files of a completed presentation.
 
-ghost use Rattle.std.specs.Prelude.{◌≡◌, [], ◌∷◌, IfOk};
+ghost use Rattle.std.specs.Prelude.{◌≡◌, IfOk};
 ghost use Rattle.kb_word.specs.Presentations.{parts_of};
-ghost use Rattle.kb_task.specs.Stores.{text_of, texts_of};
+ghost use Rattle.kb_task.specs.Stores.{texts_of};
 ghost use Rattle.kb_system.specs.Completed.{IsCompletion};
 ghost use Rattle.kb_cmd_completion.specs.Files.{completed_texts};
 
-use crate::file_names::{acceptor_file, rules_file};
+use kb_evidence::{acceptor_file, both, rules_file};
 use kb_fsa::Fsa;
 use kb_fsaprint::write as write_automaton;
 use kb_presprint::write as write_presentation;
@@ -36,19 +36,4 @@ pub(crate) fn completed_files(
         bytes: write_automaton(alloc, &presentation.names, acceptor)?,
     };
     both(alloc, rules, acceptor)
-}
-
-/// Two files in order.
-pub(crate) fn both(
-    alloc: Global,
-    first: TextFile,
-    second: TextFile,
-) -> Result<Vec<TextFile>, Memory>
-    ensures { IfOk result (λ files. texts_of files.items
-        ≡ text_of first ∷ text_of second ∷ []) }
-{
-    let mut files = Vec::with_capacity(alloc, 2)?;
-    files.push(first)?;
-    files.push(second)?;
-    Ok(files)
 }

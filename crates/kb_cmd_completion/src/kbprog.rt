@@ -18,9 +18,9 @@ ghost use Rattle.kb_cmd_completion.specs.Kbprog.{AnswersMean, LinesMean, kbprog_
 ghost use Rattle.kb_cmd_completion.specs.Given.{KbprogGiven};
 
 use crate::conclusion::{Conclusion, conclusion_of};
-use crate::evidence::Evidence;
 use crate::figures::figures_of;
 use kb_book::Limits;
+use kb_evidence::Evidence;
 use kb_io::{Gate, Shelf, Sink, Source};
 use kb_lines::answer_lines;
 use kb_progress::Progress;

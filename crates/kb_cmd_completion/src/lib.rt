@@ -10,18 +10,17 @@
 //!
 //! - `kbprog`, `logread` and `selftest` are the commands, and `task` has the enum of all three.
 //! - `line` is what the command line says of them.
-//! - `file_names` has the names of the files that belong to a presentation's file; `files` makes those of a completed
-//!   presentation, `evidence` those that show a limit, and `conclusion` either, by how a completion ended.
+//! - `files` makes the files of a completed presentation, and `conclusion` those or what shows a limit, by how a completion
+//!   ended.
 //! - `figures` says how a completion ended, for the last line of a long run; `printing` appends the parts of lines.
 //!
 //! Below are `kb_system`, which completes presentations, `kb_progress`, which shows how far that has come,
-//! `kb_freeabelian`, which makes what `selftest` completes, `kb_proof`, which prints and reads logs, and `kb_task`.
+//! `kb_freeabelian`, which makes what `selftest` completes, `kb_proof`, which prints and reads logs, `kb_evidence`, with the
+//! names of files and what shows a limit, and `kb_task`.
 #![tactic(auto)]
 
 mod conclusion;
-mod evidence;
 mod figures;
-mod file_names;
 mod files;
 mod kbprog;
 mod line;

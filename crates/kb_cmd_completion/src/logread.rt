@@ -6,8 +6,8 @@ ghost use Rattle.kb_io.specs.States.{ShelfState, SourceState};
 ghost use Rattle.kb_task.specs.Runs.{IsRun};
 ghost use Rattle.kb_cmd_completion.specs.Logread.{LogMeans, StoresNothing, logread_line, open_text, version_number};
 
-use crate::file_names::log_file;
 use crate::printing::{append, append_number};
+use kb_evidence::log_file;
 use kb_io::{Shelf, Sink, Source};
 use kb_machine::Line;
 use kb_proof::{Log, Version, print_origin};

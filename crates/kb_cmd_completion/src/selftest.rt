@@ -7,16 +7,15 @@ ghost use Rattle.kb_freeabelian.specs.FreeAbelian.{free_abelian};
 ghost use Rattle.kb_cmd_completion.specs.Given.{SelfTestGiven, limits_of};
 ghost use Rattle.kb_cmd_completion.specs.SelfTest.{IsCompletedReport, IsHaltedReport, IsReport, IsTooLargeReport};
 
-use crate::evidence::limit_reached;
 use crate::figures::figures_of;
 use crate::printing::{append, append_number};
 use kb_book::Limits;
+use kb_evidence::limit_reached;
 use kb_freeabelian::selftest_presentation;
 use kb_io::{Gate, Shelf, Sink, Source};
-use kb_machine::Line;
 use kb_progress::Progress;
 use kb_proof::{Log, Version, print_log};
-use kb_system::{Ending, Reached, complete_presentation};
+use kb_system::{Ending, Halted, complete_presentation};
 use kb_task::{
     Construction, Limit, Status, Task, print_line, undecided_line, undecided_words_line,
 };
@@ -143,13 +142,8 @@ fn report_on(
         Ending::Completed { rules, acceptor } => {
             completed_report(alloc, rank, rules.len(), acceptor.len())
         }
-        Ending::Halted {
-            reached,
-            lines,
-            waiting,
-            ..
-        } => halted_report(alloc, presentation, reached, lines, waiting),
-        Ending::TooLarge { .. } => too_large_report(alloc),
+        Ending::Halted(halted) => halted_report(alloc, presentation, halted),
+        Ending::TooLarge { .. } => too_large_report(alloc, presentation),
     }
 }
 
@@ -174,15 +168,19 @@ fn completed_report(alloc: Global, rank: u16, rules: usize, states: u32) -> Resu
 fn halted_report(
     alloc: Global,
     presentation: &Presentation,
-    reached: Reached,
-    lines: Vec<Line>,
-    waiting: Line,
+    halted: Halted,
 ) -> Result<Report, Memory>
-    ensures { IfOk result (IsHaltedReport presentation.now.names reached lines.items waiting) }
+    ensures { IfOk result (IsHaltedReport presentation.now.names halted) }
 {
+    let Halted {
+        reached,
+        lines,
+        waiting,
+        ..
+    } = halted;
     let limit = limit_reached(reached);
     let names = &presentation.names;
-    let line = undecided_words_line(alloc, names, limit, &waiting.left, &waiting.right)?;
+    let line = undecided_words_line(alloc, names, &limit, &waiting.left, &waiting.right)?;
     let log = Log {
         version: Version::Two,
         lines,
@@ -197,12 +195,12 @@ fn halted_report(
 }
 
 /// The line of the limit of states.
-fn too_large_report(alloc: Global) -> Result<Report, Memory>
-    ensures { IfOk result IsTooLargeReport }
+fn too_large_report(alloc: Global, presentation: &Presentation) -> Result<Report, Memory>
+    ensures { IfOk result (IsTooLargeReport presentation.now.names) }
 {
     let limit = Limit::States(Construction::Acceptor);
     Ok(Report {
-        text: undecided_line(alloc, limit)?,
+        text: undecided_line(alloc, &presentation.names, &limit)?,
         status: Status::Undecided(limit),
     })
 }

@@ -9,10 +9,6 @@ use Rattle.kb_word.specs.Presentations.{PresentationParts}
 use Rattle.kb_word.specs.WordOrderLaws.{word_orders}
 use Rattle.kb_rules.proofs.Unique.{normal_form_unique}
 use Rattle.kb_confluence.specs.FirstApart.{ComesBefore, IsFirstApart}
-use Rattle.kb_record.specs.Tree.{TextTree}
-use Rattle.kb_presfile.specs.Holds.{PresentationOf, HoldsPresentation as TreeHoldsPresentation}
-use Rattle.kb_presfile.proofs.UniqueParts.{one_presentation}
-use Rattle.kb_task.specs.Loads.{Files}
 use Rattle.kb_task.specs.Presentations.{HoldsPresentation, IsPresentationFault}
 use Rattle.kb_task.specs.PromiseLaws.{yes-conclusive}
 use Rattle.kb_task.specs.Promises.{IsLawful}
@@ -22,7 +18,7 @@ use Rattle.kb_task.specs.declared.status.Cert.TheVariants.{NotConfluent}
 use Rattle.kb_task.specs.declared.status.Refusal.TheVariants.{File, Line, InputTooLong}
 use Rattle.kb_task.specs.declared.status.Status.{Status}
 use Rattle.kb_task.specs.declared.status.Status.TheVariants.{Yes, Refused, Undecided, No, Memory, Fault, Usage}
-use Rattle.kb_task.proofs.LoadEnds.{memory_at_load, load_inconclusive, same_bytes, one_tree}
+use Rattle.kb_task.proofs.LoadEnds.{memory_at_load, load_inconclusive, one_presentation_held}
 use Rattle.kb_lines.proofs.UniqueLemmas.{one-answered}
 use Rattle.kb_cmd_words.specs.Confluence.{IsLeastIn, OrientedAreConfluent, OrientedAreNotConfluent}
 use Rattle.kb_cmd_words.specs.Given.{Given}
@@ -111,19 +107,6 @@ one_least parts w m n one other = elim ((word_orders parts.order).total m n) [
   | inr (inr more) ↦ absurd (one.least n other.congruent more)
 ]
 
--- ---- the file
-
--- a file holds one presentation
-one_held : {files others : Files} {name : List ℕ} {one other : PresentationParts}
-    → files name ≡ others name
-    → HoldsPresentation files name one → HoldsPresentation others name other → one ≡ other
-one_held {one = one} {other = other} same first second =
-    let read : PresentationOf second.bytes one =
-    subst (λ b. PresentationOf b one) (same_bytes same first.held second.held) first.says in
-    let tree = one_tree second.bytes read.text second.says.text read.formed second.says.formed in
-    let P : TextTree → Type 0 = λ text. TreeHoldsPresentation text.fields one in
-    one_presentation second.says.text.fields one other (subst P tree read.holds) second.says.holds
-
 -- ---- the laws
 
 lines_answer : (given : Given) (parts : PresentationParts) (before after : Outside)
@@ -208,7 +191,7 @@ settled given before after other_before other_after status other (inr means)
 settled given before after other_before other_after status other (inr means)
     (inr others) same
     conclusive also =
-    let parts = one_held (same given.file refl) means.1 others.1 in
+    let parts = one_presentation_held (same given.file refl) means.1 others.1 in
     lines_settled others.0 before after other_before other_after status other conclusive also
     (subst (λ p. AnswersMean p before after status) parts means.2) others.2
 
@@ -261,7 +244,7 @@ one_function given other_given before after other_before other_after status
     (inr others) is_yes also file same input =
     let held = subst (λ name. HoldsPresentation other_before.shelf.holds name others.0)
     (sym file) others.1 in
-    let parts = one_held (same given.file refl) means.1 held in
+    let parts = one_presentation_held (same given.file refl) means.1 held in
     lines_same given others.0 before after other_before other_after status other is_yes also
     (subst (λ p. AnswersMean p before after status) parts means.2) others.2 input
 

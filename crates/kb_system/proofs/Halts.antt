@@ -1,5 +1,5 @@
 -- What a sound state says at a halt, as evidence.
-use Rattle.std.proofs.Common.{◌≡◌, ◌≢◌, ℕ, ◌<◌, ◌≤◌, ◌⊎◌, inl, inr, ⊎_elim, arith, get_or, List, [], ◌∷◌, ◌++◌, length, map, Option, Some, IfSome, Result, Ok, Err, IfOk, refl, sym, ap, ◌∙◌, subst}
+use Rattle.std.proofs.Common.{◌≡◌, ◌≢◌, ℕ, ◌<◌, ◌≤◌, ◌⊎◌, inl, inr, ⊎_elim, arith, get_or, List, [], ◌∷◌, ◌++◌, length, map, Option, Some, IfSome, refl, sym, ap, ◌∙◌, subst}
 use Rattle.std.specs.Prelude.{slice_get}
 use Rattle.std.specs.Option.{option_map}
 use Rattle.std.specs.List.{Contains}
@@ -9,7 +9,6 @@ use Rattle.std.proofs.lemmas.Option.{slice_get-map, slice_get_read, slice_get_wi
 use Rattle.kb_word.specs.Rewriting.{IsIrreducible}
 use Rattle.kb_word.specs.Words.{Pair, OneOf}
 use Rattle.kb_word.specs.Presentations.{PresentationParts}
-use Rattle.kb_word.specs.declared.memory.Memory.{Memory}
 use Rattle.kb_machine.specs.Justified.{IsJustified}
 use Rattle.kb_machine.specs.declared.line.Line.{Line}
 use Rattle.kb_machine.specs.declared.origin.Origin.{Origin}
@@ -27,8 +26,6 @@ use Rattle.kb_machine.specs.declared.halt.Halt.TheVariants.{Rules, Length}
 use Rattle.kb_system.specs.Completed.{relations, below}
 use Rattle.kb_system.specs.Evidence.{Limits, AnotherOf, AreInterreduced, AreLiveRules, WaitsIn, IsReached, IsHalted}
 use Rattle.kb_system.specs.Problems.{problem_of, reached_by}
-use Rattle.kb_system.specs.Ended.{EndsAs}
-use Rattle.kb_system.specs.declared.ending.Ending.{Ending}
 use Rattle.kb_system.specs.declared.ending.Reached.{Reached}
 
 -- what a function makes of an element is one of the mapped list
@@ -195,11 +192,3 @@ ends_halted limits parts problem state journal halt origin rest lines waiting ru
     (is_halted limits parts state halt origin rest (subst Sound same sound) is pending
     (are_interreduced problem state sound limits (record { problem = problem; state = state; journal = journal }) refl refl
     (ap (λ (p : Problem). p.most_lines) same) reduced)))))
-
--- an answer that is right for whatever the problem is made of is right for what it is made of
-pub ends_as : (limits : Limits) (parts : PresentationParts) (problem : Problem) (answer : Result Ending Memory)
-    → problem ≡ problem_of limits parts
-    → IfOk answer (λ ending. (own : Limits) (given : PresentationParts) → problem ≡ problem_of own given → EndsAs own given ending)
-    → IfOk answer (EndsAs limits parts)
-ends_as limits parts problem (Ok ending) same says = says limits parts same
-ends_as limits parts problem (Err memory) same says = says

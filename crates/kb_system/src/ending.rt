@@ -61,7 +61,6 @@ pub enum Ending {
 }
 
 /// Completes a presentation within limits, by so many workers, and makes its word acceptor.
-#[tactic(auto, using(crate::proofs::Halts::ends_as))]
 pub fn complete_presentation<G: Gate, W: Watch, T: Threads + Wait + Sync>(
     rt: &T,
     alloc: Global,

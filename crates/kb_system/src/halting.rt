@@ -4,6 +4,7 @@ ghost use Rattle.std.specs.Prelude.{◌≡◌, List, ◌∷◌, Some, IfOk};
 ghost use Rattle.kb_word.specs.Presentations.{PresentationParts};
 ghost use Rattle.kb_machine.specs.declared.origin.Origin.{Origin as PairOrigin};
 ghost use Rattle.kb_machine.specs.Course.{waiting_line as line_of};
+ghost use Rattle.kb_machine.specs.States.{live_rules as rules_that_live};
 ghost use Rattle.kb_complete.specs.Completing.{AreReduced, IsHalted};
 ghost use Rattle.kb_system.specs.Evidence.{Limits};
 ghost use Rattle.kb_system.specs.Problems.{problem_of, reached_by};
@@ -21,8 +22,10 @@ use std::alloc::Global;
 pub fn halted<R: Reducer>(alloc: Global, book: Book<R>) -> Result<Halted, Memory>
     requires halted { IsHalted book.course }
     requires reduced { AreReduced book.course }
-    ensures { IfOk result (λ halted. (limits : Limits) (parts : PresentationParts)
+    ensures shows { IfOk result (λ halted. (limits : Limits) (parts : PresentationParts)
         → book.course.problem ≡ problem_of limits parts → ShowsHalt limits parts halted) }
+    ensures rules { IfOk result
+        (λ halted. halted.rules.rules ≡ rules_that_live book.course.state) }
 {
     book_is_sound(&book);
     let rules = live_rules(alloc, &book)?;

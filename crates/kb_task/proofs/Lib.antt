@@ -1,6 +1,7 @@
 pub mod ArgumentLemmas
 pub mod EffectLemmas
 pub mod EquationLemmas
+mod InverseLemmas
 pub mod LoadEnds
 pub mod LoadLemmas
 pub mod RunLemmas

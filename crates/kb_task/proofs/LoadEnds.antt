@@ -3,6 +3,7 @@ use Rattle.std.proofs.Common.{◌≡◌, ◌∙◌, ℕ, List, refl, sym, subst}
 use Rattle.std.proofs.Math.Path.{fun_ext}
 use Rattle.std.proofs.lemmas.Option.{same_Some}
 use Rattle.kb_io.specs.States.{ShelfState}
+use Rattle.kb_word.specs.Presentations.{PresentationParts}
 use Rattle.kb_record.specs.Grammar.{IsText, TextOf}
 use Rattle.kb_lexing.specs.Token.{Token}
 use Rattle.kb_record.specs.Tree.{TextTree}
@@ -11,8 +12,11 @@ use Rattle.kb_record.proofs.Unique.{one_text}
 use Rattle.kb_fsa.specs.Language.{Automaton}
 use Rattle.kb_fsafile.specs.Holds.{AutomatonOf, HoldsAutomaton as TreeHoldsAutomaton}
 use Rattle.kb_fsafile.proofs.UniqueAutomaton.{one_automaton}
+use Rattle.kb_presfile.specs.Holds.{PresentationOf, HoldsPresentation as TreeHoldsPresentation}
+use Rattle.kb_presfile.proofs.UniqueParts.{one_presentation}
 use Rattle.kb_task.specs.Automata.{HoldsAutomaton, IsUnrefused}
 use Rattle.kb_task.specs.Loads.{Files, IsHeld, IsCause, EndsAtLoad, OnlyLoads, stopped_at}
+use Rattle.kb_task.specs.Presentations.{HoldsPresentation}
 use Rattle.kb_task.specs.Statuses.{IsConclusive, IsFaultless}
 use Rattle.kb_task.specs.declared.loading.LoadStop.{LoadStop}
 use Rattle.kb_task.specs.declared.loading.LoadStop.TheVariants as stops
@@ -65,6 +69,15 @@ pub one_held : {files others : Files} {name : List ℕ} {names found : List (Lis
 one_held {names = names} {found = found} {first = first} {second = second} same held other =
     one_automaton_text other.bytes names found first second
     (subst (λ b. AutomatonOf b names first) (same_bytes same held.held other.held) held.says) other.says
+
+-- a file holds one presentation
+pub one_presentation_held : {files others : Files} {name : List ℕ} {one other : PresentationParts} → files name ≡ others name
+    → HoldsPresentation files name one → HoldsPresentation others name other → one ≡ other
+one_presentation_held {one = one} {other = other} same first second =
+    let read : PresentationOf second.bytes one = subst (λ b. PresentationOf b one) (same_bytes same first.held second.held) first.says in
+    let tree = one_tree second.bytes read.text second.says.text read.formed second.says.formed in
+    let P : TextTree → Type 0 = λ text. TreeHoldsPresentation text.fields one in
+    one_presentation second.says.text.fields one other (subst P tree read.holds) second.says.holds
 
 -- after files were only loaded, the shelf holds the same
 pub same_files : {before after : ShelfState} → OnlyLoads before after → after.holds ≡ before.holds

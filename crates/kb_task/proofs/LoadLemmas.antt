@@ -9,13 +9,14 @@ use Rattle.kb_fsa.specs.declared.alphabet.Alphabet.TheVariants.{Plain, Pair}
 use Rattle.kb_fsa.specs.Language.{Automaton}
 use Rattle.kb_task.specs.Automata.{HoldsAutomaton, HasKind, IsAutomatonFault, IsSecondFault}
 use Rattle.kb_task.specs.Loads.{Files, IsCause, EndsAtLoad, LoadIsCounted, stopped_at}
+use Rattle.kb_task.specs.Presentations.{IsPresentationFault, IsGroupFault}
 use Rattle.kb_task.specs.Runs.{FaultIsCounted}
 use Rattle.kb_task.specs.declared.loading.LoadStop.{LoadStop}
 use Rattle.kb_task.specs.declared.loading.LoadStop.TheVariants as stops
 use Rattle.kb_task.specs.declared.loading.automata.Kind.{Kind}
 use Rattle.kb_task.specs.declared.loading.automata.Kind.TheVariants.{Words, Pairs}
 use Rattle.kb_task.specs.declared.status.FileFault.{FileFault}
-use Rattle.kb_task.specs.declared.status.FileFault.TheVariants.{Missing, TooLong, Presentation, Automaton as NoAutomaton, Log as NoLog, NotPlain, NotPairs, AlphabetsDiffer}
+use Rattle.kb_task.specs.declared.status.FileFault.TheVariants.{Missing, TooLong, Presentation, Automaton as NoAutomaton, Log as NoLog, NotPlain, NotPairs, AlphabetsDiffer, NeedsShortlex, NotGroup}
 use Rattle.kb_task.specs.declared.status.Status.{Status}
 
 -- lists of one length that are the same at each place
@@ -77,9 +78,30 @@ second_fault kind names alphabet files name NotPairs cause = cause
 second_fault kind names alphabet files name AlphabetsDiffer cause = absurd cause
 second_fault kind names alphabet files name (Presentation fault) cause = cause
 second_fault kind names alphabet files name (NoLog fault) cause = cause
+second_fault kind names alphabet files name NeedsShortlex cause = cause
+second_fault kind names alphabet files name (NotGroup generator) cause = cause
 
 pub second_cause : (kind : Kind) (names : List (List ℕ)) (alphabet : Alphabet) (files : Files) (name : List ℕ) (stop : LoadStop)
     → IsCause (IsAutomatonFault kind files name) stop → IsCause (IsSecondFault kind names alphabet files name) stop
 second_cause kind names alphabet files name (stops.Refused fault) cause = second_fault kind names alphabet files name fault cause
 second_cause kind names alphabet files name stops.Failed cause = tt
 second_cause kind names alphabet files name stops.Memory cause = tt
+
+-- why a file holds no presentation is why it holds no group
+pub group_fault : (files : Files) (name : List ℕ) (fault : FileFault) → IsPresentationFault files name fault → IsGroupFault files name fault
+group_fault files name Missing cause = cause
+group_fault files name TooLong cause = cause
+group_fault files name (Presentation fault) cause = cause
+group_fault files name NeedsShortlex cause = absurd cause
+group_fault files name (NotGroup generator) cause = absurd cause
+group_fault files name (NoAutomaton fault) cause = cause
+group_fault files name (NoLog fault) cause = cause
+group_fault files name NotPlain cause = cause
+group_fault files name NotPairs cause = cause
+group_fault files name AlphabetsDiffer cause = cause
+
+pub group_cause : (files : Files) (name : List ℕ) (stop : LoadStop) → IsCause (IsPresentationFault files name) stop
+    → IsCause (IsGroupFault files name) stop
+group_cause files name (stops.Refused fault) cause = group_fault files name fault cause
+group_cause files name stops.Failed cause = tt
+group_cause files name stops.Memory cause = tt

@@ -15,7 +15,7 @@ LineIsWritten line status before after result =
     ⊎ ((result ≡ Fault Output) × AppendsPrefix before.written after.written line)
 
 -- the line of the limit was written, or a front of it; or memory ran out before
-abbrev pub LimitIsPrinted : Limit → SinkState → SinkState → Status → Type 0
-LimitIsPrinted limit before after result =
-    LineIsWritten (undecided_line limit) (Undecided limit) before after result
+abbrev pub LimitIsPrinted : List (List ℕ) → Limit → SinkState → SinkState → Status → Type 0
+LimitIsPrinted names limit before after result =
+    LineIsWritten (undecided_line names limit) (Undecided limit) before after result
     ⊎ ((result ≡ Memory) × (after.written ≡ before.written))

@@ -1,5 +1,5 @@
 -- The laws of what a family of commands promises, from those of its commands.
-use Rattle.std.proofs.Common.{subst}
+use Rattle.std.proofs.Common.{◌≡◌, refl, subst}
 use Rattle.kb_io.specs.Outside.{Outside}
 use Rattle.kb_task.specs.Promises.{Promise, IsLawful, in_family}
 use Rattle.kb_task.specs.Statuses.{IsConclusive, IsYes}
@@ -10,6 +10,12 @@ use Rattle.kb_task.specs.declared.status.Status.TheVariants.{Yes}
 pub yes-conclusive : (status : Status) → IsYes status → IsConclusive status
 yes-conclusive Yes is_yes = tt
 yes-conclusive _ is_yes = absurd is_yes
+
+-- there is one yes
+pub one_yes : (status other : Status) → IsYes status → IsYes other → status ≡ other
+one_yes Yes Yes is_yes also = refl
+one_yes Yes _ is_yes also = absurd also
+one_yes _ _ is_yes also = absurd is_yes
 
 -- What a family's command of a variant promises has the laws of that command, where what the family's commands of the
 -- variant mean is what those commands mean.

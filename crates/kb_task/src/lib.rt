@@ -33,9 +33,11 @@ pub use arguments::{
     option_given, text_given,
 };
 pub use lines::{print_limit, print_line, undecided_line, undecided_words_line};
-pub use loading::automata::{Kind, Loaded, load_automaton, load_second};
+pub use loading::automata::{
+    Kind, Loaded, load_acceptor, load_automaton, load_multiplier, load_second,
+};
 pub use loading::logs::{load_log, stored_logs_are_read};
-pub use loading::presentations::load_presentation;
+pub use loading::presentations::{load_group, load_presentation};
 pub use loading::{LoadStop, load_text};
 pub use status::{Cert, Construction, FileFault, Limit, Refusal, Status, Which};
 pub use stopping::status_of;

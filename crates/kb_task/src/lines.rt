@@ -1,17 +1,19 @@
 //! The line that a status prints.
 
-ghost use Rattle.std.specs.Prelude.{◌≡◌, ◌++◌, IsTrue, IfOk, OnOk};
+ghost use Rattle.std.specs.Prelude.{◌≡◌, ◌++◌, ℕ, List, IsTrue, IfOk, OnOk};
 ghost use Rattle.kb_io.specs.Outside.{outside};
 ghost use Rattle.kb_io.specs.States.{ShelfState, SourceState, SinkGoesOn};
-ghost use Rattle.kb_task.specs.Limits.{limit_name, undecided_line, undecided_words_line};
+ghost use Rattle.kb_task.specs.Limits.{construction_name, limit_name, undecided_line, undecided_words_line};
 ghost use Rattle.kb_task.specs.Lines.{LineIsWritten, LimitIsPrinted};
 ghost use Rattle.kb_task.specs.Runs.{FaultIsCounted};
 ghost use Rattle.kb_task.specs.Statuses.{IsFaultless};
+ghost use Rattle.kb_task.specs.declared.status.Construction.TheVariants.{Images, Relation};
 ghost use Rattle.kb_task.specs.declared.status.Limit.TheVariants.{States};
 
 use crate::status::{Construction, Limit, Status, Which};
+use itoa::Buffer;
 use kb_io::{Failed, Sink, write_all};
-use kb_word::{Memory, Names, Word, print_word};
+use kb_word::{Letter, Memory, Names, Word, print_word};
 use std::alloc::Global;
 
 /// Writes a line, and returns the status that it is about.
@@ -31,26 +33,26 @@ pub fn print_line<O: Sink>(line: &[u8], status: Status, out: &mut O) -> Status
 }
 
 /// Writes the line of a limit that was reached, and returns its status.
-pub fn print_limit<O: Sink>(alloc: Global, limit: Limit, out: &mut O) -> Status
+pub fn print_limit<O: Sink>(alloc: Global, names: &Names, limit: Limit, out: &mut O) -> Status
     ensures written { IsTrue (O.state out.old).told
-        → LimitIsPrinted limit (O.state out.old) (O.state out.new) result }
+        → LimitIsPrinted names.now limit (O.state out.old) (O.state out.new) result }
     ensures fault { (shelf : ShelfState) (input : SourceState)
         → FaultIsCounted (outside shelf input (O.state out.old))
         (outside shelf input (O.state out.new)) result }
     ensures goes_on { SinkGoesOn (O.state out.old) (O.state out.new) }
 {
-    match undecided_line(alloc, limit) {
+    match undecided_line(alloc, names, &limit) {
         Ok(line) => print_line(&line, Status::Undecided(limit), out),
         Err(Memory) => Status::Memory,
     }
 }
 
 /// `undecided`, the limit, and a newline.
-pub fn undecided_line(alloc: Global, limit: Limit) -> Result<Vec<u8>, Memory>
-    ensures { IfOk result (λ line. line.items ≡ undecided_line limit) }
+pub fn undecided_line(alloc: Global, names: &Names, limit: &Limit) -> Result<Vec<u8>, Memory>
+    ensures { IfOk result (λ line. line.items ≡ undecided_line names.now limit.now) }
 {
     let mut line = Vec::from_slice(alloc, b"undecided ")?;
-    append_name(limit, &mut line)?;
+    append_limit(names, limit, &mut line)?;
     line.push(b'\n')?;
     Ok(line)
 }
@@ -59,14 +61,14 @@ pub fn undecided_line(alloc: Global, limit: Limit) -> Result<Vec<u8>, Memory>
 pub fn undecided_words_line(
     alloc: Global,
     names: &Names,
-    limit: Limit,
+    limit: &Limit,
     u: &Word,
     v: &Word,
 ) -> Result<Vec<u8>, Memory>
-    ensures { IfOk result (λ line. line.items ≡ undecided_words_line names.now limit u.now v.now) }
+    ensures { IfOk result (λ line. line.items ≡ undecided_words_line names.now limit.now u.now v.now) }
 {
     let mut line = Vec::from_slice(alloc, b"undecided ")?;
-    append_name(limit, &mut line)?;
+    append_limit(names, limit, &mut line)?;
     line.push(b' ')?;
     print_word(names, u, &mut line)?;
     line.push(b' ')?;
@@ -76,24 +78,68 @@ pub fn undecided_words_line(
 }
 
 /// Appends what a limit is called.
-fn append_name(limit: Limit, line: &mut Vec<u8>) -> Result<(), Memory>
-    ensures { OnOk result (line.new.items ≡ line.old.items ++ limit_name limit) }
+fn append_limit(names: &Names, limit: &Limit, line: &mut Vec<u8>) -> Result<(), Memory>
+    ensures { OnOk result (line.new.items ≡ line.old.items ++ limit_name names.now limit.now) }
 {
     match limit {
         Limit::Rules => append(b"rules", line),
         Limit::Length => append(b"length", line),
-        Limit::States(which) => append_states(which, line),
+        Limit::States(which) => append_states(names, which, line),
     }
 }
 
 /// Appends `states` and what is constructed.
-fn append_states(which: Construction, line: &mut Vec<u8>) -> Result<(), Memory>
-    ensures { OnOk result (line.new.items ≡ line.old.items ++ limit_name (States which)) }
+fn append_states(names: &Names, which: &Construction, line: &mut Vec<u8>) -> Result<(), Memory>
+    ensures { OnOk result (line.new.items ≡ line.old.items ++ limit_name names.now (States which.now)) }
 {
     append(b"states ", line)?;
-    append(which.name().as_bytes(), line)
+    append_construction(names, which, line)
 }
 
+/// Appends what a construction is called.
+fn append_construction(
+    names: &Names,
+    which: &Construction,
+    line: &mut Vec<u8>,
+) -> Result<(), Memory>
+    ensures { OnOk result (line.new.items ≡ line.old.items ++ construction_name names.now which.now) }
+{
+    match which {
+        Construction::And => append(b"and", line),
+        Construction::Or => append(b"or", line),
+        Construction::Not => append(b"not", line),
+        Construction::Exists => append(b"exists", line),
+        Construction::Concat => append(b"concat", line),
+        Construction::Star => append(b"star", line),
+        Construction::Reverse => append(b"reverse", line),
+        Construction::Equal => append(b"equal", line),
+        Construction::Acceptor => append(b"acceptor", line),
+        Construction::Images(generator) => append_images(names, *generator, line),
+        Construction::Relation(number) => append_relation(*number, line),
+    }
+}
+
+/// Appends what the images by a generator are called.
+fn append_images(names: &Names, generator: Letter, line: &mut Vec<u8>) -> Result<(), Memory>
+    ensures { OnOk result
+        (line.new.items ≡ line.old.items ++ construction_name names.now (Images generator)) }
+{
+    append(b"axiom N4 ", line)?;
+    let name = names.name_of(generator).unwrap_or("");
+    append(name.as_bytes(), line)
+}
+
+/// Appends what the composites of a relation are called.
+fn append_relation(number: usize, line: &mut Vec<u8>) -> Result<(), Memory>
+    ensures { (names : List (List ℕ)) → OnOk result
+        (line.new.items ≡ line.old.items ++ construction_name names (Relation number)) }
+{
+    append(b"axiom N8 ", line)?;
+    let mut buffer = Buffer::new();
+    append(buffer.format(number).as_bytes(), line)
+}
+
+/// Appends bytes.
 fn append(bytes: &[u8], line: &mut Vec<u8>) -> Result<(), Memory>
     ensures { OnOk result (line.new.items ≡ line.old.items ++ bytes.now) }
 {

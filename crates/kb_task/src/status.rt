@@ -6,7 +6,8 @@ use kb_fsafile::FsaError;
 use kb_presfile::PresError;
 use kb_proof::LogError;
 use kb_record::WordError;
-use kb_word::{OwnedText, Word};
+use kb_structure::Cert as StructureCert;
+use kb_word::{Letter, OwnedText, Word};
 use std::fmt;
 
 /// How a run ends. [`Status::exit`] is the program's exit status.
@@ -56,8 +57,13 @@ pub enum FileFault {
     NotPlain,
     /// It holds a plain automaton, where one of pairs is needed.
     NotPairs,
-    /// Its letters, or what it reads, differ from those of the automaton before it.
+    /// Its letters, or what it reads, differ from those of what was read before it.
     AlphabetsDiffer,
+    /// It holds a presentation by another order than shortlex, where shortlex is needed.
+    NeedsShortlex,
+    /// It holds a presentation in which the generator of this name, and none before it, has no inverse, where a group's
+    /// is needed.
+    NotGroup(OwnedText),
 }
 
 /// A limit that was reached.
@@ -83,6 +89,10 @@ pub enum Construction {
     Reverse,
     Equal,
     Acceptor,
+    /// The words that the multiplier of the generator relates to some word.
+    Images(Letter),
+    /// The composites along both sides of the relation with this number, from 1 on.
+    Relation(usize),
 }
 
 /// What shows that the answer is no.
@@ -92,6 +102,8 @@ pub enum Cert {
     NotConfluent { u: Word, v: Word },
     /// The languages differ: the text is the least that exactly one of the automata accepts.
     NotEqual { text: Symbols },
+    /// Automata aren't a group's own automatic structure.
+    Structure(StructureCert),
 }
 
 /// What failed outside.
@@ -105,28 +117,6 @@ pub enum Which {
     Input,
     /// The output.
     Output,
-}
-
-impl Construction {
-    ghost use Rattle.std.specs.Prelude.{◌≡◌};
-    ghost use Rattle.kb_task.specs.Limits.{construction_name};
-
-    /// What it is called where a limit is named.
-    pub fn name(self) -> &'static str
-        ensures { result.now ≡ construction_name self }
-    {
-        match self {
-            Construction::And => "and",
-            Construction::Or => "or",
-            Construction::Not => "not",
-            Construction::Exists => "exists",
-            Construction::Concat => "concat",
-            Construction::Star => "star",
-            Construction::Reverse => "reverse",
-            Construction::Equal => "equal",
-            Construction::Acceptor => "acceptor",
-        }
-    }
 }
 
 impl Status {
@@ -170,6 +160,8 @@ impl fmt::Display for FileFault {
             FileFault::NotPlain => write!(f, "E18 AlphabetOther"),
             FileFault::NotPairs => write!(f, "E20 NotPairs"),
             FileFault::AlphabetsDiffer => write!(f, "E22 AlphabetsDiffer"),
+            FileFault::NeedsShortlex => write!(f, "E30 NeedsShortlex"),
+            FileFault::NotGroup(generator) => write!(f, "E23 NotGroup {generator}"),
         }
     }
 }

@@ -4,16 +4,18 @@ ghost use Rattle.std.specs.Prelude.{◌≡◌, ◌↔◌, ℕ, List, IsTrue, IfO
 ghost use Rattle.kb_io.specs.Outside.{outside};
 ghost use Rattle.kb_io.specs.States.{ShelfState, SourceState, SinkState};
 ghost use Rattle.kb_fsa.specs.Language.{generators};
+ghost use Rattle.kb_fsa.specs.declared.alphabet.Alphabet.TheVariants.{Plain, Pair};
 ghost use Rattle.kb_task.specs.Automata.{HoldsAutomaton, HasKind, IsAutomatonFault, IsSecondFault};
 ghost use Rattle.kb_task.specs.Loads.{Files, IsHeld, IsCause, EndsAtLoad, OnlyLoads, LoadIsCounted};
 ghost use Rattle.kb_task.specs.Runs.{FaultIsCounted};
+ghost use Rattle.kb_task.specs.declared.loading.automata.Kind.TheVariants.{Words, Pairs};
 
 use super::{LoadStop, load_text};
 use crate::status::{FileFault, Status};
 use kb_fsa::{Alphabet, Fsa};
 use kb_fsafile::{FsaError, read};
 use kb_io::Shelf;
-use kb_word::{Names, OwnedText};
+use kb_word::{Names, OwnedText, Presentation};
 use std::alloc::Global;
 
 /// What a command needs an automaton to read.
@@ -80,7 +82,78 @@ pub fn load_second<F: Shelf>(
         (outside (F.state shelf.new) input output) status) }
     ensures only_loads { OnlyLoads (F.state shelf.old) (F.state shelf.new) }
 {
-    match second_in(alloc, kind, first, file.as_str(), shelf) {
+    match second_in(
+        alloc,
+        kind,
+        &first.names,
+        first.fsa.alphabet(),
+        file.as_str(),
+        shelf,
+    ) {
+        Ok(fsa) => Ok(fsa),
+        Err(stop) => Err(stop.status(file)),
+    }
+}
+
+/// The automaton of words over the presentation's generators that the file of this name holds.
+pub fn load_acceptor<F: Shelf>(
+    alloc: Global,
+    file: OwnedText,
+    presentation: &Presentation,
+    shelf: &mut F,
+) -> Result<Fsa, Status>
+    ensures holds { IsTrue (F.state shelf.old).told → IfOk result (λ fsa.
+        HoldsAutomaton (F.state shelf.old).holds file presentation.now.names fsa) }
+    ensures alphabet { IfOk result (λ fsa. fsa.alphabet ≡ Plain presentation.now.n) }
+    ensures ends { IsTrue (F.state shelf.old).told → IfErr result (EndsAtLoad
+        (IsSecondFault Words presentation.now.names (Plain presentation.now.n)
+        (F.state shelf.old).holds file) file) }
+    ensures fault { IfErr result (λ status. (input : SourceState) (output : SinkState)
+        → FaultIsCounted (outside (F.state shelf.old) input output)
+        (outside (F.state shelf.new) input output) status) }
+    ensures only_loads { OnlyLoads (F.state shelf.old) (F.state shelf.new) }
+{
+    let alphabet = Alphabet::Plain(presentation.n);
+    match second_in(
+        alloc,
+        Kind::Words,
+        &presentation.names,
+        alphabet,
+        file.as_str(),
+        shelf,
+    ) {
+        Ok(fsa) => Ok(fsa),
+        Err(stop) => Err(stop.status(file)),
+    }
+}
+
+/// The automaton of pairs of words over the presentation's generators that the file of this name holds.
+pub fn load_multiplier<F: Shelf>(
+    alloc: Global,
+    file: OwnedText,
+    presentation: &Presentation,
+    shelf: &mut F,
+) -> Result<Fsa, Status>
+    ensures holds { IsTrue (F.state shelf.old).told → IfOk result (λ fsa.
+        HoldsAutomaton (F.state shelf.old).holds file presentation.now.names fsa) }
+    ensures alphabet { IfOk result (λ fsa. fsa.alphabet ≡ Pair presentation.now.n) }
+    ensures ends { IsTrue (F.state shelf.old).told → IfErr result (EndsAtLoad
+        (IsSecondFault Pairs presentation.now.names (Pair presentation.now.n)
+        (F.state shelf.old).holds file) file) }
+    ensures fault { IfErr result (λ status. (input : SourceState) (output : SinkState)
+        → FaultIsCounted (outside (F.state shelf.old) input output)
+        (outside (F.state shelf.new) input output) status) }
+    ensures only_loads { OnlyLoads (F.state shelf.old) (F.state shelf.new) }
+{
+    let alphabet = Alphabet::Pair(presentation.n);
+    match second_in(
+        alloc,
+        Kind::Pairs,
+        &presentation.names,
+        alphabet,
+        file.as_str(),
+        shelf,
+    ) {
         Ok(fsa) => Ok(fsa),
         Err(stop) => Err(stop.status(file)),
     }
@@ -131,37 +204,36 @@ fn automaton_of_kind(alloc: Global, kind: Kind, bytes: &[u8]) -> Result<Loaded, 
     }
 }
 
-/// The automaton of the kind that the file of this name holds, over the same letters as the first one and of its kind.
+/// The automaton of the kind that the file of this name holds, over letters with these names and this alphabet.
 fn second_in<F: Shelf>(
     alloc: Global,
     kind: Kind,
-    first: &Loaded,
+    names: &Names,
+    alphabet: Alphabet,
     name: &str,
     shelf: &mut F,
 ) -> Result<Fsa, LoadStop>
     ensures holds { IsTrue (F.state shelf.old).told
-        → IfOk result (λ fsa.
-        HoldsAutomaton (F.state shelf.old).holds name.now first.now.names fsa) }
-    ensures alphabet { IfOk result (λ fsa. fsa.alphabet ≡ first.now.fsa.alphabet) }
+        → IfOk result (λ fsa. HoldsAutomaton (F.state shelf.old).holds name.now names.now fsa) }
+    ensures alphabet { IfOk result (λ fsa. fsa.alphabet ≡ alphabet) }
     ensures stops { IsTrue (F.state shelf.old).told → IfErr result (IsCause
-        (IsSecondFault kind first.now.names first.now.fsa.alphabet
-        (F.state shelf.old).holds name.now)) }
+        (IsSecondFault kind names.now alphabet (F.state shelf.old).holds name.now)) }
     ensures counted { IfErr result (LoadIsCounted (F.state shelf.old) (F.state shelf.new)) }
     ensures only_loads { OnlyLoads (F.state shelf.old) (F.state shelf.new) }
 {
     match automaton_in(alloc, kind, name, shelf) {
-        Ok(second) if has_same_alphabet(first, &second) => Ok(second.fsa),
+        Ok(second) if is_over(&second, names, alphabet) => Ok(second.fsa),
         Ok(_) => Err(LoadStop::Refused(FileFault::AlphabetsDiffer)),
         Err(stop) => Err(stop),
     }
 }
 
-/// Whether both read the same letters, by the same names in the same order.
-fn has_same_alphabet(first: &Loaded, second: &Loaded) -> bool
-    ensures { IsTrue result ↔ ((second.now.names ≡ first.now.names)
-        × (second.now.fsa.alphabet ≡ first.now.fsa.alphabet)) }
+/// Whether an automaton is over letters with these names, in the same order, and over this alphabet.
+fn is_over(loaded: &Loaded, names: &Names, alphabet: Alphabet) -> bool
+    ensures { IsTrue result
+        ↔ ((loaded.now.names ≡ names.now) × (loaded.now.fsa.alphabet ≡ alphabet)) }
 {
-    have_same_names(&second.names, &first.names) && second.fsa.alphabet() == first.fsa.alphabet()
+    have_same_names(&loaded.names, names) && loaded.fsa.alphabet() == alphabet
 }
 
 /// Whether the letters have the same names, in the same order.

@@ -19,8 +19,8 @@ returns-in_ok-halted-in-Halted c =
     let at = c.in-Halted in
     let ends = subst (λ (e : Ending). EndsAs given.limits parts e) at.is c.requires in
     let file : c.task.inside.file ≡ given.file = ap (λ (it : KbprogGiven). it.file) c.task.view_is in
-    shown-halted given parts c.task.inside.file file c.in_ok-halted-in-Halted.field-0 at.lines.items at.waiting at.rules.rules at.reached
-    ends.1 c.in_ok-halted-in-Halted.ensures
+    shown-halted given parts c.task.inside.file file c.in_ok-halted-in-Halted.field-0 at.shown.lines.items at.shown.waiting at.shown.rules.rules
+    at.shown.reached ends.1 c.in_ok-halted-in-Halted.ensures
 
 pub returns-in_ok-too_large-in-TooLarge : goal.returns-in_ok-too_large-in-TooLarge
 returns-in_ok-too_large-in-TooLarge c =

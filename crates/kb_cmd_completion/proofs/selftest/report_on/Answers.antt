@@ -15,11 +15,12 @@ pub returns-in-Halted : goal.returns-in-Halted
 returns-in-Halted c = λ given same ends.
     let ended = rw c.in-Halted.is at ends in
     if_ok c.halted_report.result c.halted_report.ensures
-    (λ report is. report-halted given report c.args.rank c.args.presentation.now.names c.in-Halted.reached c.in-Halted.lines.items
-    c.in-Halted.waiting c.in-Halted.rules.rules same (ap (λ (parts : PresentationParts). parts.names) c.requires) ended.1 is)
+    (λ report is. report-halted given report c.args.rank c.args.presentation.now.names c.in-Halted.halted same
+    (ap (λ (parts : PresentationParts). parts.names) c.requires) ended.1 is)
 
 pub returns : goal.returns
 returns c = λ given same ends.
     let ended = rw c.in-TooLarge.is at ends in
     if_ok c.too_large_report.result c.too_large_report.ensures
-    (λ report is. report-too_large given report c.args.rank c.in-TooLarge.lines.items c.in-TooLarge.rules.rules same ended.1 is)
+    (λ report is. report-too_large given report c.args.rank c.args.presentation.now.names c.in-TooLarge.lines.items c.in-TooLarge.rules.rules same
+    (ap (λ (parts : PresentationParts). parts.names) c.requires) ended.1 is)

@@ -3,8 +3,8 @@ use Rattle.kb_machine.specs.States.{Problem}
 use Rattle.kb_system.proofs.Halts.{ends_halted}
 use Rattle.kb_system.proofs.halting.halted.Goals as goal
 
-pub returns : goal.returns
-returns g c limits parts same =
+pub returns-clause-shows : goal.returns-clause-shows
+returns-clause-shows g c limits parts same =
     let course = c.args.book.course in
     let first = c.first_pending-origin.ensures in
     let rules = c.in_ok-rules.ensures in (

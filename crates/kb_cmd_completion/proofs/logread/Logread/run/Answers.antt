@@ -4,7 +4,7 @@ use Rattle.kb_word.specs.Presentations.{PresentationParts, parts_of}
 use Rattle.kb_task.specs.Loads.{EndsAtLoad}
 use Rattle.kb_task.specs.Logs.{HoldsLog, IsLogFault}
 use Rattle.kb_task.specs.Presentations.{HoldsPresentation, IsPresentationFault}
-use Rattle.kb_cmd_completion.specs.Files.{log_file}
+use Rattle.kb_evidence.specs.Files.{log_file}
 use Rattle.kb_cmd_completion.specs.Given.{LogreadGiven}
 use Rattle.kb_cmd_completion.proofs.LogreadRuns.{run-memory, run-unpresented, run-unread, run-read}
 use Rattle.kb_cmd_completion.proofs.logread.Logread.run.Goals as goal

@@ -3,7 +3,7 @@ use Rattle.std.proofs.Common.{◌≡◌, ◌≢◌, ◌⊎◌, inl, inr, ℕ, ze
 use Rattle.std.specs.List.{AllPairs, Contains}
 use Rattle.std.proofs.lemmas.List.{append_cancel_left}
 use Rattle.std.proofs.lemmas.List.Elements.{Contains-append_left, Contains-push, Contains-push_cases}
-use Rattle.kb_cmd_completion.specs.Files.{rules_file, acceptor_file, log_file}
+use Rattle.kb_evidence.specs.Files.{rules_file, acceptor_file, log_file}
 
 -- ---- a list of two
 

@@ -1,30 +1,46 @@
 //! Names of the files that belong to a presentation's file.
 
 ghost use Rattle.std.specs.Prelude.{◌≡◌, ◌++◌, IfOk};
-ghost use Rattle.kb_cmd_completion.specs.Files.{rules_file, acceptor_file, log_file};
+ghost use Rattle.kb_evidence.specs.Files.{rules_file, acceptor_file, log_file, multiplier_file};
 
-use kb_word::{Memory, OwnedText};
+use itoa::Buffer;
+use kb_word::{Letter, Memory, OwnedText};
 use std::alloc::Global;
 
 /// The file of the rules.
-pub(crate) fn rules_file(alloc: Global, file: &OwnedText) -> Result<OwnedText, Memory>
+pub fn rules_file(alloc: Global, file: &OwnedText) -> Result<OwnedText, Memory>
     ensures { IfOk result (λ name. name ≡ rules_file file.now) }
 {
     with_ending(alloc, file, ".kbprog")
 }
 
 /// The file of the word acceptor.
-pub(crate) fn acceptor_file(alloc: Global, file: &OwnedText) -> Result<OwnedText, Memory>
+pub fn acceptor_file(alloc: Global, file: &OwnedText) -> Result<OwnedText, Memory>
     ensures { IfOk result (λ name. name ≡ acceptor_file file.now) }
 {
     with_ending(alloc, file, ".wa")
 }
 
 /// The file of the log.
-pub(crate) fn log_file(alloc: Global, file: &OwnedText) -> Result<OwnedText, Memory>
+pub fn log_file(alloc: Global, file: &OwnedText) -> Result<OwnedText, Memory>
     ensures { IfOk result (λ name. name ≡ log_file file.now) }
 {
     with_ending(alloc, file, ".kblog")
+}
+
+/// The file of the multiplier of a generator.
+pub fn multiplier_file(
+    alloc: Global,
+    file: &OwnedText,
+    generator: Letter,
+) -> Result<OwnedText, Memory>
+    ensures { IfOk result (λ name. name ≡ multiplier_file file.now generator) }
+{
+    let mut name = String::from_str(alloc, file.as_str())?;
+    name.push_str(".m")?;
+    let mut buffer = Buffer::new();
+    name.push_str(buffer.format(generator.number()))?;
+    Ok(OwnedText::from_string(name))
 }
 
 /// The name with an ending behind it.

@@ -1,0 +1,99 @@
+-- The command that is read of a subcommand's arguments and options.
+use Rattle.std.proofs.Common.{◌≡◌, ◌∙◌, ℕ, Option, Some, None, List, ◌∷◌, sym, ap, refl, suc, ◌+◌, ◌<◌, ◌≤◌, get_or, drop, false, codes, arith}
+use Rattle.std.proofs.Math.Seq.{drop-cons}
+use Rattle.std.proofs.lemmas.List.{drop_all}
+use Rattle.clap.specs.Words.{AddsSubcommand, App, Row, Text, app_of, with_subcommand}
+use Rattle.clap.specs.declared.builder.command.Command.{Command}
+use Rattle.clap.specs.declared.builder.command.Command.TheViews.{out-Command}
+use Rattle.kb_system.specs.Evidence.{Limits}
+use Rattle.kb_task.specs.Arguments.{Entered, GivesOption, ReadsAs}
+use Rattle.kb_task.specs.declared.arguments.NumberOption.TheVariants.{Workers, MaxRules, MaxLen, MaxStates}
+use Rattle.kb_task.proofs.ArgumentLemmas.{added, text_given-at, option_given-at, own_name, own_rows}
+use Rattle.kb_cmd_structures.specs.Given.{GpaxiomsGiven}
+use Rattle.kb_cmd_structures.specs.Line.{name_text, command_app, with_commands, all_names, name_of_task, GivesLimits, GivesTask, GivesGpaxioms, IsStructuresTask, IsRead}
+use Rattle.kb_cmd_structures.specs.declared.line.name.Name.{Name}
+use Rattle.kb_cmd_structures.specs.declared.line.name.Name.TheVariants as names
+use Rattle.kb_cmd_structures.specs.declared.task.StructuresTask.{StructuresTask}
+use Rattle.kb_cmd_structures.specs.declared.task.StructuresTask.TheVariants as tasks
+
+-- ---- names
+
+-- two commands have two names
+pub one_name : (name other : Name) → name_text name ≡ name_text other → name ≡ other
+one_name names.Gpaxioms names.Gpaxioms is = refl
+
+-- ---- one subcommand is one command at most
+
+same_limits : (rows : List Row) (limits other : Limits) → GivesLimits rows limits → GivesLimits rows other → limits ≡ other
+same_limits rows limits other a b =
+    let most_lines : limits.lines ≡ other.lines =
+    option_given-at rows MaxRules limits.lines a.lines
+    ∙ sym (option_given-at rows MaxRules other.lines b.lines) in
+    let most_letters : limits.letters ≡ other.letters =
+    option_given-at rows MaxLen limits.letters a.letters
+    ∙ sym (option_given-at rows MaxLen other.letters b.letters) in
+    let most_states : limits.states ≡ other.states =
+    option_given-at rows MaxStates limits.states a.states
+    ∙ sym (option_given-at rows MaxStates other.states b.states) in
+    λ i. record { lines = most_lines i; letters = most_letters i; states = most_states i }
+
+same_gpaxioms : (rows : List Row) (given other : GpaxiomsGiven) → GivesGpaxioms rows given → GivesGpaxioms rows other → given ≡ other
+same_gpaxioms rows given other a b =
+    let files : given.file ≡ other.file =
+    text_given-at rows (codes "file") given.file a.file ∙ sym (text_given-at rows (codes "file") other.file b.file) in
+    let threads : given.workers ≡ other.workers =
+    option_given-at rows Workers given.workers a.workers ∙ sym (option_given-at rows Workers other.workers b.workers) in
+    let bounds : given.limits ≡ other.limits = same_limits rows given.limits other.limits a.limits b.limits in
+    λ i. record { file = files i; workers = threads i; limits = bounds i }
+
+same_task : (rows : List Row) (task other : StructuresTask) → GivesTask task rows → GivesTask other rows → task ≡ other
+same_task rows (tasks.Gpaxioms task) (tasks.Gpaxioms other) a b = ap tasks.Gpaxioms (same_gpaxioms rows task other a b)
+
+-- one command at most is entered
+pub one_structures_task : (entered : Entered) (task other : StructuresTask) → IsStructuresTask entered task → IsStructuresTask entered other
+    → task ≡ other
+one_structures_task entered task other a b =
+    let own = own_rows entered (name_text (name_of_task task)) (name_text (name_of_task other)) a.rows (GivesTask other) a.is b in
+    same_task a.rows task other a.so own
+
+-- ---- what is read of what was entered
+
+-- what is read of the arguments and options of a subcommand is read of it
+pub read-entered : (entered : Entered) (name : Name) (rows : List Row) (read : Option StructuresTask) → entered ≡ Some (name_text name, rows)
+    → IsRead name rows read → ReadsAs IsStructuresTask entered read
+read-entered entered name rows (Some task) is reads =
+    record { rows = rows; is = is ∙ ap (λ n. Some (name_text n, rows)) (sym reads.0); so = reads.1 }
+read-entered entered name rows None is reads = λ task entered_task.
+    let same = own_name entered (name_text name) (name_text (name_of_task task)) rows (GivesTask task) is entered_task in
+    reads task (sym (one_name name (name_of_task task) same))
+    (own_rows entered (name_text name) (name_text (name_of_task task)) rows (GivesTask task) is entered_task)
+
+-- ---- arguments that give no command
+
+pub no_workers : (rows : List Row) → ((n : ℕ) → ¬ GivesOption rows Workers n)
+    → (task : StructuresTask) → name_of_task task ≡ names.Gpaxioms → ¬ GivesTask task rows
+no_workers rows none (tasks.Gpaxioms task) is gives = none task.workers gives.workers
+
+pub no_limits : (rows : List Row) → ((limits : Limits) → ¬ GivesLimits rows limits)
+    → (task : StructuresTask) → name_of_task task ≡ names.Gpaxioms → ¬ GivesTask task rows
+no_limits rows none (tasks.Gpaxioms task) is gives = none task.limits gives.limits
+
+-- ---- commands that are added one after another
+
+-- one more command is added
+pub one_added : (index : ℕ) (program sub next : Command) (whole : App) → index < 1
+    → AddsSubcommand program sub next → (out-Command sub).has_globals ≡ false → app_of sub ≡ command_app (get_or all_names index names.Gpaxioms)
+    → with_commands (app_of program) (drop index all_names) ≡ whole → with_commands (app_of next) (drop (index + 1) all_names) ≡ whole
+one_added index program sub next whole within adds local is_app rest =
+    let name : Name = get_or all_names index names.Gpaxioms in
+    let split : drop index all_names ≡ name ∷ drop (suc index) all_names = drop-cons all_names index names.Gpaxioms within in
+    let first : with_commands (with_subcommand (app_of program) (command_app name).top) (drop (suc index) all_names) ≡ whole =
+    sym (ap (with_commands (app_of program)) split) ∙ rest in
+    let after : index + 1 ≡ suc index = omega arith in
+    ap (λ k. with_commands (app_of next) (drop k all_names)) after
+    ∙ ap (λ app. with_commands app (drop (suc index) all_names)) (added program sub next (app_of program) (command_app name) adds local is_app refl) ∙ first
+
+-- all commands are added
+pub all_added : (index : ℕ) (program : Command) (whole : App) → 1 ≤ index → with_commands (app_of program) (drop index all_names) ≡ whole
+    → app_of program ≡ whole
+all_added index program whole past rest = sym (ap (with_commands (app_of program)) (drop_all index all_names past)) ∙ rest

@@ -1,0 +1,11 @@
+pub mod Given
+pub mod Loaded
+pub mod LoadedLaws
+pub mod Lines
+pub mod FirstCertificates
+pub mod Gpaxioms
+pub mod GpaxiomsLaws
+pub mod Findings
+pub mod Tasks
+pub mod TaskLaws
+pub mod Line

@@ -1,0 +1,75 @@
+-- The commands on automatic structures on the command line, by clap's own definition of what a command takes.
+use Rattle.std.specs.Prelude.{◌≡◌, List, [], ◌∷◌, Option, Some, None, codes}
+use Rattle.clap.specs.Words.{App, Row, Text, new_app, with_rule, with_subcommand}
+use Rattle.kb_system.specs.Evidence.{Limits}
+use Rattle.kb_task.specs.Arguments.{Entered, IsEntered, GivesOption, GivesText, needed_rule, option_rule}
+use Rattle.kb_task.specs.declared.arguments.NumberOption.TheVariants.{Workers, MaxRules, MaxLen, MaxStates}
+use Rattle.kb_cmd_structures.specs.Given.{GpaxiomsGiven}
+use Rattle.kb_cmd_structures.specs.declared.line.name.Name.{Name}
+use Rattle.kb_cmd_structures.specs.declared.line.name.Name.TheVariants as names
+use Rattle.kb_cmd_structures.specs.declared.task.StructuresTask.{StructuresTask}
+use Rattle.kb_cmd_structures.specs.declared.task.StructuresTask.TheVariants as tasks
+
+-- ---- what the commands are called
+
+abbrev pub name_text : Name → Text
+name_text names.Gpaxioms = codes "gpaxioms"
+
+-- the commands, in the order in which the program lists them
+abbrev pub all_names : List Name
+all_names = names.Gpaxioms ∷ []
+
+-- ---- what the commands take
+
+-- the options of a completion: its workers and its limits
+abbrev pub with_limits : App → App
+with_limits app =
+    with_rule
+    (with_rule (with_rule (with_rule app (option_rule Workers)) (option_rule MaxRules))
+    (option_rule MaxLen)) (option_rule MaxStates)
+
+-- `gpaxioms FILE`
+abbrev pub command_app : Name → App
+command_app names.Gpaxioms =
+    with_limits (with_rule (new_app (name_text names.Gpaxioms)) (needed_rule (codes "file")))
+
+-- a program with commands added
+abbrev pub with_commands : App → List Name → App
+with_commands app [] = app
+with_commands app (name ∷ others) =
+    with_commands (with_subcommand app (command_app name).top) others
+
+-- a program with all commands of the family added
+abbrev pub with_structures : App → App
+with_structures app = with_commands app all_names
+
+-- ---- what is read of them
+
+-- the options give the limits
+pub record GivesLimits (rows : List Row) (limits : Limits) : Type 0 where
+  pub lines : GivesOption rows MaxRules limits.lines
+  pub letters : GivesOption rows MaxLen limits.letters
+  pub states : GivesOption rows MaxStates limits.states
+
+-- the arguments and options give the command
+pub record GivesGpaxioms (rows : List Row) (given : GpaxiomsGiven) : Type 0 where
+  pub file : GivesText rows (codes "file") given.file
+  pub workers : GivesOption rows Workers given.workers
+  pub limits : GivesLimits rows given.limits
+
+-- the name of a command, and what its arguments and options give
+abbrev pub name_of_task : StructuresTask → Name
+name_of_task (tasks.Gpaxioms task) = names.Gpaxioms
+
+abbrev pub GivesTask : StructuresTask → List Row → Type 0
+GivesTask (tasks.Gpaxioms task) rows = GivesGpaxioms rows task
+
+-- the subcommand that clap entered, with its arguments and options, is the command
+abbrev pub IsStructuresTask : Entered → StructuresTask → Type 0
+IsStructuresTask entered task = IsEntered entered (name_text (name_of_task task)) (GivesTask task)
+
+-- what is read of the arguments and options of the command of a name: the command that they give,
+-- or none where they give none
+abbrev pub IsRead : Name → List Row → Option StructuresTask → Type 0
+IsRead name rows (Some task) = (name_of_task task ≡ name) × GivesTask task rows
+IsRead name rows None = (task : StructuresTask) → name_of_task task ≡ name → ¬ GivesTask task rows

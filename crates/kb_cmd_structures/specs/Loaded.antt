@@ -1,0 +1,92 @@
+-- The files of a group, of a word acceptor and of multipliers.
+use Rattle.std.specs.Prelude.{◌≡◌, ℕ, suc, ◌<◌, List, length, Some}
+use Rattle.kb_word.specs.Presentations.{parts_of}
+use Rattle.kb_word.specs.declared.presentation.Presentation.{Presentation}
+use Rattle.kb_word.specs.declared.word_order.WordOrder.TheVariants.{ShortLex}
+use Rattle.kb_fsa.specs.declared.alphabet.Alphabet.TheVariants.{Plain, Pair}
+use Rattle.kb_fsa.specs.Language.{Automaton}
+use Rattle.kb_diff.specs.Groups.{EachInverts}
+use Rattle.kb_structure.specs.StructureOf.{multiplier_of}
+use Rattle.kb_axioms.specs.Truth.{AreMultipliers}
+use Rattle.kb_task.specs.Automata.{HoldsAutomaton, IsSecondFault}
+use Rattle.kb_task.specs.Loads.{Files, EndsAtLoad}
+use Rattle.kb_task.specs.Presentations.{HoldsPresentation, IsGroupFault}
+use Rattle.kb_task.specs.declared.loading.automata.Kind.TheVariants.{Words, Pairs}
+use Rattle.kb_task.specs.declared.status.FileFault.{FileFault}
+use Rattle.kb_task.specs.declared.status.Status.{Status}
+use Rattle.kb_evidence.specs.Files.{acceptor_file, multiplier_file}
+
+-- a group by shortlex: each generator has an inverse
+pub record IsGroup (presentation : Presentation) : Type 0 where
+  pub shortlex : presentation.order ≡ ShortLex
+  pub inverses : EachInverts presentation.n presentation.inv
+
+-- a word acceptor, and a multiplier for each generator, over a group's generators
+pub record AreAutomataOver (presentation : Presentation) (acceptor : Automaton)
+    (multipliers : List Automaton) : Type 0 where
+  pub group : IsGroup presentation
+  pub words : acceptor.alphabet ≡ Plain presentation.n
+  pub pairs : AreMultipliers presentation.n multipliers
+
+-- the file of a group holds this one
+pub record HoldsGroup (files : Files) (file : List ℕ) (presentation : Presentation) : Type 0 where
+  pub presents : HoldsPresentation files file (parts_of presentation)
+  pub group : IsGroup presentation
+
+-- the file of the word acceptor holds this one, over the presentation's generators
+abbrev pub HoldsAcceptor : Files → List ℕ → Presentation → Automaton → Type 0
+HoldsAcceptor files file presentation acceptor =
+    HoldsAutomaton files (acceptor_file file) presentation.names acceptor
+    × (acceptor.alphabet ≡ Plain presentation.n)
+
+-- the file of the generator's multiplier holds this one, over the presentation's generators
+abbrev pub HoldsMultiplier : Files → List ℕ → Presentation → ℕ → Automaton → Type 0
+HoldsMultiplier files file presentation x multiplier =
+    HoldsAutomaton files (multiplier_file file x) presentation.names multiplier
+    × (multiplier.alphabet ≡ Pair presentation.n)
+
+-- the files of the first multipliers hold these
+abbrev pub HoldMultipliers : Files → List ℕ → Presentation → List Automaton → Type 0
+HoldMultipliers files file presentation multipliers = (x : ℕ) (multiplier : Automaton)
+    → multiplier_of multipliers x ≡ Some multiplier
+    → HoldsMultiplier files file presentation x multiplier
+
+-- the files hold this group, this word acceptor, and a multiplier for each generator
+pub record HoldStructure (files : Files) (file : List ℕ) (presentation : Presentation)
+    (acceptor : Automaton) (multipliers : List Automaton) : Type 0 where
+  pub group : HoldsGroup files file presentation
+  pub accepts : HoldsAcceptor files file presentation acceptor
+  pub multiply : HoldMultipliers files file presentation multipliers
+  pub one_each : length multipliers ≡ presentation.n
+
+-- why the file of the word acceptor holds none over the presentation's generators
+abbrev pub IsAcceptorFault : Files → List ℕ → Presentation → FileFault → Type 0
+IsAcceptorFault files file presentation =
+    IsSecondFault Words presentation.names (Plain presentation.n) files (acceptor_file file)
+
+-- why the file of a generator's multiplier holds none over the presentation's generators
+abbrev pub IsMultiplierFault : Files → List ℕ → Presentation → ℕ → FileFault → Type 0
+IsMultiplierFault files file presentation x =
+    IsSecondFault Pairs presentation.names (Pair presentation.n) files (multiplier_file file x)
+
+-- the run ended at the file of the multiplier that is next after these, which the files before it hold
+pub record EndsAtMultiplier (files : Files) (file : List ℕ) (presentation : Presentation)
+    (status : Status) : Type 0 where
+  pub earlier : List Automaton
+  pub held : HoldMultipliers files file presentation earlier
+  pub within : length earlier < presentation.n
+  pub ends : EndsAtLoad (IsMultiplierFault files file presentation (suc (length earlier)))
+      (multiplier_file file (suc (length earlier))) status
+
+-- The run ended at the load of a file: of the group's, of the word acceptor's, or of a multiplier's; the files before
+-- it hold what they have to.
+pub data EndsAtFile (files : Files) (file : List ℕ) (status : Status) : Type 0 where
+  at_group : EndsAtLoad (IsGroupFault files file) file status → EndsAtFile files file status
+  at_acceptor : {presentation : Presentation} → HoldsGroup files file presentation
+      → EndsAtLoad (IsAcceptorFault files file presentation) (acceptor_file file) status
+      → EndsAtFile files file status
+  at_multiplier : {presentation : Presentation} {acceptor : Automaton}
+      → HoldsGroup files file presentation
+      → HoldsAcceptor files file presentation acceptor
+      → EndsAtMultiplier files file presentation status
+      → EndsAtFile files file status

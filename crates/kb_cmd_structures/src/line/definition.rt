@@ -1,0 +1,71 @@
+//! What the commands take, as `clap` is told.
+
+ghost use Rattle.std.specs.Prelude.{◌≡◌, IfOk, codes, false};
+ghost use Rattle.clap.specs.Words.{app_of, new_app, rule_of};
+ghost use Rattle.clap.specs.declared.builder.command.Command.TheViews.{out-Command as fields_of};
+ghost use Rattle.kb_task.specs.Arguments.{needed_rule};
+ghost use Rattle.kb_cmd_structures.specs.Line.{command_app, name_text, with_limits};
+ghost use Rattle.kb_cmd_structures.specs.declared.line.name.Name.TheVariants as names;
+
+use super::name::Name;
+use clap::{Arg, Command};
+use kb_task::{NumberOption, needed_argument, number_option};
+use std::alloc::{AllocError, Global};
+
+/// The definition of a command.
+pub(super) fn definition<'a>(alloc: Global, name: Name) -> Result<Command<'a>, AllocError>
+    ensures app { IfOk result (λ command. app_of command ≡ command_app name) }
+    ensures local { IfOk result (λ command. (fields_of command).has_globals ≡ false) }
+{
+    match name {
+        Name::Gpaxioms => gpaxioms_definition(alloc),
+    }
+}
+
+/// `gpaxioms FILE`.
+fn gpaxioms_definition<'a>(alloc: Global) -> Result<Command<'a>, AllocError>
+    ensures app { IfOk result (λ command. app_of command ≡ command_app names.Gpaxioms) }
+    ensures local { IfOk result (λ command. (fields_of command).has_globals ≡ false) }
+{
+    with_limits(
+        alloc,
+        labelled(alloc, Name::Gpaxioms).arg(file_argument(alloc))?,
+    )
+}
+
+/// A command with the options of a completion added: its workers and its limits.
+fn with_limits<'a>(alloc: Global, command: Command<'a>) -> Result<Command<'a>, AllocError>
+    requires { (fields_of command).has_globals ≡ false }
+    ensures app { IfOk result (λ added. app_of added ≡ with_limits (app_of command.entry)) }
+    ensures local { IfOk result (λ added. (fields_of added).has_globals ≡ false) }
+{
+    command
+        .arg(number_option(alloc, NumberOption::Workers))?
+        .arg(number_option(alloc, NumberOption::MaxRules))?
+        .arg(number_option(alloc, NumberOption::MaxLen))?
+        .arg(number_option(alloc, NumberOption::MaxStates))
+}
+
+/// A command with its name and its help, which takes nothing yet.
+fn labelled<'a>(alloc: Global, name: Name) -> Command<'a>
+    ensures app { app_of result ≡ new_app (name_text name) }
+    ensures local { (fields_of result).has_globals ≡ false }
+{
+    let label = name.label();
+    Command::new(alloc, label.text)
+        .about(label.about)
+        .after_help(label.after_help)
+}
+
+/// The argument that names the file of a group.
+fn file_argument<'a>(alloc: Global) -> Arg<'a>
+    ensures rule { rule_of result ≡ needed_rule (codes "file") }
+    ensures local { result.global ≡ false }
+{
+    needed_argument(
+        alloc,
+        "file",
+        "FILE",
+        "A presentation file (GAP record) of a group by shortlex",
+    )
+}

@@ -1,0 +1,59 @@
+//! What the commands are called, and their help.
+
+ghost use Rattle.std.specs.Prelude.{◌≡◌, ◌≢◌, IfSome, None};
+ghost use Rattle.kb_cmd_structures.specs.Line.{name_text};
+
+use kb_task::help_end;
+
+/// A command on automatic structures, without its arguments.
+#[derive(Clone, Copy)]
+pub(crate) enum Name {
+    /// `gpaxioms`
+    Gpaxioms,
+}
+
+/// What a command is called, and its help.
+#[derive(Clone, Copy)]
+pub(crate) struct Label<'a> {
+    /// Its name on the command line.
+    pub text: &'a str,
+    /// What it does.
+    pub about: &'a str,
+    /// What its help says at the end.
+    pub after_help: &'a str,
+}
+
+/// The commands, in the order in which the program lists them.
+pub(crate) const NAMES: [Name; 1] = [Name::Gpaxioms];
+
+impl Name {
+    /// The command of this name.
+    pub fn named(text: &str) -> Option<Name>
+        ensures some { IfSome result (λ found. text.now ≡ name_text found) }
+        ensures none { result ≡ None → (other : Name) → text.now ≢ name_text other }
+    {
+        match text {
+            "gpaxioms" => Some(Name::Gpaxioms),
+            _ => None,
+        }
+    }
+
+    /// What the command is called, and its help.
+    pub fn label<'a>(self) -> Label<'a>
+        ensures { result.text.now ≡ name_text self }
+    {
+        match self {
+            Name::Gpaxioms => Label {
+                text: "gpaxioms",
+                about: "Says whether the automata beside FILE are the word acceptor and the multipliers of the group in it",
+                after_help: help_end!(
+                    "FILE, FILE.wa, and FILE.m1, FILE.m2, .., one for each generator, are read. Out has one line: `yes`; `no` and the",
+                    "first certificate; or `undecided rules U V`, `undecided length U V`, `undecided states axiom N4 X` or",
+                    "`undecided states axiom N8 I`. At a limit of rules or length FILE.kblog, the log, and FILE.kbprog, the rules so far,",
+                    "are stored; otherwise no file is. Standard input is not read.",
+                    "Example: kb gpaxioms examples/free-2"
+                ),
+            },
+        }
+    }
+}
