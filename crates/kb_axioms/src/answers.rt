@@ -70,5 +70,7 @@ pub enum Axioms {
         other: Word,
     },
     /// A construction would have more states than it may have, and no certificate comes before it.
-    TooManyStates { which: Construction },
+    TooManyStates {
+        which: Construction,
+    },
 }
