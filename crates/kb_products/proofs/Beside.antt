@@ -1,6 +1,6 @@
 -- The texts of pairs of words that begin alike.
-use Rattle.std.proofs.Common.{◌≡◌, ◌∙◌, ℕ, ◌+◌, ◌<◌, ◌≤◌, IsTrue, List, [], ◌∷◌, ◌++◌, take, drop, length, get_or, refl, sym, ap, ap₂, subst}
-use Rattle.std.proofs.lemmas.List.{take_more, take-append-drop}
+use Rattle.std.proofs.Common.{◌≡◌, ◌∙◌, ℕ, ◌+◌, ◌<◌, ◌≤◌, IsTrue, List, [], ◌∷◌, ◌++◌, take, drop, length, get_or, refl, sym, ap, ap₂, subst, arith}
+use Rattle.std.proofs.lemmas.List.{drop_all, drop_more, take_more, take-append-drop}
 use Rattle.kb_word.specs.Relations.{IsOver}
 use Rattle.kb_fsa.specs.Table.{after, is_accepting, step}
 use Rattle.kb_fsa.specs.PairSymbols.{pair_symbol}
@@ -56,3 +56,20 @@ module _ (multiplier : Automaton) (word : List ℕ) where
         second_over = over_append n front end (over_front n front rest (subst P (sym split) over)) is_end.second_over;
         accepted = subst Accepted (sym led) is_end.accepted;
       }
+
+  -- the word with a letter behind it
+  pub accepted_longer : (letter : ℕ) → IsOver n word → IsEnd multiplier (beside (length word)) [] (letter ∷ [])
+      → IsAccepted multiplier word (take (length word) word ++ letter ∷ [])
+  accepted_longer letter over is_end =
+      let P : List ℕ → Type 0 = λ rest. IsEnd multiplier (beside (length word)) rest (letter ∷ []) in
+      accepted_behind (length word) (letter ∷ []) over (subst P (sym (drop_all (length word) word (omega arith))) is_end)
+
+  -- the word without its last letter
+  pub accepted_shorter : (place last : ℕ) → IsOver n word → place + 1 ≡ length word → last ≡ get_or word place last
+      → IsEnd multiplier (beside place) (last ∷ []) [] → IsAccepted multiplier word (take place word ++ [])
+  accepted_shorter place last over end is_last is_end =
+      let rest : drop place word ≡ last ∷ [] =
+      drop_more word place last (omega arith)
+      ∙ ap₂ (λ (x : ℕ) (xs : List ℕ). x ∷ xs) (sym is_last) (drop_all (place + 1) word (omega arith)) in
+      let P : List ℕ → Type 0 = λ w. IsEnd multiplier (beside place) w [] in
+      accepted_behind place [] over (subst P (sym rest) is_end)

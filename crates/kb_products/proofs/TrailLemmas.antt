@@ -1,8 +1,8 @@
 -- Trails that grow with their word, and that are cut where it changes.
 use Rattle.std.proofs.Common.{◌≡◌, ◌≢◌, ◌∙◌, ℕ, suc, ◌+◌, ◌<◌, ◌≤◌, List, [], ◌∷◌, ◌++◌, take, length, get_or, set, Some, slice_get, refl, sym, ap, subst, inl, inr, arith}
 use Rattle.std.proofs.lemmas.Bool.{cases_lt, cases_order}
-use Rattle.std.proofs.lemmas.List.{get_or-take, get_or_push, get_or_append_left, length-append, length-take, length-take-le, take-append-le, take-take, length_push, length-set, get_or-set_same, get_or-set_other}
-use Rattle.std.proofs.lemmas.Option.{same_Some, slice_get_within}
+use Rattle.std.proofs.lemmas.List.{get_or_read, get_or-take, get_or_push, get_or_append_left, length-append, length-take, length-take-le, take-append-le, take-take, length_push, length-set, get_or-set_same, get_or-set_other}
+use Rattle.std.proofs.lemmas.Option.{same_Some, slice_get_read, slice_get_within}
 use Rattle.kb_fsa.specs.Table.{step}
 use Rattle.kb_fsa.specs.PairSymbols.{pair_symbol}
 use Rattle.kb_fsa.specs.Padding.{padded}
@@ -53,21 +53,21 @@ module _ (multiplier : Automaton) (word : List ℕ) where
 
   -- what is known of a word is known of each word that begins with as many of its letters
   pub trail_cut : (states end : List ℕ) (kept : ℕ) → kept ≤ length word → IsTrail multiplier word states
-      → IsTrail multiplier (take kept word ++ end) (take (kept + 1) states)
+      → IsTrail multiplier (take kept word ++ end) (take kept states)
   trail_cut states end kept within trail =
       let other = take kept word ++ end in
-      let shorter = length-take (kept + 1) states in
+      let shorter = length-take kept states in
       let front = length-take-le kept word within in
       let long = length-append (take kept word) end in
       let n = generators multiplier.alphabet in
       record {
         within = omega arith;
         each = λ place below.
-            let low : place < kept + 1 = omega arith in
+            let low : place < kept = omega arith in
             let known : place < length states = omega arith in
             let alike : take place word ≡ take place other =
             sym (take-append-le place (take kept word) end (omega arith) ∙ take-take place kept word (omega arith)) in
-            get_or-take (kept + 1) states place 0 low ∙ trail.each place known
+            get_or-take kept states place 0 low ∙ trail.each place known
             ∙ ap (λ w. state_after multiplier.table (padded n w w)) alike;
       }
 
@@ -81,6 +81,14 @@ no_trails multipliers word trails one_each empty = record {
 }
 
 module _ (multipliers : List Automaton) (word : List ℕ) (trails : List (List ℕ)) (before : AreTrails multipliers word trails) where
+  -- the trail at a multiplier's place is its own
+  pub trail_at : (index : ℕ) (multiplier : Automaton) (trail : List ℕ) → index < length multipliers
+      → multiplier ≡ get_or multipliers index multiplier → trail ≡ get_or trails index trail → IsTrail multiplier word trail
+  trail_at index multiplier trail within is is_trail =
+      let bound : index < length trails = omega (arith, before.one_each) in
+      let at = slice_get_read multipliers (length multipliers) index multiplier refl within is in
+      subst (IsTrail multiplier word) (sym (get_or_read trails index trail bound is_trail [])) (before.each index multiplier at)
+
   -- one of the trails has grown
   pub trails_grown : (index : ℕ) (multiplier : Automaton) (trail : List ℕ) → slice_get multipliers index ≡ Some multiplier
       → IsTrail multiplier word trail → AreTrails multipliers word (set trails index trail)
@@ -105,7 +113,7 @@ module _ (multipliers : List Automaton) (word : List ℕ) (trails : List (List �
 
   -- all of them are cut where the word changes
   pub trails_cut : (end : List ℕ) (kept : ℕ) (cut : List (List ℕ)) → kept ≤ length word → length cut ≡ length trails
-      → ((index : ℕ) → index < length trails → get_or cut index [] ≡ take (kept + 1) (get_or trails index []))
+      → ((index : ℕ) → index < length trails → get_or cut index [] ≡ take kept (get_or trails index []))
       → AreTrails multipliers (take kept word ++ end) cut
   trails_cut end kept cut within one_each each = record {
     one_each = one_each ∙ before.one_each;

@@ -11,6 +11,8 @@
 //!
 //! - [`by_multipliers`] returns the word to which following a word leads from the empty word.
 //! - [`reduce`] makes it of the word in place, in a [`Workspace`] that its caller keeps for many words.
+//! - [`automata_without_certificates_can_be_followed`] is the law that these premises are what a check of the automata
+//!   finds.
 //! - [`own_structures_lead_to_least_words`] is the law that this is the least word of the word's class where the
 //!   structure is the group's own automatic structure.
 //!
@@ -18,7 +20,8 @@
 //!
 //! In a hyperbolic group an image differs from its word near the end alone. So the word that is reached is kept, and
 //! beside it, for each multiplier, the states in which it reads that word beside itself, from letter to letter, as far
-//! as they are known: its trail (`specs/Trails.antt`). An image is looked for that keeps the whole word and has letters
+//! as they are known: its trail (`specs/Trails.antt`). First it is tried whether the image has the letter behind the
+//! word, or the word's last letter gone. Otherwise an image is looked for that keeps the whole word and has letters
 //! behind it; then one that keeps all of it but its last letter, its last three, its last seven, and so on. Each time
 //! the multiplier goes on from the state that its trail has there. Where no image is found that keeps some letters, the
 //! least second word beside the whole word is the image. When the word has changed from some place on, each trail is
@@ -43,6 +46,8 @@ mod products;
 mod trail;
 mod workspace;
 
-pub use laws::own_structures_lead_to_least_words;
+pub use laws::{
+    automata_without_certificates_can_be_followed, own_structures_lead_to_least_words,
+};
 pub use products::{by_multipliers, reduce};
 pub use workspace::Workspace;

@@ -79,9 +79,9 @@ fn multiply(
     let index = usize::from(letter.number()) - 1;
     let multiplier = &multipliers[index];
     trails[index].extend(multiplier, reached)?;
-    let change = image(alloc, multiplier, &trails[index], reached)?;
+    let change = image(alloc, multiplier, letter, &trails[index], reached)?;
     reached.truncate(change.kept);
     reached.append(&change.end)?;
-    cut(trails, change.kept + 1);
+    cut(trails, change.kept);
     Ok(())
 }
