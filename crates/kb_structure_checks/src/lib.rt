@@ -8,6 +8,7 @@
 //!   group of rank one are what the others change.
 //! - `certificates`: the automata that pass, a certificate of each kind, and a count above the limit.
 //! - `truth`: label words that agree, and others.
+//! - `products`: a word and where its letters lead.
 //!
 //! Below are the libraries that are tested.
 #![tactic(auto)]
@@ -16,5 +17,7 @@
 mod certificates;
 #[cfg(test)]
 mod files;
+#[cfg(test)]
+mod products;
 #[cfg(test)]
 mod truth;
