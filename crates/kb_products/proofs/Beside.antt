@@ -30,7 +30,7 @@ module _ (multiplier : Automaton) (word : List ℕ) where
       let longer : take (place + 1) word ≡ take place word ++ letter ∷ [] =
       take_more word place letter within ∙ ap (λ x. take place word ++ x ∷ []) (sym is) in
       let text : padded n (take (place + 1) word) (take (place + 1) word)
-          ≡ padded n (take place word) (take place word) ++ pair_symbol n letter letter ∷ [] =
+      ≡ padded n (take place word) (take place word) ++ pair_symbol n letter letter ∷ [] =
       ap (λ w. padded n w w) longer ∙ padded-front n (take place word) (letter ∷ []) (letter ∷ []) in
       ap (after multiplier.table multiplier.table.initial) text
       ∙ after-append multiplier.table multiplier.table.initial (padded n (take place word) (take place word))
@@ -47,7 +47,7 @@ module _ (multiplier : Automaton) (word : List ℕ) where
       let text : padded n word (front ++ end) ≡ padded n front front ++ padded n rest end =
       ap (λ w. padded n w (front ++ end)) (sym split) ∙ padded-front n front rest end in
       let led : after multiplier.table multiplier.table.initial (padded n word (front ++ end))
-          ≡ after multiplier.table (beside place) (padded n rest end) =
+      ≡ after multiplier.table (beside place) (padded n rest end) =
       ap (after multiplier.table multiplier.table.initial) text
       ∙ after-append multiplier.table multiplier.table.initial (padded n front front) (padded n rest end) in
       let Accepted : ℕ → Type 0 = λ state. IsTrue (is_accepting multiplier.table state) in

@@ -29,15 +29,14 @@ pub followed_without_certificates : (acceptor : Automaton) (multipliers : List A
     → OfAutomata acceptor multipliers (λ structure. (x : ℕ) (u v : List ℕ) → ¬ PairOutsideAcceptor structure x u v)
     → OfAutomata acceptor multipliers (λ structure. (x : ℕ) (u v other : List ℕ) → ¬ TwoImages structure x u v other)
     → CanBeFollowed acceptor multipliers × Accepts acceptor []
-followed_without_certificates acceptor multipliers fit images prefixes inside single =
-    (
-      record {
-        fit = fit;
-        unique_images = λ order relations. record {
-          images = images order relations;
-          none_outside = inside order relations;
-          no_two = single order relations;
-        };
-      },
-      decided (accepts_text acceptor []) (λ refused. prefixes ShortLex [] [] (empty_word refl (λ accepts. refused accepts.accepted))),
-    )
+followed_without_certificates acceptor multipliers fit images prefixes inside single = (
+  record {
+    fit = fit;
+    unique_images = λ order relations. record {
+      images = images order relations;
+      none_outside = inside order relations;
+      no_two = single order relations;
+    };
+  },
+  decided (accepts_text acceptor []) (λ refused. prefixes ShortLex [] [] (empty_word refl (λ accepts. refused accepts.accepted))),
+)

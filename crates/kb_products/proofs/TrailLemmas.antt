@@ -105,7 +105,7 @@ module _ (multipliers : List Automaton) (word : List ℕ) (trails : List (List �
           subst Q (sym (ap (λ i. get_or (set trails index trail) i []) same ∙ get_or-set_same trails index trail [] within))
           (subst P one grown)
       | inr apart ↦
-          let different : other ≢ index = λ e. elim apart [ | inl more ↦ omega arith | inr fewer ↦ omega arith ] in
+          let different : other ≢ index = λ e. elim apart [ inl more ↦ omega arith | inr fewer ↦ omega arith ] in
           let Q : List ℕ → Type 0 = IsTrail of_other word in
           subst Q (sym (get_or-set_other trails index other trail [] different)) (before.each other of_other is_other)
     ];

@@ -53,7 +53,8 @@ pub(crate) fn image(
     search(alloc, multiplier, trail, word)
 }
 
-/// Whether the multiplier, in the state, accepts nothing beside the letter: the image of a word has the letter behind it.
+/// Whether the multiplier goes from the state to acceptance by the letter, as it stands in the second word alone. Then an
+/// image has it behind the word.
 fn is_lengthened(multiplier: &Fsa, state: u32, letter: Letter) -> bool
     requires letter { (0 < letter) × (letter ≤ generators multiplier.now.alphabet) }
     ensures { IsTrue result → IsEnd multiplier.now state [] (letter ∷ []) }
@@ -62,11 +63,12 @@ fn is_lengthened(multiplier: &Fsa, state: u32, letter: Letter) -> bool
         n: multiplier.alphabet().generators(),
     };
     let symbol = symbols.symbol(symbols.padding(), u32::from(letter.number()));
-    multiplier.is_accepting(multiplier.step(state, symbol))
+    let longer = multiplier.step(state, symbol);
+    multiplier.is_accepting(longer)
 }
 
-/// Whether the multiplier, in the state, accepts the last letter of a word beside nothing: the image has all but that
-/// letter.
+/// Whether the multiplier goes from the state to acceptance by the last letter, as it stands in the first word alone. Then
+/// an image is the word without it.
 fn is_shortened(multiplier: &Fsa, state: u32, last: Letter) -> bool
     requires last { (0 < last) × (last ≤ generators multiplier.now.alphabet) }
     ensures { IsTrue result → IsEnd multiplier.now state (last ∷ []) [] }
@@ -75,17 +77,13 @@ fn is_shortened(multiplier: &Fsa, state: u32, last: Letter) -> bool
         n: multiplier.alphabet().generators(),
     };
     let symbol = symbols.symbol(u32::from(last.number()), symbols.padding());
-    multiplier.is_accepting(multiplier.step(state, symbol))
+    let shorter = multiplier.step(state, symbol);
+    multiplier.is_accepting(shorter)
 }
 
 /// The image of a word that keeps all of it, or all but its last letter, or all but its last three, and so on: the first
 /// that is found.
-fn search(
-    alloc: Global,
-    multiplier: &Fsa,
-    trail: &Trail,
-    word: &Word,
-) -> Result<Change, Memory>
+fn search(alloc: Global, multiplier: &Fsa, trail: &Trail, word: &Word) -> Result<Change, Memory>
     requires alphabet { (n : ℕ) × (multiplier.now.alphabet ≡ Pair n) }
     requires word { IsOver (generators multiplier.now.alphabet) word.now }
     requires image { ¬ ((second : List ℕ) → ¬ IsAccepted multiplier.now word.now second) }

@@ -24,10 +24,10 @@ pub fn automata_without_certificates_can_be_followed()
     ensures { (acceptor : Automaton) (multipliers : List Automaton)
         → FitTogether acceptor multipliers → OfAutomata acceptor multipliers HasImages
         → OfAutomata acceptor multipliers (λ structure. (u : List ℕ)
-            → ¬ PrefixNotAccepted structure u)
+        → ¬ PrefixNotAccepted structure u)
         → OfAutomata acceptor multipliers (λ structure. (x : ℕ) (u v : List ℕ)
-            → ¬ PairOutsideAcceptor structure x u v)
+        → ¬ PairOutsideAcceptor structure x u v)
         → OfAutomata acceptor multipliers (λ structure. (x : ℕ) (u v other : List ℕ)
-            → ¬ TwoImages structure x u v other)
+        → ¬ TwoImages structure x u v other)
         → CanBeFollowed acceptor multipliers × Accepts acceptor [] }
 {}

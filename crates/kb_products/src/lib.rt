@@ -46,8 +46,6 @@ mod products;
 mod trail;
 mod workspace;
 
-pub use laws::{
-    automata_without_certificates_can_be_followed, own_structures_lead_to_least_words,
-};
+pub use laws::{automata_without_certificates_can_be_followed, own_structures_lead_to_least_words};
 pub use products::{by_multipliers, reduce};
 pub use workspace::Workspace;

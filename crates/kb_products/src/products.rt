@@ -29,7 +29,13 @@ pub fn by_multipliers(
         (λ structure. Follows structure word.now [] end)) }
 {
     let mut end = word.copy(alloc)?;
-    reduce(alloc, acceptor, multipliers, &mut end, &mut Workspace::new(alloc))?;
+    reduce(
+        alloc,
+        acceptor,
+        multipliers,
+        &mut end,
+        &mut Workspace::new(alloc),
+    )?;
     Ok(end)
 }
 
@@ -53,7 +59,14 @@ pub fn reduce(
     reached.clear();
     start(alloc, trails, multipliers.len())?;
     for letter in word.letters() {
-        multiply(alloc, acceptor, multipliers, *letter, reached, trails.as_mut_slice())?;
+        multiply(
+            alloc,
+            acceptor,
+            multipliers,
+            *letter,
+            reached,
+            trails.as_mut_slice(),
+        )?;
     }
     word.assign(reached)
 }

@@ -23,9 +23,8 @@ loop-letter-preserved c =
     let is_letter : (0 < letter) × (letter ≤ generators acceptor.alphabet) =
     subst (λ y. (0 < y) × (y ≤ generators acceptor.alphabet)) (sym is) (c.requires.word index letter within) in
     let long : length new ≡ trails.len = after.trails.one_each ∙ sym before.1.one_each ∙ sym trails.ok.0 in
-    let same : take trails.len (new ++ drop (length new) trails.items) ≡ new = take_at new (drop (length new) trails.items) trails.len long in
-    (
+    let same : take trails.len (new ++ drop (length new) trails.items) ≡ new = take_at new (drop (length new) trails.items) trails.len long in (
       one_more acceptor multipliers c.requires.automata word [] index letter c.loop-letter.reached c.multiply.new.reached within
-      is is_letter before.0 after.image,
+          is is_letter before.0 after.image,
       subst (AreTrails multipliers c.multiply.new.reached) (sym same) after.trails,
     )
