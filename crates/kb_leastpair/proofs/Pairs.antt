@@ -1,5 +1,5 @@
 -- Pairs by their two words, and what the searches find of them.
-use Rattle.std.proofs.Common.{◌≡◌, ◌↔◌, ℕ, ◌^◌, ◌<◌, ◌≤◌, IfNone, List, Option, Some, None, sym, subst, arith}
+use Rattle.std.proofs.Common.{◌≡◌, ◌↔◌, ℕ, ◌^◌, ◌<◌, ◌≤◌, IfNone, List, Option, Some, None, drop, sym, subst, arith}
 use Rattle.std.specs.List.{All}
 use Rattle.kb_word.specs.Relations.{IsOver}
 use Rattle.kb_fsa.specs.declared.alphabet.Alphabet.TheVariants.{Pair}
@@ -11,7 +11,7 @@ use Rattle.kb_fsadet.specs.FirstWords.{IsFirstWords}
 use Rattle.kb_fsadet.specs.Projection.{HasSecond}
 use Rattle.kb_fsadet.proofs.Projections.{is_projection, texts_of_pairs}
 use Rattle.kb_fsaleast.specs.LeastText.{IsLeastAccepted}
-use Rattle.kb_leastpair.specs.LeastPair.{IsAccepted, IsLeastPair, IsLeastWord}
+use Rattle.kb_leastpair.specs.LeastPair.{IsAccepted, IsEnd, IsLeastPair, IsLeastWord}
 use Rattle.kb_leastpair.specs.SecondWords.{second_words}
 use Rattle.kb_leastpair.proofs.SecondRuns.{second_accepted}
 
@@ -41,34 +41,47 @@ module _ (pairs : Automaton) (k : ℕ) (pair : pairs.alphabet ≡ Pair k) (is : 
   pub no_first_word : ((word : List ℕ) → ¬ AcceptsSomehow words word) → (word : List ℕ) → ¬ HasSecond pairs word
   no_first_word none word has = none word ((projected word).1 has)
 
-module _ (pairs : Automaton) (n : ℕ) (is_n : n ≡ generators pairs.alphabet) (first : List ℕ)
-    (over : IsOver (generators pairs.alphabet) first) where
-  means : (second : List ℕ) → MachineAccepts (second_words n pairs.table first) second ↔ IsAccepted pairs first second
+module _ (pairs : Automaton) (n : ℕ) (is_n : n ≡ generators pairs.alphabet) (first : List ℕ) (place state : ℕ) where
+  abbrev End : List ℕ → Type 0
+  End = IsEnd pairs state (drop place first)
+
+  means : (second : List ℕ) → MachineAccepts (second_words n pairs.table first place state) second ↔ End second
   means second =
-      let P : ℕ → Type 0 = λ k. MachineAccepts (second_words k pairs.table first) second ↔ IsAccepted pairs first second in
+      let P : ℕ → Type 0 = λ k. MachineAccepts (second_words k pairs.table first place state) second ↔ End second in
       let k = generators pairs.alphabet in
-      let accepted = second_accepted k pairs.table first second in
+      let accepted = second_accepted k pairs.table first place state second in
       subst P (sym is_n) (
-        λ accepts.
-            let both = accepted.0 accepts in
-            record { first_over = over; second_over = both.0; accepted = both.1 },
+        λ accepts. let both = accepted.0 accepts in record { second_over = both.0; accepted = both.1 },
         λ pair. accepted.1 (pair.second_over, pair.accepted),
       )
 
-  pub second_fits : n ≤ 65534 → (second : List ℕ) → MachineAccepts (second_words n pairs.table first) second
+  pub second_fits : n ≤ 65534 → (second : List ℕ) → MachineAccepts (second_words n pairs.table first place state) second
       → All (λ letter. letter < 2 ^ 16) second
   second_fits few second accepts =
       letters_fit (generators pairs.alphabet) second (omega (arith, few, is_n)) ((means second).0 accepts).second_over
 
-  pub least_second_word : (second : List ℕ) → IsLeastRead (second_words n pairs.table first) second → IsLeastWord (IsAccepted pairs first) second
-  least_second_word second least = record {
+  pub least_end_word : (second : List ℕ) → IsLeastRead (second_words n pairs.table first place state) second → IsLeastWord End second
+  least_end_word second least = record {
     holds = (means second).0 least.accepted;
     least = λ other accepted. least.least other ((means other).1 accepted);
   }
 
-  pub no_second_word : ((second : List ℕ) → ¬ MachineAccepts (second_words n pairs.table first) second)
+  pub no_end_word : ((second : List ℕ) → ¬ MachineAccepts (second_words n pairs.table first place state) second)
+      → (second : List ℕ) → ¬ End second
+  no_end_word none second accepted = none second ((means second).1 accepted)
+
+-- a pair is accepted where it leads from the initial state to acceptance
+module _ (pairs : Automaton) (first : List ℕ) (over : IsOver (generators pairs.alphabet) first) where
+  pub least_second_word : (second : List ℕ) → IsLeastWord (IsEnd pairs pairs.table.initial first) second
+      → IsLeastWord (IsAccepted pairs first) second
+  least_second_word second least = record {
+    holds = record { first_over = over; second_over = least.holds.second_over; accepted = least.holds.accepted };
+    least = λ other pair. least.least other (record { second_over = pair.second_over; accepted = pair.accepted });
+  }
+
+  pub no_second_word : ((second : List ℕ) → ¬ IsEnd pairs pairs.table.initial first second)
       → (second : List ℕ) → ¬ IsAccepted pairs first second
-  no_second_word none second accepted = none second ((means second).1 accepted)
+  no_second_word none second pair = none second (record { second_over = pair.second_over; accepted = pair.accepted })
 
 module _ (pairs : Automaton) where
   has_second : (first second : List ℕ) → IsAccepted pairs first second → HasSecond pairs first

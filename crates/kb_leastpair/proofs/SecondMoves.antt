@@ -73,9 +73,9 @@ module _ (n : ℕ) (table : Table) (first : List ℕ) (reading : Reading) where
     }
 
   -- past the last letter they are all moves
-  pub all_moves : (letter : ℕ) (moves : List (ℕ × Reading)) → n < letter → letter ≤ n + 1 → AreMovesBefore n table first reading letter moves
-      → AreMovesOf (second_words n table first) n reading moves
-  all_moves letter moves past low before = record {
+  pub all_moves : (from state : ℕ) (letter : ℕ) (moves : List (ℕ × Reading)) → n < letter → letter ≤ n + 1 → AreMovesBefore n table first reading letter moves
+      → AreMovesOf (second_words n table first from state) n reading moves
+  all_moves from state letter moves past low before = record {
     ascends = before.ascends;
     symbols = λ k d h. let both = before.letters k d h in (both.0, omega (arith, both.1));
     follow = follows;

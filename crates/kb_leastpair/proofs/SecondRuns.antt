@@ -41,9 +41,9 @@ letter_is n (suc x) is = elim (cases_lt n (suc x)) [
   | inr within ↦ (omega arith, within)
 ]
 
-module _ (n : ℕ) (table : Table) (first : List ℕ) where
+module _ (n : ℕ) (table : Table) (first : List ℕ) (from start : ℕ) where
   abbrev machine : Machine Reading
-  machine = second_words n table first
+  machine = second_words n table first from start
 
   -- from what is given the word leads to a reading that accepts
   abbrev Ends : Option Reading → List ℕ → Type 0
@@ -91,12 +91,12 @@ module _ (n : ℕ) (table : Table) (first : List ℕ) where
       let P : Bool → Type 0 = λ b. Ends (if b then read_on n table first here letter else None) second in
       subst P (sym is_letter) rest
 
-  -- the machine accepts the second words of the accepted pairs
+  -- the machine accepts the second words of the pairs that lead to acceptance
   pub second_accepted : (second : List ℕ)
-      → MachineAccepts machine second ↔ (IsOver n second × AcceptsFrom table table.initial (padded n first second))
+      → MachineAccepts machine second ↔ (IsOver n second × AcceptsFrom table start (padded n (drop from first) second))
   second_accepted second = (
-    λ accepts. accepted_of_end 0 table.initial second (accepts.state, (accepts.leads_there, accepts.accepts)),
+    λ accepts. accepted_of_end from start second (accepts.state, (accepts.leads_there, accepts.accepts)),
     λ accepted.
-        let ends = end_of_accepted 0 table.initial second accepted.0 accepted.1 in
+        let ends = end_of_accepted from start second accepted.0 accepted.1 in
         record { state = ends.0; leads_there = ends.1.0; accepts = ends.1.1 },
   )

@@ -2,6 +2,8 @@
 use Rattle.std.specs.Prelude.{ℕ, List}
 use Rattle.kb_word.specs.Words.{Less}
 use Rattle.kb_word.specs.Relations.{IsOver}
+use Rattle.kb_fsa.specs.Table.{AcceptsFrom}
+use Rattle.kb_fsa.specs.Padding.{padded}
 use Rattle.kb_fsa.specs.Language.{Automaton, AcceptsPair, generators}
 
 -- the automaton accepts the pair of words over its generators
@@ -9,6 +11,11 @@ pub record IsAccepted (pairs : Automaton) (first second : List ℕ) : Type 0 whe
   pub first_over : IsOver (generators pairs.alphabet) first
   pub second_over : IsOver (generators pairs.alphabet) second
   pub accepted : AcceptsPair pairs first second
+
+-- from the state the pair of words leads the automaton to acceptance; the second one is over its generators
+pub record IsEnd (pairs : Automaton) (state : ℕ) (first second : List ℕ) : Type 0 where
+  pub second_over : IsOver (generators pairs.alphabet) second
+  pub accepted : AcceptsFrom pairs.table state (padded (generators pairs.alphabet) first second)
 
 -- the word is the least, in the shortlex order, for which the fact holds
 pub record IsLeastWord (Holds : List ℕ → Type 0) (word : List ℕ) : Type 0 where

@@ -1,4 +1,4 @@
--- The machine of the second words that an automaton of pairs accepts beside one first word.
+-- The machine of the second words that an automaton of pairs accepts beside a first word, from a place and a state on.
 use Rattle.std.specs.Prelude.{◌≡◌, ℕ, zero, suc, ◌+◌, ◌<◌, min, List, [], length, get_or, drop, All, Option, Some, None, if◌then◌else◌}
 use Rattle.kb_fsa.specs.declared.alphabet.Alphabet.TheVariants.{Plain}
 use Rattle.kb_fsa.specs.Table.{Table, Ascends, after, is_accepting, lookup, step}
@@ -18,10 +18,11 @@ abbrev pub read_on : ℕ → Table → List ℕ → Reading → ℕ → Option R
 read_on n table first reading letter = reading_at (min (reading.place + 1) (length first))
     (step table reading.state (pair_symbol n (get_or first reading.place (n + 1)) letter))
 
--- The machine reads second words over n generators. A word may end where the rest of the first one leads to acceptance.
-abbrev pub second_words : ℕ → Table → List ℕ → Machine Reading
-second_words n table first = record {
-  start = reading_at 0 table.initial;
+-- The machine reads second words over n generators, beginning at a place of the first word and in a state. A word may end
+-- where the rest of the first one leads to acceptance.
+abbrev pub second_words : ℕ → Table → List ℕ → ℕ → ℕ → Machine Reading
+second_words n table first place state = record {
+  start = reading_at place state;
   follow = λ reading letter.
       if is_symbol (Plain n) letter then read_on n table first reading letter else None;
   accepts = λ reading.

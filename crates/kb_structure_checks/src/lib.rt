@@ -9,6 +9,7 @@
 //! - `certificates`: the automata that pass, a certificate of each kind, and a count above the limit.
 //! - `truth`: label words that agree, and others.
 //! - `answered`: what the whole check answers, by complete rules of the group and by none.
+//! - `products`: a word and where its letters lead.
 //!
 //! Below are the libraries that are tested.
 #![tactic(auto)]
@@ -19,5 +20,7 @@ mod answered;
 mod certificates;
 #[cfg(test)]
 mod files;
+#[cfg(test)]
+mod products;
 #[cfg(test)]
 mod truth;

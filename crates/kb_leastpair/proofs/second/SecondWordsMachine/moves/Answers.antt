@@ -32,5 +32,6 @@ loop-letter-preserved c =
 pub returns : goal.returns
 returns c =
     let it = c.args.self.now in
-    all_moves it.symbols.n it.pairs.now.table it.first.now c.args.reading.now c.loop-letter.letter c.loop-letter.moves.items
+    all_moves it.symbols.n it.pairs.now.table it.first.now c.args.reading.now it.place it.state c.loop-letter.letter
+    c.loop-letter.moves.items
     (omega (arith, c.padding-padding.ensures)) (omega (arith, c.padding-padding.ensures)) c.loop-letter.invariant

@@ -1,0 +1,4 @@
+pub mod Beside
+pub mod TrailLemmas
+pub mod Images
+pub mod OwnLeast
