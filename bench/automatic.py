@@ -143,24 +143,13 @@ class Differences:
     def make_moves(self):
         """For each difference, for each first letter or padding, the second letters with the differences to which
         they lead."""
-        group = self.group
-        known = {}
-        both = [*group.letters, group.padding]
-        self.moves = []
-        for difference in self.kept:
-            rows = []
-            for a in both:
-                row = []
-                for b in both:
-                    if (a, b) != (group.padding, group.padding):
-                        first = () if a == group.padding else (group.presentation.inverses[a],)
-                        word = (*first, *difference, *(() if b == group.padding else (b,)))
-                        if word not in known:
-                            known[word] = self.kept.get(group.normal(word))
-                        if known[word] is not None:
-                            row.append((b, known[word]))
-                rows.append(row)
-            self.moves.append(rows)
+        both = [*self.group.letters, self.group.padding]
+        self.moves = [[self._moves(difference, a, both) for a in both] for difference in self.kept]
+
+    def _moves(self, difference, a, both):
+        targets = ((b, self.kept.get(self.group.before(a, difference, b))) for b in both)
+        padding = self.group.padding
+        return [(b, target) for b, target in targets if target is not None and (a, b) != (padding, padding)]
 
 
 EQUAL, LESS, GREATER, ENDED = range(4)
@@ -254,22 +243,19 @@ def word_without_image(acceptor, multiplier, padding):
     return None
 
 
-def structure_by_differences(group, pairs, tell=lambda text: None):
-    """The structure of a group by word differences, at first those of these pairs of words and of each word's
-    inverses."""
+def structure_by_differences(group, pairs):
+    """The structure of a group by word differences, at first those of these pairs of words."""
     differences = Differences(group)
     for pair in pairs:
         differences.add(*pair)
     while True:
         differences.make_moves()
         acceptor = group.acceptor or acceptor_by_differences(differences)
-        tell(f"{len(differences.kept)} differences, acceptor of {len(acceptor.rows)} states")
         wrong = accepted_in_error(group, acceptor)
         if wrong:
             pairs = [(word[:-1], group.normal(word)) for word in wrong]
         else:
             multipliers = multipliers_by_differences(differences, acceptor)
-            tell(f"multipliers of {', '.join(str(len(it.rows)) for it in multipliers)} states")
             missing = [word_without_image(acceptor, multiplier, group.padding) for multiplier in multipliers]
             pairs = [(word, group.normal((*word, letter))) for letter, word in enumerate(missing) if word is not None]
         if not pairs:

@@ -98,8 +98,8 @@ class CoxeterGroup:
 
     def counts(self, most):
         """How many elements of each length up to `most` the group has, and a degree of the polynomials of which their
-        series is a fraction. One over the series at 1/t is the alternating sum, over the finite subgroups of letters, of
-        one over theirs (R. Steinberg, Endomorphisms of linear algebraic groups, 1968, 1.28)."""
+        series is a fraction. One over the series at 1/t is the alternating sum, over the finite subgroups of letters,
+        of one over theirs (R. Steinberg, Endomorphisms of linear algebraic groups, 1968, 1.28)."""
         total, degree = [0] * (most + 1), 0
         for size in range(self.rank + 1):
             for letters in itertools.combinations(range(self.rank), size):

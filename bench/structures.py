@@ -19,6 +19,7 @@ ends; the rules are read from FILE.kbprog where it stands. The automata are exac
 Differences are taken in until that is so (automatic.py). All take half a minute of processor time, which is printed.
 """
 
+import argparse
 import os
 import sys
 import time
@@ -113,11 +114,11 @@ GROUPS = {
 }
 
 
-def structure_of(group, tell=lambda text: None):
+def structure_of(group):
     """The structure of a group."""
     if group.is_finite():
         return finite_structure(group)
-    return structure_by_differences(group, ((left[:-1], right) for left, right in group.rules.right.items()), tell)
+    return structure_by_differences(group, ((left[:-1], right) for left, right in group.rules.right.items()))
 
 
 def write(folder, name, text, names, structure, sparse=False, both_padded=False):
@@ -131,19 +132,20 @@ def write(folder, name, text, names, structure, sparse=False, both_padded=False)
             it.write(content)
 
 
-def main(words):
-    folder = f"{HERE}/out"
-    if words[:1] == ["--to"]:
-        folder, words = words[1], words[2:]
-    for word in words:
+def main():
+    parser = argparse.ArgumentParser(prog="bench/structures.py", allow_abbrev=False)
+    parser.add_argument("--to", metavar="FOLDER", default=f"{HERE}/out")
+    parser.add_argument("groups", metavar="NAME | FILE", nargs="*")
+    options = parser.parse_args()
+    for word in options.groups:
         if word not in GROUPS and not os.path.isfile(word):
             sys.exit(f"bench/structures.py: {word} is neither a file nor one of {', '.join(GROUPS)}")
-    for word in words or GROUPS:
+    for word in options.groups or GROUPS:
         start = time.process_time()
         name = word if word in GROUPS else os.path.basename(word)
         text, group = GROUPS[word]() if word in GROUPS else of_file(word)
         structure = structure_of(group)
-        write(f"{folder}/{name}", name, text, group.presentation.names, structure)
+        write(f"{options.to}/{name}", name, text, group.presentation.names, structure)
         sizes = [len(it.rows) for it in structure.multipliers]
         moves = max(sum(map(len, it.rows)) for it in structure.multipliers)
         print(
@@ -154,4 +156,4 @@ def main(words):
 
 
 if __name__ == "__main__":
-    main(sys.argv[1:])
+    main()
