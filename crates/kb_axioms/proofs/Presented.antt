@@ -1,6 +1,5 @@
 -- Automata that are checked for a group that is presented.
 use Rattle.std.proofs.Common.{◌≡◌, ℕ, List, ap, sym, ◌∙◌, subst}
-use Rattle.kb_word.specs.Words.{OneOf, Pair as Sides}
 use Rattle.kb_word.specs.Relations.{IsOver, relations_of}
 use Rattle.kb_word.specs.declared.presentation.Presentation.{Presentation}
 use Rattle.kb_word.specs.declared.word_order.WordOrder.{WordOrder}

@@ -25,8 +25,8 @@ use kb_structure::Cert;
 use kb_word::{Memory, Presentation};
 use std::alloc::Global;
 
-/// Whether a word acceptor and multipliers are the automatic structure of the group that is presented, as far as rules of
-/// the group show. Where `confluent` holds the rules settle it, unless a count is above the limit.
+/// Whether a word acceptor and multipliers are the automatic structure of the group that is presented, as far as rules
+/// of the group show. Where `confluent` holds the rules settle it, unless a count is above the limit.
 pub fn check<R: Reducer>(
     alloc: Global,
     presentation: &Presentation,
