@@ -6,9 +6,9 @@ ghost use Rattle.kb_structure.specs.StructureOf.{FitTogether};
 
 use crate::files::{ACCEPTOR, FIRST, States, acceptor, group, multipliers};
 use kb_axioms::{Automata, Construction, check_automata, fit_together};
-use kb_structure::Cert;
 use kb_fsa::{Alphabet, Fsa, word_of};
 use kb_machine::relations_are_over_the_generators;
+use kb_structure::Cert;
 use kb_word::{Letter, Memory, Presentation, Word};
 use std::alloc::Global;
 use std::process::Abort;
