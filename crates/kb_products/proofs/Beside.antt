@@ -1,5 +1,5 @@
 -- The texts of pairs of words that begin alike.
-use Rattle.std.proofs.Common.{◌≡◌, ◌∙◌, ℕ, ◌+◌, ◌<◌, ◌≤◌, IsTrue, List, [], ◌∷◌, ◌++◌, take, drop, length, get_or, refl, sym, ap, ap₂, subst, arith}
+use Rattle.std.proofs.Common.{◌≡◌, ◌∙◌, ℕ, ◌+◌, ◌<◌, IsTrue, List, [], ◌∷◌, ◌++◌, take, drop, length, get_or, refl, sym, ap, ap₂, subst, arith}
 use Rattle.std.proofs.lemmas.List.{drop_all, drop_more, take_more, take-append-drop}
 use Rattle.kb_word.specs.Relations.{IsOver}
 use Rattle.kb_fsa.specs.Table.{after, is_accepting, step}

@@ -1,5 +1,5 @@
 -- The group's own structure leads to least words.
-use Rattle.std.proofs.Common.{◌≡◌, ℕ, List, [], ◌∷◌, ◌++◌, subst}
+use Rattle.std.proofs.Common.{ℕ, List, [], ◌∷◌, subst}
 use Rattle.kb_word.specs.WordOrders.{Below}
 use Rattle.kb_word.specs.Congruence.{IsLeast}
 use Rattle.kb_word.specs.Relations.{IsOver}

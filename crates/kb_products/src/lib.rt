@@ -18,7 +18,7 @@
 //!
 //! # How it works
 //!
-//! In a hyperbolic group an image differs from its word near the end alone. So the word that is reached is kept, and
+//! In a hyperbolic group an image mostly differs from its word near the end alone. So the word that is reached is kept, and
 //! beside it, for each multiplier, the states in which it reads that word beside itself, from letter to letter, as far
 //! as they are known: its trail (`specs/Trails.antt`). First it is tried whether the image has the letter behind the
 //! word, or the word's last letter gone. Otherwise an image is looked for that keeps the whole word and has letters

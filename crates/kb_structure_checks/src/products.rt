@@ -13,10 +13,11 @@ use kb_word::{Letter, Memory, Word};
 use std::alloc::Global;
 use std::test::Fail;
 
-/// The word of these letters, but for those that are none of the n generators.
-fn word_over(alloc: Global, n: u16, letters: &[u16]) -> Result<Word, Memory>
-    ensures { IfOk result (IsOver n) }
+/// The word of these letters, but for those that the automaton doesn't read.
+fn word_over(alloc: Global, acceptor: &Fsa, letters: &[u16]) -> Result<Word, Memory>
+    ensures { IfOk result (IsOver (generators acceptor.now.alphabet)) }
 {
+    let n = acceptor.alphabet().generators();
     let mut word = Word::new(alloc);
     for letter in letters {
         if *letter > 0 && *letter <= n {
@@ -53,8 +54,7 @@ fn a_word_leads_to_the_least_word(rt: HostRuntime) -> Result<(), Fail> {
         fit_together(&acceptor, multipliers.as_slice()),
         "the automata don't fit"
     );
-    let n = acceptor.alphabet().generators();
-    let word = word_over(alloc, n, &[1, 1, 2, 1, 2, 2, 2, 2, 1, 2])?;
+    let word = word_over(alloc, &acceptor, &[1, 1, 2, 1, 2, 2, 2, 2, 1, 2])?;
     let end = end_of(alloc, &acceptor, multipliers.as_slice(), &word)?;
     assert!(rt; end == Some(word_of(alloc, &[2, 2])?));
     Ok(())

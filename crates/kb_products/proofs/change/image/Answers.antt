@@ -1,4 +1,4 @@
-use Rattle.std.proofs.Common.{◌≡◌, ◌∙◌, ◌+◌, ◌-◌, ℕ, List, [], ◌∷◌, ◌++◌, length, get_or, take, sym, ap, subst, arith}
+use Rattle.std.proofs.Common.{◌≡◌, ◌∙◌, ◌-◌, ℕ, List, [], ◌∷◌, ◌++◌, length, get_or, take, sym, ap, subst, arith}
 use Rattle.kb_leastpair.specs.LeastPair.{IsAccepted, IsEnd}
 use Rattle.kb_products.specs.Trails.{state_beside_itself}
 use Rattle.kb_products.proofs.Beside.{accepted_longer, accepted_shorter}

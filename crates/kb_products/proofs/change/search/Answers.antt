@@ -1,4 +1,4 @@
-use Rattle.std.proofs.Common.{◌≡◌, ◌∙◌, ℕ, List, Option, IfSome, ap, sym, subst, arith, drop}
+use Rattle.std.proofs.Common.{◌≡◌, ◌∙◌, ℕ, List, Option, IfSome, subst, arith, drop}
 use Rattle.kb_leastpair.specs.LeastPair.{IsEnd, IsLeastWord}
 use Rattle.kb_products.specs.Trails.{state_beside_itself}
 use Rattle.kb_products.proofs.Beside.{accepted_behind}

@@ -1,6 +1,5 @@
-use Rattle.std.proofs.Common.{◌≡◌, ◌∙◌, ◌+◌, ◌<◌, ◌≤◌, ℕ, List, [], ◌++◌, drop, get_or, length, take, sym, ap, subst}
+use Rattle.std.proofs.Common.{◌≡◌, ◌∙◌, ◌<◌, ◌≤◌, ℕ, [], ◌++◌, drop, get_or, length, take, sym, ap, subst}
 use Rattle.std.proofs.lemmas.List.{take_at}
-use Rattle.kb_word.specs.Relations.{IsOver}
 use Rattle.kb_fsa.specs.Language.{generators}
 use Rattle.kb_relations.proofs.LeastImages.{one_more}
 use Rattle.kb_products.specs.Trails.{AreTrails}
