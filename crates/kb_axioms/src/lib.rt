@@ -10,7 +10,8 @@
 //! N4 to N8; within a kind, in the order of the generators or relations, and of words. `AutomataSay` of
 //! `specs/Checked.antt` says what each answer means: [`Automata::No`] has the first certificate, [`Automata::Pass`] says
 //! that there is none, and [`Automata::TooManyStates`] that a count is above the limit and no certificate comes before
-//! it. The order of words is the shortlex order.
+//! it. The order of words is the shortlex order. What is asked of the multipliers, and then of the relations, is shared by
+//! 1 to 64 workers, each a thread where there are several; their number changes nothing of the answer.
 //!
 //! [`check_truth`] looks at the label words of the multipliers' states by rules of the group (`kb_labels`): they have one
 //! normal form each, or the first state is named where they don't. Where they have, and both sides of each rule are the
