@@ -6,8 +6,9 @@ import subprocess
 
 import data
 from completions import MOST_RULES, WORKERS
-from measuring import measure
+from measuring import measure, run_once
 from presentations import coxeter, free_abelian
+from workers import COUNTS, clock
 
 
 def measure_rounds(program, maker, room):
@@ -32,6 +33,8 @@ def measure_rounds(program, maker, room):
         if run:
             verdict = subprocess.run(checked, capture_output=True, check=True, text=True).stdout.strip()
             print(f"{'':58} {verdict}", flush=True)
+            clocks = [f"{count}: {clock(run_once([*checked, str(count)], os.devnull))}" for count in COUNTS]
+            print(f"{'':58} by the clock, by the number of workers: {', '.join(clocks)}", flush=True)
 
 
 def explored_in(figures):
@@ -43,5 +46,6 @@ def groups():
     """The groups with their presentations, by their number of word differences."""
     yield "Coxeter group E6", coxeter(6, {(1, 3): 3, (3, 4): 3, (4, 5): 3, (5, 6): 3, (2, 4): 3})
     yield "free abelian group of rank 6", free_abelian(6)
+    yield "free abelian group of rank 12", free_abelian(12)
     for prime in (7, 11, 13, 17):
         yield f"PSL(2,{prime}) by five generators", data.projective(prime)

@@ -1,6 +1,6 @@
 //! What the automata show, whatever the rules of the group are.
 
-ghost use Rattle.std.specs.Prelude.{◌≡◌, IfOk};
+ghost use Rattle.std.specs.Prelude.{◌≡◌, ◌≤◌, IfOk};
 ghost use Rattle.kb_structure.specs.StructureOf.{FitTogether};
 ghost use Rattle.kb_relations.specs.Acts.{AreOver, IsActing};
 ghost use Rattle.kb_structure.specs.declared.cert.Cert.TheVariants.{N2, N5, N6, N7};
@@ -16,28 +16,37 @@ use kb_relations::{Acting, broken_relation};
 use kb_structure::Cert;
 use kb_word::{Letter, Memory, Word};
 use std::alloc::Global;
+use std::sync::Wait;
+use std::thread::Threads;
 
 /// The first certificate of the kinds N1, N2 and N4 to N8 against a word acceptor and multipliers, if there is one.
-pub fn check_automata(
+/// Several workers are a thread each, and share the generators, and then the relations; how many there are changes
+/// nothing of the answer.
+pub fn check_automata<T: Threads + Wait + Sync>(
+    rt: &T,
     alloc: Global,
     acceptor: &Fsa,
     multipliers: &[Fsa],
     relations: &[(Word, Word)],
     limit: u32,
+    workers: u32,
 ) -> Result<Automata, Memory>
     requires fit { FitTogether acceptor.now multipliers.now }
     requires over { AreOver acceptor.now relations.now }
+    requires workers { (1 ≤ workers) × (workers ≤ 64) }
     ensures { IfOk result
         (AutomataSay (checked_of acceptor.now multipliers.now relations.now limit)) }
 {
     if let Some(u) = prefix_not_accepted(alloc, acceptor)? {
         return Ok(Automata::No(Cert::N1 { u }));
     }
-    if let Some(pair) = pair_outside_acceptor(alloc, acceptor, multipliers)? {
+    if let Some(pair) = pair_outside_acceptor(rt, alloc, acceptor, multipliers, workers)? {
         return Ok(Automata::No(n2(pair)));
     }
-    match check_images(alloc, acceptor, multipliers, limit)? {
-        Images::Given => look_further(alloc, acceptor, multipliers, relations, limit),
+    match check_images(rt, alloc, acceptor, multipliers, limit, workers)? {
+        Images::Given => {
+            look_further(rt, alloc, acceptor, multipliers, relations, limit, workers)
+        }
         Images::Lacking { x, word } => Ok(Automata::No(Cert::N4 { x, u: word })),
         Images::TooManyStates { x } => Ok(Automata::TooManyStates {
             which: Construction::Images(x),
@@ -46,29 +55,32 @@ pub fn check_automata(
 }
 
 /// The first certificate of the kinds N5 to N8, where there is none of the others.
-fn look_further(
+fn look_further<T: Threads + Wait + Sync>(
+    rt: &T,
     alloc: Global,
     acceptor: &Fsa,
     multipliers: &[Fsa],
     relations: &[(Word, Word)],
     limit: u32,
+    workers: u32,
 ) -> Result<Automata, Memory>
     requires fit { FitTogether acceptor.now multipliers.now }
     requires over { AreOver acceptor.now relations.now }
+    requires workers { (1 ≤ workers) × (workers ≤ 64) }
     requires passes { PassesImages (checked_of acceptor.now multipliers.now relations.now limit) }
     ensures { IfOk result
         (AutomataSay (checked_of acceptor.now multipliers.now relations.now limit)) }
 {
-    if let Some(words) = two_images(alloc, acceptor, multipliers)? {
+    if let Some(words) = two_images(rt, alloc, acceptor, multipliers, workers)? {
         return Ok(Automata::No(n5(words)));
     }
-    if let Some(word) = missing_extension(alloc, acceptor, multipliers)? {
+    if let Some(word) = missing_extension(rt, alloc, acceptor, multipliers, workers)? {
         return Ok(Automata::No(n6(word)));
     }
-    if let Some(pair) = image_not_least(alloc, acceptor, multipliers)? {
+    if let Some(pair) = image_not_least(rt, alloc, acceptor, multipliers, workers)? {
         return Ok(Automata::No(n7(pair)));
     }
-    let acting = broken_relation(alloc, acceptor, multipliers, relations, limit)?;
+    let acting = broken_relation(rt, alloc, acceptor, multipliers, relations, limit, workers)?;
     Ok(acted(acting))
 }
 

@@ -1,6 +1,6 @@
 //! The whole check.
 
-ghost use Rattle.std.specs.Prelude.{◌≡◌, ℕ, Bool, List, Ok, IsTrue, IfOk};
+ghost use Rattle.std.specs.Prelude.{◌≡◌, ◌≤◌, ℕ, Bool, List, Ok, IsTrue, IfOk};
 ghost use Rattle.kb_word.specs.Words.{Pair as Sides};
 ghost use Rattle.kb_word.specs.Relations.{relations_of};
 ghost use Rattle.kb_word.specs.declared.presentation.Presentation.{Presentation};
@@ -24,10 +24,14 @@ use kb_rules::Reducer;
 use kb_structure::Cert;
 use kb_word::{Memory, Presentation};
 use std::alloc::Global;
+use std::sync::Wait;
+use std::thread::Threads;
 
 /// Whether a word acceptor and multipliers are the automatic structure of the group that is presented, as far as rules
-/// of the group show. Where `confluent` holds the rules settle it, unless a count is above the limit.
-pub fn check<R: Reducer>(
+/// of the group show. Where `confluent` holds the rules settle it, unless a count is above the limit. Several workers are
+/// a thread each.
+pub fn check<R: Reducer, T: Threads + Wait + Sync>(
+    rt: &T,
     alloc: Global,
     presentation: &Presentation,
     acceptor: &Fsa,
@@ -35,6 +39,7 @@ pub fn check<R: Reducer>(
     reducer: &R,
     confluent: bool,
     limit: u32,
+    workers: u32,
 ) -> Result<Axioms, Memory>
     requires group { EachInverts presentation.now.n presentation.now.inv }
     requires shortlex { presentation.now.order ≡ ShortLex }
@@ -42,6 +47,7 @@ pub fn check<R: Reducer>(
     requires multipliers { AreMultipliers presentation.now.n multipliers.now }
     requires confluent { IsTrue confluent → AreConfluentRulesOf presentation.now
         (R.rules reducer.now) }
+    requires workers { (1 ≤ workers) × (workers ≤ 64) }
     ensures says { IfOk result (AxiomsSay presentation.now (R.rules reducer.now) confluent
         acceptor.now multipliers.now limit) }
     ensures own { result ≡ Ok Yes
@@ -51,7 +57,15 @@ pub fn check<R: Reducer>(
         (checked_in presentation.now acceptor.now multipliers.now limit)) }
 {
     let relations = presentation.relations(alloc)?;
-    match check_automata(alloc, acceptor, multipliers, &relations, limit)? {
+    match check_automata(
+        rt,
+        alloc,
+        acceptor,
+        multipliers,
+        &relations,
+        limit,
+        workers,
+    )? {
         Automata::Pass => {
             let truth = check_truth(alloc, presentation, multipliers, reducer, confluent)?;
             Ok(answer_of(truth))

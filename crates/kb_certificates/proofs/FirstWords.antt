@@ -1,5 +1,5 @@
 -- Accepted words without an image.
-use Rattle.std.proofs.Common.{◌≡◌, ◌↔◌, ℕ, ◌+◌, ◌<◌, ◌≤◌, Bool, not, List, [], ◌∷◌, Some, refl, sym, ap, ◌∙◌, subst, inl, inr, arith}
+use Rattle.std.proofs.Common.{◌≡◌, ◌↔◌, ℕ, ◌+◌, ◌<◌, ◌≤◌, Bool, not, List, [], ◌∷◌, zero, suc, Some, add-one, refl, sym, ap, ◌∙◌, subst, inl, inr, arith}
 use Rattle.std.proofs.lemmas.Bool.{and_from, and_parts, cases_lt, cases_Bool, not-true, not_from_false, false_from_ne_true, true≢false}
 use Rattle.std.proofs.lemmas.Option.{none-some, same_Some}
 use Rattle.kb_word.specs.Words.{Pair as Sides}
@@ -12,11 +12,13 @@ use Rattle.kb_cascade.specs.Cascade.{AcceptsLed, IsLeastLed, followed}
 use Rattle.kb_fsadet.specs.Projection.{HasSecond, IsProjection}
 use Rattle.kb_leastpair.specs.LeastPair.{IsLeastWord}
 use Rattle.kb_structure.specs.Structure.{Structure, Accepts, Multiplies}
-use Rattle.kb_structure.specs.StructureOf.{FitTogether, multiplier_of, structure_of}
+use Rattle.kb_structure.specs.StructureOf.{FitTogether, OfAutomata, multiplier_of, structure_of}
 use Rattle.kb_structure.specs.Certificates.{WordWithoutImage}
 use Rattle.kb_structure.proofs.OfAutomata.{accepts_word, multiplied_pair, pair_multiplied}
-use Rattle.kb_certificates.specs.First.{NoneCountedUpTo}
-use Rattle.kb_certificates.specs.Images.{HasImagesUpTo}
+use Rattle.kb_search.specs.First.{AllLack}
+use Rattle.kb_certificates.specs.declared.image.Images.TheVariants.{Lacking, TooManyStates}
+use Rattle.kb_certificates.specs.First.{IsFirstWord, NoneCountedUpTo}
+use Rattle.kb_certificates.specs.Images.{AreGivenBefore, GivesImages, HasImagesUpTo, ImagesSay, IsFirstCounted}
 use Rattle.kb_certificates.specs.Followers.{other_state}
 use Rattle.kb_certificates.proofs.Leasts.{least_word_led}
 
@@ -106,30 +108,69 @@ module _ (order : WordOrder) (relations : List Sides) (acceptor : Automaton) (mu
     | inr lacking ↦ absurd (none word (and_from (accepts word) (not (has_image word)) ((means word).0 accepted) (not_from_false (has_image word) lacking)))
   ]
 
--- a generator more under which each accepted word has an image
-pub images_more : (structure : Structure) (x : ℕ) → HasImagesUpTo structure x
-    → ((u : List ℕ) → Accepts structure u → (v : List ℕ) × Multiplies structure (x + 1) u v) → HasImagesUpTo structure (x + 1)
-images_more structure x images here y u letter low accepted = elim (cases_lt x y) [
-  | inl above ↦
-      let P : ℕ → Type 0 = λ z. (v : List ℕ) × Multiplies structure z u v in
-      let is : x + 1 ≡ y = omega arith in subst P is (here u accepted)
-  | inr within ↦ images y u letter within accepted
-]
+-- ---- from place to place
 
--- ---- what is counted
+module _ (acceptor : Automaton) (multipliers : List Automaton) (limit : ℕ) where
+  -- where each place before this one gives images
+  pub all_given : (place : ℕ) → AllLack place (GivesImages acceptor multipliers limit) → AreGivenBefore acceptor multipliers limit place
+  all_given place each = record { images = given; few = counted }
+    where
+      given : OfAutomata acceptor multipliers (λ structure. HasImagesUpTo structure place)
+      given order relations zero u letter low accepted = absurd (let some = letter.0 in let no : ⊥ = omega (arith, some) in no)
+      given order relations (suc y) u letter low accepted =
+          let P : ℕ → Type 0 = λ x. (v : List ℕ) × Multiplies (structure_of order relations acceptor multipliers) x u v in
+          subst P (add-one y) ((each y (omega (arith, low))).images order relations u accepted)
 
-module _ (multipliers : List Automaton) (limit : ℕ) where
-  pub counted_more : (x : ℕ) (multiplier : Automaton) → multiplier_of multipliers (x + 1) ≡ Some multiplier → NoneCountedUpTo multipliers limit x
-      → ¬ CountedExists multiplier limit → NoneCountedUpTo multipliers limit (x + 1)
-  counted_more x multiplier at few here y other low is counted = elim (cases_lt x y) [
-    | inl above ↦
-        let same_number : y ≡ x + 1 = omega arith in
+      counted : NoneCountedUpTo multipliers limit place
+      counted zero multiplier low at = absurd (none-some multiplier at)
+      counted (suc y) multiplier low at = (each y (omega (arith, low))).few multiplier (ap (multiplier_of multipliers) (add-one y) ∙ at)
+
+  -- there is no word without an image up to the place
+  pub none_lacking : (place : ℕ) → AreGivenBefore acceptor multipliers limit place
+      → OfAutomata acceptor multipliers (λ structure. (y : ℕ) (u : List ℕ) → y ≤ place → ¬ WordWithoutImage structure y u)
+  none_lacking place before order relations y u low certificate =
+      let image = before.images order relations y u certificate.generator low certificate.accepted in
+      certificate.no_image image.0 image.1
+
+  module _ (place : ℕ) (multiplier : Automaton) (at : multiplier_of multipliers (place + 1) ≡ Some multiplier) where
+    -- the multiplier of the place is this one
+    pub few_here : ¬ CountedExists multiplier limit → (other : Automaton) → multiplier_of multipliers (place + 1) ≡ Some other
+        → ¬ CountedExists other limit
+    few_here few other is counted =
         let P : Automaton → Type 0 = λ one. CountedExists one limit in
-        here (subst P (same_Some other multiplier (sym is ∙ ap (multiplier_of multipliers) same_number ∙ at)) counted)
-    | inr within ↦ few y other within is counted
-  ]
+        few (subst P (same_Some other multiplier (sym is ∙ at)) counted)
 
-  pub none_counted_yet : NoneCountedUpTo multipliers limit 0
-  none_counted_yet y other low is counted =
-      let none : y ≡ 0 = omega arith in
-      none-some other (sym (ap (multiplier_of multipliers) none) ∙ is)
+    pub few_up_to : NoneCountedUpTo multipliers limit place → ¬ CountedExists multiplier limit
+        → NoneCountedUpTo multipliers limit (place + 1)
+    few_up_to before few y other low is counted = elim (cases_lt place y) [
+      | inl above ↦
+          let same : y ≡ place + 1 = omega arith in
+          few_here few other (ap (multiplier_of multipliers) (sym same) ∙ is) counted
+      | inr within ↦ before y other within is counted
+    ]
+
+    pub first_lacking : AreGivenBefore acceptor multipliers limit place → ¬ CountedExists multiplier limit → (x : ℕ) → x ≡ place + 1
+        → (word : List ℕ) → OfAutomata acceptor multipliers (λ structure. IsLeastWord (WordWithoutImage structure (place + 1)) word)
+        → ImagesSay acceptor multipliers limit (Lacking x word)
+    first_lacking before few x number word least =
+        let C : ℕ → Type 0 = λ y. NoneCountedUpTo multipliers limit y in (
+          λ order relations.
+              let Q : ℕ → Type 0 = λ y. IsFirstWord (WordWithoutImage (structure_of order relations acceptor multipliers)) y word in
+              subst Q (sym number) (record {
+                no_earlier = λ y u less. none_lacking place before order relations y u (omega (arith, less));
+                least = least order relations;
+              }),
+          subst C (sym number) (few_up_to before.few few),
+        )
+
+    pub first_counted : AreGivenBefore acceptor multipliers limit place → CountedExists multiplier limit → (x : ℕ) → x ≡ place + 1
+        → ImagesSay acceptor multipliers limit (TooManyStates x)
+    first_counted before counted x number =
+        let P : ℕ → Type 0 = λ y. IsFirstCounted acceptor multipliers limit y in
+        subst P (sym number) (record {
+          multiplier = multiplier;
+          is_multiplier = at;
+          counted = counted;
+          few = λ y other less. before.few y other (omega (arith, less));
+          images = λ order relations y u less. none_lacking place before order relations y u (omega (arith, less));
+        })

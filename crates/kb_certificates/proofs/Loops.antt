@@ -1,12 +1,14 @@
 -- From generator to generator, until one has a certificate.
-use Rattle.std.proofs.Common.{◌≡◌, ℕ, zero, suc, ◌+◌, ◌<◌, ◌≤◌, List, length, get_or, Some, sym, ap, ◌∙◌, subst, inl, inr, add-one, arith}
-use Rattle.std.proofs.lemmas.Bool.{cases_lt}
+use Rattle.std.proofs.Common.{◌≡◌, ℕ, zero, suc, ◌+◌, ◌<◌, ◌≤◌, List, length, get_or, Option, Some, None, sym, ap, ◌∙◌, subst, add-one, arith}
+use Rattle.std.specs.Prelude.{Result, Ok, Err, IfOk, IfSome, IfNone}
 use Rattle.std.proofs.lemmas.Option.{slice_get_read, slice_get_within}
 use Rattle.kb_fsa.specs.declared.alphabet.Alphabet.TheVariants.{Pair}
 use Rattle.kb_fsa.specs.Language.{Automaton, generators}
 use Rattle.kb_structure.specs.StructureOf.{FitTogether, multiplier_of}
-use Rattle.kb_leastpair.specs.LeastPair.{IsLeastWord, IsLeastPair}
-use Rattle.kb_certificates.specs.First.{IsFirstPair, IsFirstTriple, IsFirstWord, IsLeastTriple, NoPairUpTo, NoTripleUpTo, NoneUpTo}
+use Rattle.kb_word.specs.declared.memory.Memory.{Memory}
+use Rattle.kb_search.specs.First.{AllLack}
+use Rattle.kb_certificates.specs.First.{IsFirstPair, IsFirstTriple, IsFirstWord, NoPairUpTo, NoTripleUpTo, NoneUpTo}
+use Rattle.kb_certificates.specs.Places.{HasWord, LacksWord, HasPair, LacksPair, HasTriple, LacksTriple}
 
 -- the multiplier at a place is that of the next number
 pub multiplier_at : (multipliers : List Automaton) (place : ℕ) (multiplier : Automaton) → place < length multipliers
@@ -14,53 +16,76 @@ pub multiplier_at : (multipliers : List Automaton) (place : ℕ) (multiplier : A
 multiplier_at multipliers place multiplier within is =
     ap (multiplier_of multipliers) (add-one place) ∙ slice_get_read multipliers (length multipliers) place multiplier (let r : length multipliers ≡ length multipliers = omega arith in r) within is
 
-module _ (Certificate : ℕ → List ℕ → Type 0) where
-  pub none_yet : ((u : List ℕ) → ¬ Certificate 0 u) → NoneUpTo Certificate 0
-  none_yet none y u low certificate =
+-- ---- from places to generators
+
+module _ (Certificate : ℕ → List ℕ → Type 0) (letter : (x : ℕ) (u : List ℕ) → Certificate x u → 0 < x) where
+  pub none_up_to : (place : ℕ) → AllLack place (LacksWord Certificate) → NoneUpTo Certificate place
+  none_up_to place each zero u low certificate = absurd (let some = letter zero u certificate in let no : ⊥ = omega (arith, some) in no)
+  none_up_to place each (suc y) u low certificate =
       let P : ℕ → Type 0 = λ x. Certificate x u in
-      let is : y ≡ 0 = omega arith in none u (subst P is certificate)
+      each y (omega (arith, low)) u (subst P (sym (add-one y)) certificate)
 
-  pub none_more : (x : ℕ) → NoneUpTo Certificate x → ((u : List ℕ) → ¬ Certificate (x + 1) u) → NoneUpTo Certificate (x + 1)
-  none_more x none here y u low certificate = elim (cases_lt x y) [
-    | inl above ↦
-        let P : ℕ → Type 0 = λ z. Certificate z u in
-        let is : y ≡ x + 1 = omega arith in here u (subst P is certificate)
-    | inr within ↦ none y u within certificate
-  ]
+  pub first_word : (place x : ℕ) (u : List ℕ) → AllLack place (LacksWord Certificate) → HasWord Certificate place x u
+      → IsFirstWord Certificate x u
+  first_word place x u each has =
+      let number = has.number in
+      let Q : ℕ → Type 0 = λ y. IsFirstWord Certificate y u in
+      subst Q (sym number) (record {
+        no_earlier = λ y v less. none_up_to place each y v (omega (arith, less));
+        least = has.least;
+      })
 
-  pub first_word : (x : ℕ) (u : List ℕ) → NoneUpTo Certificate x → IsLeastWord (Certificate (x + 1)) u → IsFirstWord Certificate (x + 1) u
-  first_word x u none least = record { no_earlier = λ y v less. none y v (omega arith); least = least }
-
-module _ (Certificate : ℕ → List ℕ → List ℕ → Type 0) where
-  pub no_pair_yet : ((u v : List ℕ) → ¬ Certificate 0 u v) → NoPairUpTo Certificate 0
-  no_pair_yet none y u v low certificate =
+module _ (Certificate : ℕ → List ℕ → List ℕ → Type 0) (letter : (x : ℕ) (u v : List ℕ) → Certificate x u v → 0 < x) where
+  pub no_pair_up_to : (place : ℕ) → AllLack place (LacksPair Certificate) → NoPairUpTo Certificate place
+  no_pair_up_to place each zero u v low certificate = absurd (let some = letter zero u v certificate in let no : ⊥ = omega (arith, some) in no)
+  no_pair_up_to place each (suc y) u v low certificate =
       let P : ℕ → Type 0 = λ x. Certificate x u v in
-      let is : y ≡ 0 = omega arith in none u v (subst P is certificate)
+      each y (omega (arith, low)) u v (subst P (sym (add-one y)) certificate)
 
-  pub no_pair_more : (x : ℕ) → NoPairUpTo Certificate x → ((u v : List ℕ) → ¬ Certificate (x + 1) u v) → NoPairUpTo Certificate (x + 1)
-  no_pair_more x none here y u v low certificate = elim (cases_lt x y) [
-    | inl above ↦
-        let P : ℕ → Type 0 = λ z. Certificate z u v in
-        let is : y ≡ x + 1 = omega arith in here u v (subst P is certificate)
-    | inr within ↦ none y u v within certificate
-  ]
+  pub first_pair : (place x : ℕ) (u v : List ℕ) → AllLack place (LacksPair Certificate) → HasPair Certificate place x u v
+      → IsFirstPair Certificate x u v
+  first_pair place x u v each has =
+      let number = has.number in
+      let Q : ℕ → Type 0 = λ y. IsFirstPair Certificate y u v in
+      subst Q (sym number) (record {
+        no_earlier = λ y first second less. no_pair_up_to place each y first second (omega (arith, less));
+        least = has.least;
+      })
 
-  pub first_pair : (x : ℕ) (u v : List ℕ) → NoPairUpTo Certificate x → IsLeastPair (Certificate (x + 1)) u v → IsFirstPair Certificate (x + 1) u v
-  first_pair x u v none least = record { no_earlier = λ y first second less. none y first second (omega arith); least = least }
+module _ (Certificate : ℕ → List ℕ → List ℕ → List ℕ → Type 0)
+    (letter : (x : ℕ) (u v w : List ℕ) → Certificate x u v w → 0 < x) where
+  pub no_triple_up_to : (place : ℕ) → AllLack place (LacksTriple Certificate) → NoTripleUpTo Certificate place
+  no_triple_up_to place each zero u v w low certificate =
+      absurd (let some = letter zero u v w certificate in let no : ⊥ = omega (arith, some) in no)
+  no_triple_up_to place each (suc y) u v w low certificate =
+      let P : ℕ → Type 0 = λ x. Certificate x u v w in
+      each y (omega (arith, low)) u v w (subst P (sym (add-one y)) certificate)
 
-module _ (Certificate : ℕ → List ℕ → List ℕ → List ℕ → Type 0) where
-  pub no_triple_more : (x : ℕ) → NoTripleUpTo Certificate x → ((u v w : List ℕ) → ¬ Certificate (x + 1) u v w)
-      → NoTripleUpTo Certificate (x + 1)
-  no_triple_more x none here y u v w low certificate = elim (cases_lt x y) [
-    | inl above ↦
-        let P : ℕ → Type 0 = λ z. Certificate z u v w in
-        let is : y ≡ x + 1 = omega arith in here u v w (subst P is certificate)
-    | inr within ↦ none y u v w within certificate
-  ]
+  pub first_triple : (place x : ℕ) (u v w : List ℕ) → AllLack place (LacksTriple Certificate) → HasTriple Certificate place x u v w
+      → IsFirstTriple Certificate x u v w
+  first_triple place x u v w each has =
+      let number = has.number in
+      let Q : ℕ → Type 0 = λ y. IsFirstTriple Certificate y u v w in
+      subst Q (sym number) (record {
+        no_earlier = λ y a b c less. no_triple_up_to place each y a b c (omega (arith, less));
+        least = has.least;
+      })
 
-  pub first_triple : (x : ℕ) (u v w : List ℕ) → NoTripleUpTo Certificate x → IsLeastTriple (Certificate (x + 1)) u v w
-      → IsFirstTriple Certificate (x + 1) u v w
-  first_triple x u v w none least = record { no_earlier = λ y a b c less. none y a b c (omega arith); least = least }
+-- ---- what is found, said otherwise
+
+pub found_as : {A : Type 0} {P Q : A → Type 0} (answer : Result (Option A) Memory) → IfOk answer (λ found. IfSome found P)
+    → ((a : A) → P a → Q a) → IfOk answer (λ found. IfSome found Q)
+found_as (Ok (Some a)) holds turn = turn a holds
+found_as (Ok None) holds turn = tt
+found_as (Err e) holds turn = tt
+
+pub none_as : {A : Type 0} {P Q : Type 0} (answer : Result (Option A) Memory) → IfOk answer (λ found. IfNone found P)
+    → (P → Q) → IfOk answer (λ found. IfNone found Q)
+none_as (Ok (Some a)) holds turn = tt
+none_as (Ok None) holds turn = turn holds
+none_as (Err e) holds turn = tt
+
+-- ---- multipliers
 
 -- a multiplier's number is no greater than how many there are
 pub multiplier_within : (multipliers : List Automaton) (x : ℕ) (multiplier : Automaton) → multiplier_of multipliers x ≡ Some multiplier

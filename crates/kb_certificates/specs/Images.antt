@@ -1,5 +1,5 @@
 -- Whether each accepted word has an image under each generator, and what is counted on the way.
-use Rattle.std.specs.Prelude.{◌≡◌, ℕ, ◌<◌, ◌≤◌, List, length, Some}
+use Rattle.std.specs.Prelude.{◌≡◌, ℕ, ◌+◌, ◌<◌, ◌≤◌, List, length, Some}
 use Rattle.kb_fsa.specs.Language.{Automaton}
 use Rattle.kb_fsa.specs.Counted.{CountedExists}
 use Rattle.kb_structure.specs.Structure.{Structure, IsGenerator, Accepts, Multiplies}
@@ -26,6 +26,21 @@ pub record IsFirstCounted (acceptor : Automaton) (multipliers : List Automaton) 
       → ¬ CountedExists other limit
   pub images : OfAutomata acceptor multipliers (λ structure. (y : ℕ) (u : List ℕ) → y < x
       → ¬ WordWithoutImage structure y u)
+
+-- Each accepted word has an image under the generator of the place, which is the one after it, and the first words of its
+-- multiplier have no more sets of states than the limit.
+pub record GivesImages (acceptor : Automaton) (multipliers : List Automaton) (limit place : ℕ)
+    : Type 0 where
+  pub images : OfAutomata acceptor multipliers (λ structure. (u : List ℕ) → Accepts structure u
+      → (v : List ℕ) × Multiplies structure (place + 1) u v)
+  pub few : (multiplier : Automaton) → multiplier_of multipliers (place + 1) ≡ Some multiplier
+      → ¬ CountedExists multiplier limit
+
+-- the same of all places before this one
+pub record AreGivenBefore (acceptor : Automaton) (multipliers : List Automaton) (limit place : ℕ)
+    : Type 0 where
+  pub images : OfAutomata acceptor multipliers (λ structure. HasImagesUpTo structure place)
+  pub few : NoneCountedUpTo multipliers limit place
 
 -- what each answer says
 abbrev pub ImagesSay : Automaton → List Automaton → ℕ → Images → Type 0

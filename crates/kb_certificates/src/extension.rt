@@ -7,11 +7,15 @@ ghost use Rattle.kb_structure.specs.StructureOf.{FitTogether, OfAutomata};
 ghost use Rattle.kb_certificates.specs.First.{HasNone, IsFirstWord};
 ghost use Rattle.kb_certificates.specs.Followers.{own_pair};
 
+use crate::automata::Automata;
 use crate::least::least_word;
 use kb_cascade::Follower;
 use kb_fsa::{Fsa, PairSymbols};
+use kb_search::{Search, first_found};
 use kb_word::{Letter, Memory, Word};
 use std::alloc::Global;
+use std::sync::Wait;
+use std::thread::Threads;
 
 /// Along the acceptor's words, the multiplier's state after the pair of the word with itself.
 #[derive(Drop)]
@@ -52,14 +56,63 @@ impl<'a> Follower for OwnPair<'a> {
     ghost same_state = { eqb-true };
 }
 
+/// The multipliers, which are searched for extensions to which they don't lead.
+#[derive(Drop)]
+struct Extensions<'a> {
+    automata: Automata<'a>,
+}
+
+/// A place is a generator's.
+impl<'a> Search for Extensions<'a> {
+    ghost use Rattle.std.specs.Prelude.{length};
+    ghost use Rattle.kb_structure.specs.Certificates.{MissingExtension};
+    ghost use Rattle.kb_structure.specs.StructureOf.{OfAutomata};
+    ghost use Rattle.kb_certificates.specs.Places.{HasWord, LacksWord};
+
+    type Found = (Letter, Word);
+
+    ghost places = { λ it. length it.automata.multipliers.now };
+
+    ghost has = { λ it place certificate.
+        OfAutomata it.automata.acceptor.now it.automata.multipliers.now (λ structure.
+        HasWord (MissingExtension structure) place certificate.0 certificate.1) };
+
+    ghost lacks = { λ it place.
+        OfAutomata it.automata.acceptor.now it.automata.multipliers.now (λ structure.
+        LacksWord (MissingExtension structure) place) };
+
+    fn places(&self) -> u64 {
+        self.automata.places()
+    }
+
+    fn look(&self, alloc: Global, place: u64) -> Result<Option<(Letter, Word)>, Memory> {
+        let (x, multiplier) = self.automata.at(place);
+        let acceptor = self.automata.acceptor;
+        let n = acceptor.alphabet().generators();
+        let follower = OwnPair {
+            acceptor,
+            multiplier,
+            symbols: PairSymbols { n },
+            x: u32::from(x.number()),
+        };
+        match least_word(alloc, acceptor, &follower)? {
+            Some(word) => Ok(Some((x, word))),
+            None => Ok(None),
+        }
+    }
+}
+
 /// The first generator x with a word that is accepted with x after it, where the multiplier of x doesn't lead there
 /// from the word; and the least such word.
-pub fn missing_extension(
+pub fn missing_extension<T: Threads + Wait + Sync>(
+    rt: &T,
     alloc: Global,
     acceptor: &Fsa,
     multipliers: &[Fsa],
+    workers: u32,
 ) -> Result<Option<(Letter, Word)>, Memory>
-    requires { FitTogether acceptor.now multipliers.now }
+    requires fit { FitTogether acceptor.now multipliers.now }
+    requires workers { (1 ≤ workers) × (workers ≤ 64) }
     ensures found { IfOk result (λ found. IfSome found (λ certificate.
         OfAutomata acceptor.now multipliers.now (λ structure.
         IsFirstWord (MissingExtension structure) certificate.0 certificate.1))) }
@@ -67,18 +120,9 @@ pub fn missing_extension(
         (OfAutomata acceptor.now multipliers.now (λ structure.
         HasNone (MissingExtension structure)))) }
 {
-    let n = acceptor.alphabet().generators();
-    for (place, multiplier) in multipliers.iter().enumerate() {
-        let x = place as u16 + 1;
-        let follower = OwnPair {
-            acceptor,
-            multiplier,
-            symbols: PairSymbols { n },
-            x: u32::from(x),
-        };
-        if let Some(word) = least_word(alloc, acceptor, &follower)? {
-            return Ok(Some((Letter::new(x), word)));
-        }
-    }
-    Ok(None)
+    let automata = Automata {
+        acceptor,
+        multipliers,
+    };
+    first_found(rt, alloc, &Extensions { automata }, workers)
 }

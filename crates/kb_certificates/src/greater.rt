@@ -1,6 +1,6 @@
 //! Certificates N7: images that are greater than the word with the generator after it.
 
-ghost use Rattle.std.specs.Prelude.{◌≡◌, List, IfOk, IfSome, IfNone};
+ghost use Rattle.std.specs.Prelude.{◌≡◌, ◌≤◌, List, IfOk, IfSome, IfNone};
 ghost use Rattle.std.proofs.Common.{rules};
 ghost use Rattle.kb_word.specs.Words.{Pair as Sides};
 ghost use Rattle.kb_word.specs.declared.word_order.WordOrder.TheVariants.{ShortLex};
@@ -9,12 +9,16 @@ ghost use Rattle.kb_structure.specs.StructureOf.{FitTogether, structure_of};
 ghost use Rattle.kb_certificates.specs.First.{HasNoPair, IsFirstPair};
 ghost use Rattle.kb_certificates.specs.Followers.{compared, comparing, is_lower, lengthened, outlasted};
 
+use crate::automata::Automata;
 use crate::comparison::Comparison;
 use crate::least::least_led_pair;
 use kb_cascade::Follower;
 use kb_fsa::{Fsa, PairSymbols};
+use kb_search::{Search, first_found};
 use kb_word::{Letter, Memory, Word};
 use std::alloc::Global;
+use std::sync::Wait;
+use std::thread::Threads;
 
 /// Along a multiplier's pairs, how the first word with the generator after it compares with the second.
 #[derive(Drop)]
@@ -74,14 +78,65 @@ fn outlasted(x: u32, comparison: Comparison, second: u32) -> Comparison
     }
 }
 
+/// The multipliers, which are searched for images that are greater.
+#[derive(Drop)]
+struct GreaterImages<'a> {
+    automata: Automata<'a>,
+}
+
+/// A place is a generator's.
+impl<'a> Search for GreaterImages<'a> {
+    ghost use Rattle.std.specs.Prelude.{List, length};
+    ghost use Rattle.kb_word.specs.Words.{Pair as Sides};
+    ghost use Rattle.kb_word.specs.declared.word_order.WordOrder.TheVariants.{ShortLex};
+    ghost use Rattle.kb_structure.specs.Certificates.{ImageNotLeast};
+    ghost use Rattle.kb_structure.specs.StructureOf.{structure_of};
+    ghost use Rattle.kb_certificates.specs.Places.{HasPair, LacksPair};
+
+    type Found = (Letter, Word, Word);
+
+    ghost places = { λ it. length it.automata.multipliers.now };
+
+    ghost has = { λ it place certificate. (relations : List Sides) → HasPair
+        (ImageNotLeast
+        (structure_of ShortLex relations it.automata.acceptor.now it.automata.multipliers.now))
+        place certificate.0 certificate.1 certificate.2 };
+
+    ghost lacks = { λ it place. (relations : List Sides) → LacksPair
+        (ImageNotLeast
+        (structure_of ShortLex relations it.automata.acceptor.now it.automata.multipliers.now))
+        place };
+
+    fn places(&self) -> u64 {
+        self.automata.places()
+    }
+
+    fn look(&self, alloc: Global, place: u64) -> Result<Option<(Letter, Word, Word)>, Memory> {
+        let (x, multiplier) = self.automata.at(place);
+        let n = self.automata.acceptor.alphabet().generators();
+        let follower = Comparing {
+            multiplier,
+            symbols: PairSymbols { n },
+            x: u32::from(x.number()),
+        };
+        match least_led_pair(alloc, multiplier, &follower)? {
+            Some((first, second)) => Ok(Some((x, first, second))),
+            None => Ok(None),
+        }
+    }
+}
+
 /// The first generator x whose multiplier relates a word to one that is greater, in the shortlex order, than the word
 /// with x after it; with the least first word, and the least second word beside it.
-pub fn image_not_least(
+pub fn image_not_least<T: Threads + Wait + Sync>(
+    rt: &T,
     alloc: Global,
     acceptor: &Fsa,
     multipliers: &[Fsa],
+    workers: u32,
 ) -> Result<Option<(Letter, Word, Word)>, Memory>
-    requires { FitTogether acceptor.now multipliers.now }
+    requires fit { FitTogether acceptor.now multipliers.now }
+    requires workers { (1 ≤ workers) × (workers ≤ 64) }
     ensures found { IfOk result (λ found. IfSome found (λ certificate. (relations : List Sides)
         → IsFirstPair
         (ImageNotLeast (structure_of ShortLex relations acceptor.now multipliers.now))
@@ -89,17 +144,9 @@ pub fn image_not_least(
     ensures none { IfOk result (λ found. IfNone found ((relations : List Sides) → HasNoPair
         (ImageNotLeast (structure_of ShortLex relations acceptor.now multipliers.now)))) }
 {
-    let n = acceptor.alphabet().generators();
-    for (place, multiplier) in multipliers.iter().enumerate() {
-        let x = place as u16 + 1;
-        let follower = Comparing {
-            multiplier,
-            symbols: PairSymbols { n },
-            x: u32::from(x),
-        };
-        if let Some((first, second)) = least_led_pair(alloc, multiplier, &follower)? {
-            return Ok(Some((Letter::new(x), first, second)));
-        }
-    }
-    Ok(None)
+    let automata = Automata {
+        acceptor,
+        multipliers,
+    };
+    first_found(rt, alloc, &GreaterImages { automata }, workers)
 }

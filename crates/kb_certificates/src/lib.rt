@@ -16,7 +16,8 @@
 //! Each returns the first certificate of its kind: that of the least generator that has one, with the least first word,
 //! the least second word beside it, and so on, in the shortlex order; and `None` exactly where there is none. What the
 //! certificates say doesn't depend on the relations, nor on the order of words but for N7, which is of the shortlex
-//! order. Want of memory is the one error. For N4 the projection of each generator's multiplier is made before that
+//! order. All but the first go over the generators, which 1 to 64 workers share, each a thread where there are several:
+//! their number changes nothing of the answer. Want of memory is the one error. For N4 the projection of each generator's multiplier is made before that
 //! generator's certificate is looked for: the answer is [`Images::TooManyStates`] exactly where that has more sets of
 //! states than the limit, and neither has an earlier generator's nor has one a certificate; and [`Images::Given`] says
 //! that each accepted word has images.
@@ -31,16 +32,21 @@
 //! `kb_leastpair`. A word has two images where its multiplier has a pair of it that isn't the first with that word
 //! (`kb_laterpairs`).
 //!
+//! A generator's multiplier is asked without regard to the others, so each kind but N1 is a search of `kb_search`, whose
+//! places are the generators (`automata`); a multiplier that has a certificate brings its least one.
+//!
 //! # Where things are
 //!
-//! In `specs/`, `First` has what is the first certificate, `Images` what is answered of N4, `Followers` the machines that
+//! In `specs/`, `First` has what is the first certificate, `Places` what one generator has, `Images` what is answered of N4, `Followers` the machines that
 //! follow, and `LedPairs` the pairs that they accept. In `proofs/`, `Prefixes` (N1), `OutsidePairs` (N2), `FirstWords` (N4),
 //! `TwoImages` (N5), `Extensions` (N6) and `GreaterImages` (N7) have that these are the certificates; `Leasts` and
-//! `LedWords` what the least of them are, and `Loops` the way from generator to generator.
+//! `LedWords` what the least of them are, and `Loops` the way from what each generator has to what is first.
 //!
-//! Below are `kb_structure`, with the certificates, `kb_cascade`, `kb_leastpair`, `kb_laterpairs` and `kb_fsadet`.
+//! Below are `kb_structure`, with the certificates, `kb_cascade`, `kb_leastpair`, `kb_laterpairs`, `kb_fsadet` and
+//! `kb_search`.
 #![tactic(auto)]
 
+mod automata;
 mod comparison;
 mod extension;
 mod greater;

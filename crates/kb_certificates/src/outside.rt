@@ -1,18 +1,22 @@
 //! Certificates N2: pairs of a multiplier with a word that isn't accepted.
 
-ghost use Rattle.std.specs.Prelude.{◌≡◌, IfOk, IfSome, IfNone};
+ghost use Rattle.std.specs.Prelude.{◌≡◌, ◌≤◌, IfOk, IfSome, IfNone};
 ghost use Rattle.std.proofs.Common.{rules};
 ghost use Rattle.kb_structure.specs.Certificates.{PairOutsideAcceptor};
 ghost use Rattle.kb_structure.specs.StructureOf.{FitTogether, OfAutomata};
 ghost use Rattle.kb_certificates.specs.First.{HasNoPair, IsFirstPair};
 ghost use Rattle.kb_certificates.specs.Followers.{after_letter, word_states};
 
+use crate::automata::Automata;
 use crate::least::least_led_pair;
 use crate::word_states::WordStates;
 use kb_cascade::Follower;
 use kb_fsa::{Fsa, PairSymbols};
+use kb_search::{Search, first_found};
 use kb_word::{Letter, Memory, Word};
 use std::alloc::Global;
+use std::sync::Wait;
+use std::thread::Threads;
 
 /// Along a multiplier's pairs, the acceptor's states after both words.
 #[derive(Drop)]
@@ -66,14 +70,63 @@ impl<'a> AcceptorStates<'a> {
     }
 }
 
+/// The multipliers, which are searched for pairs with a word that isn't accepted.
+#[derive(Drop)]
+struct PairsOutside<'a> {
+    automata: Automata<'a>,
+}
+
+/// A place is a generator's.
+impl<'a> Search for PairsOutside<'a> {
+    ghost use Rattle.std.specs.Prelude.{length};
+    ghost use Rattle.kb_structure.specs.Certificates.{PairOutsideAcceptor};
+    ghost use Rattle.kb_structure.specs.StructureOf.{OfAutomata};
+    ghost use Rattle.kb_certificates.specs.Places.{HasPair, LacksPair};
+
+    type Found = (Letter, Word, Word);
+
+    ghost places = { λ it. length it.automata.multipliers.now };
+
+    ghost has = { λ it place certificate.
+        OfAutomata it.automata.acceptor.now it.automata.multipliers.now (λ structure.
+        HasPair (PairOutsideAcceptor structure) place certificate.0 certificate.1
+        certificate.2) };
+
+    ghost lacks = { λ it place.
+        OfAutomata it.automata.acceptor.now it.automata.multipliers.now (λ structure.
+        LacksPair (PairOutsideAcceptor structure) place) };
+
+    fn places(&self) -> u64 {
+        self.automata.places()
+    }
+
+    fn look(&self, alloc: Global, place: u64) -> Result<Option<(Letter, Word, Word)>, Memory> {
+        let (x, multiplier) = self.automata.at(place);
+        let acceptor = self.automata.acceptor;
+        let n = acceptor.alphabet().generators();
+        let follower = AcceptorStates {
+            multiplier,
+            acceptor,
+            symbols: PairSymbols { n },
+        };
+        match least_led_pair(alloc, multiplier, &follower)? {
+            Some((first, second)) => Ok(Some((x, first, second))),
+            None => Ok(None),
+        }
+    }
+}
+
 /// The first generator whose multiplier relates a word to one, and not both are accepted; with the least first word,
 /// and the least second word beside it.
-pub fn pair_outside_acceptor(
+pub fn pair_outside_acceptor<T: Threads + Wait + Sync>(
+    rt: &T,
     alloc: Global,
     acceptor: &Fsa,
     multipliers: &[Fsa],
+    workers: u32,
 ) -> Result<Option<(Letter, Word, Word)>, Memory>
-    requires { FitTogether acceptor.now multipliers.now }
+    requires fit { FitTogether acceptor.now multipliers.now }
+    requires workers { (1 ≤ workers) × (workers ≤ 64) }
     ensures found { IfOk result (λ found. IfSome found (λ certificate.
         OfAutomata acceptor.now multipliers.now (λ structure.
         IsFirstPair (PairOutsideAcceptor structure) certificate.0 certificate.1 certificate.2))) }
@@ -81,16 +134,9 @@ pub fn pair_outside_acceptor(
         (OfAutomata acceptor.now multipliers.now (λ structure.
         HasNoPair (PairOutsideAcceptor structure)))) }
 {
-    let n = acceptor.alphabet().generators();
-    for (place, multiplier) in multipliers.iter().enumerate() {
-        let follower = AcceptorStates {
-            multiplier,
-            acceptor,
-            symbols: PairSymbols { n },
-        };
-        if let Some((first, second)) = least_led_pair(alloc, multiplier, &follower)? {
-            return Ok(Some((Letter::new(place as u16 + 1), first, second)));
-        }
-    }
-    Ok(None)
+    let automata = Automata {
+        acceptor,
+        multipliers,
+    };
+    first_found(rt, alloc, &PairsOutside { automata }, workers)
 }

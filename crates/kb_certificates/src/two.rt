@@ -1,25 +1,75 @@
 //! Certificates N5: words with two images.
 
-ghost use Rattle.std.specs.Prelude.{◌≡◌, List, ℕ, IfOk, IfSome, IfNone};
+ghost use Rattle.std.specs.Prelude.{◌≡◌, ◌≤◌, List, ℕ, IfOk, IfSome, IfNone};
 ghost use Rattle.kb_fsa.specs.Language.{generators};
 ghost use Rattle.kb_fsa.specs.declared.alphabet.Alphabet.TheVariants.{Pair};
 ghost use Rattle.kb_structure.specs.Certificates.{TwoImages};
 ghost use Rattle.kb_structure.specs.StructureOf.{FitTogether, OfAutomata};
 ghost use Rattle.kb_certificates.specs.First.{HasNoTriple, HasTwo, IsFirstTriple, IsLeastTriple};
 
+use crate::automata::Automata;
 use kb_fsa::Fsa;
 use kb_laterpairs::later_pairs;
 use kb_leastpair::{least_pair, least_second};
+use kb_search::{Search, first_found};
 use kb_word::{Letter, Memory, Word};
 use std::alloc::Global;
+use std::sync::Wait;
+use std::thread::Threads;
+
+/// The multipliers, which are searched for words with two images.
+#[derive(Drop)]
+struct WordsWithTwo<'a> {
+    automata: Automata<'a>,
+}
+
+/// A place is a generator's.
+impl<'a> Search for WordsWithTwo<'a> {
+    ghost use Rattle.std.specs.Prelude.{length};
+    ghost use Rattle.kb_structure.specs.Certificates.{TwoImages};
+    ghost use Rattle.kb_structure.specs.StructureOf.{OfAutomata};
+    ghost use Rattle.kb_certificates.specs.Places.{HasTriple, LacksTriple};
+
+    type Found = (Letter, Word, Word, Word);
+
+    ghost places = { λ it. length it.automata.multipliers.now };
+
+    ghost has = { λ it place certificate.
+        OfAutomata it.automata.acceptor.now it.automata.multipliers.now (λ structure.
+        HasTriple (TwoImages structure) place certificate.0 certificate.1 certificate.2
+        certificate.3) };
+
+    ghost lacks = { λ it place.
+        OfAutomata it.automata.acceptor.now it.automata.multipliers.now (λ structure.
+        LacksTriple (TwoImages structure) place) };
+
+    fn places(&self) -> u64 {
+        self.automata.places()
+    }
+
+    fn look(
+        &self,
+        alloc: Global,
+        place: u64,
+    ) -> Result<Option<(Letter, Word, Word, Word)>, Memory> {
+        let (x, multiplier) = self.automata.at(place);
+        match least_two(alloc, multiplier)? {
+            Some((word, image, other)) => Ok(Some((x, word, image, other))),
+            None => Ok(None),
+        }
+    }
+}
 
 /// The first generator whose multiplier relates a word to two; with the least such word, its least image, and the next.
-pub fn two_images(
+pub fn two_images<T: Threads + Wait + Sync>(
+    rt: &T,
     alloc: Global,
     acceptor: &Fsa,
     multipliers: &[Fsa],
+    workers: u32,
 ) -> Result<Option<(Letter, Word, Word, Word)>, Memory>
-    requires { FitTogether acceptor.now multipliers.now }
+    requires fit { FitTogether acceptor.now multipliers.now }
+    requires workers { (1 ≤ workers) × (workers ≤ 64) }
     ensures found { IfOk result (λ found. IfSome found (λ certificate.
         OfAutomata acceptor.now multipliers.now (λ structure.
         IsFirstTriple (TwoImages structure) certificate.0 certificate.1 certificate.2
@@ -28,14 +78,11 @@ pub fn two_images(
         (OfAutomata acceptor.now multipliers.now (λ structure.
         HasNoTriple (TwoImages structure)))) }
 {
-    let n = acceptor.alphabet().generators();
-    for (place, multiplier) in multipliers.iter().enumerate() {
-        prove!(place < usize::from(n));
-        if let Some((word, image, other)) = least_two(alloc, multiplier)? {
-            return Ok(Some((Letter::new(place as u16 + 1), word, image, other)));
-        }
-    }
-    Ok(None)
+    let automata = Automata {
+        acceptor,
+        multipliers,
+    };
+    first_found(rt, alloc, &WordsWithTwo { automata }, workers)
 }
 
 /// The least first word beside which two second words are accepted, the least of these, and the next.

@@ -1,7 +1,6 @@
 -- From relation to relation, until the sides of one lead apart.
-use Rattle.std.proofs.Common.{◌≡◌, ℕ, ◌+◌, ◌<◌, List, [], length, get_or, slice_get, Some, refl, sym, ◌∙◌, subst, inl, inr, add-one, arith}
-use Rattle.std.proofs.lemmas.Bool.{cases_lt}
-use Rattle.std.proofs.lemmas.Option.{same_Some, slice_get_read}
+use Rattle.std.proofs.Common.{◌≡◌, ℕ, ◌+◌, ◌<◌, List, [], length, get_or, slice_get, Some, refl, sym, ◌∙◌, subst, add-one, arith}
+use Rattle.std.proofs.lemmas.Option.{same_Some, slice_get_read, slice_get_within}
 use Rattle.kb_word.specs.Words.{Pair as Sides, Less}
 use Rattle.kb_word.specs.Relations.{IsOver}
 use Rattle.kb_word.specs.declared.word_order.WordOrder.{WordOrder}
@@ -12,23 +11,58 @@ use Rattle.kb_structure.specs.Structure.{Structure, Follows}
 use Rattle.kb_structure.specs.StructureOf.{structure_of, OfAutomata}
 use Rattle.kb_structure.specs.Axioms.{ActAlike}
 use Rattle.kb_structure.specs.Certificates.{RelationBroken}
+use Rattle.kb_search.specs.First.{AllLack}
 use Rattle.kb_relations.specs.Images.{CanBeFollowed}
 use Rattle.kb_relations.specs.Composites.{CountedRelation}
 use Rattle.kb_relations.specs.Acts.{AreOver, LeadApart, ActAlikeBefore, AtNumber, IsFirstBroken, IsFirstCounted}
+use Rattle.kb_relations.specs.declared.stop.Stop.TheVariants.{LedApart, TooManyStates}
+use Rattle.kb_relations.specs.Stops.{GoesOnAt, IsApartFrom, StopsAt}
 use Rattle.kb_relations.proofs.UniqueImages.{leads_to_one}
 
 module _ (relations : List Sides) (acceptor : Automaton) (multipliers : List Automaton) (limit : ℕ) where
   abbrev Alike : ℕ → Type 0
   Alike index = ActAlikeBefore relations acceptor multipliers limit index
 
-  pub none_before : Alike 0
-  none_before = record {
-    alike = λ earlier relation below is. absurd (omega arith);
-    few = λ earlier relation below is. absurd (omega arith);
+  abbrev GoesOn : ℕ → Type 0
+  GoesOn index = GoesOnAt relations acceptor multipliers limit index
+
+  -- where the search goes on before the index, the relations before it act alike
+  pub all_alike : CanBeFollowed acceptor multipliers → (index : ℕ) → AllLack index GoesOn → Alike index
+  all_alike followed index each = record {
+    alike = λ earlier relation below is. (each earlier below).alike followed relation is;
+    few = λ earlier relation below is. (each earlier below).few relation is;
   }
 
+  -- where the search ends there is a relation
+  pub stops_within : (at index : ℕ) (word : List ℕ) → StopsAt relations acceptor multipliers limit at (LedApart index word)
+      → index < length relations
+  stops_within at index word stops =
+      let same = stops.here in
+      let within = slice_get_within relations at stops.relation stops.is_relation in omega (arith, same, within)
+
+  pub first_counted : CanBeFollowed acceptor multipliers → (at index : ℕ) → AllLack at GoesOn
+      → StopsAt relations acceptor multipliers limit at (TooManyStates index)
+      → AtNumber (IsFirstCounted relations acceptor multipliers limit) (index + 1)
+  first_counted followed at index earlier stops =
+      let Q : ℕ → Type 0 = λ k. AtNumber (IsFirstCounted relations acceptor multipliers limit) (k + 1) in
+      subst Q (sym stops.here) (record {
+        index = at;
+        counts_from_one = add-one at;
+        holds = record {
+          earlier = all_alike followed at earlier;
+          relation = stops.relation;
+          is_relation = stops.is_relation;
+          counted = stops.holds;
+        };
+      })
+
+  -- the relations before the one at which the search ends act alike
+  pub alike_before : CanBeFollowed acceptor multipliers → (at index : ℕ) (word : List ℕ) → AllLack at GoesOn
+      → StopsAt relations acceptor multipliers limit at (LedApart index word) → Alike index
+  alike_before followed at index word earlier stops = subst Alike (sym stops.here) (all_alike followed at earlier)
+
   module _ (place : ℕ) (relation : Sides) (within : place < length relations) (is_item : relation ≡ get_or relations place relation) where
-    is_relation : slice_get relations place ≡ Some relation
+    pub is_relation : slice_get relations place ≡ Some relation
     is_relation = slice_get_read relations (length relations) place relation refl within is_item
 
     -- what is at the place is the relation
@@ -39,34 +73,25 @@ module _ (relations : List Sides) (acceptor : Automaton) (multipliers : List Aut
         → IsOver (generators acceptor.alphabet) relation.0 × IsOver (generators acceptor.alphabet) relation.1
     sides_over over = over relation (place, is_relation)
 
-    pub one_more : Alike place → OfAutomata acceptor multipliers (λ structure. ActAlike structure relation.0 relation.1)
-        → ¬ CountedRelation acceptor multipliers relation limit → Alike (place + 1)
-    one_more before alike few = record {
-      alike = λ earlier other below is. elim (cases_lt earlier place) [
-        | inr here ↦
-            let same : earlier ≡ place = omega arith in
-            let At : ℕ → Type 0 = λ k. slice_get relations k ≡ Some other in
-            let P : Sides → Type 0 = λ r. OfAutomata acceptor multipliers (λ structure. ActAlike structure r.0 r.1) in
-            subst P (the_relation other (subst At same is)) alike
-        | inl sooner ↦ before.alike earlier other sooner is
-      ];
-      few = λ earlier other below is. elim (cases_lt earlier place) [
-        | inr here ↦
-            let same : earlier ≡ place = omega arith in
-            let At : ℕ → Type 0 = λ k. slice_get relations k ≡ Some other in
-            let P : Sides → Type 0 = λ r. ¬ CountedRelation acceptor multipliers r limit in
-            subst P (the_relation other (subst At same is)) few
-        | inl sooner ↦ before.few earlier other sooner is
-      ];
+    pub goes_on : (CanBeFollowed acceptor multipliers → OfAutomata acceptor multipliers (λ structure. ActAlike structure relation.0 relation.1))
+        → ¬ CountedRelation acceptor multipliers relation limit → GoesOn place
+    goes_on alike few = record {
+      alike = λ followed other is.
+          let P : Sides → Type 0 = λ r. OfAutomata acceptor multipliers (λ structure. ActAlike structure r.0 r.1) in
+          subst P (the_relation other is) (alike followed);
+      few = λ other is.
+          let P : Sides → Type 0 = λ r. ¬ CountedRelation acceptor multipliers r limit in
+          subst P (the_relation other is) few;
     }
 
-    pub first_counted : Alike place → CountedRelation acceptor multipliers relation limit
-        → AtNumber (IsFirstCounted relations acceptor multipliers limit) (place + 1)
-    first_counted before counted = record {
-      index = place;
-      counts_from_one = add-one place;
-      holds = record { earlier = before; relation = relation; is_relation = is_relation; counted = counted };
-    }
+    -- where the search ends at this relation, its sides lead apart
+    pub apart_here : (at : ℕ) (word : List ℕ) → StopsAt relations acceptor multipliers limit at (LedApart place word)
+        → IsApartFrom acceptor multipliers limit relation word
+    apart_here at word stops =
+        let other = stops.relation in
+        let At : ℕ → Type 0 = λ k. slice_get relations k ≡ Some other in
+        let P : Sides → Type 0 = λ r. IsApartFrom acceptor multipliers limit r word in
+        subst P (sym (the_relation other (subst At (sym stops.here) stops.is_relation))) stops.holds
 
     module _ (followed : CanBeFollowed acceptor multipliers) (over : AreOver acceptor relations) (word : List ℕ)
         (apart : OfAutomata acceptor multipliers (λ structure. IsLeastWord (LeadApart structure relation.0 relation.1) word)) where

@@ -1,4 +1,5 @@
 pub mod Images
 pub mod Composites
 pub mod Acts
+pub mod Stops
 pub mod Progress

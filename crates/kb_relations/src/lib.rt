@@ -12,7 +12,8 @@
 //! - [`broken_relation`] says that both sides of each relation act alike; or it names the first relation whose sides
 //!   don't, with the least word from which they lead to different words, and these two; or it names the first relation
 //!   for which more states than the limit are counted, where no earlier one is broken (`IsActing` of
-//!   `specs/Acts.antt`).
+//!   `specs/Acts.antt`). The relations are shared by 1 to 64 workers, each a thread where there are several; their
+//!   number changes nothing of the answer.
 //!
 //! For each relation the composites along both sides are counted, and then their comparison, before its certificate is
 //! looked for (`CountedRelation` of `specs/Composites.antt`). A relation with equal sides is counted too.
@@ -25,6 +26,10 @@
 //! last letter, so that a text with a longer first word may come first. From the least word both sides are then
 //! followed.
 //!
+//! One relation is asked without regard to the others, so this is a search of `kb_search` whose places are the relations.
+//! A place has where the search stops (`specs/Stops.antt`): the word, or the count. Both sides are followed after the
+//! search, at the first relation alone.
+//!
 //! # Where the proofs are
 //!
 //! - `UniqueImages`: where images are unique, words lead somewhere, to accepted words, and to one alone.
@@ -32,15 +37,16 @@
 //! - `Composites`: following in the automata and in the structure is the same; a word has one composite, so that the
 //!   comparison of composites is counted by the words alone.
 //! - `LedApart`: the first words of the symmetric difference.
-//! - `Searching`: from relation to relation.
+//! - `Searching`: from what is found of each relation to what is first.
 //!
-//! Below are `kb_structure` with the definitions, `kb_compose`, `kb_fsabool` and `kb_leastpair`.
+//! Below are `kb_structure` with the definitions, `kb_compose`, `kb_fsabool`, `kb_leastpair` and `kb_search`.
 #![tactic(auto)]
 
 mod acting;
 mod following;
 mod search;
 mod sides;
+mod stop;
 
 pub use acting::Acting;
 pub use following::follow;

@@ -1,55 +1,106 @@
 //! The first relation whose sides don't act alike.
 
-ghost use Rattle.std.specs.Prelude.{IfOk};
+ghost use Rattle.std.specs.Prelude.{◌≤◌, IfOk};
 ghost use Rattle.kb_word.specs.Relations.{IsOver};
 ghost use Rattle.kb_fsa.specs.Language.{Accepts, generators};
 ghost use Rattle.kb_structure.specs.Structure.{Follows};
-ghost use Rattle.kb_structure.specs.StructureOf.{OfAutomata};
+ghost use Rattle.kb_structure.specs.StructureOf.{FitTogether, OfAutomata};
 ghost use Rattle.kb_relations.specs.Images.{CanBeFollowed};
 ghost use Rattle.kb_relations.specs.Acts.{AreOver, IsActing};
 
 use crate::acting::Acting;
 use crate::following::follow;
 use crate::sides::least_led_apart;
+use crate::stop::Stop;
 use kb_explore::Det;
 use kb_fsa::Fsa;
+use kb_search::{Search, first_found};
 use kb_word::{Memory, Word};
 use std::alloc::Global;
+use std::sync::Wait;
+use std::thread::Threads;
+
+/// The relations of a group, which are searched for one whose sides don't act alike.
+#[derive(Drop)]
+struct Relations<'a> {
+    acceptor: &'a Fsa,
+    multipliers: &'a [Fsa],
+    relations: &'a [(Word, Word)],
+    limit: u32,
+    ghost fit: { FitTogether acceptor.now multipliers.now },
+    ghost over: { AreOver acceptor.now relations.now },
+}
+
+/// A place is a relation's index.
+impl<'a> Search for Relations<'a> {
+    ghost use Rattle.std.specs.Prelude.{length};
+    ghost use Rattle.kb_relations.specs.Stops.{GoesOnAt, StopsAt};
+
+    type Found = Stop;
+
+    ghost places = { λ it. length it.relations.now };
+
+    ghost has = { λ it place stop.
+        StopsAt it.relations.now it.acceptor.now it.multipliers.now it.limit place stop };
+
+    ghost lacks = { λ it place.
+        GoesOnAt it.relations.now it.acceptor.now it.multipliers.now it.limit place };
+
+    fn places(&self) -> u64 {
+        self.relations.len() as u64
+    }
+
+    fn look(&self, alloc: Global, place: u64) -> Result<Option<Stop>, Memory> {
+        let index = place as usize;
+        let relation = &self.relations[index];
+        match least_led_apart(alloc, self.acceptor, self.multipliers, relation, self.limit) {
+            Ok(None) => Ok(None),
+            Ok(Some(word)) => Ok(Some(Stop::LedApart { index, word })),
+            Err(Det::TooManyStates { .. }) => Ok(Some(Stop::TooManyStates { index })),
+            Err(Det::Memory) => Err(Memory),
+        }
+    }
+}
 
 /// The first relation whose sides don't act alike, with the least word from which they lead to different words. The
-/// composites along both sides of a relation, and their comparison, are counted in full before.
-pub fn broken_relation(
+/// composites along both sides of a relation, and their comparison, are counted in full before. Several workers are a
+/// thread each, and share the relations; how many there are changes nothing of the answer.
+pub fn broken_relation<T: Threads + Wait + Sync>(
+    rt: &T,
     alloc: Global,
     acceptor: &Fsa,
     multipliers: &[Fsa],
     relations: &[(Word, Word)],
     limit: u32,
+    workers: u32,
 ) -> Result<Acting, Memory>
     requires automata { CanBeFollowed acceptor.now multipliers.now }
     requires relations { AreOver acceptor.now relations.now }
+    requires workers { (1 ≤ workers) × (workers ≤ 64) }
     ensures { IfOk result (IsActing relations.now acceptor.now multipliers.now limit) }
 {
-    for (place, relation) in relations.iter().enumerate() {
-        match least_led_apart(alloc, acceptor, multipliers, relation, limit) {
-            Ok(None) => {}
-            Ok(Some(word)) => {
-                let (left, right) = both_ends(alloc, acceptor, multipliers, relation, &word)?;
-                return Ok(Acting::Broken {
-                    relation: place + 1,
-                    word,
-                    left,
-                    right,
-                });
-            }
-            Err(Det::TooManyStates { .. }) => {
-                return Ok(Acting::TooManyStates {
-                    relation: place + 1,
-                });
-            }
-            Err(Det::Memory) => return Err(Memory),
+    let search = Relations {
+        acceptor,
+        multipliers,
+        relations,
+        limit,
+    };
+    match first_found(rt, alloc, &search, workers)? {
+        None => Ok(Acting::Alike),
+        Some(Stop::TooManyStates { index }) => Ok(Acting::TooManyStates {
+            relation: index + 1,
+        }),
+        Some(Stop::LedApart { index, word }) => {
+            let relation = &relations[index];
+            let (left, right) = both_ends(alloc, acceptor, multipliers, relation, &word)?;
+            Ok(Acting::Broken {
+                relation: index + 1,
+                word,
+                left,
+                right,
+            })
         }
     }
-    Ok(Acting::Alike)
 }
 
 /// The words to which the sides of a relation lead from an accepted word.

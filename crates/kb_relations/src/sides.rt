@@ -20,8 +20,8 @@ use kb_leastpair::least_first;
 use kb_word::Word;
 use std::alloc::Global;
 
-/// The least accepted word from which the sides of a relation lead to different words. The composites along both
-/// sides, and their comparison, are counted before.
+/// The least accepted word from which the sides of a relation lead to different words, where words can be followed by
+/// the automata. The composites along both sides, and their comparison, are counted before.
 pub(crate) fn least_led_apart(
     alloc: Global,
     acceptor: &Fsa,
@@ -29,13 +29,15 @@ pub(crate) fn least_led_apart(
     relation: &(Word, Word),
     limit: u32,
 ) -> Result<Option<Word>, Det>
-    requires automata { CanBeFollowed acceptor.now multipliers.now }
+    requires fit { FitTogether acceptor.now multipliers.now }
     requires left { IsOver (generators acceptor.now.alphabet) relation.now.0 }
     requires right { IsOver (generators acceptor.now.alphabet) relation.now.1 }
-    ensures found { IfOk result (λ found. IfSome found (λ word.
+    ensures found { CanBeFollowed acceptor.now multipliers.now
+        → IfOk result (λ found. IfSome found (λ word.
         OfAutomata acceptor.now multipliers.now (λ structure.
         IsLeastWord (LeadApart structure relation.now.0 relation.now.1) word))) }
-    ensures none { IfOk result (λ found. IfNone found
+    ensures none { CanBeFollowed acceptor.now multipliers.now
+        → IfOk result (λ found. IfNone found
         (OfAutomata acceptor.now multipliers.now (λ structure.
         ActAlike structure relation.now.0 relation.now.1))) }
     ensures few { IsOk result

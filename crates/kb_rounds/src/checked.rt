@@ -1,6 +1,6 @@
 //! The check whether the automata of a round are the group's own.
 
-ghost use Rattle.std.specs.Prelude.{◌≡◌};
+ghost use Rattle.std.specs.Prelude.{◌≡◌, ◌≤◌};
 ghost use Rattle.kb_fsa.specs.declared.alphabet.Alphabet.TheVariants.{Plain};
 ghost use Rattle.kb_structure.specs.StructureOf.{FitTogether};
 
@@ -17,6 +17,8 @@ use kb_machine::relations_are_over_the_generators;
 use kb_rules::Reducer;
 use std::alloc::Global;
 use std::fmt;
+use std::sync::Wait;
+use std::thread::Threads;
 
 /// What the check finds of automata.
 #[derive(Clone, Copy, PartialEq, Eq)]
@@ -43,8 +45,15 @@ impl fmt::Display for Verdict {
 }
 
 /// What the check finds of a round's automata, the multipliers in their canonical form.
-pub(crate) fn verdict_on(alloc: Global, system: &System, round: &Round) -> anyhow::Result<Verdict>
-    requires { round.now.acceptor.alphabet ≡ Plain system.now.group.n }
+pub(crate) fn verdict_on<T: Threads + Wait + Sync>(
+    rt: &T,
+    alloc: Global,
+    system: &System,
+    round: &Round,
+    workers: u32,
+) -> anyhow::Result<Verdict>
+    requires words { round.now.acceptor.alphabet ≡ Plain system.now.group.n }
+    requires workers { (1 ≤ workers) × (workers ≤ 64) }
 {
     let mut multipliers = Vec::with_capacity(alloc, round.multipliers.len())?;
     for multiplier in &round.multipliers {
@@ -54,7 +63,7 @@ pub(crate) fn verdict_on(alloc: Global, system: &System, round: &Round) -> anyho
         fit_together(&round.acceptor, &multipliers),
         "the automata don't fit together"
     );
-    match checked(alloc, system, &round.acceptor, &multipliers)? {
+    match checked(rt, alloc, system, &round.acceptor, &multipliers, workers)? {
         Automata::Pass => verdict_on_labels(alloc, system, &multipliers),
         Automata::No(_) => Ok(Verdict::Refuted),
         Automata::TooManyStates { .. } => Ok(Verdict::TooLarge),
@@ -62,18 +71,29 @@ pub(crate) fn verdict_on(alloc: Global, system: &System, round: &Round) -> anyho
 }
 
 /// What the automata show, whatever the rules are.
-fn checked(
+fn checked<T: Threads + Wait + Sync>(
+    rt: &T,
     alloc: Global,
     system: &System,
     acceptor: &Fsa,
     multipliers: &[Fsa],
+    workers: u32,
 ) -> anyhow::Result<Automata>
     requires fit { FitTogether acceptor.now multipliers.now }
     requires words { acceptor.now.alphabet ≡ Plain system.now.group.n }
+    requires workers { (1 ≤ workers) × (workers ≤ 64) }
 {
     let relations = system.group.relations(alloc)?;
     relations_are_over_the_generators();
-    let found = check_automata(alloc, acceptor, multipliers, &relations, MOST_STATES)?;
+    let found = check_automata(
+        rt,
+        alloc,
+        acceptor,
+        multipliers,
+        &relations,
+        MOST_STATES,
+        workers,
+    )?;
     Ok(found)
 }
 

@@ -17,6 +17,8 @@ use kb_wa::acceptor_of_rules;
 use kb_word::factor_at;
 use std::alloc::Global;
 use std::rt::Files;
+use std::sync::Wait;
+use std::thread::Threads;
 
 /// The groups whose acceptors are compared. Their systems are in the files of these names with `.kbprog`.
 const GROUPS: [&str; 5] = [
@@ -28,7 +30,9 @@ const GROUPS: [&str; 5] = [
 ];
 
 /// Compares the acceptors of all groups, and prints how large they are.
-pub(crate) fn compare<R: Files + AllocGlobal + Print>(rt: &R) -> anyhow::Result<()> {
+pub(crate) fn compare<R: Files + AllocGlobal + Print + Threads + Wait + Sync>(
+    rt: &R,
+) -> anyhow::Result<()> {
     let mut all = true;
     for name in &GROUPS {
         all &= compare_group(rt, name).context(format_args!("{name}"))?;
@@ -42,14 +46,17 @@ pub(crate) fn compare<R: Files + AllocGlobal + Print>(rt: &R) -> anyhow::Result<
 
 /// Prints how large the automata of a group are, whether its acceptor is that of its rules, and whether they are found to be
 /// the group's own; whether both hold.
-fn compare_group<R: Files + AllocGlobal + Print>(rt: &R, name: &str) -> anyhow::Result<bool> {
+fn compare_group<R: Files + AllocGlobal + Print + Threads + Wait + Sync>(
+    rt: &R,
+    name: &str,
+) -> anyhow::Result<bool> {
     let file = format!(in rt.alloc(); "{name}.kbprog")?;
     let system = System::load(rt, file.as_str())?;
     compare_system(rt, name, &system)
 }
 
 /// The same of a system. Of the first group the automata are printed too.
-fn compare_system<R: AllocGlobal + Print>(
+fn compare_system<R: AllocGlobal + Print + Threads + Wait + Sync>(
     rt: &R,
     name: &str,
     system: &System,
@@ -60,7 +67,7 @@ fn compare_system<R: AllocGlobal + Print>(
     }
     let same = is_acceptor_of_rules(rt.alloc(), system, &round.acceptor)?;
     let compared = if same { "the same" } else { "another" };
-    let verdict = verdict_on(rt.alloc(), system, &round)?;
+    let verdict = verdict_on(rt, rt.alloc(), system, &round, 1)?;
     let figures = Figures::of(system, &round);
     println!(rt;
         "{name}: {figures}; the acceptor of its rules is {compared}; the automata are {verdict}"

@@ -16,7 +16,8 @@
 //! With the words `round FILE` on the command line it makes one round for the complete system in that file, and prints
 //! how large it is: the differences of the rules, the normal forms that their machine takes, and how many states of the
 //! acceptor and of the multipliers were explored. With the words `check FILE` it checks the automata of that round, the
-//! multipliers in their canonical form, by the rules, and prints what is found. bench/run times these runs.
+//! multipliers in their canonical form, by the rules, and prints what is found; a number behind them is that of the
+//! workers, which is else 1. bench/run times these runs.
 //!
 //! # How it is made
 //!

@@ -34,8 +34,8 @@ const TRIVIAL: Automata = (
 );
 
 /// What is answered of automata by these rules.
-fn answered(
-    rt: &impl Abort,
+fn answered<T: Threads + Wait + Sync + Abort>(
+    rt: &T,
     alloc: Global,
     group: &Presentation,
     automata: Automata,
@@ -62,6 +62,7 @@ fn answered(
     );
     let scan = Scan::of(alloc, rules)?;
     check(
+        rt,
         alloc,
         group,
         &acceptor,
@@ -69,6 +70,7 @@ fn answered(
         &scan,
         confluent,
         1000,
+        1,
     )
 }
 

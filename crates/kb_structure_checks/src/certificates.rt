@@ -12,12 +12,14 @@ use kb_structure::Cert;
 use kb_word::{Letter, Memory, Presentation, Word};
 use std::alloc::Global;
 use std::process::Abort;
+use std::sync::Wait;
 use std::test::Fail;
+use std::thread::Threads;
 
 /// What is found of an acceptor and a first multiplier with these states, beside the second multiplier of the free group
 /// of rank one, in the group with these equations.
-fn found(
-    rt: &impl Abort,
+fn found<R: Abort + Threads + Wait + Sync>(
+    rt: &R,
     alloc: Global,
     words: States,
     first: States,
@@ -35,11 +37,12 @@ fn found(
         fit_together(&acceptor, multipliers.as_slice()),
         "the automata don't fit"
     );
-    checked(alloc, &group, &acceptor, multipliers.as_slice(), limit)
+    checked(rt, alloc, &group, &acceptor, multipliers.as_slice(), limit)
 }
 
 /// What is found of automata in a group.
-fn checked(
+fn checked<T: Threads + Wait + Sync>(
+    rt: &T,
     alloc: Global,
     group: &Presentation,
     acceptor: &Fsa,
@@ -51,7 +54,7 @@ fn checked(
 {
     let relations = group.relations(alloc)?;
     relations_are_over_the_generators();
-    check_automata(alloc, acceptor, multipliers, &relations, limit)
+    check_automata(rt, alloc, acceptor, multipliers, &relations, limit, 1)
 }
 
 #[test]

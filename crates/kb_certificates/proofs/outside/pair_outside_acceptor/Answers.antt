@@ -1,55 +1,23 @@
-use Rattle.std.proofs.Common.{◌≡◌, ◌+◌, ◌<◌, ℕ, length, sym, ap, ◌∙◌, subst, arith}
-use Rattle.kb_fsa.specs.Language.{generators}
-use Rattle.kb_structure.specs.StructureOf.{structure_of}
+use Rattle.std.proofs.Common.{ℕ, List, length, arith}
+use Rattle.kb_structure.specs.StructureOf.{OfAutomata, structure_of}
 use Rattle.kb_structure.specs.Certificates.{PairOutsideAcceptor}
-use Rattle.kb_certificates.specs.First.{IsFirstPair}
-use Rattle.kb_certificates.proofs.Loops.{first_pair, multiplier_at, no_pair_more, own_generators, own_pairs}
-use Rattle.kb_certificates.proofs.OutsidePairs.{least_outside, none_outside}
+use Rattle.kb_certificates.specs.First.{HasNoPair, IsFirstPair}
+use Rattle.kb_certificates.proofs.Loops.{first_pair, no_pair_up_to, found_as, none_as}
 use Rattle.kb_certificates.proofs.outside.pair_outside_acceptor.Goals as goal
 
-pub least_led_pair-requires : goal.least_led_pair-requires
-least_led_pair-requires c =
-    let multipliers = c.args.multipliers.now in
-    let place : ℕ = c.loop-place.place in
-    let multiplier = c.index-multipliers-place.result in
-    let at = multiplier_at multipliers place multiplier c.loop-place-test.true c.index-multipliers-place.is in
-    own_pairs c.args.acceptor.now multipliers c.requires (place + 1) multiplier at
-
-pub returns-in-Some-clause-found : goal.returns-in-Some-clause-found
-returns-in-Some-clause-found c order relations =
-    let acceptor = c.args.acceptor.now in
-    let multipliers = c.args.multipliers.now in
-    let place : ℕ = c.loop-place.place in
-    let within : place < length multipliers = c.loop-place-test.true in
-    let multiplier = c.index-multipliers-place.result in
-    let at = multiplier_at multipliers place multiplier within c.index-multipliers-place.is in
-    let n : ℕ = c.generators-n.result in
-    let is_n : n ≡ generators multiplier.alphabet = c.generators-n.ensures ∙ ap generators c.alphabet.ensures.alphabet
-    ∙ own_generators acceptor multipliers c.requires (place + 1) multiplier at in
-    let all = c.requires.one_each in
-    let Certificate = PairOutsideAcceptor (structure_of order relations acceptor multipliers) in
-    let least = least_outside order relations acceptor multipliers c.requires c.alphabet.ensures.automaton (place + 1) multiplier at n is_n
-    (omega arith, omega arith) c.in-Some.first c.in-Some.second (rw c.in-Some.is at c.in_ok-first.ensures.found) in
-    let Q : ℕ → Type 0 = λ y. IsFirstPair Certificate y c.in-Some.first c.in-Some.second in
-    subst Q (sym c.new.ensures) (first_pair Certificate place c.in-Some.first c.in-Some.second (c.loop-place.invariant order relations) least)
-
-pub loop-place-preserved : goal.loop-place-preserved
-loop-place-preserved c order relations =
-    let acceptor = c.args.acceptor.now in
-    let multipliers = c.args.multipliers.now in
-    let place : ℕ = c.loop-place.place in
-    let multiplier = c.index-multipliers-place.result in
-    let at = multiplier_at multipliers place multiplier c.loop-place-test.true c.index-multipliers-place.is in
-    let n : ℕ = c.generators-n.result in
-    let is_n : n ≡ generators multiplier.alphabet = c.generators-n.ensures ∙ ap generators c.alphabet.ensures.alphabet
-    ∙ own_generators acceptor multipliers c.requires (place + 1) multiplier at in
-    let Certificate = PairOutsideAcceptor (structure_of order relations acceptor multipliers) in
-    no_pair_more Certificate place (c.loop-place.invariant order relations)
-    (none_outside order relations acceptor multipliers c.requires c.alphabet.ensures.automaton (place + 1) multiplier at n is_n
-    (rw c.in_default.is at c.in_ok-first.ensures.none))
+pub returns-clause-found : goal.returns-clause-found
+returns-clause-found g c =
+    let acceptor = c.args.acceptor.now in let multipliers = c.args.multipliers.now in
+    found_as {Q = λ certificate. OfAutomata acceptor multipliers (λ structure. IsFirstPair (PairOutsideAcceptor structure) certificate.0 certificate.1 certificate.2)}
+    c.first_found.result c.first_found.ensures.found (λ certificate found order relations.
+    first_pair (PairOutsideAcceptor (structure_of order relations acceptor multipliers)) (λ x u v one. one.generator.0) found.place certificate.0 certificate.1 certificate.2
+    (λ place low. found.earlier place low order relations) (found.has order relations))
 
 pub returns-clause-none : goal.returns-clause-none
-returns-clause-none c order relations x u v certificate =
-    let all = c.requires.one_each in
-    let letter = certificate.generator in
-    c.loop-place.invariant order relations x u v (omega (arith, letter.1, c.loop-place-test.false)) certificate
+returns-clause-none g c =
+    let acceptor = c.args.acceptor.now in let multipliers = c.args.multipliers.now in
+    none_as {Q = OfAutomata acceptor multipliers (λ structure. HasNoPair (PairOutsideAcceptor structure))}
+    c.first_found.result c.first_found.ensures.none (λ each order relations x u v certificate.
+    let all = c.requires.fit.one_each in let top = certificate.generator.1 in
+    no_pair_up_to (PairOutsideAcceptor (structure_of order relations acceptor multipliers)) (λ y a b one. one.generator.0) (length multipliers)
+    (λ place low. each place low order relations) x u v (omega (arith, top, all)) certificate)

@@ -12,17 +12,17 @@ returns-in_err-difference-clause-many c = λ most e.
     compared c.in_ok-left.left c.in_ok-right.right c.in_ok-left.ensures.composite c.in_ok-right.ensures.composite many.1
 
 pub returns-clause-found : goal.returns-clause-found
-returns-clause-found c =
+returns-clause-found c followed =
     let acceptor = c.args.acceptor.now in let multipliers = c.args.multipliers.now in
-    found_apart acceptor multipliers c.requires.automata c.composite.ensures.acceptor c.args.relation.now.0 c.args.relation.now.1
+    found_apart acceptor multipliers followed c.composite.ensures.acceptor c.args.relation.now.0 c.args.relation.now.1
     c.requires.left c.requires.right c.in_ok-left.left c.in_ok-right.right c.in_ok-difference.difference
     c.in_ok-left.ensures.composite c.in_ok-right.ensures.composite c.in_ok-difference.ensures.alphabet c.in_ok-difference.ensures.language
     c.in_ok-least_first.field-0 c.in_ok-least_first.ensures.found
 
 pub returns-clause-none : goal.returns-clause-none
-returns-clause-none c =
+returns-clause-none c followed =
     let acceptor = c.args.acceptor.now in let multipliers = c.args.multipliers.now in
-    none_apart acceptor multipliers c.requires.automata c.composite.ensures.acceptor c.args.relation.now.0 c.args.relation.now.1
+    none_apart acceptor multipliers followed c.composite.ensures.acceptor c.args.relation.now.0 c.args.relation.now.1
     c.requires.left c.requires.right c.in_ok-left.left c.in_ok-right.right c.in_ok-difference.difference
     c.in_ok-left.ensures.composite c.in_ok-right.ensures.composite c.in_ok-difference.ensures.alphabet c.in_ok-difference.ensures.language
     c.in_ok-least_first.field-0 c.in_ok-least_first.ensures.none

@@ -5,7 +5,7 @@ use Rattle.kb_fsa.specs.Language.{generators}
 use Rattle.kb_rounds.proofs.checked.checked.Goals as goal
 
 pub check_automata-requires-clause-over : goal.check_automata-requires-clause-over
-check_automata-requires-clause-over c relation one =
+check_automata-requires-clause-over g c κs within relation one =
     let group = c.args.system.now.group in
     let P : List Pair → Type 0 = λ relations. OneOf relations relation in
     let N : ℕ → Type 0 = λ n. IsOver n relation.0 × IsOver n relation.1 in
