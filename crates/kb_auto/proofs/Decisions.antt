@@ -37,9 +37,9 @@ use Rattle.kb_auto.specs.Rounds.{AreTrue}
 -- ---- the rules of a completion
 
 -- the relations of a completion of the presentation
-pub given_relations : {limits : Limits} {presentation : Presentation} {problem : Problem}
+pub given_relations : (limits : Limits) (presentation : Presentation) (problem : Problem)
     → problem ≡ problem_of limits (parts_of presentation) → problem.relations ≡ relations_of presentation.inv presentation.eqs
-given_relations same = ap (λ (p : Problem). p.relations) same
+given_relations limits presentation problem same = ap (λ (p : Problem). p.relations) same
 
 -- both sides of each live rule are congruent by the relations
 pub live_sides_are_equal : (problem : Problem) (state : State) (relations : List Sides) → IsSound problem state

@@ -1,4 +1,4 @@
-use Rattle.kb_complete.proofs.Rounds.{start_is_reduced}
+use Rattle.kb_auto.proofs.Growing.{start_is_reduced}
 use Rattle.kb_auto.proofs.rounds.decide.Goals as goal
 
 pub decide_by_rounds-requires-clause-under_way : goal.decide_by_rounds-requires-clause-under_way

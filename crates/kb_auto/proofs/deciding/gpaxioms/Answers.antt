@@ -1,6 +1,6 @@
 use Rattle.kb_axioms.specs.Answered.IsFirstOfAll.{of_automata}
 use Rattle.kb_system.specs.Problems.{limits_of}
-use Rattle.kb_auto.proofs.gpaxioms.gpaxioms.Goals as goal
+use Rattle.kb_auto.proofs.deciding.gpaxioms.Goals as goal
 
 pub returns-in-No : goal.returns-in-No
 returns-in-No g c = of_automata (rw c.in-No.is at c.in_ok-cert.ensures)
