@@ -1,12 +1,17 @@
 -- A book from round to round.
 use Rattle.std.proofs.Common.{◌≡◌, ◌-◌, ◌<◌, List, [], length, inl, ap, ◌∙◌, subst, arith}
 use Rattle.std.specs.List.{Contains}
+use Rattle.kb_word.specs.Presentations.{parts_of}
+use Rattle.kb_word.specs.declared.presentation.Presentation.{Presentation}
 use Rattle.kb_machine.specs.States.{Problem, State, start}
 use Rattle.kb_machine.specs.Course.{Course, IsSound}
 use Rattle.kb_share.specs.Finding.{Knows}
 use Rattle.kb_share.specs.declared.finding.Finder.{Finder}
 use Rattle.kb_complete.specs.Completing.{AreReduced, Continues, Grows, GrowSays, KnowsGrown}
 use Rattle.kb_complete.specs.declared.answers.Grown.{Grown}
+use Rattle.kb_system.specs.Evidence.{Limits}
+use Rattle.kb_system.specs.Problems.{problem_of}
+use Rattle.kb_auto.specs.Rounds.{IsUnderWay}
 
 -- what is said of an answer, by the answer that it is
 pub grown_said : {R : Type 0} (before : Course) (given answer : Grown R) → given ≡ answer → GrowSays before given
@@ -30,6 +35,13 @@ start_is_reduced course is =
       lefts = λ k rule live numbered. absurd (none_contained course.state.live k none live);
       rights = inl (λ rule live. absurd (none_contained course.state.live live.0 none live.1));
     }
+
+-- a new book, and a finder that knows it
+pub begins : (limits : Limits) (presentation : Presentation) (course : Course) (finder : Finder)
+    → course.problem ≡ problem_of limits (parts_of presentation) → course.state ≡ start course.problem → Knows finder course.state
+    → IsUnderWay limits presentation course finder
+begins limits presentation course finder problem state known =
+    record { problem = problem; reduced = start_is_reduced course state; known = known }
 
 pub still_reduced : (before after : Course) → AreReduced before → Continues before after → AreReduced after
 still_reduced before after was continues =

@@ -1,4 +1,4 @@
-use Rattle.std.proofs.Common.{List, Ok, sym, ap, ◌∙◌, subst}
+use Rattle.std.proofs.Common.{List, Ok, sym, ap, subst}
 use Rattle.kb_word.specs.Words.{Pair as Sides}
 use Rattle.kb_word.specs.Relations.{relations_of}
 use Rattle.kb_labels.specs.Labels.{AreEqualSides}
@@ -19,7 +19,7 @@ returns-in-True c = λ limits acceptor same.
     let relations = relations_of presentation.inv presentation.eqs in
     let complete = c.reduced_complete_systems_are_complete.ensures.complete presentation.order relations c.args.rules.now.rules c.requires.reduced in
     let P : List Sides → Type 0 = λ rules. AreEqualSides relations rules in
-    c.in_ok-check_truth.ensures.sound (c.in_ok-check_truth.was ∙ ap Ok c.in-True.is)
+    c.in_ok-check_truth.ensures.sound (ap Ok c.in-True.is)
     (subst P (sym c.in_ok-reducer.ensures.rules) complete.same.covers) acceptor same
 
 pub returns-in-Different : goal.returns-in-Different

@@ -1,4 +1,4 @@
-use Rattle.std.proofs.Common.{◌∙◌}
+use Rattle.std.proofs.Common.{ap, ◌∙◌, Ok}
 use Rattle.kb_complete.specs.declared.answers.Grown.TheVariants as grown
 use Rattle.kb_auto.proofs.Growing.{grown_said, known_grown, still_reduced, fewer_left}
 use Rattle.kb_system.specs.Problems.{limits_of}
@@ -61,3 +61,6 @@ returns-in-Halted g c =
     grown_said c.rounds.book.course c.in_ok-next.field-0 (grown.Halted c.in-Halted.book) c.in-Halted.is
     c.in_ok-next.ensures.says in
     c.decide_at_halt.ensures (limits_of c.args.limits.now) (says.0.later.problem ∙ c.rounds.invariant.problem)
+
+pub returns-then-branch : goal.returns-then-branch
+returns-then-branch g c = c.in_ok-live_rules_show.ensures.yes (ap Ok c.if-branch.true)
