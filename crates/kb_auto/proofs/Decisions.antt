@@ -17,7 +17,6 @@ use Rattle.kb_rules.specs.OrderedRules.{OrderedRules}
 use Rattle.kb_share.proofs.LiveRules.{live_rule_is}
 use Rattle.kb_complete.specs.Completing.{IsCompleted}
 use Rattle.kb_reduced.specs.Reduced.{IsReducedComplete}
-use Rattle.kb_structure.specs.Structure.{AreOverGenerators}
 use Rattle.kb_structure.specs.StructureOf.{FitTogether, structure_of}
 use Rattle.kb_structure.specs.Certificates.{IsTrueToGroup, PairOfDifferentElements}
 use Rattle.kb_certificates.specs.First.{IsFirstPair}

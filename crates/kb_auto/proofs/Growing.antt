@@ -1,5 +1,5 @@
 -- A book from round to round.
-use Rattle.std.proofs.Common.{◌≡◌, ◌-◌, ◌<◌, List, [], length, inl, ap, ◌∙◌, subst, arith}
+use Rattle.std.proofs.Common.{◌≡◌, ◌-◌, ◌<◌, List, [], length, inl, ap, subst, arith}
 use Rattle.std.specs.List.{Contains}
 use Rattle.kb_word.specs.Presentations.{parts_of}
 use Rattle.kb_word.specs.declared.presentation.Presentation.{Presentation}
