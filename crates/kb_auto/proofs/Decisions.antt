@@ -17,7 +17,6 @@ use Rattle.kb_rules.specs.OrderedRules.{OrderedRules}
 use Rattle.kb_share.proofs.LiveRules.{live_rule_is}
 use Rattle.kb_complete.specs.Completing.{IsCompleted}
 use Rattle.kb_reduced.specs.Reduced.{IsReducedComplete}
-use Rattle.kb_structure.specs.Structure.{AreOverGenerators}
 use Rattle.kb_structure.specs.StructureOf.{FitTogether, structure_of}
 use Rattle.kb_structure.specs.Certificates.{IsTrueToGroup, PairOfDifferentElements}
 use Rattle.kb_certificates.specs.First.{IsFirstPair}
@@ -37,9 +36,9 @@ use Rattle.kb_auto.specs.Rounds.{AreTrue}
 -- ---- the rules of a completion
 
 -- the relations of a completion of the presentation
-pub given_relations : {limits : Limits} {presentation : Presentation} {problem : Problem}
+pub given_relations : (limits : Limits) (presentation : Presentation) (problem : Problem)
     → problem ≡ problem_of limits (parts_of presentation) → problem.relations ≡ relations_of presentation.inv presentation.eqs
-given_relations same = ap (λ (p : Problem). p.relations) same
+given_relations limits presentation problem same = ap (λ (p : Problem). p.relations) same
 
 -- both sides of each live rule are congruent by the relations
 pub live_sides_are_equal : (problem : Problem) (state : State) (relations : List Sides) → IsSound problem state
@@ -98,5 +97,5 @@ module _ (presentation : Presentation) (acceptor : Automaton) (multipliers : Lis
       → IsFirstPair (PairOfDifferentElements (own_structure (checked_in presentation acceptor multipliers limit))) x u v
   first_different limit x u v shortlex first =
       let P : WordOrder → Type 0 = λ order. IsFirstPair (PairOfDifferentElements
-          (structure_of order (relations_of presentation.inv presentation.eqs) acceptor multipliers)) x u v in
+      (structure_of order (relations_of presentation.inv presentation.eqs) acceptor multipliers)) x u v in
       subst P shortlex (first acceptor same_generators)
