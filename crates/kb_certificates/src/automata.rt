@@ -1,6 +1,6 @@
 //! The automata that are searched for certificates.
 
-ghost use Rattle.std.specs.Prelude.{◌≡◌, ◌+◌, ◌^◌, ◌<◌, ◌≤◌, Some, length};
+ghost use Rattle.std.specs.Prelude.{◌≡◌, ◌+◌, ◌^◌, ◌<◌, Some, length};
 ghost use Rattle.kb_structure.specs.StructureOf.{FitTogether, multiplier_of};
 
 use kb_fsa::Fsa;

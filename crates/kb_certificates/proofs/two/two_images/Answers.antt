@@ -1,4 +1,4 @@
-use Rattle.std.proofs.Common.{ℕ, List, length, arith}
+use Rattle.std.proofs.Common.{length, arith}
 use Rattle.kb_structure.specs.StructureOf.{OfAutomata, structure_of}
 use Rattle.kb_structure.specs.Certificates.{TwoImages}
 use Rattle.kb_certificates.specs.First.{HasNoTriple, IsFirstTriple}
@@ -8,15 +8,18 @@ use Rattle.kb_certificates.proofs.two.two_images.Goals as goal
 pub returns-clause-found : goal.returns-clause-found
 returns-clause-found g c =
     let acceptor = c.args.acceptor.now in let multipliers = c.args.multipliers.now in
-    found_as {Q = λ certificate. OfAutomata acceptor multipliers (λ structure. IsFirstTriple (TwoImages structure) certificate.0 certificate.1 certificate.2 certificate.3)}
+    found_as {Q = λ certificate.
+    OfAutomata acceptor multipliers (λ structure. IsFirstTriple (TwoImages structure) certificate.0 certificate.1 certificate.2 certificate.3)}
     c.first_found.result c.first_found.ensures.found (λ certificate found order relations.
-    first_triple (TwoImages (structure_of order relations acceptor multipliers)) (λ x u v w one. one.generator.0) found.place certificate.0 certificate.1 certificate.2 certificate.3
+    first_triple (TwoImages (structure_of order relations acceptor multipliers)) (λ x u v w one. one.generator.0) found.place
+    certificate.0 certificate.1 certificate.2 certificate.3
     (λ place low. found.earlier place low order relations) (found.has order relations))
 
 pub returns-clause-none : goal.returns-clause-none
 returns-clause-none g c =
     let acceptor = c.args.acceptor.now in let multipliers = c.args.multipliers.now in
-    none_as {Q = OfAutomata acceptor multipliers (λ structure. HasNoTriple (TwoImages structure))}
+    none_as {Q =
+    OfAutomata acceptor multipliers (λ structure. HasNoTriple (TwoImages structure))}
     c.first_found.result c.first_found.ensures.none (λ each order relations x u v w certificate.
     let all = c.requires.fit.one_each in let top = certificate.generator.1 in
     no_triple_up_to (TwoImages (structure_of order relations acceptor multipliers)) (λ y a b d one. one.generator.0) (length multipliers)

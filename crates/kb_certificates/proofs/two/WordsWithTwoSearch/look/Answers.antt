@@ -1,4 +1,4 @@
-use Rattle.std.proofs.Common.{◌+◌, ℕ, arith}
+use Rattle.std.proofs.Common.{◌+◌, arith}
 use Rattle.kb_certificates.proofs.Loops.{own_pairs}
 use Rattle.kb_certificates.proofs.TwoImages.{least_images, none_images}
 use Rattle.kb_certificates.proofs.two.WordsWithTwoSearch.look.Goals as goal
