@@ -18,8 +18,8 @@ abbrev pub read_on : ℕ → Table → List ℕ → Reading → ℕ → Option R
 read_on n table first reading letter = reading_at (min (reading.place + 1) (length first))
     (step table reading.state (pair_symbol n (get_or first reading.place (n + 1)) letter))
 
--- The machine reads second words over n generators, beginning at a place of the first word and in a state. A word may end
--- where the rest of the first one leads to acceptance.
+-- The machine reads second words over n generators, beginning at a place of the first word and in a state. A word may
+-- end where the rest of the first one leads to acceptance.
 abbrev pub second_words : ℕ → Table → List ℕ → ℕ → ℕ → Machine Reading
 second_words n table first place state = record {
   start = reading_at place state;

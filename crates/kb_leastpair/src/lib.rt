@@ -5,7 +5,8 @@
 //!
 //! The public contract: [`least_first`] returns the least word beside which some second word is accepted,
 //! [`least_second`] the least second word beside one first word, [`least_end`] the least one beside the rest of a first
-//! word, from a state on, and [`least_pair`] both words; each `None` exactly where there is none. There is no limit: the automaton is not made deterministic in its first words.
+//! word, from a state on, and [`least_pair`] both words; each `None` exactly where there is none. There is no limit:
+//! the automaton is not made deterministic in its first words.
 //!
 //! First words are those of a nondeterministic automaton, of which `kb_fsaleast` finds the least accepted text. The
 //! second words beside one first word are those of a machine, which `kb_explore` explores up to the first that it

@@ -9,8 +9,8 @@ abbrev pub state_beside_itself : Automaton → List ℕ → ℕ → ℕ
 state_beside_itself multiplier word place = state_after multiplier.table
     (padded (generators multiplier.alphabet) (take place word) (take place word))
 
--- The states are a trail of the multiplier along the word: those in which it reads the word beside itself, from the first
--- one on, up to the word's end or to some place before.
+-- The states are a trail of the multiplier along the word: those in which it reads the word beside itself, from the
+-- first one on, up to the word's end or to some place before.
 pub record IsTrail (multiplier : Automaton) (word states : List ℕ) : Type 0 where
   pub within : length states ≤ suc (length word)
   pub each : (place : ℕ) → place < length states

@@ -53,8 +53,8 @@ pub(crate) fn image(
     search(alloc, multiplier, trail, word)
 }
 
-/// Whether the multiplier goes from the state to acceptance by the letter, as it stands in the second word alone. Then an
-/// image has it behind the word.
+/// Whether the multiplier goes from the state to acceptance by the letter, as it stands in the second word alone. Then
+/// an image has it behind the word.
 fn is_lengthened(multiplier: &Fsa, state: u32, letter: Letter) -> bool
     requires letter { (0 < letter) × (letter ≤ generators multiplier.now.alphabet) }
     ensures { IsTrue result → IsEnd multiplier.now state [] (letter ∷ []) }
@@ -67,8 +67,8 @@ fn is_lengthened(multiplier: &Fsa, state: u32, letter: Letter) -> bool
     multiplier.is_accepting(longer)
 }
 
-/// Whether the multiplier goes from the state to acceptance by the last letter, as it stands in the first word alone. Then
-/// an image is the word without it.
+/// Whether the multiplier goes from the state to acceptance by the last letter, as it stands in the first word alone.
+/// Then an image is the word without it.
 fn is_shortened(multiplier: &Fsa, state: u32, last: Letter) -> bool
     requires last { (0 < last) × (last ≤ generators multiplier.now.alphabet) }
     ensures { IsTrue result → IsEnd multiplier.now state (last ∷ []) [] }
@@ -81,8 +81,8 @@ fn is_shortened(multiplier: &Fsa, state: u32, last: Letter) -> bool
     multiplier.is_accepting(shorter)
 }
 
-/// The image of a word that keeps all of it, or all but its last letter, or all but its last three, and so on: the first
-/// that is found.
+/// The image of a word that keeps all of it, or all but its last letter, or all but its last three, and so on: the
+/// first that is found.
 fn search(alloc: Global, multiplier: &Fsa, trail: &Trail, word: &Word) -> Result<Change, Memory>
     requires alphabet { (n : ℕ) × (multiplier.now.alphabet ≡ Pair n) }
     requires word { IsOver (generators multiplier.now.alphabet) word.now }

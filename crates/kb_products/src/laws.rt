@@ -18,8 +18,8 @@ pub fn own_structures_lead_to_least_words()
         → IsLeast (Below structure.order) structure.relations word end }
 {}
 
-/// Words can be followed by automata that fit together, give images and have no certificate N2 or N5; and the empty word
-/// is accepted where there is no certificate N1.
+/// Words can be followed by automata that fit together, give images and have no certificate N2 or N5; and the empty
+/// word is accepted where there is no certificate N1.
 pub fn automata_without_certificates_can_be_followed()
     ensures { (acceptor : Automaton) (multipliers : List Automaton)
         → FitTogether acceptor multipliers → OfAutomata acceptor multipliers HasImages
