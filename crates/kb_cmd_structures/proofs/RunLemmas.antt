@@ -20,7 +20,7 @@ use Rattle.kb_task.proofs.RunLemmas.{goes_on-along, counted_after, told-later, r
 use Rattle.kb_evidence.specs.Files.{log_file, rules_file}
 use Rattle.kb_evidence.specs.FileLaws.{both_differ, contained_cases, log_beside_rules}
 use Rattle.kb_cmd_structures.specs.Given.{GpaxiomsGiven}
-use Rattle.kb_cmd_structures.specs.Gpaxioms.{AnswerMeans, shown, output_failed, store_failed, no_memory_stored, no_memory, Finds, own, refuted, too_many, unsettled, GpaxiomsMayStore, log, rules, GpaxiomsMeans, at_file, loaded}
+use Rattle.kb_cmd_structures.specs.Gpaxioms.{AnswerMeans, shown, output_failed, store_failed, no_memory_stored, no_memory, Finds, own, refuted, too_many, unsettled, GpaxiomsMayStore, stores_log, stores_rules, GpaxiomsMeans, at_file, loaded}
 use Rattle.kb_cmd_structures.specs.Loaded.{EndsAtFile, HoldStructure}
 
 -- ---- what is found
@@ -52,8 +52,8 @@ module _ {given : GpaxiomsGiven} {presentation : Presentation} {acceptor : Autom
   found_may (refuted first) name here = absurd (none_in_empty name here)
   found_may (too_many first) name here = absurd (none_in_empty name here)
   found_may (unsettled is) name here = elim (contained_cases (log_file given.file) (rules_file given.file) name here) [
-    | inl is ↦ log (sym is)
-    | inr is ↦ rules (sym is)
+    | inl is ↦ stores_log (sym is)
+    | inr is ↦ stores_rules (sym is)
   ]
 
 -- ---- it is stored and written

@@ -328,7 +328,7 @@ module _ (checked : Checked) where
   same_kind over (N8 number u a b) (N8 second v c d) same one other =
       one_relation over number second u a b v c d one other
   same_kind over (N3 x u v) (N3 y a b) same one other = one_pair one other N3
-  same_kind over _ _ same one other = cc
+  same_kind over _ _ same one other = absurd (omega (arith, same))
 
   place_within : (cert : Cert) → place cert ≤ 7
   place_within (N1 u) = omega arith
