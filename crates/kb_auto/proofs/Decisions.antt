@@ -98,5 +98,5 @@ module _ (presentation : Presentation) (acceptor : Automaton) (multipliers : Lis
       → IsFirstPair (PairOfDifferentElements (own_structure (checked_in presentation acceptor multipliers limit))) x u v
   first_different limit x u v shortlex first =
       let P : WordOrder → Type 0 = λ order. IsFirstPair (PairOfDifferentElements
-          (structure_of order (relations_of presentation.inv presentation.eqs) acceptor multipliers)) x u v in
+      (structure_of order (relations_of presentation.inv presentation.eqs) acceptor multipliers)) x u v in
       subst P shortlex (first acceptor same_generators)

@@ -37,7 +37,17 @@ pub(crate) fn decide<G: Gate, W: Watch, T: Threads + Wait + Sync>(
 {
     let book = Book::<Index>::new(alloc, presentation, limits)?;
     let mut finder = Finder::new(alloc);
-    decide_by_rounds(rt, alloc, presentation, multipliers, limits, book, &mut finder, workers, watch)
+    decide_by_rounds(
+        rt,
+        alloc,
+        presentation,
+        multipliers,
+        limits,
+        book,
+        &mut finder,
+        workers,
+        watch,
+    )
 }
 
 /// Grows the book until its rules settle it, or a limit is reached.

@@ -47,17 +47,11 @@ pub struct Halted {
 #[derive(Drop)]
 pub enum Ending {
     /// With the reduced complete system and the word acceptor.
-    Completed {
-        rules: Rules,
-        acceptor: Fsa,
-    },
+    Completed { rules: Rules, acceptor: Fsa },
     /// At a limit of the log.
     Halted(Halted),
     /// With the reduced complete system, whose word acceptor would have more states than it may have; and the log.
-    TooLarge {
-        lines: Vec<Line>,
-        rules: Rules,
-    },
+    TooLarge { lines: Vec<Line>, rules: Rules },
 }
 
 /// Completes a presentation within limits, by so many workers, and makes its word acceptor.

@@ -6,7 +6,7 @@ pub halted-requires : goal.halted-requires
 halted-requires g c =
     let says = rw c.in-Halted.is at c.in_ok-rules.ensures in record { halted = says.1; reduced = says.2 }
 
-pub returns-in-Halted : goal.returns-in-Halted
-returns-in-Halted g c =
+pub returns-in_ok-halted-in-Halted : goal.returns-in_ok-halted-in-Halted
+returns-in_ok-halted-in-Halted g c =
     let says = rw c.in-Halted.is at c.in_ok-rules.ensures in
-    c.in_ok-halted.ensures.shows (limits_of c.args.limits.now) (parts_of c.args.presentation.now) says.0
+    c.in_ok-halted-in-Halted.ensures.shows (limits_of c.args.limits.now) (parts_of c.args.presentation.now) says.0
