@@ -1,4 +1,6 @@
+pub mod Different
 pub mod Truths
 pub mod Passing
 pub mod Own
 pub mod GroupAutomata
+pub mod Presented

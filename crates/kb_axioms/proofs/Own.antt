@@ -8,6 +8,8 @@ use Rattle.kb_structure.proofs.Holding.{axioms_hold}
 use Rattle.kb_structure.proofs.OwnStructure as own
 use Rattle.kb_structure.specs.declared.cert.Cert.{Cert}
 use Rattle.kb_axioms.specs.Checked.{Checked, IsFirstCertificate, PassesRelations, own_structure}
+use Rattle.kb_axioms.specs.Answered.{IsFirstOfAll}
+use Rattle.kb_axioms.specs.Answered.IsFirstOfAll.{of_automata, of_elements}
 use Rattle.kb_axioms.specs.Checked.IsFirstCertificate.{n1, n2, n4, n5, n6, n7, n8}
 
 module _ (checked : Checked) where
@@ -37,7 +39,7 @@ module _ (checked : Checked) where
       (axioms_hold (own_structure checked) (no_certificate passes true_to_group)
       (passes.earlier.earlier.earlier.earlier.images ShortLex checked.relations) true_to_group)
 
-  pub certificate_refutes : (cert : Cert) → HasNoCertificate (own_structure checked) → ¬ IsFirstCertificate checked cert
+  certificate_refutes : (cert : Cert) → HasNoCertificate (own_structure checked) → ¬ IsFirstCertificate checked cert
   certificate_refutes cert none (n1 least) = none.n1 _ (least ShortLex checked.relations).holds
   certificate_refutes cert none (n2 passes first) = none.n2 _ _ _ (first ShortLex checked.relations).least.holds
   certificate_refutes cert none (n4 passes first few) = none.n4 _ _ (first ShortLex checked.relations).least.holds
@@ -45,3 +47,7 @@ module _ (checked : Checked) where
   certificate_refutes cert none (n6 passes first) = none.n6 _ _ (first ShortLex checked.relations).least.holds
   certificate_refutes cert none (n7 passes first) = none.n7 _ _ _ (first checked.relations).least.holds
   certificate_refutes cert none (n8 passes at) = none.n8 _ _ _ _ (at.holds.broken ShortLex)
+
+  pub certificate_of_all_refutes : (cert : Cert) → HasNoCertificate (own_structure checked) → ¬ IsFirstOfAll checked cert
+  certificate_of_all_refutes cert none (of_automata first) = certificate_refutes cert none first
+  certificate_of_all_refutes cert none (of_elements passes first) = none.n3 _ _ _ first.least.holds

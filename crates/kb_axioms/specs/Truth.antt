@@ -1,13 +1,13 @@
 -- What rules of the group show of multipliers.
 -- Epstein et al., Word Processing in Groups, 2.3; Holt, Eick, O'Brien, Handbook of Computational Group Theory, 13.2.
-use Rattle.std.specs.Prelude.{◌≡◌, ℕ, ◌<◌, ◌≤◌, Bool, IsTrue, List, length, Some}
-use Rattle.kb_word.specs.Words.{Pair as Sides}
-use Rattle.kb_word.specs.Congruence.{SameCongruence}
+use Rattle.std.specs.Prelude.{◌≡◌, ℕ, ◌<◌, ◌≤◌, Bool, IsTrue, List, [], ◌∷◌, ◌++◌, length, Some}
+use Rattle.kb_word.specs.Words.{OneOf, Pair as Sides}
+use Rattle.kb_word.specs.Congruence.{Congruent, SameCongruence}
 use Rattle.kb_word.specs.Overlap.{IsConfluent}
-use Rattle.kb_word.specs.Relations.{relations_of}
+use Rattle.kb_word.specs.Relations.{IsOver, relations_of}
 use Rattle.kb_word.specs.declared.presentation.Presentation.{Presentation}
 use Rattle.kb_fsa.specs.declared.alphabet.Alphabet.TheVariants.{Pair}
-use Rattle.kb_fsa.specs.Language.{Automaton, generators}
+use Rattle.kb_fsa.specs.Language.{AcceptsPair, Automaton, generators}
 use Rattle.kb_diff.specs.Groups.{group_of}
 use Rattle.kb_structure.specs.Certificates.{PairOfDifferentElements}
 use Rattle.kb_structure.specs.StructureOf.{multiplier_of, structure_of}
@@ -44,6 +44,15 @@ pub record IsFirstUnresolved (presentation : Presentation) (rules : List Sides)
 pub record AreConfluentRulesOf (presentation : Presentation) (rules : List Sides) : Type 0 where
   pub confluent : IsConfluent rules
   pub same : SameCongruence (relations_of presentation.inv presentation.eqs) rules
+
+-- the multiplier of x has the pair of words over the generators, and they don't differ by x
+pub record IsDifferentPair (presentation : Presentation) (multiplier : Automaton) (x : ℕ)
+    (u v : List ℕ) : Type 0 where
+  pub first_over : IsOver presentation.n u
+  pub second_over : IsOver presentation.n v
+  pub accepted : AcceptsPair multiplier u v
+  pub different :
+      ¬ Congruent (OneOf (relations_of presentation.inv presentation.eqs)) (u ++ x ∷ []) v
 
 -- the first pair of the first multiplier whose words don't differ by its generator; by no word acceptor is that another
 abbrev pub IsFirstDifferent : Presentation → List Automaton → ℕ → List ℕ → List ℕ → Type 0

@@ -7,13 +7,13 @@ ghost use Rattle.kb_structure.specs.declared.cert.Cert.TheVariants.{N2, N5, N6, 
 ghost use Rattle.kb_axioms.specs.Checked.{AutomataSay, Checked, PassesImages, PassesLeast, checked_of};
 
 use crate::answers::{Automata, Construction};
-use kb_structure::Cert;
 use kb_certificates::{
     Images, check_images, image_not_least, missing_extension, pair_outside_acceptor,
     prefix_not_accepted, two_images,
 };
 use kb_fsa::Fsa;
 use kb_relations::{Acting, broken_relation};
+use kb_structure::Cert;
 use kb_word::{Letter, Memory, Word};
 use std::alloc::Global;
 

@@ -88,8 +88,9 @@ fn verdict_on_labels(
         "the multipliers aren't the group's"
     );
     let reducer = Index::of(alloc, &system.rules)?;
-    match check_truth(alloc, &system.group, multipliers, &reducer)? {
+    match check_truth(alloc, &system.group, multipliers, &reducer, false)? {
         Truth::True => Ok(Verdict::Own),
+        Truth::Different { .. } => Ok(Verdict::Refuted),
         Truth::Unresolved { .. } => Ok(Verdict::Unresolved),
     }
 }

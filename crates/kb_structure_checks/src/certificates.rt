@@ -4,11 +4,11 @@ ghost use Rattle.std.specs.Prelude.{◌≡◌};
 ghost use Rattle.kb_fsa.specs.declared.alphabet.Alphabet.TheVariants.{Plain};
 ghost use Rattle.kb_structure.specs.StructureOf.{FitTogether};
 
-use crate::files::{ACCEPTOR, FIRST, States, acceptor, group, multipliers};
+use crate::files::{ACCEPTOR, FIRST, SECOND, States, acceptor, group, multipliers};
 use kb_axioms::{Automata, Construction, check_automata, fit_together};
-use kb_structure::Cert;
 use kb_fsa::{Alphabet, Fsa, word_of};
 use kb_machine::relations_are_over_the_generators;
+use kb_structure::Cert;
 use kb_word::{Letter, Memory, Presentation, Word};
 use std::alloc::Global;
 use std::process::Abort;
@@ -25,7 +25,7 @@ fn found(
     limit: u32,
 ) -> Result<Automata, Memory> {
     let acceptor = acceptor(rt, alloc, words)?;
-    let multipliers = multipliers(rt, alloc, first)?;
+    let multipliers = multipliers(rt, alloc, first, SECOND)?;
     let group = group(rt, alloc, equations)?;
     assert!(rt;
         acceptor.alphabet() == Alphabet::Plain(group.n),

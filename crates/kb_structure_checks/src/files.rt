@@ -21,7 +21,7 @@ pub(crate) const FIRST: States = (
 );
 
 /// The pairs that differ by its inverse.
-const SECOND: States = (
+pub(crate) const SECOND: States = (
     4,
     "[3]",
     "[2,0,3,0,4,0,0,3],[2,0,3,0,0,0,0,0],[0,0,0,0,0,0,0,0],[0,0,0,0,4,0,0,3]",
@@ -46,15 +46,16 @@ pub(crate) fn multiplier(
     automaton(rt, alloc, pairs.as_str(), states)
 }
 
-/// Two multipliers, of which the first has these states and the second is that of the free group.
+/// Two multipliers with these states.
 pub(crate) fn multipliers(
     rt: &impl Abort,
     alloc: Global,
     first: States,
+    second: States,
 ) -> Result<Vec<Fsa>, Memory> {
     let mut multipliers = Vec::new(alloc);
     multipliers.push(multiplier(rt, alloc, first)?)?;
-    multipliers.push(multiplier(rt, alloc, SECOND)?)?;
+    multipliers.push(multiplier(rt, alloc, second)?)?;
     Ok(multipliers)
 }
 

@@ -8,10 +8,13 @@
 //!   group of rank one are what the others change.
 //! - `certificates`: the automata that pass, a certificate of each kind, and a count above the limit.
 //! - `truth`: label words that agree, and others.
+//! - `answered`: what the whole check answers, by complete rules of the group and by none.
 //!
 //! Below are the libraries that are tested.
 #![tactic(auto)]
 
+#[cfg(test)]
+mod answered;
 #[cfg(test)]
 mod certificates;
 #[cfg(test)]

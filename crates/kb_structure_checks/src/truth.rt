@@ -1,6 +1,6 @@
 //! What label words show, by rules of the group.
 
-use crate::files::{FIRST, States, group, multipliers};
+use crate::files::{FIRST, SECOND, States, group, multipliers};
 use kb_axioms::{Truth, are_multipliers, check_truth, is_group};
 use kb_fsa::word_of;
 use kb_rules::{Reducer, Rule, Rules, Scan};
@@ -12,7 +12,7 @@ use std::test::Fail;
 /// What the rules of the free group of rank one show of a first multiplier with these states, and of its second one.
 fn shown(rt: &impl Abort, alloc: Global, first: States) -> Result<Truth, Memory> {
     let group = group(rt, alloc, "")?;
-    let multipliers = multipliers(rt, alloc, first)?;
+    let multipliers = multipliers(rt, alloc, first, SECOND)?;
     assert!(rt; is_group(&group), "a generator has no inverse");
     assert!(rt;
         are_multipliers(group.n, multipliers.as_slice()),
@@ -25,7 +25,7 @@ fn shown(rt: &impl Abort, alloc: Global, first: States) -> Result<Truth, Memory>
         }
     }
     let scan = Scan::of(alloc, &rules)?;
-    check_truth(alloc, &group, multipliers.as_slice(), &scan)
+    check_truth(alloc, &group, multipliers.as_slice(), &scan, false)
 }
 
 #[test]
