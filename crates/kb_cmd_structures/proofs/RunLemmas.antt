@@ -28,26 +28,27 @@ use Rattle.kb_cmd_structures.specs.Loaded.{EndsAtFile, HoldStructure}
 none_in_empty : {X : Type 0} (x : X) → ¬ Contains {X = X} [] x
 none_in_empty x here = omega (arith, here.1)
 
-module _ {given : GpaxiomsGiven} {presentation : Presentation} {acceptor : Automaton} {multipliers : List Automaton} {found : Status}
-    {texts : List Text} {line : List ℕ} where
+module _ {given : GpaxiomsGiven} {presentation : Presentation} {acceptor : Automaton} {multipliers : List Automaton} where
   -- no failure of a device is found
-  pub found_faultless : Finds given presentation acceptor multipliers found texts line → IsFaultless found
+  pub found_faultless : {found : Status} {texts : List Text} {line : List ℕ} → Finds given presentation acceptor multipliers found texts line
+      → IsFaultless found
   found_faultless (own passes is_own) = refl
   found_faultless (refuted first) = refl
   found_faultless (too_many first) = refl
   found_faultless (unsettled is) = refl
 
   -- the files have different names
-  pub found_differ : Finds given presentation acceptor multipliers found texts line
+  pub found_differ : {found : Status} {texts : List Text} {line : List ℕ} → Finds given presentation acceptor multipliers found texts line
       → AllPairs (λ (one other : List ℕ). one ≢ other) (names_of texts)
   found_differ (own passes is_own) i j d before within = absurd (omega (arith, before, within))
   found_differ (refuted first) i j d before within = absurd (omega (arith, before, within))
   found_differ (too_many first) i j d before within = absurd (omega (arith, before, within))
-  found_differ (unsettled is) = both_differ (log_file given.file) (rules_file given.file) (log_beside_rules given.file)
+  found_differ (unsettled is) i j d before within =
+      both_differ (log_file given.file) (rules_file given.file) (log_beside_rules given.file) i j d before within
 
   -- and are among those that the command may store
-  found_may : Finds given presentation acceptor multipliers found texts line → (name : List ℕ) → Contains (names_of texts) name
-      → GpaxiomsMayStore given name
+  pub found_may : {found : Status} {texts : List Text} {line : List ℕ} → Finds given presentation acceptor multipliers found texts line
+      → (name : List ℕ) → Contains (names_of texts) name → GpaxiomsMayStore given name
   found_may (own passes is_own) name here = absurd (none_in_empty name here)
   found_may (refuted first) name here = absurd (none_in_empty name here)
   found_may (too_many first) name here = absurd (none_in_empty name here)
@@ -68,9 +69,9 @@ Shows given presentation acceptor multipliers before after status =
     IsRun (AnswerMeans given presentation acceptor multipliers) (GpaxiomsMayStore given) before after status
 
 -- another status than yes isn't it
-pub other-no_yes : {status : Status} → status ≢ Yes → ¬ IsYes status
-other-no_yes {Yes} other is_yes = other refl
-other-no_yes {_} other is_yes = is_yes
+pub other-no_yes : (status : Status) → status ≢ Yes → ¬ IsYes status
+other-no_yes Yes other is_yes = other refl
+other-no_yes _ other is_yes = absurd is_yes
 
 module _ {given : GpaxiomsGiven} {presentation : Presentation} {acceptor : Automaton} {multipliers : List Automaton} {found : Status}
     {texts : List Text} {line : List ℕ} (finds : Finds given presentation acceptor multipliers found texts line) where

@@ -149,9 +149,9 @@ record Wrote (before after : Outside) : Type 0 where
   written : after.output.written ≡ before.output.written ++ codes "yes\n"
   stored : (name : List ℕ) → after.shelf.holds name ≡ before.shelf.holds name
 
-none_stored : {before after : Outside} → HoldsTexts [] before.shelf after.shelf → (name : List ℕ)
+none_stored : (before after : Outside) → HoldsTexts [] before.shelf after.shelf → (name : List ℕ)
     → after.shelf.holds name ≡ before.shelf.holds name
-none_stored holds name = holds.others name (λ here. omega (arith, here.1))
+none_stored before after holds name = holds.others name (λ here. omega (arith, here.1))
 
 module _ {given : GpaxiomsGiven} {presentation : Presentation} {accepts : Automaton}
     {multipliers : List Automaton} {before after : Outside} where
@@ -160,7 +160,7 @@ module _ {given : GpaxiomsGiven} {presentation : Presentation} {accepts : Automa
       → HoldsTexts texts before.shelf after.shelf
       → after.output.written ≡ before.output.written ++ line → Wrote before after
   found_wrote (own passes is_own) is_yes holds written =
-      record { written = written; stored = none_stored {before = before} {after = after} holds }
+      record { written = written; stored = none_stored before after holds }
   found_wrote (refuted first) is_yes holds written = absurd is_yes
   found_wrote (too_many first) is_yes holds written = absurd is_yes
   found_wrote (unsettled is) is_yes holds written = absurd is_yes
