@@ -1,6 +1,6 @@
 //! Deciding whether automata are a group's own automatic structure.
 
-ghost use Rattle.std.specs.Prelude.{◌≡◌, ℕ, List, IfOk};
+ghost use Rattle.std.specs.Prelude.{◌≡◌, ◌≤◌, ℕ, List, IfOk};
 ghost use Rattle.kb_word.specs.declared.presentation.Presentation.{Presentation as Presented};
 ghost use Rattle.kb_word.specs.declared.word_order.WordOrder.TheVariants.{ShortLex};
 ghost use Rattle.kb_fsa.specs.Language.{Automaton};
@@ -48,7 +48,8 @@ pub fn gpaxioms<G: Gate, W: Watch, T: Threads + Wait + Sync>(
     ensures { IfOk result (CheckedSays (limits_of limits.now) presentation.now acceptor.now
         multipliers.now) }
 {
-    match check_alone(alloc, presentation, acceptor, multipliers, limits.states)? {
+    let (states, count) = (limits.states, workers.count());
+    match check_alone(rt, alloc, presentation, acceptor, multipliers, states, count)? {
         Automata::No(cert) => Ok(Checked::No(cert)),
         Automata::TooManyStates { which } => Ok(Checked::TooManyStates { which }),
         Automata::Pass => {
@@ -59,20 +60,23 @@ pub fn gpaxioms<G: Gate, W: Watch, T: Threads + Wait + Sync>(
 }
 
 /// What the automata show by themselves, whatever the rules of the group are.
-fn check_alone(
+fn check_alone<T: Threads + Wait + Sync>(
+    rt: &T,
     alloc: Global,
     presentation: &Presentation,
     acceptor: &Fsa,
     multipliers: &[Fsa],
     limit: u32,
+    workers: u32,
 ) -> Result<Automata, Memory>
     requires acceptor { acceptor.now.alphabet ≡ Plain presentation.now.n }
     requires multipliers { AreMultipliers presentation.now.n multipliers.now }
+    requires workers { (1 ≤ workers) × (workers ≤ 64) }
     ensures { IfOk result
         (AutomataSay (checked_in presentation.now acceptor.now multipliers.now limit)) }
 {
     let relations = presentation.relations(alloc)?;
-    check_automata(alloc, acceptor, multipliers, &relations, limit)
+    check_automata(rt, alloc, acceptor, multipliers, &relations, limit, workers)
 }
 
 /// What is answered of automata that pass by themselves, where a completion decides the rest.

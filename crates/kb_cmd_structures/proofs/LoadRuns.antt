@@ -26,10 +26,10 @@ pub memory_ends : {IsFault : FileFault → Type 0} {name : List ℕ} → EndsAtL
 memory_ends = record { stop = stops.Memory; is = refl; cause = tt }
 
 -- a failure of a load that came after another load is counted from the first on
-pub counted_along : {a b c : ShelfState} → OnlyLoads a b → (status : Status)
+pub counted_along : (a b c : ShelfState) → OnlyLoads a b → (status : Status)
     → ((input : SourceState) (output : SinkState) → FaultIsCounted (outside b input output) (outside c input output) status)
     → (input : SourceState) (output : SinkState) → FaultIsCounted (outside a input output) (outside c input output) status
-counted_along {a} {b} {c} loads status counted input output =
+counted_along a b c loads status counted input output =
     counted_after (outside a input output) (outside b input output) (outside c input output) status
     (goes_on-loads a b input output loads) (counted input output)
 

@@ -20,7 +20,7 @@ use Rattle.kb_task.proofs.RunLemmas.{goes_on-along, counted_after, told-later, r
 use Rattle.kb_evidence.specs.Files.{log_file, rules_file}
 use Rattle.kb_evidence.specs.FileLaws.{both_differ, contained_cases, log_beside_rules}
 use Rattle.kb_cmd_structures.specs.Given.{GpaxiomsGiven}
-use Rattle.kb_cmd_structures.specs.Gpaxioms.{AnswerMeans, shown, output_failed, store_failed, no_memory_stored, no_memory, Finds, own, refuted, too_many, unsettled, GpaxiomsMayStore, log, rules, GpaxiomsMeans, at_file, loaded}
+use Rattle.kb_cmd_structures.specs.Gpaxioms.{AnswerMeans, shown, output_failed, store_failed, no_memory_stored, no_memory, Finds, own, refuted, too_many, unsettled, GpaxiomsMayStore, stores_log, stores_rules, GpaxiomsMeans, at_file, loaded}
 use Rattle.kb_cmd_structures.specs.Loaded.{EndsAtFile, HoldStructure}
 
 -- ---- what is found
@@ -28,32 +28,33 @@ use Rattle.kb_cmd_structures.specs.Loaded.{EndsAtFile, HoldStructure}
 none_in_empty : {X : Type 0} (x : X) → ¬ Contains {X = X} [] x
 none_in_empty x here = omega (arith, here.1)
 
-module _ {given : GpaxiomsGiven} {presentation : Presentation} {acceptor : Automaton} {multipliers : List Automaton} {found : Status}
-    {texts : List Text} {line : List ℕ} where
+module _ {given : GpaxiomsGiven} {presentation : Presentation} {acceptor : Automaton} {multipliers : List Automaton} where
   -- no failure of a device is found
-  pub found_faultless : Finds given presentation acceptor multipliers found texts line → IsFaultless found
+  pub found_faultless : {found : Status} {texts : List Text} {line : List ℕ} → Finds given presentation acceptor multipliers found texts line
+      → IsFaultless found
   found_faultless (own passes is_own) = refl
   found_faultless (refuted first) = refl
   found_faultless (too_many first) = refl
   found_faultless (unsettled is) = refl
 
   -- the files have different names
-  pub found_differ : Finds given presentation acceptor multipliers found texts line
+  pub found_differ : {found : Status} {texts : List Text} {line : List ℕ} → Finds given presentation acceptor multipliers found texts line
       → AllPairs (λ (one other : List ℕ). one ≢ other) (names_of texts)
   found_differ (own passes is_own) i j d before within = absurd (omega (arith, before, within))
   found_differ (refuted first) i j d before within = absurd (omega (arith, before, within))
   found_differ (too_many first) i j d before within = absurd (omega (arith, before, within))
-  found_differ (unsettled is) = both_differ (log_file given.file) (rules_file given.file) (log_beside_rules given.file)
+  found_differ (unsettled is) i j d before within =
+      both_differ (log_file given.file) (rules_file given.file) (log_beside_rules given.file) i j d before within
 
   -- and are among those that the command may store
-  found_may : Finds given presentation acceptor multipliers found texts line → (name : List ℕ) → Contains (names_of texts) name
-      → GpaxiomsMayStore given name
+  pub found_may : {found : Status} {texts : List Text} {line : List ℕ} → Finds given presentation acceptor multipliers found texts line
+      → (name : List ℕ) → Contains (names_of texts) name → GpaxiomsMayStore given name
   found_may (own passes is_own) name here = absurd (none_in_empty name here)
   found_may (refuted first) name here = absurd (none_in_empty name here)
   found_may (too_many first) name here = absurd (none_in_empty name here)
   found_may (unsettled is) name here = elim (contained_cases (log_file given.file) (rules_file given.file) name here) [
-    | inl is ↦ log (sym is)
-    | inr is ↦ rules (sym is)
+    | inl is ↦ stores_log (sym is)
+    | inr is ↦ stores_rules (sym is)
   ]
 
 -- ---- it is stored and written
@@ -68,9 +69,9 @@ Shows given presentation acceptor multipliers before after status =
     IsRun (AnswerMeans given presentation acceptor multipliers) (GpaxiomsMayStore given) before after status
 
 -- another status than yes isn't it
-pub other-no_yes : {status : Status} → status ≢ Yes → ¬ IsYes status
-other-no_yes {Yes} other is_yes = other refl
-other-no_yes {_} other is_yes = is_yes
+pub other-no_yes : (status : Status) → status ≢ Yes → ¬ IsYes status
+other-no_yes Yes other is_yes = other refl
+other-no_yes _ other is_yes = absurd is_yes
 
 module _ {given : GpaxiomsGiven} {presentation : Presentation} {acceptor : Automaton} {multipliers : List Automaton} {found : Status}
     {texts : List Text} {line : List ℕ} (finds : Finds given presentation acceptor multipliers found texts line) where

@@ -1,5 +1,5 @@
 -- Automata have one first certificate, and the group's own have none.
-use Rattle.std.proofs.Common.{◌≡◌, ◌≢◌, ◌∙◌, inl, inr, ℕ, zero, suc, ◌<◌, ◌≤◌, ⊤, List, ◌∷◌, [], ◌++◌, refl, sym, ap, ap₂, subst, arith}
+use Rattle.std.proofs.Common.{◌≡◌, ◌≢◌, ◌∙◌, inl, inr, ℕ, zero, suc, ◌<◌, ◌≤◌, List, ◌∷◌, [], ◌++◌, refl, sym, ap, ap₂, subst, arith}
 use Rattle.std.proofs.lemmas.Bool.{cases_order}
 use Rattle.std.proofs.lemmas.Option.{same_Some, slice_get_within}
 use Rattle.kb_word.specs.Words.{Pair, Less}
@@ -328,7 +328,7 @@ module _ (checked : Checked) where
   same_kind over (N8 number u a b) (N8 second v c d) same one other =
       one_relation over number second u a b v c d one other
   same_kind over (N3 x u v) (N3 y a b) same one other = one_pair one other N3
-  same_kind over _ _ same one other = cc
+  same_kind over _ _ same one other = absurd (omega (arith, same))
 
   place_within : (cert : Cert) → place cert ≤ 7
   place_within (N1 u) = omega arith

@@ -112,14 +112,14 @@ pub data GpaxiomsMeans (given : GpaxiomsGiven) (before after : Outside) (status 
 
 -- it may store the log of a completion that halted, and its rules
 pub data GpaxiomsMayStore (given : GpaxiomsGiven) (name : List ℕ) : Type 0 where
-  log : name ≡ log_file given.file → GpaxiomsMayStore given name
-  rules : name ≡ rules_file given.file → GpaxiomsMayStore given name
+  stores_log : name ≡ log_file given.file → GpaxiomsMayStore given name
+  stores_rules : name ≡ rules_file given.file → GpaxiomsMayStore given name
 
 -- it reads the files of the group, of the word acceptor, and of the generators' multipliers
 pub data GpaxiomsReads (given : GpaxiomsGiven) (name : List ℕ) : Type 0 where
-  group : name ≡ given.file → GpaxiomsReads given name
-  acceptor : name ≡ acceptor_file given.file → GpaxiomsReads given name
-  multiplier : (x : ℕ) → name ≡ multiplier_file given.file x → GpaxiomsReads given name
+  reads_group : name ≡ given.file → GpaxiomsReads given name
+  reads_acceptor : name ≡ acceptor_file given.file → GpaxiomsReads given name
+  reads_multiplier : (x : ℕ) → name ≡ multiplier_file given.file x → GpaxiomsReads given name
 
 -- none of the files is refused: not that of the group, nor those of the automata by the group that its file holds
 pub record IsGpaxiomsUnrefused (given : GpaxiomsGiven) (before : Outside) : Type 0 where

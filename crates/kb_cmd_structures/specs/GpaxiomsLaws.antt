@@ -20,7 +20,7 @@ use Rattle.kb_task.proofs.LoadEnds.{memory_at_load}
 use Rattle.kb_evidence.specs.Files.{acceptor_file, multiplier_file}
 use Rattle.kb_cmd_structures.specs.FirstCertificates.{one_certificate, own_has_none}
 use Rattle.kb_cmd_structures.specs.Given.{GpaxiomsGiven}
-use Rattle.kb_cmd_structures.specs.Gpaxioms.{AnswerMeans, shown, output_failed, store_failed, no_memory_stored, no_memory, Finds, own, refuted, too_many, unsettled, GpaxiomsMayStore, GpaxiomsMeans, at_file, loaded, GpaxiomsReads, group, acceptor, multiplier, GpaxiomsSettles, IsGpaxiomsUnrefused, checked_by, gpaxioms_promise}
+use Rattle.kb_cmd_structures.specs.Gpaxioms.{AnswerMeans, shown, output_failed, store_failed, no_memory_stored, no_memory, Finds, own, refuted, too_many, unsettled, GpaxiomsMayStore, GpaxiomsMeans, at_file, loaded, GpaxiomsReads, reads_group, reads_acceptor, reads_multiplier, GpaxiomsSettles, IsGpaxiomsUnrefused, checked_by, gpaxioms_promise}
 use Rattle.kb_cmd_structures.specs.Loaded.{EndsAtFile, HoldStructure, IsAcceptorFault, IsMultiplierFault, at_group, at_acceptor, at_multiplier}
 use Rattle.kb_cmd_structures.specs.LoadedLaws.{files_inconclusive, held_over, one_checked}
 
@@ -132,14 +132,15 @@ settled given before after other_before other_after status other (loaded held me
     absurd (files_inconclusive other_before.shelf.holds given.file other ends
     (conclusive other also))
 settled given before after other_before other_after status other (loaded held means)
-    (loaded again others) same settles also =
+    (loaded {presentation = presentation} {acceptor = accepts} {multipliers = multipliers} again
+    others) same settles also =
     let most = given.limits.states in
-    let checked = one_checked held again (same given.file (group refl))
-    (same (acceptor_file given.file) (acceptor refl))
-    (λ x. same (multiplier_file given.file x) (multiplier x refl)) most in
+    let checked = one_checked held again (same given.file (reads_group refl))
+    (same (acceptor_file given.file) (reads_acceptor refl))
+    (λ x. same (multiplier_file given.file x) (reads_multiplier x refl)) most in
     let Says : Checked → Type 0 = λ c. Answered c status in
-    one_answer _ (held_over most again) status other (subst Says checked (answered means settles))
-    (answered others also)
+    one_answer (checked_by given presentation accepts multipliers) (held_over most again) status
+    other (subst Says checked (answered means settles)) (answered others also)
 
 -- ---- one function
 
@@ -148,9 +149,9 @@ record Wrote (before after : Outside) : Type 0 where
   written : after.output.written ≡ before.output.written ++ codes "yes\n"
   stored : (name : List ℕ) → after.shelf.holds name ≡ before.shelf.holds name
 
-none_stored : {before after : Outside} → HoldsTexts [] before.shelf after.shelf → (name : List ℕ)
+none_stored : (before after : Outside) → HoldsTexts [] before.shelf after.shelf → (name : List ℕ)
     → after.shelf.holds name ≡ before.shelf.holds name
-none_stored holds name = holds.others name (λ here. omega (arith, here.1))
+none_stored before after holds name = holds.others name (λ here. omega (arith, here.1))
 
 module _ {given : GpaxiomsGiven} {presentation : Presentation} {accepts : Automaton}
     {multipliers : List Automaton} {before after : Outside} where
@@ -159,7 +160,7 @@ module _ {given : GpaxiomsGiven} {presentation : Presentation} {accepts : Automa
       → HoldsTexts texts before.shelf after.shelf
       → after.output.written ≡ before.output.written ++ line → Wrote before after
   found_wrote (own passes is_own) is_yes holds written =
-      record { written = written; stored = none_stored {before = before} {after = after} holds }
+      record { written = written; stored = none_stored before after holds }
   found_wrote (refuted first) is_yes holds written = absurd is_yes
   found_wrote (too_many first) is_yes holds written = absurd is_yes
   found_wrote (unsettled is) is_yes holds written = absurd is_yes

@@ -20,7 +20,6 @@ use Rattle.kb_proof.specs.Completions.{AreShort, AreShortParts}
 use Rattle.kb_proof.specs.Faults.{HasLogFault}
 use Rattle.kb_proof.specs.Printable.{AreReadableNames}
 use Rattle.kb_proof.specs.Printed.{header, text_of_body}
-use Rattle.kb_proof.specs.declared.error.LogError.TheVariants as log_errors
 use Rattle.kb_proof.specs.declared.log.Log.{Log}
 use Rattle.kb_proof.specs.declared.log.Version.TheVariants.{Two}
 use Rattle.kb_proof.proofs.Completions.{ArePrintable, completion_printable}
