@@ -49,7 +49,15 @@ pub fn gpaxioms<G: Gate, W: Watch, T: Threads + Wait + Sync>(
         multipliers.now) }
 {
     let (states, count) = (limits.states, workers.count());
-    match check_alone(rt, alloc, presentation, acceptor, multipliers, states, count)? {
+    match check_alone(
+        rt,
+        alloc,
+        presentation,
+        acceptor,
+        multipliers,
+        states,
+        count,
+    )? {
         Automata::No(cert) => Ok(Checked::No(cert)),
         Automata::TooManyStates { which } => Ok(Checked::TooManyStates { which }),
         Automata::Pass => {

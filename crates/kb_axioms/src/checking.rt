@@ -57,15 +57,7 @@ pub fn check<R: Reducer, T: Threads + Wait + Sync>(
         (checked_in presentation.now acceptor.now multipliers.now limit)) }
 {
     let relations = presentation.relations(alloc)?;
-    match check_automata(
-        rt,
-        alloc,
-        acceptor,
-        multipliers,
-        &relations,
-        limit,
-        workers,
-    )? {
+    match check_automata(rt, alloc, acceptor, multipliers, &relations, limit, workers)? {
         Automata::Pass => {
             let truth = check_truth(alloc, presentation, multipliers, reducer, confluent)?;
             Ok(answer_of(truth))
