@@ -25,8 +25,8 @@ returns-in-Ok-find g c =
     (c.in-Ok.ensures.holds told))
     (c.conclude.ensures given loaded.presentation loaded.acceptor loaded.multipliers.items input c.in-Ok-find.ensures)
 
-pub returns-in-Ok-load_structure : goal.returns-in-Ok-load_structure
-returns-in-Ok-load_structure g c =
+pub returns-in-Ok : goal.returns-in-Ok
+returns-in-Ok g c =
     let given : GpaxiomsGiven = c.args.self in
     let shelf : ShelfState = g.F.Shelf.state c.args.shelf.now in
     let read : ShelfState = g.F.Shelf.state c.load_structure.new.shelf in
