@@ -1,6 +1,5 @@
 -- What rules show of multipliers, and what follows for automata that pass by themselves.
-use Rattle.std.proofs.Common.{◌≡◌, ◌≢◌, ℕ, false, List, length, refl, sym, ap, subst}
-use Rattle.std.proofs.lemmas.Bool.{false≢true}
+use Rattle.std.proofs.Common.{◌≡◌, ℕ, List, length, sym, ap, subst}
 use Rattle.kb_word.specs.Words.{Pair as Sides, OneOf}
 use Rattle.kb_word.specs.Congruence.{Congruent}
 use Rattle.kb_word.specs.Presentations.{parts_of}
@@ -17,7 +16,6 @@ use Rattle.kb_rules.specs.OrderedRules.{OrderedRules}
 use Rattle.kb_share.proofs.LiveRules.{live_rule_is}
 use Rattle.kb_complete.specs.Completing.{IsCompleted}
 use Rattle.kb_reduced.specs.Reduced.{IsReducedComplete}
-use Rattle.kb_structure.specs.Structure.{AreOverGenerators}
 use Rattle.kb_structure.specs.StructureOf.{FitTogether, structure_of}
 use Rattle.kb_structure.specs.Certificates.{IsTrueToGroup, PairOfDifferentElements}
 use Rattle.kb_certificates.specs.First.{IsFirstPair}
@@ -25,21 +23,18 @@ use Rattle.kb_labels.specs.Labels.{AreEqualSides}
 use Rattle.kb_relations.specs.Acts.{AreOver}
 use Rattle.kb_axioms.specs.Answered.{checked_in}
 use Rattle.kb_axioms.specs.Checked.{own_structure}
-use Rattle.kb_axioms.specs.Truth.{AreMultipliers, IsFirstDifferent, TruthSays}
-use Rattle.kb_axioms.specs.declared.answers.Truth.{Truth}
-use Rattle.kb_axioms.specs.declared.answers.Truth.TheVariants.{True, Different, Unresolved}
+use Rattle.kb_axioms.specs.Truth.{AreMultipliers, IsFirstDifferent}
 use Rattle.kb_system.specs.Completed.{IsReducedSystem}
 use Rattle.kb_system.specs.Evidence.{Limits}
 use Rattle.kb_system.specs.Problems.{problem_of}
-use Rattle.kb_auto.specs.Deciding.{AreUnresolvedBy}
 use Rattle.kb_auto.specs.Rounds.{AreTrue}
 
 -- ---- the rules of a completion
 
 -- the relations of a completion of the presentation
-pub given_relations : {limits : Limits} {presentation : Presentation} {problem : Problem}
+pub given_relations : (limits : Limits) (presentation : Presentation) (problem : Problem)
     → problem ≡ problem_of limits (parts_of presentation) → problem.relations ≡ relations_of presentation.inv presentation.eqs
-given_relations same = ap (λ (p : Problem). p.relations) same
+given_relations limits presentation problem same = ap (λ (p : Problem). p.relations) same
 
 -- both sides of each live rule are congruent by the relations
 pub live_sides_are_equal : (problem : Problem) (state : State) (relations : List Sides) → IsSound problem state
@@ -55,15 +50,6 @@ pub is_reduced_system : (limits : Limits) (presentation : Presentation) (course 
 is_reduced_system limits presentation course rules same completed =
     let P : Problem → Type 0 = λ p. IsReducedComplete (below p) p.relations rules.rules in
     subst P same completed.reduced
-
--- ---- what rules show that aren't known to be confluent
-
-pub left_open : (presentation : Presentation) (rules : List Sides) (multipliers : List Automaton) (truth : Truth)
-    → truth ≢ True → TruthSays presentation rules false multipliers truth → AreUnresolvedBy presentation rules multipliers
-left_open presentation rules multipliers True differs says = absurd (differs refl)
-left_open presentation rules multipliers (Different x u v) differs says = absurd (false≢true says.0)
-left_open presentation rules multipliers (Unresolved x state label other) differs says =
-    record { x = x; state = state; label = label; other = other; first = says.1 }
 
 -- ---- automata that pass by themselves
 

@@ -6,7 +6,6 @@ use Rattle.kb_word.specs.Presentations.{parts_of}
 use Rattle.kb_word.specs.Relations.{relations_of}
 use Rattle.kb_word.specs.declared.presentation.Presentation.{Presentation}
 use Rattle.kb_fsa.specs.Language.{Automaton, generators}
-use Rattle.kb_machine.specs.States.{Problem}
 use Rattle.kb_machine.specs.Course.{Course}
 use Rattle.kb_share.specs.Finding.{Knows}
 use Rattle.kb_share.specs.declared.finding.Finder.{Finder}

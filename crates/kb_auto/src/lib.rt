@@ -22,8 +22,8 @@
 
 mod answers;
 mod asking;
-mod gpaxioms;
+mod deciding;
 mod rounds;
 
 pub use answers::Checked;
-pub use gpaxioms::gpaxioms;
+pub use deciding::gpaxioms;

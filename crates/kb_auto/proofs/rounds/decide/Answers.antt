@@ -1,10 +1,12 @@
-use Rattle.kb_complete.proofs.Rounds.{start_is_reduced}
+use Rattle.kb_system.specs.Problems.{limits_of}
+use Rattle.kb_auto.proofs.Growing.{begins}
 use Rattle.kb_auto.proofs.rounds.decide.Goals as goal
 
-pub decide_by_rounds-requires-clause-under_way : goal.decide_by_rounds-requires-clause-under_way
-decide_by_rounds-requires-clause-under_way g c =
-    let course = c.in_ok-book.book.course in record {
-      problem = c.in_ok-book.ensures.problem;
-      reduced = start_is_reduced course c.in_ok-book.ensures.state;
-      known = c.new-finder.ensures course.state;
-    }
+pub decide_by_rounds-requires : goal.decide_by_rounds-requires
+decide_by_rounds-requires g c =
+    let bounds = c.type_bounds in
+    let course = c.in_ok-book.book.course in
+    let under_way =
+    begins (limits_of c.args.limits.now) c.args.presentation.now course c.new-finder.result c.in_ok-book.ensures.problem
+    c.in_ok-book.ensures.state (c.new-finder.ensures course.state) in
+    (bounds.sync-G, (bounds.sync-T, (c.requires.group, (c.requires.multipliers, under_way))))

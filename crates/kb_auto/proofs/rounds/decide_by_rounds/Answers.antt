@@ -1,6 +1,6 @@
-use Rattle.std.proofs.Common.{◌∙◌}
+use Rattle.std.proofs.Common.{ap, ◌∙◌, Ok}
 use Rattle.kb_complete.specs.declared.answers.Grown.TheVariants as grown
-use Rattle.kb_complete.proofs.Rounds.{grown_said, known_grown, still_reduced, fewer_left}
+use Rattle.kb_auto.proofs.Growing.{grown_said, known_grown, still_reduced, fewer_left}
 use Rattle.kb_system.specs.Problems.{limits_of}
 use Rattle.kb_auto.proofs.Decisions.{given_relations, is_reduced_system}
 use Rattle.kb_auto.proofs.rounds.decide_by_rounds.Goals as goal
@@ -26,7 +26,7 @@ rounds-smaller g c =
 pub live_rules_show-requires-clause-relations : goal.live_rules_show-requires-clause-relations
 live_rules_show-requires-clause-relations g c =
     let says = grown_said c.rounds.book.course c.in_ok-next.field-0 (grown.More c.in-More.next) c.in-More.is c.in_ok-next.ensures.says in
-    given_relations {limits = limits_of c.args.limits.now} {presentation = c.args.presentation.now}
+    given_relations (limits_of c.args.limits.now) c.args.presentation.now c.in-More.next.course.problem
     (says.continues.later.problem ∙ c.rounds.invariant.problem)
 
 pub decide_by_complete-requires-clause-reduced : goal.decide_by_complete-requires-clause-reduced
@@ -49,7 +49,7 @@ decide_at_halt-requires g c =
     record {
       group = c.requires.group;
       multipliers = c.requires.multipliers;
-      relations = given_relations {limits = limits_of c.args.limits.now} {presentation = c.args.presentation.now}
+      relations = given_relations (limits_of c.args.limits.now) c.args.presentation.now c.in-Halted.book.course.problem
           (says.0.later.problem ∙ c.rounds.invariant.problem);
       halted = says.1;
       reduced = still_reduced c.rounds.book.course c.in-Halted.book.course c.rounds.invariant.reduced says.0;
@@ -61,3 +61,6 @@ returns-in-Halted g c =
     grown_said c.rounds.book.course c.in_ok-next.field-0 (grown.Halted c.in-Halted.book) c.in-Halted.is
     c.in_ok-next.ensures.says in
     c.decide_at_halt.ensures (limits_of c.args.limits.now) (says.0.later.problem ∙ c.rounds.invariant.problem)
+
+pub returns-then-branch : goal.returns-then-branch
+returns-then-branch g c = c.in_ok-live_rules_show.ensures.yes (ap Ok c.if-branch.true)

@@ -1,9 +1,8 @@
 use Rattle.std.proofs.Common.{List, sym, ◌∙◌, subst}
 use Rattle.kb_word.specs.Words.{Pair as Sides}
 use Rattle.kb_relations.specs.Acts.{AreOver}
-use Rattle.kb_axioms.specs.Checked.{AutomataSay, checked_of}
 use Rattle.kb_auto.proofs.Decisions.{relations_are_over, they_fit}
-use Rattle.kb_auto.proofs.gpaxioms.check_alone.Goals as goal
+use Rattle.kb_auto.proofs.deciding.check_alone.Goals as goal
 
 pub check_automata-requires-clause-fit : goal.check_automata-requires-clause-fit
 check_automata-requires-clause-fit c =

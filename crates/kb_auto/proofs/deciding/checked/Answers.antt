@@ -1,7 +1,7 @@
 use Rattle.kb_axioms.specs.Answered.{checked_in}
 use Rattle.kb_axioms.specs.Answered.IsFirstOfAll.{of_elements}
 use Rattle.kb_auto.proofs.Decisions.{are_true_to_group, first_different, relations_are_over}
-use Rattle.kb_auto.proofs.gpaxioms.checked.Goals as goal
+use Rattle.kb_auto.proofs.deciding.checked.Goals as goal
 
 pub returns-in-True : goal.returns-in-True
 returns-in-True c limits presentation acceptor multipliers shortlex words are passes decides = (
@@ -19,4 +19,4 @@ returns-in-Different c limits presentation acceptor multipliers shortlex words a
 
 pub returns-in-Halted : goal.returns-in-Halted
 returns-in-Halted c limits presentation acceptor multipliers shortlex words are passes decides =
-    (passes, rw c.in-Halted.is at decides)
+    let says = rw c.in-Halted.is at decides in (passes, says.0, says.1)
