@@ -56,4 +56,4 @@ module _ (given : GpaxiomsGiven) (presentation : Presentation) (acceptor : Autom
       let P : List ℕ → Type 0 = λ name. HasParts (Undecided (limit_of halted.reached))
       (halted_texts name (parts_of presentation) halted.lines.items halted.waiting halted.rules.rules)
       (undecided_words_line presentation.names (limit_of halted.reached) halted.waiting.left halted.waiting.right) finding in
-      found_as (subst P file parts) (unsettled (record { passes = says.0; halts = says.1; unresolved = says.2 }))
+      found_as (subst P file parts) (unsettled {halted = halted} (record { passes = says.0; halts = says.1; unresolved = says.2 }))

@@ -1,11 +1,15 @@
 -- What the loads of a structure mean, from what their parts mean.
 use Rattle.std.proofs.Common.{◌≡◌, ◌∙◌, ℕ, zero, suc, ◌+◌, ◌<◌, ◌≤◌, List, [], ◌∷◌, ◌++◌, length, Option, Some, None, slice_get, refl, sym, ap, subst, arith}
-use Rattle.std.specs.Prelude.{IsTrue}
+use Rattle.std.specs.Prelude.{IsTrue, Result, Ok, Err, IfOk, IfErr}
 use Rattle.std.proofs.lemmas.Bool.{cases_order}
 use Rattle.std.proofs.lemmas.Option.{none-some, same_Some, slice_get_within}
 use Rattle.kb_io.specs.Outside.{outside}
 use Rattle.kb_io.specs.States.{ShelfState, SourceState, SinkState}
+use Rattle.kb_word.specs.Presentations.{parts_of}
 use Rattle.kb_word.specs.declared.presentation.Presentation.{Presentation}
+use Rattle.kb_word.specs.declared.word_order.WordOrder.TheVariants.{ShortLex}
+use Rattle.kb_diff.specs.Groups.{EachInverts}
+use Rattle.kb_task.specs.Presentations.{HoldsPresentation}
 use Rattle.kb_fsa.specs.declared.alphabet.Alphabet.TheVariants.{Plain, Pair}
 use Rattle.kb_fsa.specs.Language.{Automaton}
 use Rattle.kb_structure.specs.StructureOf.{multiplier_of}
@@ -19,7 +23,7 @@ use Rattle.kb_task.specs.declared.status.Status.TheVariants.{Memory}
 use Rattle.kb_task.proofs.RunLemmas.{counted_after, goes_on-loads, loads-along, told-later}
 use Rattle.kb_task.proofs.LoadEnds.{same_files}
 use Rattle.kb_evidence.specs.Files.{multiplier_file}
-use Rattle.kb_cmd_structures.specs.Loaded.{EndsAtMultiplier, HoldsMultiplier, HoldMultipliers, IsMultiplierFault}
+use Rattle.kb_cmd_structures.specs.Loaded.{EndsAtMultiplier, HoldsGroup, HoldsMultiplier, HoldMultipliers, IsMultiplierFault}
 
 -- memory ran out at any file
 pub memory_ends : {IsFault : FileFault → Type 0} {name : List ℕ} → EndsAtLoad IsFault name Memory
@@ -36,6 +40,24 @@ counted_along a b c loads status counted input output =
 -- what is told is told after a load
 pub told_after : {a b : ShelfState} → OnlyLoads a b → IsTrue a.told → IsTrue b.told
 told_after loads told = rw loads.goes_on.told told
+
+-- what holds of a result's value, or of its error, holds of it as what follows from that
+module _ {X E : Type 0} where
+  pub ok_with : {P Q : X → Type 0} (result : Result X E) → IfOk result P → ((x : X) → P x → Q x) → IfOk result Q
+  ok_with (Ok x) holds then_so = then_so x holds
+  ok_with (Err e) holds then_so = tt
+
+  pub err_with : {P Q : E → Type 0} (result : Result X E) → IfErr result P → ((e : E) → P e → Q e) → IfErr result Q
+  err_with (Ok x) holds then_so = tt
+  err_with (Err e) holds then_so = then_so e holds
+
+-- the file of a name holds a group
+pub held_group : {files : Files} {name file : List ℕ} {presentation : Presentation} → name ≡ file
+    → HoldsPresentation files name (parts_of presentation) → presentation.order ≡ ShortLex → EachInverts presentation.n presentation.inv
+    → HoldsGroup files file presentation
+held_group {files = files} {presentation = presentation} named presents shortlex inverses =
+    let At : List ℕ → Type 0 = λ name. HoldsPresentation files name (parts_of presentation) in
+    record { presents = subst At named presents; group = record { shortlex = shortlex; inverses = inverses } }
 
 -- ---- one multiplier after another
 

@@ -49,41 +49,41 @@ module _ {files others : Files} {file : List ℕ} {one other : Presentation}
     (same_group : files file ≡ others file)
     (same_acceptor : files (acceptor_file file) ≡ others (acceptor_file file))
     (same_multipliers : (x : ℕ) → files (multiplier_file file x) ≡ others (multiplier_file file x))
-    where
-  one_parts : parts_of one ≡ parts_of other
-  one_parts = one_presentation_held same_group held.group.presents also.group.presents
+  where
+    one_parts : parts_of one ≡ parts_of other
+    one_parts = one_presentation_held same_group held.group.presents also.group.presents
 
-  one_acceptor : acceptor ≡ second
-  one_acceptor = (one_held same_acceptor held.accepts.0 also.accepts.0).1
+    one_acceptor : acceptor ≡ second
+    one_acceptor = (one_held same_acceptor held.accepts.0 also.accepts.0).1
 
-  as_long : length multipliers ≡ length more
-  as_long =
-      let n : one.n ≡ other.n =
-      sym (ap generators held.accepts.1)
-      ∙ (ap (λ (a : Automaton). generators a.alphabet) one_acceptor
-      ∙ ap generators also.accepts.1) in
-      held.one_each ∙ (n ∙ sym also.one_each)
+    as_long : length multipliers ≡ length more
+    as_long =
+        let n : one.n ≡ other.n =
+        sym (ap generators held.accepts.1)
+        ∙ (ap (λ (a : Automaton). generators a.alphabet) one_acceptor
+        ∙ ap generators also.accepts.1) in
+        held.one_each ∙ (n ∙ sym also.one_each)
 
-  one_multiplier : (place : ℕ) → place < length multipliers
-      → get_or multipliers place acceptor ≡ get_or more place acceptor
-  one_multiplier place within =
-      let here = slice_get-get_or multipliers place acceptor within in
-      let there =
-      slice_get-get_or more place acceptor (omega (arith, within, as_long)) in
-      (one_held (same_multipliers (suc place))
-      (held.multiply (suc place) (get_or multipliers place acceptor) here).0
-      (also.multiply (suc place) (get_or more place acceptor) there).0).1
+    one_multiplier : (place : ℕ) → place < length multipliers
+        → get_or multipliers place acceptor ≡ get_or more place acceptor
+    one_multiplier place within =
+        let here = slice_get-get_or multipliers place acceptor within in
+        let there =
+        slice_get-get_or more place acceptor (omega (arith, within, as_long)) in
+        (one_held (same_multipliers (suc place))
+        (held.multiply (suc place) (get_or multipliers place acceptor) here).0
+        (also.multiply (suc place) (get_or more place acceptor) there).0).1
 
-  one_list : multipliers ≡ more
-  one_list = ext_get_or acceptor multipliers more as_long one_multiplier
+    one_list : multipliers ≡ more
+    one_list = ext_get_or acceptor multipliers more as_long one_multiplier
 
-  -- the same is checked
-  pub one_checked : (limit : ℕ) → checked_in one acceptor multipliers limit
-      ≡ checked_in other second more limit
-  one_checked limit =
-      ap (λ (parts : PresentationParts).
-      checked_of acceptor multipliers (relations_of parts.inverses parts.equations) limit) one_parts
-      ∙ (ap (λ (a : Automaton).
-      checked_of a multipliers (relations_of other.inv other.eqs) limit) one_acceptor
-      ∙ ap (λ (list : List Automaton).
-      checked_of second list (relations_of other.inv other.eqs) limit) one_list)
+    -- the same is checked
+    pub one_checked : (limit : ℕ) → checked_in one acceptor multipliers limit
+        ≡ checked_in other second more limit
+    one_checked limit =
+        ap (λ (parts : PresentationParts).
+        checked_of acceptor multipliers (relations_of parts.inverses parts.equations) limit) one_parts
+        ∙ (ap (λ (a : Automaton).
+        checked_of a multipliers (relations_of other.inv other.eqs) limit) one_acceptor
+        ∙ ap (λ (list : List Automaton).
+        checked_of second list (relations_of other.inv other.eqs) limit) one_list)

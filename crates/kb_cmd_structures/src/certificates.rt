@@ -10,11 +10,7 @@ use kb_word::{Letter, Memory, Names, Word, print_word};
 use std::alloc::Global;
 
 /// `no`, the certificate's kind, its generator or relation, its words, and a newline.
-pub(crate) fn certificate_line(
-    alloc: Global,
-    names: &Names,
-    cert: &Cert,
-) -> Result<Vec<u8>, Memory>
+pub(crate) fn certificate_line(alloc: Global, names: &Names, cert: &Cert) -> Result<Vec<u8>, Memory>
     ensures { IfOk result (λ line. line.items ≡ certificate_line names.now cert.now) }
 {
     let mut line = Vec::from_slice(alloc, b"no")?;

@@ -115,8 +115,7 @@ fn unsettled(
         (undecided_words_line presentation.now.names (limit_of halted.reached)
         halted.waiting.left halted.waiting.right)) }
 {
-    let Evidence { limit, files, line } =
-        kb_evidence::halted(alloc, presentation, file, halted)?;
+    let Evidence { limit, files, line } = kb_evidence::halted(alloc, presentation, file, halted)?;
     Ok(Finding {
         status: Status::Undecided(limit),
         files,

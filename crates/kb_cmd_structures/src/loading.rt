@@ -136,11 +136,10 @@ fn multipliers_beside<F: Shelf>(
     for place in 0..presentation.n {
         let generator = Letter::new(place + 1);
         match multiplier_beside(alloc, file, generator, presentation, shelf) {
-            Ok(multiplier) => {
-                if multipliers.push(multiplier).is_err() {
-                    return Err(Status::Memory);
-                }
-            }
+            Ok(multiplier) => match multipliers.push(multiplier) {
+                Ok(()) => {}
+                Err(_) => return Err(Status::Memory),
+            },
             Err(status) => return Err(status),
         }
     }

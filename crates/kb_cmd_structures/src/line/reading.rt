@@ -33,10 +33,7 @@ pub(super) fn task_given(
 }
 
 /// The command that the matches of `gpaxioms` give.
-fn gpaxioms_given(
-    alloc: Global,
-    matches: &ArgMatches<'_>,
-) -> Result<Option<StructuresTask>, Memory>
+fn gpaxioms_given(alloc: Global, matches: &ArgMatches<'_>) -> Result<Option<StructuresTask>, Memory>
     ensures { IfOk result (IsRead names.Gpaxioms (rows_of (found_of matches.now))) }
 {
     let Some(file) = text_given(matches, "file") else {
