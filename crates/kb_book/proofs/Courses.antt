@@ -59,10 +59,15 @@ derived_at_most order allowed rules falling u (step ∷ rest) v leads =
       | inr below ↦ inr ((word_orders order).transitive v leads.0 u below lower)
     ]
 
--- What each event keeps: the rules decrease, and the live numbers ascend and are those of lines, and pending origins
--- name pairs.
+-- the left side has no more letters than it may have
+abbrev pub is_short : Problem → List ℕ → List ℕ → Type 0
+is_short problem right left = length left ≤ problem.most_letters
+
+-- What each event keeps: the rules decrease, their left sides are short, and the live numbers ascend and are those of
+-- lines, and pending origins name pairs.
 pub record Kept (problem : Problem) (lines : List Line) (live : List ℕ) (pending : List Origin) : Type 0 where
   pub falling : AreDecreasing (below problem) (rules_of lines)
+  pub short : AreDecreasing (is_short problem) (rules_of lines)
   pub ascending : AllPairs (λ one other. one < other) live
   pub numbers : All (λ k. (0 < k) × (k ≤ length lines)) live
   pub few : length lines ≤ problem.most_lines
@@ -70,14 +75,17 @@ pub record Kept (problem : Problem) (lines : List Line) (live : List ℕ) (pendi
 
 -- a line more
 with_line : {problem : Problem} {lines : List Line} {live : List ℕ} {pending : List Origin} (line : Line) → Kept problem lines live pending
-    → length lines < problem.most_lines → below problem line.right line.left
+    → length lines < problem.most_lines → below problem line.right line.left → length line.left ≤ problem.most_letters
     → Kept problem (lines ++ line ∷ []) (live ++ (length lines + 1) ∷ []) pending
-with_line {problem = problem} {lines = lines} {live = live} {pending = pending} line kept room less =
+with_line {problem = problem} {lines = lines} {live = live} {pending = pending} line kept room less few_letters =
     let one : length (lines ++ line ∷ []) ≡ length lines + 1 = length-append lines (line ∷ []) in
     let P : List Pair → Type 0 = λ rules. AreDecreasing (below problem) rules in
+    let S : List Pair → Type 0 = λ rules. AreDecreasing (is_short problem) rules in
     record {
       falling = subst P (sym (rules_of-push lines line))
           (AreDecreasing-push (below problem) (rules_of lines) (rule_of line) kept.falling less);
+      short = subst S (sym (rules_of-push lines line))
+          (AreDecreasing-push (is_short problem) (rules_of lines) (rule_of line) kept.short few_letters);
       ascending = all_pairs_push (λ (one other : ℕ). one < other) live (length lines + 1) kept.ascending
           (λ k d within. let number = kept.numbers k d within in omega arith);
       numbers = All-append (λ k. (0 < k) × (k ≤ length (lines ++ line ∷ []))) live ((length lines + 1) ∷ [])
@@ -100,6 +108,7 @@ without {problem = problem} {lines = lines} {pending = pending} kept earlier k l
     let within : length earlier < length (earlier ++ k ∷ later) = omega (arith, length-append earlier (k ∷ later)) in
     let less : Kept problem lines (remove (earlier ++ k ∷ later) (length earlier)) pending = record {
       falling = own.falling;
+      short = own.short;
       ascending = all_pairs_remove (λ (one other : ℕ). one < other) (earlier ++ k ∷ later) (length earlier) within own.ascending;
       numbers = All-remove (λ j. (0 < j) × (j ≤ length lines)) (earlier ++ k ∷ later) (length earlier) own.numbers;
       few = own.few;
@@ -119,6 +128,13 @@ shortened_less {problem = problem} {before = before} kept s =
       | inr lower ↦ (word_orders order).transitive s.line.right s.own.1 s.own.0 lower own
     ])
 
+-- a line that is shortened keeps its left side
+shortened_short : {problem : Problem} {before after : State} {k new : ℕ} → Kept problem before.lines before.live before.pending
+    → (s : Shortens problem before after k new) → length s.line.left ≤ problem.most_letters
+shortened_short {problem = problem} {before = before} kept s =
+    let own : is_short problem s.own.1 s.own.0 = kept.short s.own (numbered_one (rules_of before.lines) _ s.own s.is_own) in
+    let P : List ℕ → Type 0 = λ w. length w ≤ problem.most_letters in subst P (sym s.left) own
+
 with_shortened : {problem : Problem} {before after : State} {k new : ℕ} → Kept problem before.lines before.live before.pending
     → Shortens problem before after k new → Kept problem after.lines after.live after.pending
 with_shortened {problem = problem} {before = before} {k = k} kept s =
@@ -127,7 +143,7 @@ with_shortened {problem = problem} {before = before} {k = k} kept s =
     let Q : ℕ → Type 0 = λ number. Kept problem (before.lines ++ s.line ∷ []) (live ++ number ∷ []) before.pending in
     let less : below problem s.line.right s.line.left = shortened_less kept s in
     let without_own : Kept problem before.lines live before.pending = without kept s.earlier k s.later s.is_live in
-    subst P (sym s.is) (subst Q (sym s.number) (with_line s.line without_own s.room less))
+    subst P (sym s.is) (subst Q (sym s.number) (with_line s.line without_own s.room less (shortened_short kept s)))
 
 -- an origin more
 with_origin : {problem : Problem} {lines : List Line} {live : List ℕ} {pending : List Origin} (origin : Origin)
@@ -135,6 +151,7 @@ with_origin : {problem : Problem} {lines : List Line} {live : List ℕ} {pending
     → Kept problem lines live (pending ++ origin ∷ [])
 with_origin {problem = problem} {lines = lines} {pending = pending} origin kept named = record {
   falling = kept.falling;
+  short = kept.short;
   ascending = kept.ascending;
   numbers = kept.numbers;
   few = kept.few;
@@ -149,6 +166,7 @@ without_first : {problem : Problem} {lines : List Line} {live : List ℕ} {pendi
     → Kept problem lines live pending → pending ≡ origin ∷ rest → Kept problem lines live rest
 without_first {problem = problem} {lines = lines} {pending = pending} origin rest kept is = record {
   falling = kept.falling;
+  short = kept.short;
   ascending = kept.ascending;
   numbers = kept.numbers;
   few = kept.few;
@@ -172,7 +190,7 @@ step_keeps problem before (Made k) after step kept =
     let P : State → Type 0 = λ s. Kept problem s.lines s.live s.pending in
     let Q : ℕ → Type 0 = λ number. Kept problem (before.lines ++ step.line ∷ []) (before.live ++ number ∷ []) step.rest in
     let popped : Kept problem before.lines before.live step.rest = without_first step.origin step.rest kept step.pending.is in
-    subst P (sym step.is) (subst Q (sym step.number) (with_line step.line popped step.room step.apart.less))
+    subst P (sym step.is) (subst Q (sym step.number) (with_line step.line popped step.room step.apart.less step.short))
 step_keeps problem before Halted after step kept =
     let P : State → Type 0 = λ s. Kept problem s.lines s.live s.pending in subst P (sym step.is) kept
 step_keeps problem before (Killed k) after step kept =
@@ -193,6 +211,7 @@ kept_along problem before (event ∷ rest) after leads kept =
 pub kept_at_start : (problem : Problem) → Kept problem [] [] (relation_origins 1 problem.relations)
 kept_at_start problem = record {
   falling = λ rule one. absurd (none-some rule one.1);
+  short = λ rule one. absurd (none-some rule one.1);
   ascending = λ i j d before within. absurd (omega arith);
   numbers = λ k d within. absurd (omega arith);
   few = omega arith;

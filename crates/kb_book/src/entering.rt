@@ -35,7 +35,7 @@ impl<R: Reducer> Book<R> {
             worker,
             first: i,
             second: j,
-            place,
+            place: place as u16,
         };
         append(&mut self.pending, origin);
         add(&mut self.journal, event);

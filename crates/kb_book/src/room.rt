@@ -8,8 +8,8 @@ use kb_machine::{Event, Line, Origin};
 use kb_word::Memory;
 use std::collections::VecDeque;
 
-/// Makes room for n more items. A list that is full grows by an eighth of its length, so that little of its memory is
-/// never used.
+/// Makes room for n more items. A list that is full grows by a sixteenth of its length, so that little of its memory
+/// is never used.
 pub(crate) fn grow<T: Drop>(list: &mut Vec<T>, n: usize) -> Result<(), Memory>
     ensures items { list.new.items ≡ list.old.items }
     ensures len { vec_len list.new ≡ vec_len list.old }
@@ -18,7 +18,7 @@ pub(crate) fn grow<T: Drop>(list: &mut Vec<T>, n: usize) -> Result<(), Memory>
     ensures kept { vec_capacity list.old ≤ vec_capacity list.new }
 {
     if list.capacity() - list.len() < n {
-        list.reserve_exact(n.max(list.len() / 8 + 4))?;
+        list.reserve_exact(n.max(list.len() / 16 + 4))?;
     }
     Ok(())
 }

@@ -143,7 +143,7 @@ fn found_since(alloc: Global, journal: &[Event], known: usize) -> Result<Vec<Fou
             found.push(Found {
                 first: *first,
                 second: *second,
-                place: *place,
+                place: u64::from(*place),
             })?;
         }
     }

@@ -86,7 +86,7 @@ fn was_entered(journal: &[Event], one: &Found) -> bool {
             place,
         } = event
         {
-            if *first == one.first && *second == one.second && *place == one.place {
+            if *first == one.first && *second == one.second && u64::from(*place) == one.place {
                 return true;
             }
         }

@@ -8,7 +8,8 @@
 //! time that grows with the number of letters of all left sides and with the entries of the table; the left sides are
 //! sorted once. A rule that comes takes, over a long run, about five times as much for its own left side, one that goes
 //! about as much, and a rule that goes also moves the later ones one place down. Want of memory is the one free answer,
-//! and leaves the list of rules as it was.
+//! and leaves the list of rules as it was; where it comes while the automaton is made anew, it is the answer up to the
+//! next change.
 //!
 //! How it is made (Aho and Corasick, 1975; Sims, Computation with Finitely Presented Groups, 3.5):
 //!
@@ -39,8 +40,8 @@
 //! - `lookup`: the automaton and the recent rules, and the numbers of the list's rules. A rule has a number of its
 //!   own, which stays the same while others come and go, and the numbers rise along the list. A rule that goes only
 //!   loses its number: chains are followed past rules that have none. When more than a quarter as many rules came as
-//!   the automaton has, or as many went as are left, all is made anew at the next change. A copy shares the automaton,
-//!   and has its own list and its own rules that came.
+//!   the automaton has, or as many went as are left, all is made anew at the next change, after the old one is given back. A copy
+//!   shares the automaton, and has its own list and its own rules that came.
 //! - `reading`: a word is read letter by letter. A stack keeps the state after each letter of what is read, so that
 //!   after a replacement reading goes on from the state before it; the right side is put back to be read. All this
 //!   stands in the caller's workspace (`kb_rules::Workspace`). Reading goes from one replacement to the next; each is a

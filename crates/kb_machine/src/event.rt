@@ -1,6 +1,8 @@
 //! The events of a completion.
 
-/// What happened to a book: an entry of its journal. Lines are named by their numbers, from 1 on.
+/// What happened to a book: an entry of its journal. Lines are named by their numbers, from 1 on. A journal has
+/// some four events for each line, so they are to take little memory: the place of an overlap has 16 bits, which places
+/// in left sides of at most 65,535 letters don't exceed.
 #[derive(Clone, Copy, Debug, PartialEq, Eq)]
 pub enum Event {
     /// A worker entered the overlap of two lines at a place of the first one's left side.
@@ -8,7 +10,7 @@ pub enum Event {
         worker: u32,
         first: u32,
         second: u32,
-        place: u64,
+        place: u16,
     },
     /// The first pending pair joined, and went.
     Dropped,

@@ -18,7 +18,8 @@ pub fn minimal_rules<R: Reducer>(
     requires reducer { R.rules reducer.now ≡ rules.now }
     ensures { IfOk result (λ minimal. HasMinimal rules.now (length rules.now) minimal.items) }
 {
-    let mut minimal = Vec::new(alloc);
+    // Mostly all are minimal, and where a completion ends memory counts most.
+    let mut minimal = Vec::with_capacity(alloc, rules.len())?;
     for rule in rules {
         add_minimal(alloc, rule, reducer, &mut minimal)?;
     }
@@ -37,7 +38,9 @@ fn add_minimal<R: Reducer>(
 {
     let left = rule.left();
     if has_irreducible_parts(alloc, left, reducer)? {
-        let right = reducer.nf(alloc, left)?;
+        let normal = reducer.nf(alloc, left)?;
+        // What is kept of it takes no more memory than its letters.
+        let right = normal.copy(alloc)?;
         minimal.push(Rule::new(left.copy(alloc)?, right))?;
     }
     Ok(())

@@ -25,20 +25,19 @@ pub fn reduced_complete<R: Reducer>(
         (λ reduced. IsReducedComplete (Below rules.now.order) rules.now.rules reduced.rules) }
 {
     let minimal = minimal_rules(alloc, rules.as_slice(), reducer)?;
-    let sorted = in_order(rules.order(), minimal)?;
+    let sorted = in_order(rules.order(), minimal);
     let order = rules.order().copy(alloc)?;
     Ok(Rules::from_vec(order, sorted))
 }
 
 /// The rules in the order of their left sides, each of them once.
-fn in_order(order: &WordOrder, mut rules: Vec<Rule>) -> Result<Vec<Rule>, Memory>
+fn in_order(order: &WordOrder, mut rules: Vec<Rule>) -> Vec<Rule>
     requires { HaveOneRightSide rules.items }
-    ensures { IfOk result
-        (λ sorted. IsSortedFrom (Below order.now) rules.items sorted.items) }
+    ensures { IsSortedFrom (Below order.now) rules.items result.items }
 {
-    rules.sort_by(|one, other| compare_left_sides(order, one, other))?;
+    rules.sort_unstable_by(|one, other| compare_left_sides(order, one, other));
     rules.dedup();
-    Ok(rules)
+    rules
 }
 
 /// How the left side of one rule compares with that of another.

@@ -187,11 +187,27 @@ impl Kept {
             → AgreesWith rules self.old → OnOk result (AgreesWith rules self.new) }
         ensures numbers { OnOk result (self.new.numbers.items ≡ self.old.numbers.items ++ number ∷ []) }
     {
+        self.make_room()?;
         self.numbers.reserve(1)?;
         self.lefts.reserve(1)?;
         self.rights.push(Signature::of(&line.right))?;
         self.lefts.push(Signature::of(&line.left))?;
         self.numbers.push(number)?;
+        Ok(())
+    }
+
+    /// Where there is no room, makes room for a sixteenth more lines, so that little of the memory is never used.
+    fn make_room(&mut self) -> Result<(), Memory>
+        ensures numbers { self.new.numbers.items ≡ self.old.numbers.items }
+        ensures lefts { self.new.lefts.items ≡ self.old.lefts.items }
+        ensures rights { self.new.rights.items ≡ self.old.rights.items }
+    {
+        if self.numbers.len() == self.numbers.capacity() {
+            let more = self.numbers.len() / 16 + 4;
+            self.numbers.reserve_exact(more)?;
+            self.lefts.reserve_exact(more)?;
+            self.rights.reserve_exact(more)?;
+        }
         Ok(())
     }
 

@@ -13,8 +13,8 @@ pub returns : goal.returns
 returns c =
     let order = c.args.order.now in
     let laws = word_orders order in
-    sorted_once laws c.args.rules.items c.sort_by.new.self.items c.dedup.new.self.items c.requires c.sort_by.ensures.permutation
-    (c.in_ok-sort_by.ensures.sorted (λ (p q : Pair). is_below laws p.0 q.0) (test_order laws (λ (p : Pair). p.0))
+    sorted_once laws c.args.rules.items c.sort_unstable_by.new.self.items c.dedup.new.self.items c.requires c.sort_unstable_by.ensures.permutation
+    (c.sort_unstable_by.ensures.sorted (λ (p q : Pair). is_below laws p.0 q.0) (test_order laws (λ (p : Pair). p.0))
     (always_returns_same _ (λ a r. is_lt r ≡ is_below laws a.0.now.0 a.1.0.now.0) _
     (λ a r f' k.
     let answer : (r ≡ Less) ↔ Below order a.0.now.0 a.1.0.now.0 = search rules in
