@@ -8,7 +8,7 @@
 //!   group of rank one are what the others change.
 //! - `certificates`: the automata that pass, a certificate of each kind, and a count above the limit.
 //! - `truth`: label words that agree, and others.
-//! - `answered`: what the whole check answers, by complete rules of the group and by none.
+//! - `answered`: what the whole check answers by too few rules.
 //! - `products`: a word and where its letters lead.
 //!
 //! Below are the libraries that are tested.
