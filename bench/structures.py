@@ -102,9 +102,11 @@ def coxeter_of(rank, labels):
 GROUPS = {
     "free-abelian-2": from_text(presentations.free_abelian(2)),
     "free-abelian-6": from_text(presentations.free_abelian(6)),
+    "free-abelian-12": from_text(presentations.free_abelian(12)),
     "surface-2": from_group(presentations.surface(2), surface, 2),
     "surface-2-confluent": lambda: of_file(f"{HERE}/../examples/surface-2"),
     "surface-3": from_group(presentations.surface(3), surface, 3),
+    "surface-4": from_group(presentations.surface(4), surface, 4),
     "triangle-2-3-7": coxeter_of(3, {(1, 2): 3, (2, 3): 7}),
     "coxeter-3-5-3": coxeter_of(4, {(1, 2): 3, (2, 3): 5, (3, 4): 3}),
     "coxeter-5-3-5": coxeter_of(4, {(1, 2): 5, (2, 3): 3, (3, 4): 5}),
