@@ -2,13 +2,24 @@
 
 ghost use Rattle.std.specs.Prelude.{◌≡◌, IfOk};
 ghost use Rattle.clap.specs.Words.{app_of};
-ghost use Rattle.kb_cli.specs.CommandLine.{line_app};
+ghost use Rattle.kb_cli.specs.CommandLine.{bare_app, line_app};
 
 use std::alloc::{AllocError, Global};
 
 /// The program with its commands.
 pub(crate) fn program_line<'a>(alloc: Global) -> Result<clap::Command<'a>, AllocError>
     ensures { IfOk result (λ command. app_of command ≡ line_app) }
+{
+    let program = bare_program(alloc)?;
+    let program = kb_cmd_words::add_commands(alloc, program)?;
+    let program = kb_cmd_completion::add_commands(alloc, program)?;
+    let program = kb_cmd_structures::add_commands(alloc, program)?;
+    kb_cmd_automata::add_commands(alloc, program)
+}
+
+/// The program without commands.
+fn bare_program<'a>(alloc: Global) -> Result<clap::Command<'a>, AllocError>
+    ensures { IfOk result (λ command. app_of command ≡ bare_app) }
 {
     let program = clap::Command::new(alloc, "kb")
         .about(
@@ -17,13 +28,12 @@ pub(crate) fn program_line<'a>(alloc: Global) -> Result<clap::Command<'a>, Alloc
         .after_help(AFTER_HELP)
         .version(VERSION)
         .no_binary_name(true)
-        .bin_name("kb")?
-        .subcommand_required(true)
-        .arg_required_else_help(true);
-    let program = kb_cmd_words::add_commands(alloc, program)?;
-    let program = kb_cmd_completion::add_commands(alloc, program)?;
-    let program = kb_cmd_structures::add_commands(alloc, program)?;
-    kb_cmd_automata::add_commands(alloc, program)
+        .bin_name("kb")?;
+    Ok(
+        program
+            .subcommand_required(true)
+            .arg_required_else_help(true),
+    )
 }
 
 /// The command of this name, as its usage calls it; the program where there is none.

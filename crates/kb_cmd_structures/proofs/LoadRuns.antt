@@ -1,8 +1,7 @@
 -- What the loads of a structure mean, from what their parts mean.
-use Rattle.std.proofs.Common.{◌≡◌, ◌∙◌, ℕ, zero, suc, ◌+◌, ◌<◌, ◌≤◌, List, [], ◌∷◌, ◌++◌, length, Option, Some, None, slice_get, refl, sym, ap, subst, arith}
+use Rattle.std.proofs.Common.{◌≡◌, ◌∙◌, ℕ, zero, suc, ◌+◌, ◌<◌, ◌≤◌, List, [], ◌∷◌, ◌++◌, length, Some, slice_get, refl, sym, ap, subst, arith}
 use Rattle.std.specs.Prelude.{IsTrue, Result, Ok, Err, IfOk, IfErr}
-use Rattle.std.proofs.lemmas.Bool.{cases_order}
-use Rattle.std.proofs.lemmas.Option.{none-some, same_Some, slice_get_within}
+use Rattle.std.proofs.lemmas.Option.{none-some, same_Some}
 use Rattle.kb_io.specs.Outside.{outside}
 use Rattle.kb_io.specs.States.{ShelfState, SourceState, SinkState}
 use Rattle.kb_word.specs.Presentations.{parts_of}
@@ -10,7 +9,7 @@ use Rattle.kb_word.specs.declared.presentation.Presentation.{Presentation}
 use Rattle.kb_word.specs.declared.word_order.WordOrder.TheVariants.{ShortLex}
 use Rattle.kb_diff.specs.Groups.{EachInverts}
 use Rattle.kb_task.specs.Presentations.{HoldsPresentation}
-use Rattle.kb_fsa.specs.declared.alphabet.Alphabet.TheVariants.{Plain, Pair}
+use Rattle.kb_fsa.specs.declared.alphabet.Alphabet.TheVariants.{Pair}
 use Rattle.kb_fsa.specs.Language.{Automaton}
 use Rattle.kb_structure.specs.StructureOf.{multiplier_of}
 use Rattle.kb_axioms.specs.Truth.{AreMultipliers}
@@ -20,7 +19,7 @@ use Rattle.kb_task.specs.declared.loading.LoadStop.TheVariants as stops
 use Rattle.kb_task.specs.declared.status.FileFault.{FileFault}
 use Rattle.kb_task.specs.declared.status.Status.{Status}
 use Rattle.kb_task.specs.declared.status.Status.TheVariants.{Memory}
-use Rattle.kb_task.proofs.RunLemmas.{counted_after, goes_on-loads, loads-along, told-later}
+use Rattle.kb_task.proofs.RunLemmas.{counted_after, goes_on-loads, loads-along}
 use Rattle.kb_task.proofs.LoadEnds.{same_files}
 use Rattle.kb_evidence.specs.Files.{multiplier_file}
 use Rattle.kb_cmd_structures.specs.Loaded.{EndsAtMultiplier, HoldsGroup, HoldsMultiplier, HoldMultipliers, IsMultiplierFault}

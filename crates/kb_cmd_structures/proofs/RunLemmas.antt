@@ -1,5 +1,5 @@
 -- What a run of `gpaxioms` means, from what its parts mean.
-use Rattle.std.proofs.Common.{◌≡◌, ◌≢◌, ◌∙◌, inl, inr, ℕ, List, [], ◌∷◌, ◌++◌, refl, sym, subst, arith}
+use Rattle.std.proofs.Common.{◌≢◌, ◌∙◌, inl, inr, ℕ, List, [], refl, sym, subst, arith}
 use Rattle.std.specs.Prelude.{IsTrue}
 use Rattle.std.specs.List.{AllPairs, Contains}
 use Rattle.kb_io.specs.Outside.{Outside, outside, IsUnchanged}
@@ -11,7 +11,6 @@ use Rattle.kb_task.specs.Loads.{OnlyLoads}
 use Rattle.kb_task.specs.Runs.{FaultIsCounted, IsRun}
 use Rattle.kb_task.specs.Statuses.{IsFaultless, IsYes}
 use Rattle.kb_task.specs.Stores.{Text, names_of, HoldsTexts, StoresFirst, StopsAtText, StoresMean}
-use Rattle.kb_task.specs.declared.loading.LoadStop.TheVariants as load_stops
 use Rattle.kb_task.specs.declared.status.Status.{Status}
 use Rattle.kb_task.specs.declared.status.Status.TheVariants.{Yes, Refused, Undecided, No, Memory, Fault, Usage}
 use Rattle.kb_task.specs.declared.status.Which.TheVariants.{Load, Store, Input, Output}

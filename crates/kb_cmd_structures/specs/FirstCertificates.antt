@@ -1,5 +1,5 @@
 -- Automata have one first certificate, and the group's own have none.
-use Rattle.std.proofs.Common.{◌≡◌, ◌≢◌, ◌∙◌, inl, inr, ℕ, zero, suc, ◌<◌, ◌≤◌, List, ◌∷◌, [], ◌++◌, refl, sym, ap, ap₂, subst, arith}
+use Rattle.std.proofs.Common.{◌≡◌, ◌∙◌, inl, inr, ℕ, zero, suc, ◌<◌, ◌≤◌, List, sym, ap, subst, arith}
 use Rattle.std.proofs.lemmas.Bool.{cases_order}
 use Rattle.std.proofs.lemmas.Option.{same_Some, slice_get_within}
 use Rattle.kb_word.specs.Words.{Pair, Less}
@@ -15,7 +15,7 @@ use Rattle.kb_relations.specs.Acts.{AtNumber, IsFirstBroken}
 use Rattle.kb_relations.specs.Images.{HasUniqueImages}
 use Rattle.kb_relations.proofs.UniqueImages.{leads_to_one}
 use Rattle.kb_axioms.specs.Answered.{IsFirstOfAll, of_automata, of_elements}
-use Rattle.kb_axioms.specs.Checked.{Checked, IsFirstCertificate, PassesPrefixes, PassesPairs, PassesImages, PassesSingle, PassesExtensions, PassesLeast, PassesRelations, own_structure}
+use Rattle.kb_axioms.specs.Checked.{Checked, PassesPrefixes, PassesPairs, PassesImages, PassesSingle, PassesExtensions, PassesLeast, PassesRelations, own_structure}
 use Rattle.kb_axioms.specs.Checked.IsFirstCertificate.{n1, n2, n4, n5, n6, n7, n8}
 
 -- ---- what is least or first is one

@@ -1,5 +1,5 @@
 -- What a run of `gpaxioms` means by its status.
-use Rattle.std.specs.Prelude.{◌≡◌, ℕ, suc, ◌<◌, ◌≤◌, List, [], ◌++◌, codes}
+use Rattle.std.specs.Prelude.{◌≡◌, ℕ, ◌<◌, ◌≤◌, List, [], ◌++◌, codes}
 use Rattle.kb_io.specs.Bytes.{AppendsPrefix}
 use Rattle.kb_io.specs.Outside.{Outside, IsUnchanged, IsUnread}
 use Rattle.kb_word.specs.Presentations.{parts_of}

@@ -1,6 +1,5 @@
 -- The laws of what the statuses of `gpaxioms` mean.
-use Rattle.std.proofs.Common.{◌≡◌, ◌∙◌, inr, ℕ, suc, List, [], ◌++◌, length, codes, refl, sym, ap, subst, arith}
-use Rattle.std.specs.List.{Contains}
+use Rattle.std.proofs.Common.{◌≡◌, inr, ℕ, suc, List, [], ◌++◌, length, codes, refl, sym, ap, subst, arith}
 use Rattle.kb_io.specs.Outside.{Outside}
 use Rattle.kb_word.specs.declared.presentation.Presentation.{Presentation}
 use Rattle.kb_fsa.specs.Language.{Automaton}
@@ -21,7 +20,7 @@ use Rattle.kb_evidence.specs.Files.{acceptor_file, multiplier_file}
 use Rattle.kb_cmd_structures.specs.FirstCertificates.{one_certificate, own_has_none}
 use Rattle.kb_cmd_structures.specs.Given.{GpaxiomsGiven}
 use Rattle.kb_cmd_structures.specs.Gpaxioms.{AnswerMeans, shown, output_failed, store_failed, no_memory_stored, no_memory, Finds, own, refuted, too_many, unsettled, GpaxiomsMayStore, GpaxiomsMeans, at_file, loaded, GpaxiomsReads, reads_group, reads_acceptor, reads_multiplier, GpaxiomsSettles, IsGpaxiomsUnrefused, checked_by, gpaxioms_promise}
-use Rattle.kb_cmd_structures.specs.Loaded.{EndsAtFile, HoldStructure, IsAcceptorFault, IsMultiplierFault, at_group, at_acceptor, at_multiplier}
+use Rattle.kb_cmd_structures.specs.Loaded.{EndsAtFile, IsAcceptorFault, IsMultiplierFault, at_group, at_acceptor, at_multiplier}
 use Rattle.kb_cmd_structures.specs.LoadedLaws.{files_inconclusive, held_over, one_checked}
 
 conclusive : (status : Status) → GpaxiomsSettles status → IsConclusive status

@@ -1,5 +1,4 @@
-use Rattle.std.proofs.Common.{List, subst}
-use Rattle.kb_fsa.specs.Language.{Automaton}
+use Rattle.std.proofs.Common.{subst}
 use Rattle.kb_task.specs.Loads.{Files}
 use Rattle.kb_task.proofs.LoadEnds.{same_files}
 use Rattle.kb_cmd_structures.specs.Loaded.{EndsAtMultiplier, HoldMultipliers, at_acceptor, at_multiplier}

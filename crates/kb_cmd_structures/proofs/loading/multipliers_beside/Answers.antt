@@ -1,4 +1,4 @@
-use Rattle.std.proofs.Common.{◌≡◌, ◌∙◌, ◌+◌, suc, List, ◌∷◌, [], ◌++◌, refl, sym, subst, arith}
+use Rattle.std.proofs.Common.{◌≡◌, ◌∙◌, ◌+◌, suc, List, refl, sym, subst, arith}
 use Rattle.kb_fsa.specs.Language.{Automaton}
 use Rattle.kb_task.specs.declared.status.Status.TheVariants.{Memory}
 use Rattle.kb_cmd_structures.proofs.LoadRuns.{Standing, counted_along, ends_at_next, memory_ends, one_more}
