@@ -7,7 +7,7 @@ use Rattle.kb_axioms.proofs.Presented.{over, own}
 use Rattle.kb_axioms.proofs.checking.check.Goals as goal
 
 pub check_automata-requires-clause-over : goal.check_automata-requires-clause-over
-check_automata-requires-clause-over g c =
+check_automata-requires-clause-over g c κs within =
     let P : List Pair → Type 0 = λ relations. AreOver c.args.acceptor.now relations in
     subst P (sym (c.deref.ensures.value ∙ c.in_ok-relations.ensures))
     (over c.args.presentation.now c.args.acceptor.now c.args.multipliers.now c.requires.acceptor)
