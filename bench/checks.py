@@ -10,7 +10,7 @@ from workers import COUNTS, clock
 HERE = os.path.dirname(os.path.abspath(__file__))
 # By their names in structures.py, the quickest first.
 GROUPS = ("free-abelian-6", "surface-2", "triangle-2-3-7", "psl-2-7", "surface-3", "coxeter-h4", "coxeter-3-5-3",
-          "coxeter-5-3-5", "psl-2-11")
+          "coxeter-5-3-5", "surface-4", "free-abelian-12", "psl-2-11")
 
 
 def measure_checks(program):
