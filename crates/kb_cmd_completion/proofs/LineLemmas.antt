@@ -8,10 +8,12 @@ use Rattle.clap.specs.declared.builder.command.Command.{Command}
 use Rattle.clap.specs.declared.builder.command.Command.TheViews.{out-Command}
 use Rattle.kb_system.specs.Evidence.{Limits}
 use Rattle.kb_task.specs.Arguments.{Entered, GivesNumber, GivesOption, ReadsAs}
-use Rattle.kb_task.specs.declared.arguments.NumberOption.TheVariants.{Workers, MaxRules, MaxLen, MaxStates}
-use Rattle.kb_task.proofs.ArgumentLemmas.{added, text_given-at, number_given-at, option_given-at, own_name, own_rows}
+use Rattle.kb_task.specs.declared.arguments.NumberOption.TheVariants.{Workers}
+use Rattle.kb_task.proofs.ArgumentLemmas.{added, text_given-at, number_given-at, own_name, own_rows}
+use Rattle.kb_options.specs.Options.{GivesLimits}
+use Rattle.kb_options.proofs.OptionLemmas.{same_limits, same_workers}
 use Rattle.kb_cmd_completion.specs.Given.{KbprogGiven, LogreadGiven, SelfTestGiven}
-use Rattle.kb_cmd_completion.specs.Line.{name_text, command_app, with_commands, all_names, name_of_task, GivesLimits, GivesTask, GivesKbprog, GivesLogread, GivesSelfTest, IsCompletionTask, IsRead}
+use Rattle.kb_cmd_completion.specs.Line.{name_text, command_app, with_commands, all_names, name_of_task, GivesTask, GivesKbprog, GivesLogread, GivesSelfTest, IsCompletionTask, IsRead}
 use Rattle.kb_cmd_completion.specs.declared.line.name.Name.{Name}
 use Rattle.kb_cmd_completion.specs.declared.line.name.Name.TheVariants as names
 use Rattle.kb_cmd_completion.specs.declared.task.CompletionTask.{CompletionTask}
@@ -37,24 +39,6 @@ pub one_name : (name other : Name) → name_text name ≡ name_text other → na
 one_name name other is = sym (named_by_name name) ∙ ap named is ∙ named_by_name other
 
 -- ---- one subcommand is one command at most
-
-same_limits : (rows : List Row) (limits other : Limits) → GivesLimits rows limits → GivesLimits rows other → limits ≡ other
-same_limits rows limits other a b =
-    let most_lines : limits.lines ≡ other.lines =
-    option_given-at rows MaxRules limits.lines a.lines
-    ∙ sym (option_given-at rows MaxRules other.lines b.lines) in
-    let most_letters : limits.letters ≡ other.letters =
-    option_given-at rows MaxLen limits.letters a.letters
-    ∙ sym (option_given-at rows MaxLen other.letters b.letters) in
-    let most_states : limits.states ≡ other.states =
-    option_given-at rows MaxStates limits.states a.states
-    ∙ sym (option_given-at rows MaxStates other.states b.states) in
-    λ i. record { lines = most_lines i; letters = most_letters i; states = most_states i }
-
-same_workers : (rows : List Row) (workers other : ℕ) → GivesOption rows Workers workers
-    → GivesOption rows Workers other → workers ≡ other
-same_workers rows workers other a b =
-    option_given-at rows Workers workers a ∙ sym (option_given-at rows Workers other b)
 
 same_file : (rows : List Row) (file other : Text) → GivesLogread rows (record { file = file }) → GivesLogread rows (record { file = other }) → file ≡ other
 same_file rows file other a b = text_given-at rows (codes "file") file a.file ∙ sym (text_given-at rows (codes "file") other b.file)

@@ -2,9 +2,9 @@
 use Rattle.std.specs.Prelude.{◌≡◌, List, [], ◌∷◌, pos, Option, Some, None, codes}
 use Rattle.clap.specs.Words.{App, Row, Rule, Text, new_app, with_rule, with_subcommand}
 use Rattle.clap.specs.declared.builder.value_parser.ValueParser.TheVariants.{Signed}
-use Rattle.kb_system.specs.Evidence.{Limits}
-use Rattle.kb_task.specs.Arguments.{Entered, IsEntered, GivesNumber, GivesOption, GivesText, needed_rule, option_rule}
-use Rattle.kb_task.specs.declared.arguments.NumberOption.TheVariants.{Workers, MaxRules, MaxLen, MaxStates}
+use Rattle.kb_task.specs.Arguments.{Entered, IsEntered, GivesNumber, GivesOption, GivesText, needed_rule}
+use Rattle.kb_task.specs.declared.arguments.NumberOption.TheVariants.{Workers}
+use Rattle.kb_options.specs.Options.{GivesLimits, with_limits}
 use Rattle.kb_cmd_completion.specs.Given.{KbprogGiven, LogreadGiven, SelfTestGiven}
 use Rattle.kb_cmd_completion.specs.declared.line.name.Name.{Name}
 use Rattle.kb_cmd_completion.specs.declared.line.name.Name.TheVariants as names
@@ -32,13 +32,6 @@ with_file app = with_rule app (needed_rule (codes "file"))
 abbrev pub rank_rule : Rule
 rank_rule = record (needed_rule (codes "rank")) { parser = Some (Signed (pos 1) (pos 40)) }
 
--- the options of a completion: its workers and its limits
-abbrev pub with_limits : App → App
-with_limits app =
-    with_rule
-    (with_rule (with_rule (with_rule app (option_rule Workers)) (option_rule MaxRules))
-    (option_rule MaxLen)) (option_rule MaxStates)
-
 -- `kbprog FILE`, `logread FILE` and `selftest N`
 abbrev pub command_app : Name → App
 command_app names.Kbprog = with_limits (with_file (new_app (name_text names.Kbprog)))
@@ -56,12 +49,6 @@ abbrev pub with_completions : App → App
 with_completions app = with_commands app all_names
 
 -- ---- what is read of them
-
--- the options give the limits
-pub record GivesLimits (rows : List Row) (limits : Limits) : Type 0 where
-  pub lines : GivesOption rows MaxRules limits.lines
-  pub letters : GivesOption rows MaxLen limits.letters
-  pub states : GivesOption rows MaxStates limits.states
 
 -- the arguments and options give the command
 pub record GivesKbprog (rows : List Row) (given : KbprogGiven) : Type 0 where

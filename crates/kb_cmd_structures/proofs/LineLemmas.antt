@@ -7,10 +7,12 @@ use Rattle.clap.specs.declared.builder.command.Command.{Command}
 use Rattle.clap.specs.declared.builder.command.Command.TheViews.{out-Command}
 use Rattle.kb_system.specs.Evidence.{Limits}
 use Rattle.kb_task.specs.Arguments.{Entered, GivesOption, ReadsAs}
-use Rattle.kb_task.specs.declared.arguments.NumberOption.TheVariants.{Workers, MaxRules, MaxLen, MaxStates}
-use Rattle.kb_task.proofs.ArgumentLemmas.{added, text_given-at, option_given-at, own_name, own_rows}
+use Rattle.kb_task.specs.declared.arguments.NumberOption.TheVariants.{Workers}
+use Rattle.kb_task.proofs.ArgumentLemmas.{added, text_given-at, own_name, own_rows}
+use Rattle.kb_options.specs.Options.{GivesLimits}
+use Rattle.kb_options.proofs.OptionLemmas.{same_limits, same_workers}
 use Rattle.kb_cmd_structures.specs.Given.{GpaxiomsGiven}
-use Rattle.kb_cmd_structures.specs.Line.{name_text, command_app, with_commands, all_names, name_of_task, GivesLimits, GivesTask, GivesGpaxioms, IsStructuresTask, IsRead}
+use Rattle.kb_cmd_structures.specs.Line.{name_text, command_app, with_commands, all_names, name_of_task, GivesTask, GivesGpaxioms, IsStructuresTask, IsRead}
 use Rattle.kb_cmd_structures.specs.declared.line.name.Name.{Name}
 use Rattle.kb_cmd_structures.specs.declared.line.name.Name.TheVariants as names
 use Rattle.kb_cmd_structures.specs.declared.task.StructuresTask.{StructuresTask}
@@ -24,25 +26,12 @@ one_name names.Gpaxioms names.Gpaxioms is = refl
 
 -- ---- one subcommand is one command at most
 
-same_limits : (rows : List Row) (limits other : Limits) → GivesLimits rows limits → GivesLimits rows other → limits ≡ other
-same_limits rows limits other a b =
-    let most_lines : limits.lines ≡ other.lines =
-    option_given-at rows MaxRules limits.lines a.lines
-    ∙ sym (option_given-at rows MaxRules other.lines b.lines) in
-    let most_letters : limits.letters ≡ other.letters =
-    option_given-at rows MaxLen limits.letters a.letters
-    ∙ sym (option_given-at rows MaxLen other.letters b.letters) in
-    let most_states : limits.states ≡ other.states =
-    option_given-at rows MaxStates limits.states a.states
-    ∙ sym (option_given-at rows MaxStates other.states b.states) in
-    λ i. record { lines = most_lines i; letters = most_letters i; states = most_states i }
-
 same_gpaxioms : (rows : List Row) (given other : GpaxiomsGiven) → GivesGpaxioms rows given → GivesGpaxioms rows other → given ≡ other
 same_gpaxioms rows given other a b =
     let files : given.file ≡ other.file =
     text_given-at rows (codes "file") given.file a.file ∙ sym (text_given-at rows (codes "file") other.file b.file) in
     let threads : given.workers ≡ other.workers =
-    option_given-at rows Workers given.workers a.workers ∙ sym (option_given-at rows Workers other.workers b.workers) in
+    same_workers rows given.workers other.workers a.workers b.workers in
     let bounds : given.limits ≡ other.limits = same_limits rows given.limits other.limits a.limits b.limits in
     λ i. record { file = files i; workers = threads i; limits = bounds i }
 

@@ -1,9 +1,9 @@
 -- The commands on automatic structures on the command line, by clap's own definition of what a command takes.
 use Rattle.std.specs.Prelude.{◌≡◌, List, [], ◌∷◌, Option, Some, None, codes}
 use Rattle.clap.specs.Words.{App, Row, Text, new_app, with_rule, with_subcommand}
-use Rattle.kb_system.specs.Evidence.{Limits}
-use Rattle.kb_task.specs.Arguments.{Entered, IsEntered, GivesOption, GivesText, needed_rule, option_rule}
-use Rattle.kb_task.specs.declared.arguments.NumberOption.TheVariants.{Workers, MaxRules, MaxLen, MaxStates}
+use Rattle.kb_task.specs.Arguments.{Entered, IsEntered, GivesOption, GivesText, needed_rule}
+use Rattle.kb_task.specs.declared.arguments.NumberOption.TheVariants.{Workers}
+use Rattle.kb_options.specs.Options.{GivesLimits, with_limits}
 use Rattle.kb_cmd_structures.specs.Given.{GpaxiomsGiven}
 use Rattle.kb_cmd_structures.specs.declared.line.name.Name.{Name}
 use Rattle.kb_cmd_structures.specs.declared.line.name.Name.TheVariants as names
@@ -21,13 +21,6 @@ all_names = names.Gpaxioms ∷ []
 
 -- ---- what the commands take
 
--- the options of a completion: its workers and its limits
-abbrev pub with_limits : App → App
-with_limits app =
-    with_rule
-    (with_rule (with_rule (with_rule app (option_rule Workers)) (option_rule MaxRules))
-    (option_rule MaxLen)) (option_rule MaxStates)
-
 -- `gpaxioms FILE`
 abbrev pub command_app : Name → App
 command_app names.Gpaxioms =
@@ -44,12 +37,6 @@ abbrev pub with_structures : App → App
 with_structures app = with_commands app all_names
 
 -- ---- what is read of them
-
--- the options give the limits
-pub record GivesLimits (rows : List Row) (limits : Limits) : Type 0 where
-  pub lines : GivesOption rows MaxRules limits.lines
-  pub letters : GivesOption rows MaxLen limits.letters
-  pub states : GivesOption rows MaxStates limits.states
 
 -- the arguments and options give the command
 pub record GivesGpaxioms (rows : List Row) (given : GpaxiomsGiven) : Type 0 where

@@ -2,10 +2,8 @@
 
 ghost use Rattle.std.specs.Prelude.{◌≡◌, ℕ, IfOk, IfSome, None, codes};
 ghost use Rattle.clap.specs.Words.{found_of, rows_of};
-ghost use Rattle.kb_system.specs.Evidence.{Limits as LimitsGiven};
 ghost use Rattle.kb_task.specs.Arguments.{GivesNumber};
-ghost use Rattle.kb_cmd_completion.specs.Given.{limits_of};
-ghost use Rattle.kb_cmd_completion.specs.Line.{GivesLimits, IsRead};
+ghost use Rattle.kb_cmd_completion.specs.Line.{IsRead};
 ghost use Rattle.kb_cmd_completion.specs.declared.line.name.Name.TheVariants as names;
 
 use super::name::Name;
@@ -14,13 +12,10 @@ use crate::logread::Logread;
 use crate::selftest::SelfTest;
 use crate::task::CompletionTask;
 use clap::ArgMatches;
-use kb_book::Limits;
+use kb_options::limits_given;
 use kb_task::{NumberOption, number_given, option_given, text_given};
 use kb_word::{Memory, OwnedText};
 use std::alloc::Global;
-
-/// No command of completion keeps word differences, so this limit of theirs is never reached.
-const MOST_DIFFERENCES: u32 = 65_535;
 
 /// The command of the name that the matches give.
 pub(super) fn task_given(
@@ -92,17 +87,4 @@ fn rank_given(matches: &ArgMatches<'_>) -> Option<u16>
 {
     let rank = number_given(matches, "rank", 1, 40)?;
     u16::try_from(rank).ok()
-}
-
-/// The limits of a completion that the matches give.
-fn limits_given(matches: &ArgMatches<'_>) -> Option<Limits>
-    ensures some { IfSome result
-        (λ limits. GivesLimits (rows_of (found_of matches.now)) (limits_of limits)) }
-    ensures none { result ≡ None → (limits : LimitsGiven)
-        → ¬ GivesLimits (rows_of (found_of matches.now)) limits }
-{
-    let lines = option_given(matches, NumberOption::MaxRules)?;
-    let letters = option_given(matches, NumberOption::MaxLen)?;
-    let states = option_given(matches, NumberOption::MaxStates)?;
-    Some(Limits::new(lines, letters, MOST_DIFFERENCES, states))
 }

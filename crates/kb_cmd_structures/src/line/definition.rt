@@ -4,12 +4,13 @@ ghost use Rattle.std.specs.Prelude.{◌≡◌, IfOk, codes, false};
 ghost use Rattle.clap.specs.Words.{app_of, new_app, rule_of};
 ghost use Rattle.clap.specs.declared.builder.command.Command.TheViews.{out-Command as fields_of};
 ghost use Rattle.kb_task.specs.Arguments.{needed_rule};
-ghost use Rattle.kb_cmd_structures.specs.Line.{command_app, name_text, with_limits};
+ghost use Rattle.kb_cmd_structures.specs.Line.{command_app, name_text};
 ghost use Rattle.kb_cmd_structures.specs.declared.line.name.Name.TheVariants as names;
 
 use super::name::Name;
 use clap::{Arg, Command};
-use kb_task::{NumberOption, needed_argument, number_option};
+use kb_options::with_limits;
+use kb_task::needed_argument;
 use std::alloc::{AllocError, Global};
 
 /// The definition of a command.
@@ -31,19 +32,6 @@ fn gpaxioms_definition<'a>(alloc: Global) -> Result<Command<'a>, AllocError>
         alloc,
         labelled(alloc, Name::Gpaxioms).arg(file_argument(alloc))?,
     )
-}
-
-/// A command with the options of a completion added: its workers and its limits.
-fn with_limits<'a>(alloc: Global, command: Command<'a>) -> Result<Command<'a>, AllocError>
-    requires { (fields_of command).has_globals ≡ false }
-    ensures app { IfOk result (λ added. app_of added ≡ with_limits (app_of command.entry)) }
-    ensures local { IfOk result (λ added. (fields_of added).has_globals ≡ false) }
-{
-    command
-        .arg(number_option(alloc, NumberOption::Workers))?
-        .arg(number_option(alloc, NumberOption::MaxRules))?
-        .arg(number_option(alloc, NumberOption::MaxLen))?
-        .arg(number_option(alloc, NumberOption::MaxStates))
 }
 
 /// A command with its name and its help, which takes nothing yet.

@@ -2,22 +2,17 @@
 
 ghost use Rattle.std.specs.Prelude.{◌≡◌, IfOk, IfSome, None};
 ghost use Rattle.clap.specs.Words.{found_of, rows_of};
-ghost use Rattle.kb_system.specs.Evidence.{Limits as LimitsGiven};
-ghost use Rattle.kb_cmd_structures.specs.Given.{limits_of};
-ghost use Rattle.kb_cmd_structures.specs.Line.{GivesLimits, IsRead};
+ghost use Rattle.kb_cmd_structures.specs.Line.{IsRead};
 ghost use Rattle.kb_cmd_structures.specs.declared.line.name.Name.TheVariants as names;
 
 use super::name::Name;
 use crate::gpaxioms::Gpaxioms;
 use crate::task::StructuresTask;
 use clap::ArgMatches;
-use kb_book::Limits;
+use kb_options::limits_given;
 use kb_task::{NumberOption, option_given, text_given};
 use kb_word::{Memory, OwnedText};
 use std::alloc::Global;
-
-/// No command of the family keeps word differences, so this limit of theirs is never reached.
-const MOST_DIFFERENCES: u32 = 65_535;
 
 /// The command of the name that the matches give.
 pub(super) fn task_given(
@@ -50,17 +45,4 @@ fn gpaxioms_given(alloc: Global, matches: &ArgMatches<'_>) -> Result<Option<Stru
         workers,
         limits,
     })))
-}
-
-/// The limits of a completion that the matches give.
-fn limits_given(matches: &ArgMatches<'_>) -> Option<Limits>
-    ensures some { IfSome result
-        (λ limits. GivesLimits (rows_of (found_of matches.now)) (limits_of limits)) }
-    ensures none { result ≡ None → (limits : LimitsGiven)
-        → ¬ GivesLimits (rows_of (found_of matches.now)) limits }
-{
-    let lines = option_given(matches, NumberOption::MaxRules)?;
-    let letters = option_given(matches, NumberOption::MaxLen)?;
-    let states = option_given(matches, NumberOption::MaxStates)?;
-    Some(Limits::new(lines, letters, MOST_DIFFERENCES, states))
 }

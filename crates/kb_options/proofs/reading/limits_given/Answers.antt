@@ -1,5 +1,5 @@
 use Rattle.std.proofs.Common.{rules, ◌≡◌, None}
-use Rattle.kb_cmd_completion.proofs.line.reading.limits_given.Goals as goal
+use Rattle.kb_options.proofs.reading.limits_given.Goals as goal
 
 pub returns-in_err-lines-clause-none : goal.returns-in_err-lines-clause-none
 returns-in_err-lines-clause-none c _ limits gives =

@@ -1,0 +1,26 @@
+-- Options give one list of limits at most.
+use Rattle.std.proofs.Common.{◌≡◌, ◌∙◌, ℕ, List, sym}
+use Rattle.clap.specs.Words.{Row}
+use Rattle.kb_system.specs.Evidence.{Limits}
+use Rattle.kb_task.specs.Arguments.{GivesOption}
+use Rattle.kb_task.specs.declared.arguments.NumberOption.TheVariants.{Workers, MaxRules, MaxLen, MaxStates}
+use Rattle.kb_task.proofs.ArgumentLemmas.{option_given-at}
+use Rattle.kb_options.specs.Options.{GivesLimits}
+
+pub same_limits : (rows : List Row) (limits other : Limits) → GivesLimits rows limits → GivesLimits rows other → limits ≡ other
+same_limits rows limits other a b =
+    let most_lines : limits.lines ≡ other.lines =
+    option_given-at rows MaxRules limits.lines a.lines
+    ∙ sym (option_given-at rows MaxRules other.lines b.lines) in
+    let most_letters : limits.letters ≡ other.letters =
+    option_given-at rows MaxLen limits.letters a.letters
+    ∙ sym (option_given-at rows MaxLen other.letters b.letters) in
+    let most_states : limits.states ≡ other.states =
+    option_given-at rows MaxStates limits.states a.states
+    ∙ sym (option_given-at rows MaxStates other.states b.states) in
+    λ i. record { lines = most_lines i; letters = most_letters i; states = most_states i }
+
+pub same_workers : (rows : List Row) (workers other : ℕ) → GivesOption rows Workers workers
+    → GivesOption rows Workers other → workers ≡ other
+same_workers rows workers other a b =
+    option_given-at rows Workers workers a ∙ sym (option_given-at rows Workers other b)
