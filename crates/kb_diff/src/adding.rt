@@ -66,8 +66,9 @@ impl<R: Reducer> Differences<R> {
         Ok(answer)
     }
 
-    /// The difference of u and v at a place.
-    fn difference_at(
+    /// The difference of u and v at a place, from 1 on: the normal form of the inverse of the first letters of u, so
+    /// many, followed by as many of v. Of a word that has fewer all are taken.
+    pub fn difference_at(
         &self,
         alloc: Global,
         u: &Word,

@@ -5,7 +5,7 @@ use Rattle.clap.specs.Words.{Row, Rule, Text, first_of, new_rule}
 use Rattle.clap.specs.declared.builder.action.ArgAction.TheVariants.{Set}
 use Rattle.clap.specs.declared.builder.value_parser.ValueParser.TheVariants.{Signed}
 use Rattle.kb_task.specs.declared.arguments.NumberOption.{NumberOption}
-use Rattle.kb_task.specs.declared.arguments.NumberOption.TheVariants.{Workers, MaxRules, MaxLen, MaxStates}
+use Rattle.kb_task.specs.declared.arguments.NumberOption.TheVariants.{Workers, MaxRules, MaxLen, MaxDiffs, MaxStates}
 
 -- an argument that must be there
 abbrev pub needed_rule : Text → Rule
@@ -16,18 +16,21 @@ abbrev pub option_name : NumberOption → Text
 option_name Workers = codes "workers"
 option_name MaxRules = codes "max-rules"
 option_name MaxLen = codes "max-len"
+option_name MaxDiffs = codes "max-diffs"
 option_name MaxStates = codes "max-states"
 
 abbrev pub option_most : NumberOption → ℕ
 option_most Workers = 64
 option_most MaxRules = 1000000
 option_most MaxLen = 65535
+option_most MaxDiffs = 65535
 option_most MaxStates = 4000000
 
 abbrev pub option_default : NumberOption → Text
 option_default Workers = codes "4"
 option_default MaxRules = codes "32767"
 option_default MaxLen = codes "1024"
+option_default MaxDiffs = codes "2048"
 option_default MaxStates = codes "262144"
 
 -- an option as a command takes it

@@ -3,9 +3,9 @@ use Rattle.std.specs.Prelude.{ℕ, List, [], ◌∷◌, ◌++◌, codes, decimal
 use Rattle.kb_io.specs.Bytes.{newline}
 use Rattle.kb_word.specs.Printed.{letter_name, text_of_word}
 use Rattle.kb_task.specs.declared.status.Limit.{Limit}
-use Rattle.kb_task.specs.declared.status.Limit.TheVariants.{Rules, Length, States}
+use Rattle.kb_task.specs.declared.status.Limit.TheVariants.{Rules, Length, Diffs, States}
 use Rattle.kb_task.specs.declared.status.Construction.{Construction}
-use Rattle.kb_task.specs.declared.status.Construction.TheVariants.{And, Or, Not, Exists, Concat, Star, Reverse, Equal, Acceptor, Images, Relation}
+use Rattle.kb_task.specs.declared.status.Construction.TheVariants.{And, Or, Not, Exists, Concat, Star, Reverse, Equal, Acceptor, Multiplier, Images, Relation}
 
 -- what a construction is called, over letters with these names
 abbrev pub construction_name : List (List ℕ) → Construction → List ℕ
@@ -18,6 +18,7 @@ construction_name names Star = codes "star"
 construction_name names Reverse = codes "reverse"
 construction_name names Equal = codes "equal"
 construction_name names Acceptor = codes "acceptor"
+construction_name names (Multiplier generator) = codes "multiplier " ++ letter_name names generator
 construction_name names (Images generator) = codes "axiom N4 " ++ letter_name names generator
 construction_name names (Relation number) = codes "axiom N8 " ++ decimal number
 
@@ -25,6 +26,7 @@ construction_name names (Relation number) = codes "axiom N8 " ++ decimal number
 abbrev pub limit_name : List (List ℕ) → Limit → List ℕ
 limit_name names Rules = codes "rules"
 limit_name names Length = codes "length"
+limit_name names Diffs = codes "diffs"
 limit_name names (States which) = codes "states " ++ construction_name names which
 
 -- the line of a limit that was reached

@@ -54,6 +54,8 @@ pub enum NumberOption {
     MaxRules,
     /// `--max-len N`
     MaxLen,
+    /// `--max-diffs N`
+    MaxDiffs,
     /// `--max-states N`
     MaxStates,
 }
@@ -99,6 +101,12 @@ impl NumberOption {
                 most: 65_535,
                 default: "1024",
                 help: "The most letters that a left side may have, 1 to 65535",
+            },
+            NumberOption::MaxDiffs => OptionLabel {
+                name: "max-diffs",
+                most: 65_535,
+                default: "2048",
+                help: "The most word differences that may be kept, 1 to 65535",
             },
             NumberOption::MaxStates => OptionLabel {
                 name: "max-states",

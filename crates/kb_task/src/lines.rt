@@ -3,11 +3,12 @@
 ghost use Rattle.std.specs.Prelude.{◌≡◌, ◌++◌, ℕ, List, IsTrue, IfOk, OnOk};
 ghost use Rattle.kb_io.specs.Outside.{outside};
 ghost use Rattle.kb_io.specs.States.{ShelfState, SourceState, SinkGoesOn};
+ghost use Rattle.kb_word.specs.Printed.{letter_name};
 ghost use Rattle.kb_task.specs.Limits.{construction_name, limit_name, undecided_line, undecided_words_line};
 ghost use Rattle.kb_task.specs.Lines.{LineIsWritten, LimitIsPrinted};
 ghost use Rattle.kb_task.specs.Runs.{FaultIsCounted};
 ghost use Rattle.kb_task.specs.Statuses.{IsFaultless};
-ghost use Rattle.kb_task.specs.declared.status.Construction.TheVariants.{Images, Relation};
+ghost use Rattle.kb_task.specs.declared.status.Construction.TheVariants.{Images, Multiplier, Relation};
 ghost use Rattle.kb_task.specs.declared.status.Limit.TheVariants.{States};
 
 use crate::status::{Construction, Limit, Status, Which};
@@ -84,6 +85,7 @@ fn append_limit(names: &Names, limit: &Limit, line: &mut Vec<u8>) -> Result<(), 
     match limit {
         Limit::Rules => append(b"rules", line),
         Limit::Length => append(b"length", line),
+        Limit::Diffs => append(b"diffs", line),
         Limit::States(which) => append_states(names, which, line),
     }
 }
@@ -114,9 +116,19 @@ fn append_construction(
         Construction::Reverse => append(b"reverse", line),
         Construction::Equal => append(b"equal", line),
         Construction::Acceptor => append(b"acceptor", line),
+        Construction::Multiplier(generator) => append_multiplier(names, *generator, line),
         Construction::Images(generator) => append_images(names, *generator, line),
         Construction::Relation(number) => append_relation(*number, line),
     }
+}
+
+/// Appends what the multiplier of a generator is called.
+fn append_multiplier(names: &Names, generator: Letter, line: &mut Vec<u8>) -> Result<(), Memory>
+    ensures { OnOk result
+        (line.new.items ≡ line.old.items ++ construction_name names.now (Multiplier generator)) }
+{
+    append(b"multiplier ", line)?;
+    append_letter(names, generator, line)
 }
 
 /// Appends what the images by a generator are called.
@@ -125,8 +137,7 @@ fn append_images(names: &Names, generator: Letter, line: &mut Vec<u8>) -> Result
         (line.new.items ≡ line.old.items ++ construction_name names.now (Images generator)) }
 {
     append(b"axiom N4 ", line)?;
-    let name = names.name_of(generator).unwrap_or("");
-    append(name.as_bytes(), line)
+    append_letter(names, generator, line)
 }
 
 /// Appends what the composites of a relation are called.
@@ -137,6 +148,14 @@ fn append_relation(number: usize, line: &mut Vec<u8>) -> Result<(), Memory>
     append(b"axiom N8 ", line)?;
     let mut buffer = Buffer::new();
     append(buffer.format(number).as_bytes(), line)
+}
+
+/// Appends the name of a generator.
+fn append_letter(names: &Names, generator: Letter, line: &mut Vec<u8>) -> Result<(), Memory>
+    ensures { OnOk result (line.new.items ≡ line.old.items ++ letter_name names.now generator) }
+{
+    let name = names.name_of(generator).unwrap_or("");
+    append(name.as_bytes(), line)
 }
 
 /// Appends bytes.

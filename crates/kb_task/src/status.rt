@@ -73,6 +73,8 @@ pub enum Limit {
     Rules,
     /// The left side of a line would have more letters than it may have.
     Length,
+    /// As many word differences are kept as may be, and another one is needed.
+    Diffs,
     /// The construction has more states than may be.
     States(Construction),
 }
@@ -89,6 +91,8 @@ pub enum Construction {
     Reverse,
     Equal,
     Acceptor,
+    /// The multiplier of the generator.
+    Multiplier(Letter),
     /// The words that the multiplier of the generator relates to some word.
     Images(Letter),
     /// The composites along both sides of the relation with this number, from 1 on.
