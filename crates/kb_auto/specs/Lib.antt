@@ -1,2 +1,4 @@
 pub mod Deciding
 pub mod Rounds
+pub mod Kept
+pub mod Autgroup

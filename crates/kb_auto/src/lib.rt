@@ -22,8 +22,10 @@
 
 mod answers;
 mod asking;
+mod autgroup;
 mod deciding;
 mod rounds;
 
-pub use answers::Checked;
+pub use answers::{Autgroup, Checked};
+pub use autgroup::{WatchRounds, autgroup};
 pub use deciding::gpaxioms;

@@ -101,6 +101,13 @@ impl<R: Reducer> Differences<R> {
         Ok((kept, Grow::Grew))
     }
 
+    /// What reduces words by the group's rules.
+    pub fn reducer(&self) -> &R
+        ensures { R.rules result.now ≡ self.now.group.rules }
+    {
+        &self.reducer
+    }
+
     /// How many words are kept.
     pub fn len(&self) -> usize
         ensures count { result ≡ length self.now.words }

@@ -1,0 +1,14 @@
+//! A word difference where it was seen.
+
+use kb_word::Word;
+
+/// A word difference with a path and a place at which it is.
+#[derive(Debug, Drop)]
+pub struct Seen {
+    /// The difference.
+    pub word: Word,
+    /// The path's index, from 0 on.
+    pub path: usize,
+    /// The place, from 1 on.
+    pub place: usize,
+}

@@ -1,0 +1,1 @@
+//! The automata of word differences.
