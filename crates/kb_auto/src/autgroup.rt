@@ -9,7 +9,7 @@ ghost use Rattle.kb_auto.specs.Autgroup.{AutgroupSays};
 use crate::answers::Autgroup as Answer;
 use kb_book::Limits;
 use kb_io::Gate;
-use kb_round::Figures;
+use kb_round::WatchRounds;
 use kb_share::Watch;
 use kb_threads::Workers;
 use kb_word::{Memory, Presentation};
@@ -17,14 +17,8 @@ use std::alloc::Global;
 use std::sync::Wait;
 use std::thread::Threads;
 
-/// Sees the progress of rounds.
-pub trait WatchRounds: Watch {
-    /// A round was made by so many rules, and its automata were so large.
-    fn round_made(&mut self, rules: usize, figures: &Figures);
-}
-
 /// Looks for the automatic structure of the group that is presented.
-pub fn autgroup<G: Gate, W: WatchRounds, T: Threads + Wait + Sync>(
+pub fn autgroup<G: Gate, W: Watch + WatchRounds, T: Threads + Wait + Sync>(
     rt: &T,
     alloc: Global,
     presentation: &Presentation,

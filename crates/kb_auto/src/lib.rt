@@ -27,5 +27,5 @@ mod deciding;
 mod rounds;
 
 pub use answers::{Autgroup, Checked};
-pub use autgroup::{WatchRounds, autgroup};
+pub use autgroup::autgroup;
 pub use deciding::gpaxioms;

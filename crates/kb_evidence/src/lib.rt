@@ -9,7 +9,8 @@
 //!   too large. Each makes an [`Evidence`]: the limit, the files that are to be stored (`halted_texts` and
 //!   `too_large_texts` of `specs/Files.antt`), and the line that is to be written. What makes them evidence is proved of the
 //!   completion (`kb_system`), and stands in the promises of the commands.
-//! - [`limit_reached`] is what the limit of a log is called, and [`both`] makes a list of two files.
+//! - [`evidence_files`] makes a log and rules into files, [`limit_reached`] is what the limit of a log is called, and
+//!   [`both`] makes a list of two files.
 //!
 //! Below are `kb_proof` and `kb_presprint`, which print logs and rules, `kb_system`, and `kb_task`, with limits and files.
 #![tactic(auto)]
@@ -17,5 +18,5 @@
 mod evidence;
 mod file_names;
 
-pub use evidence::{Evidence, both, halted, limit_reached, too_large};
+pub use evidence::{Evidence, both, evidence_files, halted, limit_reached, too_large};
 pub use file_names::{acceptor_file, difference_file, log_file, multiplier_file, rules_file};

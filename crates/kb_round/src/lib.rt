@@ -27,6 +27,8 @@ mod answers;
 mod making;
 mod rounds;
 mod showing;
+mod watching;
 
 pub use answers::{Construction, Figures, Round, Structure};
 pub use rounds::round;
+pub use watching::WatchRounds;
