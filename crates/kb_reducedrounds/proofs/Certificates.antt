@@ -1,12 +1,12 @@
 -- The certificates against the automata of the differences of a reduced complete system.
-use Rattle.std.proofs.Common.{◌≡◌, ◌↔◌, ℕ, List, [], ◌∷◌, ◌++◌, refl, sym, ap, subst}
+use Rattle.std.proofs.Common.{◌≡◌, ◌↔◌, ℕ, List, [], ◌∷◌, ◌++◌, refl, sym, subst}
 use Rattle.kb_word.specs.Words.{Pair, OneOf}
 use Rattle.kb_word.specs.WordOrders.{Below}
 use Rattle.kb_word.specs.Relations.{IsOver}
 use Rattle.kb_word.specs.Rewriting.{IsIrreducible, NormalForm}
 use Rattle.kb_word.specs.declared.presentation.Presentation.{Presentation}
 use Rattle.kb_word.specs.declared.word_order.WordOrder.{WordOrder}
-use Rattle.kb_fsa.specs.Language.{Automaton, generators}
+use Rattle.kb_fsa.specs.Language.{Automaton}
 use Rattle.kb_fsa.specs.declared.alphabet.Alphabet.TheVariants.{Plain}
 use Rattle.kb_diff.specs.Groups.{group_of}
 use Rattle.kb_diff.specs.Differences.{HaveDifferences}
@@ -19,7 +19,7 @@ use Rattle.kb_structure.specs.declared.cert.Cert.TheVariants.{N4}
 use Rattle.kb_axioms.specs.Answered.{checked_in}
 use Rattle.kb_axioms.specs.Checked.{IsFirstCertificate}
 use Rattle.kb_axioms.specs.Checked.IsFirstCertificate.{n1, n2, n4, n5, n6, n7, n8}
-use Rattle.kb_axioms.proofs.GroupAutomata as automata
+use Rattle.kb_axioms.proofs.Presented as automata
 use Rattle.kb_round.specs.Rounds.{AreMadeOf, IsRefuted}
 use Rattle.kb_reducedrounds.specs.Kept.{KeepsReduced}
 use Rattle.kb_reducedrounds.proofs.Elements.{IsCompleteGroup, relations}

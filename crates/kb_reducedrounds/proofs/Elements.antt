@@ -1,5 +1,5 @@
 -- Words as elements of a group whose rules are a reduced complete system.
-use Rattle.std.proofs.Common.{◌≡◌, ◌↔◌, ℕ, false, List, [], ◌++◌, append_assoc, Option, Some, None, refl, sym, ap, ◌∙◌, subst, inl, inr}
+use Rattle.std.proofs.Common.{◌≡◌, ◌↔◌, ℕ, false, List, [], ◌++◌, append_assoc, Option, Some, None, refl, sym, subst, inl, inr}
 use Rattle.std.proofs.lemmas.List.{append-nil}
 use Rattle.kb_word.specs.Words.{Pair, OneOf}
 use Rattle.kb_word.specs.WordOrders.{Below}
@@ -17,7 +17,7 @@ use Rattle.kb_diff.proofs.GroupLemmas.{has_inverse}
 use Rattle.kb_reduced.specs.Reduced.{IsCompleteSystem, IsLeastWord}
 use Rattle.kb_structure.specs.Structure.{Structure}
 use Rattle.kb_structure.specs.Labels.{Labelling, IsGroup}
-use Rattle.kb_structure.proofs.Words.{congruent_behind, congruent_before, equal_over}
+use Rattle.kb_structure.proofs.Words.{congruent_behind, equal_over}
 use Rattle.kb_structure.proofs.Cancelling as cancelling
 
 -- the relations of the group that is presented

@@ -1,5 +1,5 @@
 -- A word and its extension by a generator lead by kept differences to the generator's normal form.
-use Rattle.std.proofs.Common.{◌≡◌, ℕ, ◌+◌, ◌<◌, ◌≤◌, List, [], ◌∷◌, ◌++◌, length, take, sym, subst, inl, inr, arith, length-append}
+use Rattle.std.proofs.Common.{ℕ, ◌<◌, ◌≤◌, List, [], ◌∷◌, ◌++◌, length, take, sym, subst, inl, inr, arith, length-append}
 use Rattle.std.specs.List.{Contains}
 use Rattle.std.proofs.lemmas.Bool.{cases_lt}
 use Rattle.std.proofs.lemmas.List.{append-nil, take_all, take-append-le}
@@ -12,7 +12,6 @@ use Rattle.kb_word.proofs.PathLemmas.{congruent_symmetric}
 use Rattle.kb_diff.specs.Groups.{group_of}
 use Rattle.kb_diff.specs.Steps.{Leads}
 use Rattle.kb_diff.proofs.GroupLemmas.{empty_is_irreducible}
-use Rattle.kb_structure.proofs.Letters.{over_front}
 use Rattle.kb_structure.proofs.Words.{congruent_behind}
 use Rattle.kb_reducedrounds.proofs.Elements.{AreSame, IsCompleteGroup, cancel_front, normal_of_same, one_irreducible, same_as_normal}
 use Rattle.kb_reducedrounds.proofs.KeptDifferences.{AreKept, leads_where_kept}

@@ -1,5 +1,5 @@
 -- Where words lead by differences, they differ by what they lead to.
-use Rattle.std.proofs.Common.{◌≡◌, ℕ, ◌+◌, List, [], ◌∷◌, ◌++◌, sym, ap, subst, append_assoc}
+use Rattle.std.proofs.Common.{◌≡◌, ℕ, ◌+◌, List, [], ◌∷◌, ◌++◌, sym, subst, append_assoc}
 use Rattle.std.proofs.lemmas.List.{append-nil}
 use Rattle.kb_word.specs.Words.{Pair}
 use Rattle.kb_word.specs.Relations.{IsOver}

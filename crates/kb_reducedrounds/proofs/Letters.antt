@@ -1,5 +1,5 @@
 -- The letter that a number stands for beside a word over the generators.
-use Rattle.std.proofs.Common.{◌≡◌, ◌≢◌, ℕ, ◌+◌, ◌<◌, ◌≤◌, List, [], ◌∷◌, refl, arith}
+use Rattle.std.proofs.Common.{◌≡◌, ◌≢◌, ℕ, ◌+◌, List, [], ◌∷◌, refl, arith}
 use Rattle.std.proofs.lemmas.Bool.{eq-eqb, ne_eqb}
 use Rattle.kb_word.specs.Relations.{IsOver}
 use Rattle.kb_fsa.specs.Padding.{letters_of}

@@ -1,5 +1,5 @@
 -- The automata of the differences of a reduced complete system are a sound structure.
-use Rattle.std.proofs.Common.{◌≡◌, ℕ, zero, suc, ◌<◌, ◌≤◌, IsTrue, List, [], ◌∷◌, ◌++◌, length, slice_get, Option, Some, None, refl, sym, ap, ◌∙◌, subst, true≢false, arith}
+use Rattle.std.proofs.Common.{◌≡◌, ℕ, zero, suc, ◌<◌, ◌≤◌, IsTrue, List, [], ◌∷◌, ◌++◌, length, slice_get, Option, Some, None, refl, sym, ap, subst, true≢false, arith}
 use Rattle.std.specs.List.{Contains}
 use Rattle.std.proofs.lemmas.Option.{none-some}
 use Rattle.kb_word.specs.Words.{Pair, OneOf}
@@ -13,7 +13,7 @@ use Rattle.kb_fsa.specs.declared.alphabet.Alphabet.TheVariants.{Plain}
 use Rattle.kb_fsa.specs.Language.{AcceptsPair, Automaton, generators}
 use Rattle.kb_diff.specs.Groups.{group_of}
 use Rattle.kb_diff.specs.Differences.{HaveDifferences}
-use Rattle.kb_diff.specs.Languages.{DifferenceAcceptor, IsDifferenceAcceptor}
+use Rattle.kb_diff.specs.Languages.{IsDifferenceAcceptor}
 use Rattle.kb_diff.specs.Steps.{Leads}
 use Rattle.kb_diffwa.specs.Multipliers.{AreMultipliers, IsMultiplied, IsMultiplier}
 use Rattle.kb_reduced.specs.Reduced.{IsReducedComplete}
