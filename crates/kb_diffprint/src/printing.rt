@@ -1,7 +1,6 @@
 //! Differences as text.
 
-ghost use Rattle.std.specs.Prelude.{◌≡◌, ℕ, suc, List, [], ◌∷◌, ◌++◌, IfOk, OnOk, decimal, slice_get};
-ghost use Rattle.kb_io.specs.Bytes.{newline};
+ghost use Rattle.std.specs.Prelude.{◌≡◌, true, [], ◌∷◌, ◌++◌, IfOk, OnOk, decimal, slice_get};
 ghost use Rattle.kb_word.specs.Printed.{text_of_word};
 ghost use Rattle.kb_diffprint.specs.Printed.{text_of_differences, text_of_kept, text_of_needed, text_of_path, text_of_seen, word_of};
 
@@ -39,9 +38,7 @@ pub fn print_seen(
         (text.new.items ≡ text.old.items ++ text_of_seen names.now paths.now seen.now) }
 {
     print_field(names, &seen.word, text)?;
-    if let Some(path) = paths.get(seen.path) {
-        print_path(names, path, text)?;
-    }
+    print_path(names, paths, seen.path, text)?;
     print_number(seen.place, text)
 }
 
@@ -77,11 +74,14 @@ fn print_needed(names: &Names, listing: &Listing, text: &mut Vec<u8>) -> Result<
     Ok(())
 }
 
-/// Appends the words of a path and its generator, each with a blank behind it.
-fn print_path(names: &Names, path: &Path, text: &mut Vec<u8>) -> Result<(), Memory>
+/// Appends the words of the path at an index and its generator, each with a blank behind it.
+fn print_path(names: &Names, paths: &[Path], index: usize, text: &mut Vec<u8>) -> Result<(), Memory>
     ensures { OnOk result (text.new.items
-        ≡ text.old.items ++ text_of_path names.now (Some path.now)) }
+        ≡ text.old.items ++ text_of_path names.now (slice_get paths.now index)) }
 {
+    let Some(path) = paths.get(index) else {
+        return Ok(());
+    };
     print_field(names, &path.u, text)?;
     print_field(names, &path.v, text)?;
     print_generator(names, path.x, text)?;
