@@ -10,7 +10,7 @@ ghost use Rattle.kb_round.specs.Rounds.{AreMadeOf, RoundSays};
 use crate::answers::{Construction, Figures, Round, Structure};
 use crate::making::{canonical_acceptor, canonical_multipliers, largest};
 use crate::showing::path_of;
-use kb_axioms::{Automata, automata_that_pass_are_the_groups_own, check_automata};
+use kb_axioms::{Automata, check_automata};
 use kb_diff::Differences;
 use kb_rules::Reducer;
 use kb_word::{Memory, Presentation};
@@ -84,7 +84,6 @@ fn checked<R: Reducer, T: Threads + Wait + Sync>(
     ensures { IfOk result (RoundSays presentation.now differences.now.group.rules
         differences.now.words limit) }
 {
-    automata_that_pass_are_the_groups_own();
     // A use of the acceptor brings its invariant.
     let _alphabet = structure.acceptor.alphabet();
     let relations = presentation.relations(alloc)?;
