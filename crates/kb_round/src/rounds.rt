@@ -48,8 +48,7 @@ pub fn round<R: Reducer, T: Threads + Wait + Sync>(
         return Ok((Round::TooManyStates(Construction::Acceptor), figures));
     };
     figures.acceptor = acceptor.len();
-    let Some(multipliers) =
-        canonical_multipliers(alloc, differences, &machine, &acceptor, limit)?
+    let Some(multipliers) = canonical_multipliers(alloc, differences, &machine, &acceptor, limit)?
     else {
         return Ok((Round::TooManyStates(Construction::Multipliers), figures));
     };
@@ -60,7 +59,15 @@ pub fn round<R: Reducer, T: Threads + Wait + Sync>(
         acceptor,
         multipliers,
     };
-    let round = checked(rt, alloc, presentation, differences, structure, limit, workers)?;
+    let round = checked(
+        rt,
+        alloc,
+        presentation,
+        differences,
+        structure,
+        limit,
+        workers,
+    )?;
     Ok((round, figures))
 }
 
@@ -97,11 +104,7 @@ fn checked<R: Reducer, T: Threads + Wait + Sync>(
         workers,
     )? {
         Automata::Pass => Ok(Round::Own(structure)),
-        Automata::No(cert) => Ok(Round::Refuted(path_of(
-            alloc,
-            differences.reducer(),
-            cert,
-        )?)),
+        Automata::No(cert) => Ok(Round::Refuted(path_of(alloc, differences.reducer(), cert)?)),
         Automata::TooManyStates { which } => {
             Ok(Round::TooManyStates(Construction::Check(which)))
         }

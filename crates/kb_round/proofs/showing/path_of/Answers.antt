@@ -1,4 +1,4 @@
-use Rattle.std.proofs.Common.{◌≡◌, sym, subst}
+use Rattle.std.proofs.Common.{sym, subst}
 use Rattle.std.proofs.lemmas.Result.{IfOk-weaker}
 use Rattle.kb_kept.specs.declared.path.Path.{Path}
 use Rattle.kb_structure.specs.declared.cert.Cert.{Cert}
@@ -19,9 +19,9 @@ returns-in-N6 g c =
     let rules = g.R.Reducer.rules c.args.reducer.now in
     IfOk-weaker c.without_extension.result _ _
     (λ path is.
-        let C : Cert → Type 0 = λ cert. ShowsPath rules cert path in
-        let S : Path → Type 0 = λ other. ShowsPath rules (N6 c.in-N6.x c.in-N6.prefix) other in
-        subst C (sym c.in-N6.is) (subst S (sym is) no_extension))
+    let C : Cert → Type 0 = λ cert. ShowsPath rules cert path in
+    let S : Path → Type 0 = λ other. ShowsPath rules (N6 c.in-N6.x c.in-N6.prefix) other in
+    subst C (sym c.in-N6.is) (subst S (sym is) no_extension))
     c.without_extension.ensures
 
 pub returns-in-N8 : goal.returns-in-N8
