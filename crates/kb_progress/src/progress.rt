@@ -3,7 +3,7 @@
 use crate::summary::{Summary, write_number};
 use kb_book::Book;
 use kb_io::{Failed, Sink, write_all};
-use kb_round::{Figures, WatchRounds};
+use kb_round::{Axiom, Figures, WatchRounds};
 use kb_rules::Reducer;
 use kb_share::Watch;
 use kb_word::OwnedText;
@@ -86,7 +86,12 @@ impl<'a, E: Sink> Progress<'a, E> {
             figures.multiplier as usize,
             self.err,
         )?;
-        write_all(self.err, b" states\n")
+        write_all(self.err, b" states")?;
+        if let Some(axiom) = figures.broken {
+            write_all(self.err, b"; breaks ")?;
+            write_all(self.err, name_of(axiom))?;
+        }
+        write_all(self.err, b"\n")
     }
 
     /// Writes how far the book has come.
@@ -131,6 +136,17 @@ impl<'a, E: Sink> WatchRounds for Progress<'a, E> {
             let _ = self.show_round(rules, figures);
         }
         self.rules = rules;
+    }
+}
+
+/// The kind of the certificates against an axiom.
+fn name_of(axiom: Axiom) -> &'static [u8] {
+    match axiom {
+        Axiom::N4 => b"N4",
+        Axiom::N5 => b"N5",
+        Axiom::N6 => b"N6",
+        Axiom::N7 => b"N7",
+        Axiom::N8 => b"N8",
     }
 }
 

@@ -35,7 +35,17 @@ pub enum Round {
     TooManyStates(Construction),
 }
 
-/// How large the automata of a round are. What was not made any more has no states.
+/// Which axiom of automatic structures a certificate breaks, by the certificate's kind.
+#[derive(Clone, Copy, Debug, PartialEq, Eq)]
+pub enum Axiom {
+    N4,
+    N5,
+    N6,
+    N7,
+    N8,
+}
+
+/// How large the automata of a round are, and which axiom they break. What was not made any more has no states.
 #[derive(Clone, Copy, Debug, PartialEq, Eq)]
 pub struct Figures {
     /// How many word differences they are made of.
@@ -44,4 +54,6 @@ pub struct Figures {
     pub acceptor: u32,
     /// How many states the largest multiplier has.
     pub multiplier: u32,
+    /// The axiom that they break, where there is a certificate.
+    pub broken: Option<Axiom>,
 }

@@ -37,6 +37,6 @@ mod rounds;
 mod showing;
 mod watching;
 
-pub use answers::{Construction, Figures, Round, Structure};
+pub use answers::{Axiom, Construction, Figures, Round, Structure};
 pub use rounds::round;
 pub use watching::WatchRounds;

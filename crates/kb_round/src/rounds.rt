@@ -7,9 +7,9 @@ ghost use Rattle.kb_diff.specs.Groups.{EachInverts, group_of};
 ghost use Rattle.kb_labels.specs.Labels.{AreEqualSides};
 ghost use Rattle.kb_round.specs.Rounds.{AreMadeOf, RoundSays};
 
-use crate::answers::{Construction, Figures, Round, Structure};
+use crate::answers::{Axiom, Construction, Figures, Round, Structure};
 use crate::making::{canonical_acceptor, canonical_multipliers, largest};
-use crate::showing::path_of;
+use crate::showing::{axiom_of, path_of};
 use kb_axioms::{Automata, check_automata};
 use kb_diff::Differences;
 use kb_rules::Reducer;
@@ -42,6 +42,7 @@ pub fn round<R: Reducer, T: Threads + Wait + Sync>(
         differences: differences.len(),
         acceptor: 0,
         multiplier: 0,
+        broken: None,
     };
     let machine = differences.machine(alloc)?;
     let Some(acceptor) = canonical_acceptor(alloc, differences, &machine, limit)? else {
@@ -59,7 +60,7 @@ pub fn round<R: Reducer, T: Threads + Wait + Sync>(
         acceptor,
         multipliers,
     };
-    let round = checked(
+    let (round, broken) = checked(
         rt,
         alloc,
         presentation,
@@ -68,10 +69,11 @@ pub fn round<R: Reducer, T: Threads + Wait + Sync>(
         limit,
         workers,
     )?;
+    figures.broken = broken;
     Ok((round, figures))
 }
 
-/// What the check finds of the automata of word differences.
+/// What the check finds of the automata of word differences, and which axiom they break.
 fn checked<R: Reducer, T: Threads + Wait + Sync>(
     rt: &T,
     alloc: Global,
@@ -80,7 +82,7 @@ fn checked<R: Reducer, T: Threads + Wait + Sync>(
     structure: Structure,
     limit: u32,
     workers: u32,
-) -> Result<Round, Memory>
+) -> Result<(Round, Option<Axiom>), Memory>
     requires group { EachInverts presentation.now.n presentation.now.inv }
     requires shortlex { presentation.now.order ≡ ShortLex }
     requires sides { AreEqualSides (relations_of presentation.now.inv presentation.now.eqs)
@@ -88,8 +90,8 @@ fn checked<R: Reducer, T: Threads + Wait + Sync>(
     requires made { AreMadeOf (group_of presentation.now differences.now.group.rules)
         differences.now.words structure.acceptor structure.multipliers.items }
     requires workers { (1 ≤ workers) × (workers ≤ 64) }
-    ensures { IfOk result (RoundSays presentation.now differences.now.group.rules
-        differences.now.words limit) }
+    ensures { IfOk result (λ answer. RoundSays presentation.now differences.now.group.rules
+        differences.now.words limit answer.0) }
 {
     // A use of the acceptor brings its invariant.
     let _alphabet = structure.acceptor.alphabet();
@@ -103,10 +105,14 @@ fn checked<R: Reducer, T: Threads + Wait + Sync>(
         limit,
         workers,
     )? {
-        Automata::Pass => Ok(Round::Own(structure)),
-        Automata::No(cert) => Ok(Round::Refuted(path_of(alloc, differences.reducer(), cert)?)),
+        Automata::Pass => Ok((Round::Own(structure), None)),
+        Automata::No(cert) => {
+            let broken = axiom_of(&cert);
+            let path = path_of(alloc, differences.reducer(), cert)?;
+            Ok((Round::Refuted(path), broken))
+        }
         Automata::TooManyStates { which } => {
-            Ok(Round::TooManyStates(Construction::Check(which)))
+            Ok((Round::TooManyStates(Construction::Check(which)), None))
         }
     }
 }

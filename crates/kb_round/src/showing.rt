@@ -7,6 +7,7 @@ ghost use Rattle.kb_structure.specs.declared.cert.Cert.TheVariants.{N4, N7};
 ghost use Rattle.kb_round.specs.Rounds.{ShowsPath};
 ghost use Rattle.kb_round.specs.Shown.{HasPath};
 
+use crate::answers::Axiom;
 use kb_kept::Path;
 use kb_rules::Reducer;
 use kb_structure::Cert;
@@ -25,6 +26,18 @@ pub(crate) fn path_of<R: Reducer>(alloc: Global, reducer: &R, cert: Cert) -> Res
         Cert::N7 { x, u, v } => not_least(alloc, reducer, x, u, v),
         Cert::N8 { a, b, .. } => Ok(path_between(a, b)),
         Cert::N1 { .. } | Cert::N2 { .. } | Cert::N3 { .. } => unreachable!(),
+    }
+}
+
+/// The axiom that a certificate breaks, where automata of word differences may break it.
+pub(crate) fn axiom_of(cert: &Cert) -> Option<Axiom> {
+    match cert {
+        Cert::N4 { .. } => Some(Axiom::N4),
+        Cert::N5 { .. } => Some(Axiom::N5),
+        Cert::N6 { .. } => Some(Axiom::N6),
+        Cert::N7 { .. } => Some(Axiom::N7),
+        Cert::N8 { .. } => Some(Axiom::N8),
+        Cert::N1 { .. } | Cert::N2 { .. } | Cert::N3 { .. } => None,
     }
 }
 
