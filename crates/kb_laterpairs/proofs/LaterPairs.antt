@@ -1,5 +1,5 @@
 -- The first words of the automaton that is made of the machine are those that have later pairs.
-use Rattle.std.proofs.Common.{◌≡◌, ◌↔◌, ℕ, IfSome, IfNone, List, Option, Some, None, sym, ap, is_some, ◌∙◌, subst, arith}
+use Rattle.std.proofs.Common.{◌≡◌, ◌↔◌, ℕ, IfOk, IfSome, IfNone, List, Option, Some, None, Result, Ok, Err, sym, ap, is_some, ◌∙◌, subst, arith}
 use Rattle.kb_word.specs.Relations.{IsOver}
 use Rattle.kb_fsa.specs.declared.alphabet.Alphabet.{Alphabet}
 use Rattle.kb_fsa.specs.declared.alphabet.Alphabet.TheVariants.{Pair}
@@ -112,18 +112,20 @@ module _ (pairs : Automaton) (m : ℕ) (is_n : m ≡ generators pairs.alphabet) 
 -- ---- the search
 
 -- the least word for which a fact holds is the least for which another does, where they hold of the same words
-pub least_alike : {P Q : List ℕ → Type 0} (word : List ℕ) → ((w : List ℕ) → P w ↔ Q w) → IsLeastWord P word → IsLeastWord Q word
-least_alike word alike least = record {
-  holds = (alike word).0 least.holds;
-  least = λ other has. least.least other ((alike other).1 has);
+least_alike : {P Q : List ℕ → Type 0} (word : List ℕ) → ((w : List ℕ) → P w ↔ Q w) → IsLeastWord P word → IsLeastWord Q word
+least_alike word same least = record {
+  holds = (same word).0 least.holds;
+  least = λ other has. least.least other ((same other).1 has);
 }
 
-pub some_alike : {P Q : List ℕ → Type 0} (found : Option (List ℕ)) → ((w : List ℕ) → P w ↔ Q w) → IfSome found (IsLeastWord P)
-    → IfSome found (IsLeastWord Q)
-some_alike (Some word) alike least = least_alike word alike least
-some_alike None alike none = none
+pub found_alike : {P Q : List ℕ → Type 0} {E : Type 0} (found : Result (Option (List ℕ)) E) → ((w : List ℕ) → P w ↔ Q w)
+    → IfOk found (λ one. IfSome one (IsLeastWord P)) → IfOk found (λ one. IfSome one (IsLeastWord Q))
+found_alike (Ok (Some word)) same least = least_alike word same least
+found_alike (Ok None) same none = none
+found_alike (Err e) same none = none
 
-pub none_alike : {P Q : List ℕ → Type 0} (found : Option (List ℕ)) → ((w : List ℕ) → P w ↔ Q w) → IfNone found ((w : List ℕ) → ¬ P w)
-    → IfNone found ((w : List ℕ) → ¬ Q w)
-none_alike None alike none = λ w has. none w ((alike w).1 has)
-none_alike (Some word) alike none = none
+pub none_alike : {P Q : List ℕ → Type 0} {E : Type 0} (found : Result (Option (List ℕ)) E) → ((w : List ℕ) → P w ↔ Q w)
+    → IfOk found (λ one. IfNone one ((w : List ℕ) → ¬ P w)) → IfOk found (λ one. IfNone one ((w : List ℕ) → ¬ Q w))
+none_alike (Ok (Some word)) same none = none
+none_alike (Ok None) same none = λ w has. none w ((same w).1 has)
+none_alike (Err e) same none = none
