@@ -6,4 +6,5 @@ pub mod Extensions
 pub mod FirstWords
 pub mod OutsidePairs
 pub mod GreaterImages
+pub mod OtherWords
 pub mod TwoImages

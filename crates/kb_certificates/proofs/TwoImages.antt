@@ -1,66 +1,64 @@
 -- Words with two images.
-use Rattle.std.proofs.Common.{◌≡◌, ◌↔◌, ◌⊎◌, ℕ, ◌<◌, ◌≤◌, List, Some, sym, ap, subst, inl, inr}
+use Rattle.std.proofs.Common.{◌≡◌, ◌↔◌, ℕ, ◌<◌, ◌≤◌, List, Some, sym, ap, subst, inl, inr}
 use Rattle.kb_word.specs.Words.{Less, Pair as Sides}
 use Rattle.kb_word.specs.ShortlexLaws.{shortlex_total}
 use Rattle.kb_word.specs.Relations.{IsOver}
 use Rattle.kb_word.specs.declared.word_order.WordOrder.{WordOrder}
 use Rattle.kb_fsa.specs.Language.{Automaton, generators}
-use Rattle.kb_leastpair.specs.LeastPair.{IsAccepted, IsLeastPair, IsLeastWord}
-use Rattle.kb_laterpairs.specs.Later.{IsLater}
+use Rattle.kb_leastpair.specs.LeastPair.{IsAccepted, IsLeastWord}
+use Rattle.kb_laterpairs.specs.Later.{HasLater}
 use Rattle.kb_structure.specs.Structure.{Structure, Multiplies}
 use Rattle.kb_structure.specs.StructureOf.{FitTogether, multiplier_of, structure_of}
 use Rattle.kb_structure.specs.Certificates.{TwoImages}
 use Rattle.kb_structure.proofs.OfAutomata.{multiplied_pair, pair_multiplied}
-use Rattle.kb_certificates.specs.First.{HasTwo, IsLeastTriple}
+use Rattle.kb_certificates.specs.First.{HasTwo, IsLeastTriple, IsOther}
 
-module _ (pairs later : Automaton)
-    (language : (first second : List ℕ) → IsAccepted later first second ↔ IsLater pairs first second) where
+module _ (pairs : Automaton) where
   -- of two second words the greater makes a later pair
-  greater_is_later : (u v w : List ℕ) → HasTwo pairs u v w → (Less v w × IsLater pairs u w) ⊎ (Less w v × IsLater pairs u v)
-  greater_is_later u v w has = elim (shortlex_total v w) [
+  two_has_later : (u v w : List ℕ) → HasTwo pairs u v w → HasLater pairs u
+  two_has_later u v w has = elim (shortlex_total v w) [
     | inl same ↦ absurd (has.different same)
     | inr apart ↦ elim apart [
-      | inl less ↦ inl (less, record { accepted = has.two; lesser = v; less = less; lesser_accepted = has.one })
-      | inr more ↦ inr (more, record { accepted = has.one; lesser = w; less = more; lesser_accepted = has.two })
+      | inl less ↦ record {
+        second = w;
+        later = record { accepted = has.two; lesser = v; less = less; lesser_accepted = has.one };
+      }
+      | inr more ↦ record {
+        second = v;
+        later = record { accepted = has.one; lesser = w; less = more; lesser_accepted = has.two };
+      }
     ]
   ]
 
-  pub no_two : ((first second : List ℕ) → ¬ IsAccepted later first second) → (u v w : List ℕ) → ¬ HasTwo pairs u v w
-  no_two none u v w has = elim (greater_is_later u v w has) [
-    | inl one ↦ none u w ((language u w).1 one.1)
-    | inr two ↦ none u v ((language u v).1 two.1)
-  ]
+  pub no_two : ((first : List ℕ) → ¬ HasLater pairs first) → (u v w : List ℕ) → ¬ HasTwo pairs u v w
+  no_two none u v w has = none u (two_has_later u v w has)
 
-  module _ (word other : List ℕ) (pair : IsLeastPair (IsAccepted later) word other) where
-    is_later : IsLater pairs word other
-    is_later = (language word other).0 pair.holds
+  module _ (word : List ℕ) (first : IsLeastWord (HasLater pairs) word) where
+    pub word_over : IsOver (generators pairs.alphabet) word
+    word_over = first.holds.later.accepted.first_over
 
     -- the word has an image
     pub has_image : ¬ ((image : List ℕ) → ¬ IsAccepted pairs word image)
-    has_image none = none other is_later.accepted
+    has_image none = none first.holds.second first.holds.later.accepted
 
-    pub word_over : IsOver (generators pairs.alphabet) word
-    word_over = is_later.accepted.first_over
+    module _ (image : List ℕ) (least : IsLeastWord (IsAccepted pairs word) image) where
+      -- and another one than the least
+      pub has_other : ¬ ((other : List ℕ) → ¬ IsOther pairs word image other)
+      has_other none =
+          let later = first.holds.later in
+          let P : List ℕ → Type 0 = λ w. Less later.lesser w in
+          none first.holds.second (record {
+            accepted = later.accepted;
+            different = λ same. least.least later.lesser later.lesser_accepted (subst P (sym same) later.less);
+          })
 
-    pub least_two_words : (image : List ℕ) → IsLeastWord (IsAccepted pairs word) image → IsLeastTriple (HasTwo pairs) word image other
-    least_two_words image least = record {
-      holds = record {
-        one = least.holds;
-        two = is_later.accepted;
-        different = λ same.
-            let P : List ℕ → Type 0 = λ w. Less is_later.lesser w in
-            least.least is_later.lesser is_later.lesser_accepted (subst P (sym same) is_later.less);
-      };
-      least_first = λ a b c has less. elim (greater_is_later a b c has) [
-        | inl one ↦ pair.least_first a c ((language a c).1 one.1) less
-        | inr two ↦ pair.least_first a b ((language a b).1 two.1) less
-      ];
-      least_second = λ b c has less. least.least b has.one less;
-      least_third = λ c has less. elim (greater_is_later word image c has) [
-        | inl one ↦ pair.least_second c ((language word c).1 one.1) less
-        | inr two ↦ least.least c has.two two.0
-      ];
-    }
+      pub least_two_words : (other : List ℕ) → IsLeastWord (IsOther pairs word image) other → IsLeastTriple (HasTwo pairs) word image other
+      least_two_words other next = record {
+        holds = record { one = least.holds; two = next.holds.accepted; different = next.holds.different };
+        least_first = λ a b c has less. first.least a (two_has_later a b c has) less;
+        least_second = λ b c has less. least.least b has.one less;
+        least_third = λ c has less. next.least c (record { accepted = has.two; different = has.different }) less;
+      }
 
 module _ (order : WordOrder) (relations : List Sides) (acceptor : Automaton) (multipliers : List Automaton)
     (fit : FitTogether acceptor multipliers) (x : ℕ) (multiplier : Automaton)

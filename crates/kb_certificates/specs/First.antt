@@ -1,12 +1,10 @@
 -- First certificates: of the least generator that has one, with the least words.
 use Rattle.std.specs.Prelude.{◌≡◌, ◌≢◌, ℕ, ◌<◌, ◌≤◌, List, Some}
-use Rattle.kb_word.specs.Words.{Less, Pair as Sides}
-use Rattle.kb_word.specs.declared.word_order.WordOrder.{WordOrder}
+use Rattle.kb_word.specs.Words.{Less}
 use Rattle.kb_fsa.specs.Language.{Automaton}
 use Rattle.kb_fsa.specs.Counted.{CountedExists}
 use Rattle.kb_leastpair.specs.LeastPair.{IsAccepted, IsLeastWord, IsLeastPair}
-use Rattle.kb_structure.specs.Structure.{Structure}
-use Rattle.kb_structure.specs.StructureOf.{multiplier_of, structure_of}
+use Rattle.kb_structure.specs.StructureOf.{multiplier_of}
 
 -- no generator up to this one has a certificate with a word
 abbrev pub NoneUpTo : (ℕ → List ℕ → Type 0) → ℕ → Type 0
@@ -56,6 +54,11 @@ pub record IsFirstTriple (Certificate : ℕ → List ℕ → List ℕ → List �
 pub record HasTwo (pairs : Automaton) (first second other : List ℕ) : Type 0 where
   pub one : IsAccepted pairs first second
   pub two : IsAccepted pairs first other
+  pub different : second ≢ other
+
+-- the automaton accepts the first word with the other one, which isn't the second
+pub record IsOther (pairs : Automaton) (first second other : List ℕ) : Type 0 where
+  pub accepted : IsAccepted pairs first other
   pub different : second ≢ other
 
 -- the first words of no multiplier up to this generator's have more sets of states than the limit

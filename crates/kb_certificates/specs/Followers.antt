@@ -1,10 +1,12 @@
 -- What is carried along the acceptor's words and the multipliers' pairs, in the search for certificates.
-use Rattle.std.specs.Prelude.{ℕ, ◌+◌, Bool, true, false, not, ◌&&◌, ◌||◌, nat_eq, nat_lt, refl, if◌then◌else◌}
+use Rattle.std.specs.Prelude.{ℕ, ◌+◌, Bool, true, false, not, ◌&&◌, ◌||◌, nat_eq, nat_lt, List, length, get_or, refl, if◌then◌else◌}
 use Rattle.kb_fsa.specs.declared.alphabet.Alphabet.TheVariants.{Plain}
 use Rattle.kb_fsa.specs.Table.{Table, step, is_accepting}
-use Rattle.kb_fsa.specs.PairSymbols.{pair_symbol, first_letter, second_letter}
+use Rattle.kb_fsa.specs.PairSymbols.{pair_symbol, first_letter, second_letter, pads_second}
 use Rattle.kb_fsa.specs.EndedWords.{is_symbol}
 use Rattle.kb_cascade.specs.Cascade.{Follower}
+use Rattle.kb_certificates.specs.declared.agreement.Agreement.{Agreement}
+use Rattle.kb_certificates.specs.declared.agreement.Agreement.TheVariants.{Front, Apart}
 use Rattle.kb_certificates.specs.declared.comparison.Comparison.{Comparison}
 use Rattle.kb_certificates.specs.declared.comparison.Comparison.TheVariants.{Same, Earlier, Later, Reached, Lower}
 use Rattle.kb_certificates.specs.declared.word_states.WordStates.{WordStates}
@@ -85,4 +87,27 @@ comparing n x multiplier = record {
       compared n x comparison (first_letter n symbol) (second_letter n symbol);
   accepts = λ state comparison. is_accepting multiplier state && is_lower comparison;
   rejects_nowhere = λ comparison. refl;
+}
+
+-- how a word that is read agrees with the given one after a letter more
+abbrev pub agreed : List ℕ → Agreement → ℕ → Agreement
+agreed word (Front place) letter =
+    if nat_lt place (length word) && nat_eq (get_or word place 0) letter
+    then Front (place + 1) else Apart
+agreed word Apart letter = Apart
+
+-- it is the given one
+abbrev pub is_whole : List ℕ → Agreement → Bool
+is_whole word (Front place) = nat_eq place (length word)
+is_whole word Apart = false
+
+-- along a pair, how its second word agrees with the given one; pairs are accepted whose second word is another
+abbrev pub other_second : ℕ → Table → List ℕ → Follower Agreement
+other_second n table word = record {
+  start = Front 0;
+  next = λ state agreement symbol.
+      if pads_second n symbol then agreement
+      else agreed word agreement (second_letter n symbol);
+  accepts = λ state agreement. is_accepting table state && not (is_whole word agreement);
+  rejects_nowhere = λ agreement. refl;
 }

@@ -29,8 +29,9 @@
 //! multiplier is after the pair of the word with itself (N6), or where the projection of the multiplier is after
 //! the word (N4). Or it follows a multiplier along pairs: where the acceptor is after both words (N2), or how the
 //! words compare so far (N7). The least word is that of the least text, and the least pair is found by
-//! `kb_leastpair`. A word has two images where its multiplier has a pair of it that isn't the first with that word
-//! (`kb_laterpairs`).
+//! `kb_leastpair`. A word has two images where its multiplier has a pair of it that isn't the first with that word:
+//! `kb_laterpairs` finds the least such word, and `kb_leastpair` its least image. The next image is the least second word
+//! beside it of the pairs whose second word is another, which a machine tells that follows the multiplier (N5).
 //!
 //! A generator's multiplier is asked without regard to the others, so each kind but N1 is a search of `kb_search`, whose
 //! places are the generators (`automata`); a multiplier that has a certificate brings its least one.
@@ -39,24 +40,27 @@
 //!
 //! In `specs/`, `First` has what is the first certificate, `Places` what one generator has, `Images` what is answered of N4, `Followers` the machines that
 //! follow, and `LedPairs` the pairs that they accept. In `proofs/`, `Prefixes` (N1), `OutsidePairs` (N2), `FirstWords` (N4),
-//! `TwoImages` (N5), `Extensions` (N6) and `GreaterImages` (N7) have that these are the certificates; `Leasts` and
+//! `OtherWords` and `TwoImages` (N5), `Extensions` (N6) and `GreaterImages` (N7) have that these are the certificates; `Leasts` and
 //! `LedWords` what the least of them are, and `Loops` the way from what each generator has to what is first.
 //!
 //! Below are `kb_structure`, with the certificates, `kb_cascade`, `kb_leastpair`, `kb_laterpairs`, `kb_fsadet` and
 //! `kb_search`.
 #![tactic(auto)]
 
+mod agreement;
 mod automata;
 mod comparison;
 mod extension;
 mod greater;
 mod image;
 mod least;
+mod other;
 mod outside;
 mod prefix;
 mod two;
 mod word_states;
 
+pub use agreement::Agreement;
 pub use comparison::Comparison;
 pub use extension::missing_extension;
 pub use greater::image_not_least;

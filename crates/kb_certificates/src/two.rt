@@ -8,9 +8,10 @@ ghost use Rattle.kb_structure.specs.StructureOf.{FitTogether, OfAutomata};
 ghost use Rattle.kb_certificates.specs.First.{HasNoTriple, HasTwo, IsFirstTriple, IsLeastTriple};
 
 use crate::automata::Automata;
+use crate::other::least_other;
 use kb_fsa::Fsa;
-use kb_laterpairs::later_pairs;
-use kb_leastpair::{least_pair, least_second};
+use kb_laterpairs::least_later_first;
+use kb_leastpair::least_second;
 use kb_search::{Search, first_found};
 use kb_word::{Letter, Memory, Word};
 use std::alloc::Global;
@@ -93,12 +94,14 @@ fn least_two(alloc: Global, pairs: &Fsa) -> Result<Option<(Word, Word, Word)>, M
     ensures none { IfOk result (λ found. IfNone found
         ((first second other : List ℕ) → ¬ HasTwo pairs.now first second other)) }
 {
-    let later = later_pairs(alloc, pairs)?;
-    let Some((word, other)) = least_pair(alloc, &later)? else {
+    let Some(word) = least_later_first(alloc, pairs)? else {
         return Ok(None);
     };
-    match least_second(alloc, pairs, &word)? {
-        Some(image) => Ok(Some((word, image, other))),
+    let Some(image) = least_second(alloc, pairs, &word)? else {
+        return Ok(None);
+    };
+    match least_other(alloc, pairs, &word, &image)? {
+        Some(other) => Ok(Some((word, image, other))),
         None => Ok(None),
     }
 }

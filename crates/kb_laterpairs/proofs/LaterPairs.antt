@@ -1,25 +1,23 @@
--- The automaton that is made of the machine accepts the later pairs.
-use Rattle.std.proofs.Common.{◌≡◌, ◌↔◌, ℕ, IfOk, List, Result, Ok, Err, sym, ap, is_some, ◌∙◌, subst, arith}
+-- The first words of the automaton that is made of the machine are those that have later pairs.
+use Rattle.std.proofs.Common.{◌≡◌, ◌↔◌, ℕ, IfOk, IfSome, IfNone, List, Option, Some, None, Result, Ok, Err, sym, ap, is_some, ◌∙◌, subst, arith}
 use Rattle.kb_word.specs.Relations.{IsOver}
 use Rattle.kb_fsa.specs.declared.alphabet.Alphabet.{Alphabet}
 use Rattle.kb_fsa.specs.declared.alphabet.Alphabet.TheVariants.{Pair}
 use Rattle.kb_fsa.specs.Table.{Table, IsTable, AcceptsFrom}
 use Rattle.kb_fsa.specs.Padding.{padded}
-use Rattle.kb_fsa.specs.Language.{Automaton, IsAutomaton, IsTextOf, AcceptsText, generators}
+use Rattle.kb_fsa.specs.Language.{Automaton, IsAutomaton, IsTextOf, generators}
 use Rattle.kb_fsa.proofs.PaddedRuns.{run_of_text}
-use Rattle.kb_leastpair.specs.LeastPair.{IsAccepted}
+use Rattle.kb_fsadet.specs.Nondeterministic.{Nondeterministic, AcceptsSomehow}
+use Rattle.kb_firstwords.specs.FirstWords.{HasSecond}
+use Rattle.kb_leastpair.specs.LeastPair.{IsLeastWord}
 use Rattle.kb_branching.specs.Branching.{BranchingAccepts}
 use Rattle.kb_laterpairs.specs.declared.relation.Relation.TheVariants.{Same}
 use Rattle.kb_laterpairs.specs.declared.rivals.Rivals.{Rivals}
-use Rattle.kb_laterpairs.specs.Later.{IsLater}
+use Rattle.kb_laterpairs.specs.Later.{HasLater}
 use Rattle.kb_laterpairs.specs.Reading.{ReadsPairs, from_start}
 use Rattle.kb_laterpairs.specs.Rivalry.{rivalry}
 use Rattle.kb_laterpairs.proofs.RivalMoves.{to_start}
 use Rattle.kb_laterpairs.proofs.RivalRuns.{HasRival, accepted_ends, ends_accepted, some_state}
-
-pub both_ok : {X E : Type 0} (r : Result X E) (P Q R : X → Type 0) → ((x : X) → P x → Q x → R x) → IfOk r P → IfOk r Q → IfOk r R
-both_ok (Ok x) P Q R implies one two = implies x one two
-both_ok (Err e) P Q R implies one two = two
 
 -- an automaton of pairs reads pairs
 pub automaton_reads : (pairs : Automaton) (n : ℕ) → n ≡ generators pairs.alphabet → pairs.alphabet ≡ Pair (generators pairs.alphabet)
@@ -57,50 +55,77 @@ module _ (n : ℕ) (table : Table) (is : IsTable table) where
         ),
   )
 
-module _ (pairs later : Automaton) (m : ℕ) (is_n : m ≡ generators pairs.alphabet) (same : later.alphabet ≡ pairs.alphabet)
-    (is : IsTable pairs.table)
-    (language : (text : List ℕ) → AcceptsText later text ↔ BranchingAccepts (rivalry m pairs.table) text) where
+module _ (pairs : Automaton) (m : ℕ) (is_n : m ≡ generators pairs.alphabet) (is : IsTable pairs.table)
+    (nfa : Nondeterministic) (same : nfa.alphabet ≡ pairs.alphabet)
+    (language : (text : List ℕ) → AcceptsSomehow nfa text ↔ BranchingAccepts (rivalry m pairs.table) text) where
   abbrev k : ℕ
   k = generators pairs.alphabet
 
-  alike : generators later.alphabet ≡ k
+  alike : generators nfa.alphabet ≡ k
   alike = ap generators same
 
-  language_is : (u v : List ℕ) → IsOver k u → IsOver k v → AcceptsText later (padded k u v)
+  language_is : (u v : List ℕ) → IsOver k u → IsOver k v → AcceptsSomehow nfa (padded k u v)
       ↔ (AcceptsFrom pairs.table pairs.table.initial (padded k u v) × HasRival k pairs.table pairs.table.initial Same u v)
   language_is u v over also =
-      let P : ℕ → Type 0 = λ j. AcceptsText later (padded k u v) ↔ BranchingAccepts (rivalry j pairs.table) (padded k u v) in
+      let P : ℕ → Type 0 = λ j. AcceptsSomehow nfa (padded k u v) ↔ BranchingAccepts (rivalry j pairs.table) (padded k u v) in
       let one = subst P is_n (language (padded k u v)) in
       let two = machine_accepts k pairs.table is u v over also in
       (λ accepts. two.0 (one.0 accepts), λ both. one.1 (two.1 both))
 
-  pub later_language : (u v : List ℕ) → IsAccepted later u v ↔ IsLater pairs u v
-  later_language u v =
-      let P : List ℕ → ℕ → Type 0 = λ w j. IsOver j w in
-      let Q : ℕ → Type 0 = λ j. AcceptsText later (padded j u v) in (
-        λ accepted.
-            let over = subst (P u) alike accepted.first_over in
-            let also = subst (P v) alike accepted.second_over in
-            let both = (language_is u v over also).0 (subst Q alike accepted.accepted) in record {
-              accepted = record { first_over = over; second_over = also; accepted = both.0 };
-              lesser = both.1.rest;
-              less = both.1.fits;
-              lesser_accepted = record { first_over = over; second_over = both.1.over; accepted = both.1.accepted };
+  -- the first words that the machine's automaton accepts are those that have later pairs
+  pub first_words_later : (word : List ℕ) → HasSecond nfa word ↔ HasLater pairs word
+  first_words_later word =
+      let P : List ℕ → ℕ → Type 0 = λ w j. IsOver j w in (
+        λ has.
+            let over = subst (P word) alike has.first_over in
+            let also = subst (P has.second) alike has.second_over in
+            let Q : ℕ → Type 0 = λ j. AcceptsSomehow nfa (padded j word has.second) in
+            let both = (language_is word has.second over also).0 (subst Q alike has.accepts) in record {
+              second = has.second;
+              later = record {
+                accepted = record { first_over = over; second_over = also; accepted = both.0 };
+                lesser = both.1.rest;
+                less = both.1.fits;
+                lesser_accepted = record { first_over = over; second_over = both.1.over; accepted = both.1.accepted };
+              };
             },
-        λ later_pair.
-            let pair = later_pair.accepted in
-            let rival = later_pair.lesser_accepted in
-            let accepts = (language_is u v pair.first_over pair.second_over).1 (
+        λ has.
+            let pair = has.later.accepted in
+            let rival = has.later.lesser_accepted in
+            let Q : ℕ → Type 0 = λ j. AcceptsSomehow nfa (padded j word has.second) in
+            let accepts = (language_is word has.second pair.first_over pair.second_over).1 (
               pair.accepted,
               record {
-                rest = later_pair.lesser;
+                rest = has.later.lesser;
                 over = rival.second_over;
                 accepted = rival.accepted;
-                fits = later_pair.less;
+                fits = has.later.less;
               },
             ) in record {
-              first_over = subst (P u) (sym alike) pair.first_over;
-              second_over = subst (P v) (sym alike) pair.second_over;
-              accepted = subst Q (sym alike) accepts;
+              second = has.second;
+              first_over = subst (P word) (sym alike) pair.first_over;
+              second_over = subst (P has.second) (sym alike) pair.second_over;
+              accepts = subst Q (sym alike) accepts;
             },
       )
+
+-- ---- the search
+
+-- the least word for which a fact holds is the least for which another does, where they hold of the same words
+least_alike : {P Q : List ℕ → Type 0} (word : List ℕ) → ((w : List ℕ) → P w ↔ Q w) → IsLeastWord P word → IsLeastWord Q word
+least_alike word same least = record {
+  holds = (same word).0 least.holds;
+  least = λ other has. least.least other ((same other).1 has);
+}
+
+pub found_alike : {P Q : List ℕ → Type 0} {E : Type 0} (found : Result (Option (List ℕ)) E) → ((w : List ℕ) → P w ↔ Q w)
+    → IfOk found (λ one. IfSome one (IsLeastWord P)) → IfOk found (λ one. IfSome one (IsLeastWord Q))
+found_alike (Ok (Some word)) same least = least_alike word same least
+found_alike (Ok None) same none = none
+found_alike (Err e) same none = none
+
+pub none_alike : {P Q : List ℕ → Type 0} {E : Type 0} (found : Result (Option (List ℕ)) E) → ((w : List ℕ) → P w ↔ Q w)
+    → IfOk found (λ one. IfNone one ((w : List ℕ) → ¬ P w)) → IfOk found (λ one. IfNone one ((w : List ℕ) → ¬ Q w))
+none_alike (Ok (Some word)) same none = none
+none_alike (Ok None) same none = λ w has. none w ((same w).1 has)
+none_alike (Err e) same none = none

@@ -10,3 +10,8 @@ pub record IsLater (pairs : Automaton) (first second : List ℕ) : Type 0 where
   pub lesser : List ℕ
   pub less : Less lesser second
   pub lesser_accepted : IsAccepted pairs first lesser
+
+-- the first word has a later pair
+pub record HasLater (pairs : Automaton) (first : List ℕ) : Type 0 where
+  pub second : List ℕ
+  pub later : IsLater pairs first second

@@ -1,26 +1,28 @@
-//! The automaton of later pairs.
+//! The least first word of later pairs.
 
-ghost use Rattle.std.specs.Prelude.{◌≡◌, ◌↔◌, ℕ, List, IfOk};
-ghost use Rattle.kb_fsa.specs.Language.{AcceptsText, generators};
+ghost use Rattle.std.specs.Prelude.{◌≡◌, ℕ, List, IfOk, IfSome, IfNone};
+ghost use Rattle.kb_fsa.specs.Language.{generators};
 ghost use Rattle.kb_fsa.specs.declared.alphabet.Alphabet.TheVariants.{Pair};
-ghost use Rattle.kb_fsadet.specs.Nondeterministic.{AcceptsSomehow};
-ghost use Rattle.kb_leastpair.specs.LeastPair.{IsAccepted};
-ghost use Rattle.kb_laterpairs.specs.Later.{IsLater};
+ghost use Rattle.kb_firstwords.specs.FirstWords.{HasSecond};
+ghost use Rattle.kb_leastpair.specs.LeastPair.{IsLeastWord};
+ghost use Rattle.kb_laterpairs.specs.Later.{HasLater};
 
 use crate::rivalry::Rivalry;
 use kb_branching::explore_branches;
-use kb_fsa::{Fsa, PairSymbols};
-use kb_fsadet::{Nfa, determinise};
-use kb_word::Memory;
+use kb_firstwords::first_words;
+use kb_fsa::{Fsa, PairSymbols, word_of};
+use kb_fsadet::Nfa;
+use kb_fsaleast::least_text;
+use kb_word::{Memory, Word};
 use std::alloc::Global;
 
-/// An automaton of the accepted pairs beside which a pair with the same first word and a lesser second word is
+/// The least first word of an accepted pair beside which a pair with the same first word and a lesser second word is
 /// accepted.
-pub fn later_pairs(alloc: Global, pairs: &Fsa) -> Result<Fsa, Memory>
+pub fn least_later_first(alloc: Global, pairs: &Fsa) -> Result<Option<Word>, Memory>
     requires { pairs.now.alphabet ≡ Pair (generators pairs.now.alphabet) }
-    ensures language { IfOk result (λ later. (first second : List ℕ)
-        → IsAccepted later first second ↔ IsLater pairs.now first second) }
-    ensures alphabet { IfOk result (λ later. later.alphabet ≡ pairs.now.alphabet) }
+    ensures found { IfOk result (λ found. IfSome found (IsLeastWord (HasLater pairs.now))) }
+    ensures none { IfOk result (λ found. IfNone found
+        ((first : List ℕ) → ¬ HasLater pairs.now first)) }
 {
     let n = pairs.alphabet().generators();
     let machine = Rivalry {
@@ -28,19 +30,21 @@ pub fn later_pairs(alloc: Global, pairs: &Fsa) -> Result<Fsa, Memory>
         symbols: PairSymbols { n },
     };
     match explore_branches(alloc, &machine, u32::MAX) {
-        Ok(explored) => determined(alloc, &explored.nfa),
+        Ok(explored) => least_first(alloc, &explored.nfa),
         Err(_) => Err(Memory),
     }
 }
 
-/// A deterministic automaton of the same language.
-fn determined(alloc: Global, nfa: &Nfa) -> Result<Fsa, Memory>
-    ensures language { IfOk result (λ fsa. (text : List ℕ)
-        → AcceptsText fsa text ↔ AcceptsSomehow nfa.now text) }
-    ensures alphabet { IfOk result (λ fsa. fsa.alphabet ≡ nfa.now.alphabet) }
+/// The least word beside which a nondeterministic automaton of pairs accepts some second word.
+fn least_first(alloc: Global, pairs: &Nfa) -> Result<Option<Word>, Memory>
+    requires { (n : ℕ) × (pairs.now.alphabet ≡ Pair n) }
+    ensures found { IfOk result (λ found. IfSome found (IsLeastWord (HasSecond pairs.now))) }
+    ensures none { IfOk result (λ found. IfNone found
+        ((word : List ℕ) → ¬ HasSecond pairs.now word)) }
 {
-    match determinise(alloc, nfa, u32::MAX) {
-        Ok(fsa) => Ok(fsa),
-        Err(_) => Err(Memory),
+    let words = first_words(alloc, pairs)?;
+    match least_text(alloc, &words)? {
+        Some(text) => Ok(Some(word_of(alloc, text.as_slice())?)),
+        None => Ok(None),
     }
 }
