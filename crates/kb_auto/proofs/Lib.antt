@@ -1,2 +1,11 @@
+-- The lemmas.
 mod Decisions
 mod Growing
+mod GoingOn
+mod LiveRules
+mod PathsOver
+mod KeptPaths
+mod RulesOfLogs
+mod GatheredRounds
+mod IrreduciblePaths
+mod StuckRounds

@@ -46,7 +46,10 @@ pub enum Autgroup {
     /// It is this.
     Own(Structure),
     /// The completion reached a limit, and the automata of its live rules' differences were tried.
-    Halted { halted: Halted, listing: Listing },
+    Halted {
+        halted: Halted,
+        listing: Listing,
+    },
     /// As many word differences are kept as may be, and another one is needed.
     TooManyDifferences {
         /// The log.
