@@ -98,7 +98,7 @@ module _ (tried : Tried) where
   -- the differences of the rules and of the rounds, with what is answered
   abbrev AreOfPairs : Gathered → Grow → Type 0
   AreOfPairs gathered answer = AddsPairs gathered.differences.group gathered.differences.most
-  (tried.rules ++ map pair_of gathered.rounds.items) ([] ∷ []) gathered.differences.words answer
+      (tried.rules ++ map pair_of gathered.rounds.items) ([] ∷ []) gathered.differences.words answer
 
   -- they are of the group in its own words
   by_own_group : (gathered : Gathered) (answer : Grow) → gathered.differences.group ≡ group → gathered.differences.most ≡ tried.most

@@ -5,6 +5,7 @@ mod GoingOn
 mod LiveRules
 mod PathsOver
 mod KeptPaths
+mod TriedAtHalt
 mod RulesOfLogs
 mod GatheredRounds
 mod IrreduciblePaths

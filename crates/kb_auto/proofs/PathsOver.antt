@@ -15,7 +15,7 @@ use Rattle.kb_kept.specs.declared.path.Path.{Path}
 use Rattle.kb_structure.specs.Structure.{Structure, Follows}
 use Rattle.kb_structure.specs.StructureOf.{structure_of}
 use Rattle.kb_structure.specs.declared.cert.Cert.{Cert}
-use Rattle.kb_structure.specs.declared.cert.Cert.TheVariants.{N4, N5, N6, N7, N8}
+use Rattle.kb_structure.specs.declared.cert.Cert.TheVariants.{N1, N2, N3, N4, N5, N6, N7, N8}
 use Rattle.kb_axioms.specs.Answered.{checked_in}
 use Rattle.kb_axioms.specs.Checked.{Checked, IsFirstCertificate, n4, n5, n6, n7, n8}
 use Rattle.kb_round.specs.Rounds.{RefutesBy, ShowsPath, no_image, two_images, no_extension, not_least, broken}
@@ -41,6 +41,9 @@ module _ (n : ℕ) (rules : List Sides) (over : AreRulesOver n rules) where
 
   of_certificate : (checked : Checked) → generators checked.acceptor.alphabet ≡ n → (cert : Cert) (path : Path)
       → IsFirstCertificate checked cert → ShowsPath rules cert path → IsPathOver n path
+  of_certificate checked same (N1 _) path _ shows = elim shows [ ]
+  of_certificate checked same (N2 _ _ _) path _ shows = elim shows [ ]
+  of_certificate checked same (N3 _ _ _) path first _ = elim first [ ]
   of_certificate checked same (N4 x u) _ (n4 earlier first few) (no_image {v = v} normal) =
       let holds = (first ShortLex checked.relations).least.holds in
       let W : ℕ → Type 0 = λ k. IsOver k u in

@@ -22,7 +22,7 @@ use Rattle.kb_structure.specs.declared.cert.Cert.{Cert}
 use Rattle.kb_structure.specs.declared.cert.Cert.TheVariants.{N4}
 use Rattle.kb_system.specs.Completed.{IsReducedSystem}
 use Rattle.kb_auto.specs.Kept.{KeepsRounds, Tried}
-use Rattle.kb_auto.proofs.KeptPaths.{pairs_with, rounds_added}
+use Rattle.kb_auto.proofs.KeptPaths.{rounds_added}
 
 abbrev Words : Type 0
 Words = List (List ℕ)
@@ -66,8 +66,8 @@ among (first ∷ rules) more rule (suc index, is) =
 
 -- ---- what is kept of a reduced complete system
 
-has_empty : Contains ([] ∷ []) []
-has_empty = (0, (omega arith, refl))
+has_empty : Contains {X = List ℕ} ([] ∷ []) []
+has_empty = (0, omega arith, refl)
 
 pub keeps_reduced : (tried : Tried) (rounds : List Path) (words : Words) → EachInverts tried.presentation.n tried.presentation.inv
     → tried.presentation.order ≡ ShortLex → AreDecreasing (Below tried.presentation.order) tried.rules

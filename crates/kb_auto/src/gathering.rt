@@ -6,9 +6,12 @@ ghost use Rattle.kb_word.specs.Relations.{IsOver};
 ghost use Rattle.kb_word.specs.Rewriting.{IsIrreducible};
 ghost use Rattle.kb_diff.specs.Groups.{AreRulesOver};
 ghost use Rattle.kb_diff.specs.declared.grow.Grow.{Grow as Answer};
+ghost use Rattle.kb_diff.specs.declared.grow.Grow.TheVariants.{Same};
 ghost use Rattle.kb_diff.specs.Keeping.{AddsPairs, IsFull};
+ghost use Rattle.kb_kept.specs.declared.path.Path.{Path as Round};
 ghost use Rattle.kb_kept.specs.Listed.{ArePathsOver, Lists, pair_of, rule_paths};
-ghost use Rattle.kb_auto.specs.Trials.{GatheringSays};
+ghost use Rattle.kb_auto.specs.Trials.{AddsRound, BringsNothing, GatheringSays};
+ghost use Rattle.kb_auto.specs.declared.gathering.Gathered.{Gathered as Kept};
 
 use kb_diff::{Differences, Grow};
 use kb_index::Index;
@@ -44,24 +47,25 @@ impl Gathered {
         requires second { IsOver self.differences.group.n path.v }
         ensures { IfOk result (GatheringSays self path) }
     {
-        let Gathered {
-            mut differences,
-            mut rounds,
-        } = self;
-        if !are_irreducible(alloc, &path, differences.reducer())? {
-            return Ok(Gathering::Nothing);
+        if are_irreducible(alloc, &path, self.differences.reducer())? {
+            self.gather_irreducible(alloc, path)
+        } else {
+            Ok(Gathering::Nothing)
         }
-        let answer = differences.add_path(alloc, &path.u, &path.v, &Word::new(alloc))?;
-        rounds.push(path)?;
-        let after = Gathered {
-            differences,
-            rounds,
-        };
-        Ok(match answer {
-            Grow::Grew => Gathering::More(after),
-            Grow::Same => Gathering::Nothing,
-            Grow::Full { .. } => Gathering::NoRoom(after),
-        })
+    }
+
+    /// Keeps the differences of a path of irreducible words, and the path.
+    fn gather_irreducible(mut self, alloc: Global, path: Path) -> Result<Gathering, Memory>
+        requires first { IsOver self.differences.group.n path.u }
+        requires second { IsOver self.differences.group.n path.v }
+        requires first_is_irreducible { IsIrreducible (OneOf self.differences.group.rules) path.u }
+        requires second_is_irreducible { IsIrreducible (OneOf self.differences.group.rules) path.v }
+        ensures { IfOk result (GatheringSays self path) }
+    {
+        let none = Word::new(alloc);
+        let answer = self.differences.add_path(alloc, &path.u, &path.v, &none)?;
+        self.rounds.push(path)?;
+        Ok(gathering_of(self, answer))
     }
 
     /// Where the differences were first seen.
@@ -83,15 +87,27 @@ impl Gathered {
     }
 }
 
+/// What comes of a path whose differences were added with an answer.
+fn gathering_of(after: Gathered, answer: Grow) -> Gathering
+    ensures { (before : Kept) (path : Round) → AddsRound before path answer after
+        → ((answer ≡ Same) → BringsNothing before path) → GatheringSays before path result }
+{
+    match answer {
+        Grow::Grew => Gathering::More(after),
+        Grow::Same => Gathering::Nothing,
+        Grow::Full { .. } => Gathering::NoRoom(after),
+    }
+}
+
 /// Whether both words of the path are irreducible.
 fn are_irreducible<R: Reducer>(alloc: Global, path: &Path, reducer: &R) -> Result<bool, Memory>
     ensures { IfOk result (λ answer. IsTrue answer
         ↔ (IsIrreducible (OneOf (R.rules reducer.now)) path.now.u
         × IsIrreducible (OneOf (R.rules reducer.now)) path.now.v)) }
 {
-    let first = reducer.nf(alloc, &path.u)?;
-    let second = reducer.nf(alloc, &path.v)?;
-    Ok(first == path.u && second == path.v)
+    let first = reducer.nf(alloc, &path.u)? == path.u;
+    let second = reducer.nf(alloc, &path.v)? == path.v;
+    Ok(first && second)
 }
 
 /// The paths of both lists, one list after the other.

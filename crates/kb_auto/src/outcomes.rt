@@ -13,7 +13,6 @@ ghost use Rattle.kb_system.specs.Ended.{ShowsHalt};
 ghost use Rattle.kb_system.specs.Evidence.{Limits as MostOf};
 ghost use Rattle.kb_system.specs.Problems.{limits_of, problem_of};
 ghost use Rattle.kb_auto.specs.Autgroup.{AreRulesOfLog, AutgroupSays, HasFailed, tried_by};
-ghost use Rattle.kb_auto.specs.Kept.{Tried};
 ghost use Rattle.kb_auto.specs.Trials.{Gathers, LacksRoom};
 
 use crate::answers::Autgroup;
@@ -88,7 +87,8 @@ pub(crate) fn too_many_differences(
     gathered: Gathered,
 ) -> Result<Autgroup, Memory>
     requires letters { AreRulesOver gathered.differences.group.n rules.rules }
-    requires lacks { (tried : Tried) × (tried.rules ≡ rules.rules) × LacksRoom tried gathered }
+    requires lacks { (limits : MostOf) × (most : ℕ) × (presentation : Presented)
+        × LacksRoom (tried_by limits most presentation rules.rules) gathered }
     ensures { (limits : MostOf) (most : ℕ) (presentation : Presented)
         → rules.order ≡ presentation.order
         → AreRulesOfLog (parts_of presentation) lines.items rules.rules confluent
@@ -113,7 +113,8 @@ fn too_many_states(
     gathered: Gathered,
 ) -> Result<Autgroup, Memory>
     requires letters { AreRulesOver gathered.differences.group.n rules.rules }
-    requires gathers { (tried : Tried) × (tried.rules ≡ rules.rules) × Gathers tried gathered }
+    requires gathers { (limits : MostOf) × (most : ℕ) × (presentation : Presented)
+        × Gathers (tried_by limits most presentation rules.rules) gathered }
     ensures { (limits : MostOf) (most : ℕ) (presentation : Presented)
         → rules.order ≡ presentation.order
         → AreRulesOfLog (parts_of presentation) lines.items rules.rules true

@@ -15,6 +15,7 @@ use crate::watch::WatchRounds;
 use kb_book::Limits;
 use kb_diff::Differences;
 use kb_index::Index;
+use kb_reduced::reduced_complete_systems_are_complete;
 use kb_reducedrounds::{
     rounds_by_reduced_systems_keep_more, rounds_by_reduced_systems_lack_images,
 };
@@ -104,6 +105,7 @@ fn try_rounds<W: WatchRounds, T: Threads + Wait + Sync>(
     ensures { IfOk result (TrialSays (tried_by (limits_of limits.now) limits.now.diffs
         presentation.now rules.now.rules) budget) }
 {
+    reduced_complete_systems_are_complete();
     rounds_by_reduced_systems_lack_images();
     rounds_by_reduced_systems_keep_more();
     'rounds: loop {
