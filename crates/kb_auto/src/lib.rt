@@ -49,9 +49,7 @@ mod outcomes;
 mod rounds;
 mod searching;
 mod trying;
-mod watch;
 
 pub use answers::{Autgroup, Checked};
 pub use deciding::gpaxioms;
 pub use searching::autgroup;
-pub use watch::WatchRounds;

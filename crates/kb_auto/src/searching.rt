@@ -12,12 +12,12 @@ use crate::growth::grow_twofold;
 use crate::live::live_rules_are_of_the_group;
 use crate::outcomes::{answer_at_halt, answer_by_complete, too_many_differences};
 use crate::trying::{Trial, try_rules};
-use crate::watch::WatchRounds;
 use kb_book::{Book, Limits};
 use kb_complete::Grown;
 use kb_index::Index;
 use kb_io::Gate;
-use kb_share::{Finder, book_is_sound, live_rules};
+use kb_round::WatchRounds;
+use kb_share::{Finder, Watch, book_is_sound, live_rules};
 use kb_threads::Workers;
 use kb_word::{Memory, Presentation};
 use std::alloc::Global;
@@ -25,7 +25,7 @@ use std::sync::Wait;
 use std::thread::Threads;
 
 /// Looks for the automatic structure of the group that is presented.
-pub fn autgroup<G: Gate, W: WatchRounds, T: Threads + Wait + Sync>(
+pub fn autgroup<G: Gate, W: Watch + WatchRounds, T: Threads + Wait + Sync>(
     rt: &T,
     alloc: Global,
     presentation: &Presentation,
@@ -54,7 +54,7 @@ pub fn autgroup<G: Gate, W: WatchRounds, T: Threads + Wait + Sync>(
 
 /// Grows the book, and tries its live rules after each growth, until the search is at its end. The rules of the first
 /// growth may lead by one failed round, and those of each further growth by twice as many as before.
-fn search_by_growths<G: Gate, W: WatchRounds, T: Threads + Wait + Sync>(
+fn search_by_growths<G: Gate, W: Watch + WatchRounds, T: Threads + Wait + Sync>(
     rt: &T,
     alloc: Global,
     presentation: &Presentation,

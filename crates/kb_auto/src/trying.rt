@@ -11,7 +11,6 @@ ghost use Rattle.kb_auto.specs.Autgroup.{tried_by};
 ghost use Rattle.kb_auto.specs.Trials.{Gathers, TrialSays};
 
 use crate::gathering::{Gathered, Gathering};
-use crate::watch::WatchRounds;
 use kb_book::Limits;
 use kb_diff::Differences;
 use kb_index::Index;
@@ -19,7 +18,7 @@ use kb_reduced::reduced_complete_systems_are_complete;
 use kb_reducedrounds::{
     rounds_by_reduced_systems_keep_more, rounds_by_reduced_systems_lack_images,
 };
-use kb_round::{Construction, Round, Structure, round};
+use kb_round::{Construction, Round, Structure, WatchRounds, round};
 use kb_rules::Rules;
 use kb_word::{Memory, Presentation};
 use std::alloc::Global;

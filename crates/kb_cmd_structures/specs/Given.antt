@@ -3,6 +3,13 @@ use Rattle.std.specs.Prelude.{ℕ, List}
 use Rattle.kb_system.specs.Evidence.{Limits}
 pub use Rattle.kb_system.specs.Problems.{limits_of}
 
+pub record AutgroupGiven : Type 0 where
+  pub file : List ℕ
+  pub workers : ℕ
+  pub limits : Limits
+  -- how many word differences may be kept
+  pub most : ℕ
+
 pub record GpaxiomsGiven : Type 0 where
   pub file : List ℕ
   pub workers : ℕ

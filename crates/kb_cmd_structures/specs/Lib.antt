@@ -3,6 +3,11 @@ pub mod Loaded
 pub mod LoadedLaws
 pub mod Lines
 pub mod FirstCertificates
+pub mod Made
+pub mod Tried
+pub mod Autgroup
+pub mod Concluded
+pub mod AutgroupLaws
 pub mod Gpaxioms
 pub mod GpaxiomsLaws
 pub mod Findings

@@ -3,8 +3,8 @@ use Rattle.std.specs.Prelude.{◌≡◌, List, [], ◌∷◌, Option, Some, None
 use Rattle.clap.specs.Words.{App, Row, Text, new_app, with_rule, with_subcommand}
 use Rattle.kb_task.specs.Arguments.{Entered, IsEntered, GivesOption, GivesText, needed_rule}
 use Rattle.kb_task.specs.declared.arguments.NumberOption.TheVariants.{Workers}
-use Rattle.kb_options.specs.Options.{GivesLimits, with_limits}
-use Rattle.kb_cmd_structures.specs.Given.{GpaxiomsGiven}
+use Rattle.kb_options.specs.Options.{GivesAllLimits, GivesLimits, with_all_limits, with_limits}
+use Rattle.kb_cmd_structures.specs.Given.{AutgroupGiven, GpaxiomsGiven}
 use Rattle.kb_cmd_structures.specs.declared.line.name.Name.{Name}
 use Rattle.kb_cmd_structures.specs.declared.line.name.Name.TheVariants as names
 use Rattle.kb_cmd_structures.specs.declared.task.StructuresTask.{StructuresTask}
@@ -13,16 +13,19 @@ use Rattle.kb_cmd_structures.specs.declared.task.StructuresTask.TheVariants as t
 -- ---- what the commands are called
 
 abbrev pub name_text : Name → Text
+name_text names.Autgroup = codes "autgroup"
 name_text names.Gpaxioms = codes "gpaxioms"
 
 -- the commands, in the order in which the program lists them
 abbrev pub all_names : List Name
-all_names = names.Gpaxioms ∷ []
+all_names = names.Autgroup ∷ names.Gpaxioms ∷ []
 
 -- ---- what the commands take
 
--- `gpaxioms FILE`
+-- `autgroup FILE`, `gpaxioms FILE`
 abbrev pub command_app : Name → App
+command_app names.Autgroup =
+    with_all_limits (with_rule (new_app (name_text names.Autgroup)) (needed_rule (codes "file")))
 command_app names.Gpaxioms =
     with_limits (with_rule (new_app (name_text names.Gpaxioms)) (needed_rule (codes "file")))
 
@@ -39,6 +42,11 @@ with_structures app = with_commands app all_names
 -- ---- what is read of them
 
 -- the arguments and options give the command
+pub record GivesAutgroup (rows : List Row) (given : AutgroupGiven) : Type 0 where
+  pub file : GivesText rows (codes "file") given.file
+  pub workers : GivesOption rows Workers given.workers
+  pub limits : GivesAllLimits rows given.limits given.most
+
 pub record GivesGpaxioms (rows : List Row) (given : GpaxiomsGiven) : Type 0 where
   pub file : GivesText rows (codes "file") given.file
   pub workers : GivesOption rows Workers given.workers
@@ -46,9 +54,11 @@ pub record GivesGpaxioms (rows : List Row) (given : GpaxiomsGiven) : Type 0 wher
 
 -- the name of a command, and what its arguments and options give
 abbrev pub name_of_task : StructuresTask → Name
+name_of_task (tasks.Autgroup task) = names.Autgroup
 name_of_task (tasks.Gpaxioms task) = names.Gpaxioms
 
 abbrev pub GivesTask : StructuresTask → List Row → Type 0
+GivesTask (tasks.Autgroup task) rows = GivesAutgroup rows task
 GivesTask (tasks.Gpaxioms task) rows = GivesGpaxioms rows task
 
 -- the subcommand that clap entered, with its arguments and options, is the command

@@ -93,7 +93,7 @@ fn too_many(alloc: Global, names: &Names, which: Counted) -> Result<Finding, Mem
 }
 
 /// What is called after a count.
-fn construction_of(which: Counted) -> Construction
+pub(crate) fn construction_of(which: Counted) -> Construction
     ensures { result ≡ construction_of which }
 {
     match which {

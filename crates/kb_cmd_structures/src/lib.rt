@@ -17,7 +17,10 @@
 //! completion has come, and `kb_task`.
 #![tactic(auto)]
 
+mod autgroup;
 mod certificates;
+mod conclusion;
+mod evidence;
 mod figures;
 mod finding;
 mod gpaxioms;
@@ -25,6 +28,7 @@ mod line;
 mod loading;
 mod task;
 
+pub use autgroup::Autgroup;
 pub use gpaxioms::Gpaxioms;
 pub use line::{add_commands, command_named, entered_command};
 pub use task::StructuresTask;

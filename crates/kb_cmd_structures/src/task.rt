@@ -1,5 +1,6 @@
 //! The commands of the family in one type.
 
+use crate::autgroup::Autgroup;
 use crate::gpaxioms::Gpaxioms;
 use kb_io::{Gate, Shelf, Sink, Source};
 use kb_task::{Status, Task};
@@ -10,6 +11,8 @@ use std::thread::Threads;
 /// A command on automatic structures.
 #[derive(Drop)]
 pub enum StructuresTask {
+    /// `autgroup`
+    Autgroup(Autgroup),
     /// `gpaxioms`
     Gpaxioms(Gpaxioms),
 }
@@ -45,6 +48,7 @@ impl StructuresTask {
             (outside (F.state shelf.new) (I.state input.new) (O.state out.new)) result }
     {
         match self {
+            StructuresTask::Autgroup(task) => task.run(rt, alloc, gate, shelf, input, out, err),
             StructuresTask::Gpaxioms(task) => task.run(rt, alloc, gate, shelf, input, out, err),
         }
     }

@@ -22,6 +22,10 @@ acceptor_file file = file ++ codes ".wa"
 abbrev pub log_file : List ℕ → List ℕ
 log_file file = file ++ codes ".kblog"
 
+-- the file of the word differences
+abbrev pub difference_file : List ℕ → List ℕ
+difference_file file = file ++ codes ".diff"
+
 -- the file of the multiplier of a generator, by its number
 abbrev pub multiplier_file : List ℕ → ℕ → List ℕ
 multiplier_file file generator = file ++ (codes ".m" ++ decimal generator)

@@ -102,7 +102,7 @@ pub fn limit_reached(reached: Reached) -> Limit
 }
 
 /// A log and rules, as files.
-fn evidence_files(
+pub fn evidence_files(
     alloc: Global,
     presentation: &Presentation,
     file: &OwnedText,

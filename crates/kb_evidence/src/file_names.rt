@@ -1,7 +1,7 @@
 //! Names of the files that belong to a presentation's file.
 
 ghost use Rattle.std.specs.Prelude.{◌≡◌, ◌++◌, IfOk};
-ghost use Rattle.kb_evidence.specs.Files.{rules_file, acceptor_file, log_file, multiplier_file};
+ghost use Rattle.kb_evidence.specs.Files.{rules_file, acceptor_file, log_file, difference_file, multiplier_file};
 
 use itoa::Buffer;
 use kb_word::{Letter, Memory, OwnedText};
@@ -26,6 +26,13 @@ pub fn log_file(alloc: Global, file: &OwnedText) -> Result<OwnedText, Memory>
     ensures { IfOk result (λ name. name ≡ log_file file.now) }
 {
     with_ending(alloc, file, ".kblog")
+}
+
+/// The file of the word differences.
+pub fn difference_file(alloc: Global, file: &OwnedText) -> Result<OwnedText, Memory>
+    ensures { IfOk result (λ name. name ≡ difference_file file.now) }
+{
+    with_ending(alloc, file, ".diff")
 }
 
 /// The file of the multiplier of a generator.

@@ -3,7 +3,7 @@
 ghost use Rattle.std.specs.Prelude.{◌≡◌, IfOk, false};
 ghost use Rattle.clap.specs.Words.{app_of};
 ghost use Rattle.clap.specs.declared.builder.command.Command.TheViews.{out-Command as fields_of};
-ghost use Rattle.kb_options.specs.Options.{with_limits};
+ghost use Rattle.kb_options.specs.Options.{with_all_limits, with_limits};
 
 use clap::Command;
 use kb_task::{NumberOption, number_option};
@@ -20,4 +20,13 @@ pub fn with_limits<'a>(alloc: Global, command: Command<'a>) -> Result<Command<'a
         .arg(number_option(alloc, NumberOption::MaxRules))?
         .arg(number_option(alloc, NumberOption::MaxLen))?
         .arg(number_option(alloc, NumberOption::MaxStates))
+}
+
+/// The same, with the option of how many word differences may be kept.
+pub fn with_all_limits<'a>(alloc: Global, command: Command<'a>) -> Result<Command<'a>, AllocError>
+    requires { (fields_of command).has_globals ≡ false }
+    ensures app { IfOk result (λ added. app_of added ≡ with_all_limits (app_of command.entry)) }
+    ensures local { IfOk result (λ added. (fields_of added).has_globals ≡ false) }
+{
+    with_limits(alloc, command)?.arg(number_option(alloc, NumberOption::MaxDiffs))
 }

@@ -3,6 +3,7 @@
 use crate::summary::{Summary, write_number};
 use kb_book::Book;
 use kb_io::{Failed, Sink, write_all};
+use kb_round::{Figures, WatchRounds};
 use kb_rules::Reducer;
 use kb_share::Watch;
 use kb_word::OwnedText;
@@ -13,8 +14,12 @@ const FIRST: usize = 1000;
 /// Of the versions that are published after that, progress is shown at each one whose number this divides.
 const VERSIONS: u64 = 10;
 
+/// Of the rounds that are made of automata, progress is shown at each one whose number this divides.
+const ROUNDS: u64 = 10;
+
 /// Shows that a long completion lives: when its log has 1,000 lines, each time it has twice as many
-/// as the last time, and at every tenth version that is published after the first time. A run that
+/// as the last time, and at every tenth version that is published after the first time; and of rounds
+/// of automata at every tenth, and after that at the first one by other rules. A run that
 /// showed it ends with a line on how the completion ended. What fails in that is ignored.
 #[derive(Drop)]
 pub struct Progress<'a, E: Sink> {
@@ -25,6 +30,10 @@ pub struct Progress<'a, E: Sink> {
     next: usize,
     /// How many versions were published since it was shown first.
     versions: u64,
+    /// How many rounds of automata were made.
+    rounds: u64,
+    /// By how many rules the last of them was.
+    rules: usize,
     /// How the completion ended, if it did.
     summary: Option<Summary>,
 }
@@ -37,6 +46,8 @@ impl<'a, E: Sink> Progress<'a, E> {
             file,
             next: FIRST,
             versions: 0,
+            rounds: 0,
+            rules: 0,
             summary: None,
         }
     }
@@ -57,7 +68,25 @@ impl<'a, E: Sink> Progress<'a, E> {
 
     /// Whether progress was shown.
     fn is_shown(&self) -> bool {
-        self.next > FIRST
+        self.next > FIRST || self.rounds >= ROUNDS
+    }
+
+    /// Writes how large the automata of a round were.
+    fn show_round(&mut self, rules: usize, figures: &Figures) -> Result<(), Failed> {
+        write_number(b"kb: round ", self.rounds as usize, self.err)?;
+        write_number(b": ", rules, self.err)?;
+        write_number(b" rules, ", figures.differences, self.err)?;
+        write_number(
+            b" differences, word acceptor of ",
+            figures.acceptor as usize,
+            self.err,
+        )?;
+        write_number(
+            b" states, largest multiplier of ",
+            figures.multiplier as usize,
+            self.err,
+        )?;
+        write_all(self.err, b" states\n")
     }
 
     /// Writes how far the book has come.
@@ -91,6 +120,17 @@ impl<'a, E: Sink> Watch for Progress<'a, E> {
         if self.versions % VERSIONS == 0 {
             let _ = self.show(book);
         }
+    }
+}
+
+impl<'a, E: Sink> WatchRounds for Progress<'a, E> {
+    fn round_made(&mut self, rules: usize, figures: &Figures) {
+        self.rounds = self.rounds.saturating_add(1);
+        let is_tenth = self.rounds % ROUNDS == 0;
+        if is_tenth || (self.is_shown() && rules != self.rules) {
+            let _ = self.show_round(rules, figures);
+        }
+        self.rules = rules;
     }
 }
 

@@ -9,7 +9,7 @@ ghost use Rattle.kb_cmd_structures.specs.declared.line.name.Name.TheVariants as 
 
 use super::name::Name;
 use clap::{Arg, Command};
-use kb_options::with_limits;
+use kb_options::{with_all_limits, with_limits};
 use kb_task::needed_argument;
 use std::alloc::{AllocError, Global};
 
@@ -19,8 +19,20 @@ pub(super) fn definition<'a>(alloc: Global, name: Name) -> Result<Command<'a>, A
     ensures local { IfOk result (λ command. (fields_of command).has_globals ≡ false) }
 {
     match name {
+        Name::Autgroup => autgroup_definition(alloc),
         Name::Gpaxioms => gpaxioms_definition(alloc),
     }
+}
+
+/// `autgroup FILE`.
+fn autgroup_definition<'a>(alloc: Global) -> Result<Command<'a>, AllocError>
+    ensures app { IfOk result (λ command. app_of command ≡ command_app names.Autgroup) }
+    ensures local { IfOk result (λ command. (fields_of command).has_globals ≡ false) }
+{
+    with_all_limits(
+        alloc,
+        labelled(alloc, Name::Autgroup).arg(file_argument(alloc))?,
+    )
 }
 
 /// `gpaxioms FILE`.

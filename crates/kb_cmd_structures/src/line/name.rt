@@ -8,6 +8,8 @@ use kb_task::help_end;
 /// A command on automatic structures, without its arguments.
 #[derive(Clone, Copy)]
 pub(crate) enum Name {
+    /// `autgroup`
+    Autgroup,
     /// `gpaxioms`
     Gpaxioms,
 }
@@ -24,7 +26,7 @@ pub(crate) struct Label<'a> {
 }
 
 /// The commands, in the order in which the program lists them.
-pub(crate) const NAMES: [Name; 1] = [Name::Gpaxioms];
+pub(crate) const NAMES: [Name; 2] = [Name::Autgroup, Name::Gpaxioms];
 
 impl Name {
     /// The command of this name.
@@ -33,6 +35,7 @@ impl Name {
         ensures none { result ≡ None → (other : Name) → text.now ≢ name_text other }
     {
         match text {
+            "autgroup" => Some(Name::Autgroup),
             "gpaxioms" => Some(Name::Gpaxioms),
             _ => None,
         }
@@ -43,6 +46,18 @@ impl Name {
         ensures { result.text.now ≡ name_text self }
     {
         match self {
+            Name::Autgroup => Label {
+                text: "autgroup",
+                about: "Makes the word acceptor and the multipliers of the group in FILE, and reduces words to least words by them",
+                after_help: help_end!(
+                    "Stores FILE.wa, the canonical automaton of the group's least words, and FILE.m1, FILE.m2, .., the multipliers of the",
+                    "generators: of the pairs of least words that differ by the generator. Then each line of standard input is a word of the",
+                    "group, and out has its least word. Without words give < /dev/null. At a limit out has one line: `undecided rules U V`,",
+                    "`undecided length U V`, `undecided diffs D U V X P` or `undecided states WHICH`; FILE.kblog, the log, FILE.kbprog, the",
+                    "rules so far, and FILE.diff, the word differences, are stored, and no word is read.",
+                    "Example: echo \"d*c*D*C*b*a*B*A\" | kb autgroup examples/surface-2"
+                ),
+            },
             Name::Gpaxioms => Label {
                 text: "gpaxioms",
                 about: "Says whether the automata beside FILE are the word acceptor and the multipliers of the group in it",

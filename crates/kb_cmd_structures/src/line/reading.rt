@@ -6,10 +6,11 @@ ghost use Rattle.kb_cmd_structures.specs.Line.{IsRead};
 ghost use Rattle.kb_cmd_structures.specs.declared.line.name.Name.TheVariants as names;
 
 use super::name::Name;
+use crate::autgroup::Autgroup;
 use crate::gpaxioms::Gpaxioms;
 use crate::task::StructuresTask;
 use clap::ArgMatches;
-use kb_options::limits_given;
+use kb_options::{all_limits_given, limits_given};
 use kb_task::{NumberOption, option_given, text_given};
 use kb_word::{Memory, OwnedText};
 use std::alloc::Global;
@@ -23,8 +24,29 @@ pub(super) fn task_given(
     ensures { IfOk result (IsRead name (rows_of (found_of matches.now))) }
 {
     match name {
+        Name::Autgroup => autgroup_given(alloc, matches),
         Name::Gpaxioms => gpaxioms_given(alloc, matches),
     }
+}
+
+/// The command that the matches of `autgroup` give.
+fn autgroup_given(alloc: Global, matches: &ArgMatches<'_>) -> Result<Option<StructuresTask>, Memory>
+    ensures { IfOk result (IsRead names.Autgroup (rows_of (found_of matches.now))) }
+{
+    let Some(file) = text_given(matches, "file") else {
+        return Ok(None);
+    };
+    let Some(workers) = option_given(matches, NumberOption::Workers) else {
+        return Ok(None);
+    };
+    let Some(limits) = all_limits_given(matches) else {
+        return Ok(None);
+    };
+    Ok(Some(StructuresTask::Autgroup(Autgroup {
+        file: OwnedText::from_str(alloc, file)?,
+        workers,
+        limits,
+    })))
 }
 
 /// The command that the matches of `gpaxioms` give.
