@@ -2,3 +2,4 @@ pub mod Deciding
 pub mod Rounds
 pub mod Kept
 pub mod Autgroup
+pub mod Trials

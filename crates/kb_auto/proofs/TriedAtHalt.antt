@@ -1,0 +1,71 @@
+-- The differences of rules that were tried at a halt.
+use Rattle.std.proofs.Common.{◌≡◌, ℕ, zero, suc, List, [], ◌∷◌, ◌++◌, refl, sym, ap, ◌∙◌, subst}
+use Rattle.std.specs.Prelude.{map}
+use Rattle.std.proofs.lemmas.List.Elements.{All-append, All-cons, All-nil}
+use Rattle.kb_word.specs.Words.{Pair}
+use Rattle.kb_diff.specs.Groups.{AreRulesOver, Group, group_of}
+use Rattle.kb_diff.specs.Keeping.{AddsPairs}
+use Rattle.kb_diff.specs.Kept.{KeptDifferences}
+use Rattle.kb_diff.specs.declared.grow.Grow.{Grow}
+use Rattle.kb_kept.specs.Listed.{ArePathsOver, Lists, pair_of, rule_path, rule_paths}
+use Rattle.kb_kept.specs.declared.listing.Listing.{Listing}
+use Rattle.kb_kept.specs.declared.path.Path.{Path}
+use Rattle.kb_auto.specs.Autgroup.{HasFailed, IsTriedAtHalt}
+use Rattle.kb_auto.specs.Kept.{Tried}
+use Rattle.kb_auto.proofs.KeptPaths.{pairs_of_all, pairs_of_rules}
+use Rattle.kb_auto.proofs.PathsOver.{IsPathOver}
+
+-- the paths of rules over the generators are over them
+pub rule_paths_over : (n : ℕ) (rules : List Pair) → AreRulesOver n rules → ArePathsOver n (rule_paths rules)
+rule_paths_over n [] over = All-nil (IsPathOver n)
+rule_paths_over n (rule ∷ rules) over =
+    All-cons (IsPathOver n) (rule_path rule) (rule_paths rules) (over rule (0, refl))
+    (rule_paths_over n rules (λ other one. over other (suc one.0, one.1)))
+
+pub all_paths_over : (n : ℕ) (rules : List Pair) (rounds paths : List Path) → AreRulesOver n rules → ArePathsOver n rounds
+    → paths ≡ rule_paths rules ++ rounds → ArePathsOver n paths
+all_paths_over n rules rounds paths over rounds_over are =
+    let P : List Path → Type 0 = λ l. ArePathsOver n l in
+    subst P (sym are) (All-append (IsPathOver n) (rule_paths rules) rounds (rule_paths_over n rules over) rounds_over)
+
+-- what is added of the rules is added of their paths
+pub of_rule_paths : {group : Group} {most : ℕ} {words : List (List ℕ)} (rules : List Pair) (paths : List Path) (answer : Grow)
+    → paths ≡ rule_paths rules → AddsPairs group most rules ([] ∷ []) words answer
+    → AddsPairs group most (map pair_of paths) ([] ∷ []) words answer
+of_rule_paths {group = group} {most = most} {words = words} rules paths answer are adds =
+    let P : List Pair → Type 0 = λ pairs. AddsPairs group most pairs ([] ∷ []) words answer in
+    subst P (sym (ap (λ (l : List Path). map pair_of l) are ∙ pairs_of_rules rules)) adds
+
+pub of_all_paths : {group : Group} {most : ℕ} {words : List (List ℕ)} (rules : List Pair) (rounds paths : List Path) (answer : Grow)
+    → paths ≡ rule_paths rules ++ rounds → AddsPairs group most (rules ++ map pair_of rounds) ([] ∷ []) words answer
+    → AddsPairs group most (map pair_of paths) ([] ∷ []) words answer
+of_all_paths {group = group} {most = most} {words = words} rules rounds paths answer are adds =
+    let P : List Pair → Type 0 = λ pairs. AddsPairs group most pairs ([] ∷ []) words answer in
+    subst P (sym (ap (λ (l : List Path). map pair_of l) are ∙ pairs_of_all rules rounds)) adds
+
+-- the same, where the group and the limit go by other names
+pub by_own_names : {group own : Group} {most limit : ℕ} {pairs : List Pair} {words : List (List ℕ)} {answer : Grow} → own ≡ group
+    → limit ≡ most → AddsPairs group most pairs ([] ∷ []) words answer → AddsPairs own limit pairs ([] ∷ []) words answer
+by_own_names {group = group} {own = own} {most = most} {pairs = pairs} {words = words} {answer = answer} same count adds =
+    let G : Group → Type 0 = λ it. AddsPairs it most pairs ([] ∷ []) words answer in
+    let M : ℕ → Type 0 = λ it. AddsPairs own it pairs ([] ∷ []) words answer in
+    subst M (sym count) (subst G (sym same) adds)
+
+-- the rules that were tried, and their differences where they were first seen
+pub is_tried_at_halt : (tried : Tried) (differences : KeptDifferences) (answer : Grow) (paths : List Path) (listing : Listing)
+    → differences.group ≡ group_of tried.presentation tried.rules → differences.most ≡ tried.most
+    → AddsPairs differences.group differences.most tried.rules ([] ∷ []) differences.words answer
+    → paths ≡ rule_paths tried.rules → listing.paths.items ≡ paths → Lists differences.group differences.words listing
+    → HasFailed tried differences.words → IsTriedAtHalt tried listing
+is_tried_at_halt tried differences answer paths listing same most adds are listed lists failed =
+    let G : Group → Type 0 = λ it. AddsPairs it differences.most tried.rules ([] ∷ []) differences.words answer in
+    let M : ℕ → Type 0 = λ it. AddsPairs (group_of tried.presentation tried.rules) it tried.rules ([] ∷ []) differences.words answer in
+    let L : Group → Type 0 = λ it. Lists it differences.words listing in
+    record {
+      words = differences.words;
+      answer = answer;
+      keeps = subst M most (subst G same adds);
+      paths = listed ∙ are;
+      lists = subst L same lists;
+      failed = failed;
+    }

@@ -1,0 +1,171 @@
+//! Rounds by one list of rules.
+
+ghost use Rattle.std.specs.Prelude.{◌≡◌, ◌≤◌, IfOk, false, None};
+ghost use Rattle.kb_word.specs.Relations.{relations_of};
+ghost use Rattle.kb_word.specs.declared.word_order.WordOrder.TheVariants.{ShortLex};
+ghost use Rattle.kb_diff.specs.Groups.{AreRulesOver, EachInverts, group_of};
+ghost use Rattle.kb_labels.specs.Labels.{AreEqualSides};
+ghost use Rattle.kb_round.specs.Rounds.{RoundSays};
+ghost use Rattle.kb_system.specs.Problems.{limits_of};
+ghost use Rattle.kb_auto.specs.Autgroup.{tried_by};
+ghost use Rattle.kb_auto.specs.Trials.{Gathers, TrialSays};
+
+use crate::gathering::{Gathered, Gathering};
+use kb_book::Limits;
+use kb_diff::Differences;
+use kb_index::Index;
+use kb_reduced::reduced_complete_systems_are_complete;
+use kb_reducedrounds::{
+    rounds_by_reduced_systems_keep_more, rounds_by_reduced_systems_lack_images,
+};
+use kb_round::{Construction, Round, Structure, WatchRounds, round};
+use kb_rules::Rules;
+use kb_word::{Memory, Presentation};
+use std::alloc::Global;
+use std::sync::Wait;
+use std::thread::Threads;
+
+/// What rounds by one list of rules come to.
+#[derive(Drop)]
+pub(crate) enum Trial {
+    /// The group's own automatic structure.
+    Own(Structure),
+    /// As many differences are kept as may be, and another one is needed.
+    NoRoom(Gathered),
+    /// A construction would have more states than it may have.
+    Counted(Construction, Gathered),
+    /// The rules lead no further: more rounds would come to the same, or they have no more budget.
+    Stuck,
+}
+
+/// Makes rounds by rules of the group, each by the differences of the rules and of the failed rounds before. Where there
+/// is a budget, only so many failed rounds are gone by.
+pub(crate) fn try_rules<W: WatchRounds, T: Threads + Wait + Sync>(
+    rt: &T,
+    alloc: Global,
+    presentation: &Presentation,
+    rules: &Rules,
+    limits: &Limits,
+    budget: Option<u32>,
+    workers: u32,
+    watch: &mut W,
+) -> Result<Trial, Memory>
+    requires group { EachInverts presentation.now.n presentation.now.inv }
+    requires shortlex { presentation.now.order ≡ ShortLex }
+    requires letters { AreRulesOver presentation.now.n rules.now.rules }
+    requires sides { AreEqualSides (relations_of presentation.now.inv presentation.now.eqs)
+        rules.now.rules }
+    requires workers { (1 ≤ workers) × (workers ≤ 64) }
+    ensures { IfOk result (TrialSays (tried_by (limits_of limits.now) limits.now.diffs
+        presentation.now rules.now.rules) budget) }
+{
+    let (differences, answer) = Differences::from_rules(alloc, presentation, rules, limits.diffs)?;
+    let rounds = Vec::new(alloc);
+    let gathered = Gathered {
+        differences,
+        rounds,
+    };
+    if answer.is_full() {
+        return Ok(Trial::NoRoom(gathered));
+    }
+    try_rounds(
+        rt,
+        alloc,
+        presentation,
+        rules,
+        gathered,
+        limits,
+        budget,
+        workers,
+        watch,
+    )
+}
+
+/// Makes rounds by the differences that are kept so far, and by those of failed rounds.
+fn try_rounds<W: WatchRounds, T: Threads + Wait + Sync>(
+    rt: &T,
+    alloc: Global,
+    presentation: &Presentation,
+    rules: &Rules,
+    mut gathered: Gathered,
+    limits: &Limits,
+    budget: Option<u32>,
+    workers: u32,
+    watch: &mut W,
+) -> Result<Trial, Memory>
+    requires group { EachInverts presentation.now.n presentation.now.inv }
+    requires shortlex { presentation.now.order ≡ ShortLex }
+    requires letters { AreRulesOver presentation.now.n rules.now.rules }
+    requires sides { AreEqualSides (relations_of presentation.now.inv presentation.now.eqs)
+        rules.now.rules }
+    requires workers { (1 ≤ workers) × (workers ≤ 64) }
+    requires gathered { Gathers (tried_by (limits_of limits.now) limits.now.diffs
+        presentation.now rules.now.rules) gathered }
+    ensures { IfOk result (TrialSays (tried_by (limits_of limits.now) limits.now.diffs
+        presentation.now rules.now.rules) budget) }
+{
+    reduced_complete_systems_are_complete();
+    rounds_by_reduced_systems_lack_images();
+    rounds_by_reduced_systems_keep_more();
+    'rounds: loop {
+        let differences = &gathered.differences;
+        let states = limits.states;
+        match watched_round(
+            rt,
+            alloc,
+            presentation,
+            rules,
+            differences,
+            states,
+            workers,
+            watch,
+        )? {
+            Round::Own(structure) => return Ok(Trial::Own(structure)),
+            Round::TooManyStates(which) => return Ok(Trial::Counted(which, gathered)),
+            Round::Refuted(path) => {
+                if is_used_up(budget, gathered.rounds.len()) {
+                    return Ok(Trial::Stuck);
+                }
+                match gathered.gather(alloc, path)? {
+                    Gathering::More(more) => gathered = more,
+                    Gathering::NoRoom(full) => return Ok(Trial::NoRoom(full)),
+                    Gathering::Nothing => return Ok(Trial::Stuck),
+                }
+            }
+        }
+    }
+}
+
+/// Whether a budget of failed rounds is used up.
+fn is_used_up(budget: Option<u32>, rounds: usize) -> bool
+    ensures { budget ≡ None → result ≡ false }
+{
+    match budget {
+        Some(most) => rounds >= most as usize,
+        None => false,
+    }
+}
+
+/// Makes a round by differences of the rules, and lets somebody watch.
+pub(crate) fn watched_round<W: WatchRounds, T: Threads + Wait + Sync>(
+    rt: &T,
+    alloc: Global,
+    presentation: &Presentation,
+    rules: &Rules,
+    differences: &Differences<Index>,
+    states: u32,
+    workers: u32,
+    watch: &mut W,
+) -> Result<Round, Memory>
+    requires group { EachInverts presentation.now.n presentation.now.inv }
+    requires shortlex { presentation.now.order ≡ ShortLex }
+    requires same { differences.now.group ≡ group_of presentation.now rules.now.rules }
+    requires sides { AreEqualSides (relations_of presentation.now.inv presentation.now.eqs)
+        rules.now.rules }
+    requires workers { (1 ≤ workers) × (workers ≤ 64) }
+    ensures { IfOk result (RoundSays presentation.now rules.now.rules differences.now.words states) }
+{
+    let (made, figures) = round(rt, alloc, presentation, differences, states, workers)?;
+    watch.round_made(rules.len(), &figures);
+    Ok(made)
+}
