@@ -4,4 +4,4 @@ use Rattle.kb_cmd_structures.specs.Autgroup.{autgroup_promise}
 use Rattle.kb_cmd_structures.specs.Given.{AutgroupGiven}
 
 pub autgroup_lawful : (given : AutgroupGiven) → IsLawful autgroup_promise (autgroup_promise given)
-autgroup_lawful given = _
+autgroup_lawful given = ?
