@@ -136,6 +136,18 @@ def surface(genus):
     return group([(x, x.upper()) for x in letters], [(word, "IdWord")])
 
 
+def pentagon():
+    """The right-angled Artin group of a pentagon: each of five generators commutes with its two neighbours."""
+    letters = "abcde"
+    edges = [("b", "a"), ("e", "a"), ("c", "b"), ("d", "c"), ("e", "d")]
+    return group([(x, x.upper()) for x in letters], [(f"{x}*{y}", f"{y}*{x}") for x, y in edges])
+
+
+def free_abelian_in_another_order():
+    """The free abelian group of rank 2, both generators before both inverses: it has no finite complete system."""
+    return data.presentation(["a", "b", "A", "B"], ["A", "B", "a", "b"], "    [b*a,a*b]")
+
+
 def plactic(rank):
     """The plactic monoid of this rank, by Knuth's relations."""
     letters = "abcdefgh"[:rank]
