@@ -1,0 +1,4 @@
+pub mod NamedTexts
+pub mod LineRuns
+pub mod StoreRuns
+pub mod LoadedRuns

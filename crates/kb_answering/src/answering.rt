@@ -3,16 +3,18 @@
 ghost use Rattle.std.specs.Prelude.{◌≢◌, ℕ, List};
 ghost use Rattle.std.specs.List.{AllPairs, Contains};
 ghost use Rattle.kb_io.specs.Outside.{outside};
+ghost use Rattle.kb_io.specs.States.{ShelfState};
 ghost use Rattle.kb_task.specs.Runs.{IsRun};
 ghost use Rattle.kb_task.specs.Stores.{names_of, texts_of};
 ghost use Rattle.kb_system.specs.Completed.{IsLeastIn};
-ghost use Rattle.kb_answering.specs.Answers.{AnswersMean};
+ghost use Rattle.kb_answering.specs.Answers.{AnswersMean, LinesMean};
 
 use crate::concludes::Concludes;
+use crate::storing::store_all;
 use kb_io::{Shelf, Sink, Source};
-use kb_lines::Answerer;
+use kb_lines::{Answerer, answer_lines};
 use kb_progress::Progress;
-use kb_task::{Status, TextFile};
+use kb_task::{Status, TextFile, status_of};
 use std::alloc::Global;
 
 /// Stores the files that belong to a presentation, and answers the word lines with its least words.
@@ -38,13 +40,31 @@ pub fn store_and_answer<C: Concludes, A: Answerer, F: Shelf, I: Source, O: Sink,
         (outside (F.state shelf.old) (I.state input.old) (O.state out.old))
         (outside (F.state shelf.new) (I.state input.new) (O.state out.new)) result }
 {
-    let _ = alloc;
     let _ = command;
-    drop(files);
-    let _ = answerer;
-    let _ = progress;
-    let _ = shelf;
-    let _ = input;
-    let _ = out;
-    Status::Memory
+    match store_all(alloc, files, shelf) {
+        Ok(()) => {
+            progress.finish();
+            answer_words(alloc, answerer, input, out)
+        }
+        Err(status) => status,
+    }
+}
+
+/// Answers the word lines with least words.
+fn answer_words<A: Answerer, I: Source, O: Sink>(
+    alloc: Global,
+    answerer: &A,
+    input: &mut I,
+    out: &mut O,
+) -> Status
+    requires { (w m : List ℕ) → A.answers answerer.now w m
+        → IsLeastIn (A.parts answerer.now) w m }
+    ensures { (shelf : ShelfState) → IsRun (LinesMean (A.parts answerer.now)) (λ name. ⊥)
+        (outside shelf (I.state input.old) (O.state out.old))
+        (outside shelf (I.state input.new) (O.state out.new)) result }
+{
+    match answer_lines(alloc, answerer, input, out) {
+        Ok(()) => Status::Yes,
+        Err(stop) => status_of(stop),
+    }
 }

@@ -9,12 +9,17 @@
 //! [`store_and_answer`] and [`show_limit`] are runs by `AnswersMean` of `specs/Answers.antt`, which has what each status
 //! means. The laws that such runs keep, for the promise of the command, are in `specs/AnswerLaws.antt`.
 //!
+//! - `concludes` is what a command says of itself.
+//! - `answering` stores files and answers word lines, `showing` stores files and writes a line, and `storing` is what both
+//!   begin with.
+//!
 //! Below are `kb_lines`, which reads and answers lines, `kb_evidence`, and `kb_task`, with files and statuses.
 #![tactic(auto)]
 
 mod answering;
 mod concludes;
 mod showing;
+mod storing;
 
 pub use answering::store_and_answer;
 pub use concludes::Concludes;

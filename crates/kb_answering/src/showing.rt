@@ -10,10 +10,11 @@ ghost use Rattle.kb_task.specs.Stores.{names_of, texts_of};
 ghost use Rattle.kb_answering.specs.Answers.{AnswersMean};
 
 use crate::concludes::Concludes;
+use crate::storing::store_all;
 use kb_evidence::Evidence;
 use kb_io::{Shelf, Sink};
 use kb_progress::Progress;
-use kb_task::Status;
+use kb_task::{Status, print_line};
 use std::alloc::Global;
 
 /// Stores the files that show a limit, and writes the line that says so.
@@ -36,11 +37,13 @@ pub fn show_limit<C: Concludes, F: Shelf, O: Sink, E: Sink>(
         (outside (F.state shelf.old) input (O.state out.old))
         (outside (F.state shelf.new) input (O.state out.new)) result }
 {
-    let _ = alloc;
     let _ = command;
-    drop(shown);
-    let _ = progress;
-    let _ = shelf;
-    let _ = out;
-    Status::Memory
+    let Evidence { limit, files, line } = shown;
+    match store_all(alloc, files, shelf) {
+        Ok(()) => {
+            progress.finish();
+            print_line(&line, Status::Undecided(limit), out)
+        }
+        Err(status) => status,
+    }
 }

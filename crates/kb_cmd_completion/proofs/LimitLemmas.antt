@@ -1,6 +1,6 @@
 -- What shows a limit, and the names of the files that are stored.
-use Rattle.std.proofs.Common.{◌≡◌, ◌≢◌, ℕ, List, sym, subst}
-use Rattle.std.specs.List.{AllPairs}
+use Rattle.std.proofs.Common.{◌≡◌, ◌≢◌, ◌⊎◌, inl, inr, ℕ, List, sym, subst}
+use Rattle.std.specs.List.{AllPairs, Contains}
 use Rattle.kb_word.specs.Words.{Pair}
 use Rattle.kb_word.specs.Presentations.{PresentationParts}
 use Rattle.kb_machine.specs.declared.line.Line.{Line}
@@ -11,10 +11,11 @@ use Rattle.kb_task.specs.declared.status.Limit.{Limit}
 use Rattle.kb_task.specs.declared.status.Limit.TheVariants.{States}
 use Rattle.kb_system.specs.Evidence.{Limits, IsHalted, IsTooLarge}
 use Rattle.kb_system.specs.declared.ending.Reached.{Reached}
-use Rattle.kb_evidence.specs.FileLaws.{both_differ, rules_beside_acceptor, log_beside_rules}
+use Rattle.kb_evidence.specs.FileLaws.{both_differ, contained_cases, rules_beside_acceptor, log_beside_rules}
 use Rattle.kb_evidence.specs.Files.{rules_file, acceptor_file, log_file, halted_texts, too_large_texts, limit_of}
 use Rattle.kb_cmd_completion.specs.Files.{AreCompleted, ShowsLimit, halted, too_large}
 use Rattle.kb_cmd_completion.specs.Given.{KbprogGiven}
+use Rattle.kb_cmd_completion.specs.Kbprog.{kbprog_may_store}
 use Rattle.kb_evidence.specs.declared.evidence.Evidence.{Evidence}
 
 -- ---- a limit
@@ -83,3 +84,24 @@ pub completed_differ : (file : List ℕ) (parts : PresentationParts) (texts : Li
 completed_differ file parts texts completed =
     subst (λ (t : List Text). AllPairs (λ (one other : List ℕ). one ≢ other) (names_of t)) (sym completed.are)
     (both_differ (rules_file file) (acceptor_file file) (rules_beside_acceptor file))
+
+-- the command may store the files of a completed presentation
+pub completed_may : (given : KbprogGiven) (parts : PresentationParts) (texts : List Text) → AreCompleted given.file parts texts → (name : List ℕ)
+    → Contains (names_of texts) name → kbprog_may_store given name
+completed_may given parts texts completed name here =
+    elim (contained_cases (rules_file given.file) (acceptor_file given.file) name (subst (λ t. Contains (names_of t) name) completed.are here)) [
+      | inl is ↦ inl (sym is)
+      | inr is ↦ inr (inl (sym is))
+    ]
+
+evidence_may : (given : KbprogGiven) (name : List ℕ) → (log_file given.file ≡ name) ⊎ (rules_file given.file ≡ name) → kbprog_may_store given name
+evidence_may given name (inl is) = inr (inr (sym is))
+evidence_may given name (inr is) = inl (sym is)
+
+-- and those that show a limit
+pub shows_may : (given : KbprogGiven) (parts : PresentationParts) (limit : Limit) (texts : List Text) (line : List ℕ)
+    → ShowsLimit given.limits given.file parts limit texts line → (name : List ℕ) → Contains (names_of texts) name → kbprog_may_store given name
+shows_may given parts limit texts line (halted is) name here =
+    evidence_may given name (contained_cases (log_file given.file) (rules_file given.file) name here)
+shows_may given parts limit texts line (too_large is) name here =
+    evidence_may given name (contained_cases (log_file given.file) (rules_file given.file) name here)

@@ -2,7 +2,8 @@
 //!
 //! The public contract is that of `kb_task::Task`, with what each command's statuses mean in
 //! `specs/`: `kbprog` stores the rules and the word acceptor of the completed presentation and
-//! answers word lines by them, or stores what shows that a limit was reached (`Kbprog`, `Files`);
+//! answers word lines by them, or stores what shows that a limit was reached (`Kbprog`, `Files`, and `AnswersMean` of
+//! `kb_answering`);
 //! `logread` says what a log that was stored holds (`Logread`); `selftest` completes a free abelian
 //! group and counts its rules and its acceptor's states (`SelfTest`). By the laws of
 //! `Task` a yes is one function of the command and its files: which limit is reached may depend on
@@ -16,7 +17,7 @@
 //!
 //! Below are `kb_system`, which completes presentations, `kb_progress`, which shows how far that has come,
 //! `kb_freeabelian`, which makes what `selftest` completes, `kb_proof`, which prints and reads logs, `kb_evidence`, with the
-//! names of files and what shows a limit, and `kb_task`.
+//! names of files and what shows a limit, `kb_answering`, which stores files and answers word lines, and `kb_task`.
 #![tactic(auto)]
 
 mod conclusion;

@@ -6,8 +6,10 @@ use Rattle.kb_task.specs.Loads.{EndsAtLoad}
 use Rattle.kb_task.specs.Presentations.{HoldsPresentation, IsPresentationFault}
 use Rattle.kb_task.specs.declared.status.Status.TheVariants.{Memory}
 use Rattle.kb_task.proofs.RunLemmas.{unchanged-loads, run-ends}
+use Rattle.kb_answering.proofs.LoadedRuns.{nothing-run}
 use Rattle.kb_cmd_completion.specs.Given.{KbprogGiven}
-use Rattle.kb_cmd_completion.proofs.RunLemmas.{nothing-run, run-loaded, run-unloaded}
+use Rattle.kb_cmd_completion.specs.Kbprog.{kbprog_own, kbprog_shows}
+use Rattle.kb_cmd_completion.proofs.RunLemmas.{run-held, run-unloaded}
 use Rattle.kb_cmd_completion.proofs.kbprog.Kbprog.run.Goals as goal
 
 pub returns-in_default : goal.returns-in_default
@@ -15,7 +17,7 @@ returns-in_default g c =
     run-unloaded c.args.self (g.F.Shelf.state c.args.shelf.now) (g.I.Source.state c.args.input.now) (g.O.Sink.state c.args.out.now)
 
 pub conclude-requires : goal.conclude-requires
-conclude-requires g c = (c.args.self, parts_of c.in-Ok-load_presentation.presentation, c.in-Ok-complete.ensures)
+conclude-requires g c = (parts_of c.in-Ok-load_presentation.presentation, c.in-Ok-complete.ensures)
 
 pub returns-in-Ok-complete : goal.returns-in-Ok-complete
 returns-in-Ok-complete g c =
@@ -29,9 +31,9 @@ returns-in-Ok-complete g c =
     let parts : PresentationParts = parts_of c.in-Ok-load_presentation.presentation in
     let loads = c.load_presentation.ensures.only_loads in
     let file : c.in-Ok.file ≡ given.file = c.in-Ok.ensures ∙ ap (λ (it : KbprogGiven). it.file) c.self.view_is in
-    run-loaded given parts shelf loaded input output loads after c.conclude.result
+    run-held given parts shelf loaded input output loads after c.conclude.result
     (λ told. subst (λ (name : List ℕ). HoldsPresentation shelf.holds name parts) file (c.in-Ok-load_presentation.ensures.holds told))
-    (c.conclude.ensures given parts c.in-Ok-complete.ensures)
+    (c.conclude.ensures parts c.in-Ok-complete.ensures)
 
 pub returns-in-Ok-load_presentation : goal.returns-in-Ok-load_presentation
 returns-in-Ok-load_presentation g c =
@@ -43,9 +45,9 @@ returns-in-Ok-load_presentation g c =
     let parts : PresentationParts = parts_of c.in-Ok-load_presentation.presentation in
     let loads = c.load_presentation.ensures.only_loads in
     let file : c.in-Ok.file ≡ given.file = c.in-Ok.ensures ∙ ap (λ (it : KbprogGiven). it.file) c.self.view_is in
-    run-loaded given parts shelf loaded input output loads (outside loaded input output) Memory
+    run-held given parts shelf loaded input output loads (outside loaded input output) Memory
     (λ told. subst (λ (name : List ℕ). HoldsPresentation shelf.holds name parts) file (c.in-Ok-load_presentation.ensures.holds told))
-    (nothing-run given parts loaded input output)
+    (nothing-run (kbprog_own given) (kbprog_shows given) parts loaded input output)
 
 pub returns : goal.returns
 returns g c =

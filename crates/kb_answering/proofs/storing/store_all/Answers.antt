@@ -2,8 +2,8 @@ use Rattle.std.proofs.Common.{List, subst}
 use Rattle.kb_io.specs.Outside.{outside}
 use Rattle.kb_task.specs.Stores.{Text, texts_of}
 use Rattle.kb_task.specs.declared.status.Status.{Status}
-use Rattle.kb_cmd_completion.proofs.RunLemmas.{StoresAll, other-no_yes}
-use Rattle.kb_cmd_completion.proofs.kbprog.store_all.Goals as goal
+use Rattle.kb_answering.proofs.StoreRuns.{StoresAll, other-no_yes}
+use Rattle.kb_answering.proofs.storing.store_all.Goals as goal
 
 pub returns-in-Yes-clause-ok : goal.returns-in-Yes-clause-ok
 returns-in-Yes-clause-ok g c = λ input output.
