@@ -1,4 +1,5 @@
 pub mod LineLemmas
+pub mod OverLemmas
 pub mod ProgressLemmas
 pub mod ReadingLemmas
 pub mod UniqueLemmas

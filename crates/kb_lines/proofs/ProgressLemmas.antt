@@ -4,7 +4,7 @@ use Rattle.kb_io.specs.Bytes.{newline, AppendsPrefix}
 use Rattle.kb_io.specs.States.{SinkState}
 use Rattle.kb_word.specs.Presentations.{PresentationParts}
 use Rattle.kb_record.specs.declared.error.WordError.{WordError}
-use Rattle.kb_lines.specs.WordLines.{IsOneLine, ended, LineGives, LinesGive, AddsGiven}
+use Rattle.kb_lines.specs.WordLines.{IsOneLine, ended, LinesGive, AddsGiven}
 use Rattle.kb_lines.specs.Progress.{IsReady, PendingGoesOn, LineEnds, LineFront, LineRefused, LineStops, Advances, FrontIn, RefusesIn, StopsIn}
 use Rattle.kb_lines.specs.declared.progress.Progress.{Progress}
 use Rattle.kb_lines.specs.declared.stop.Stop.{Stop}

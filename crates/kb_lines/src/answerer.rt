@@ -1,7 +1,8 @@
 //! What answers a word.
 
-ghost use Rattle.std.specs.Prelude.{◌≡◌, ℕ, List, OnOk};
+ghost use Rattle.std.specs.Prelude.{◌≡◌, ℕ, List, length, OnOk};
 ghost use Rattle.kb_word.specs.Presentations.{PresentationParts, parts_of};
+ghost use Rattle.kb_word.specs.Relations.{IsOver};
 
 use kb_word::{Memory, Word};
 use kb_wordreader::WordReader;
@@ -27,5 +28,6 @@ pub trait Answerer {
 
     /// Replaces a word by an answer to it. After want of memory the word is of no use.
     fn answer(&self, word: &mut Word, workspace: &mut Self::Workspace) -> Result<(), Memory>
+        requires over { IsOver (length (parts self.now).names) word.old }
         ensures { OnOk result (answers self.now word.old word.new) };
 }
