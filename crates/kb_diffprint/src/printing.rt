@@ -1,10 +1,12 @@
 //! Differences as text.
 
-ghost use Rattle.std.specs.Prelude.{◌≡◌, ◌++◌, IfOk, OnOk};
-ghost use Rattle.kb_diffprint.specs.Printed.{text_of_differences, text_of_seen};
+ghost use Rattle.std.specs.Prelude.{◌≡◌, true, [], ◌∷◌, ◌++◌, IfOk, OnOk, decimal, slice_get};
+ghost use Rattle.kb_word.specs.Printed.{text_of_word};
+ghost use Rattle.kb_diffprint.specs.Printed.{text_of_differences, text_of_kept, text_of_needed, text_of_path, text_of_seen, word_of};
 
+use itoa::Buffer;
 use kb_kept::{Listing, Path, Seen};
-use kb_word::{Memory, Names};
+use kb_word::{Letter, Memory, Names, Word, print_word};
 use std::alloc::Global;
 
 /// The text of a listing. It ends with the difference that is needed, where that is asked for and there is one.
@@ -17,11 +19,12 @@ pub fn print_differences(
     ensures { IfOk result (λ text. text.items
         ≡ text_of_differences names.now listing.now with_needed) }
 {
-    let _ = alloc;
-    let _ = names;
-    let _ = listing;
-    let _ = with_needed;
-    Err(Memory)
+    let mut text = Vec::from_slice(alloc, b"diff 1\n1 IdWord\n")?;
+    print_kept(names, &listing.paths, &listing.kept, &mut text)?;
+    if with_needed {
+        print_needed(names, listing, &mut text)?;
+    }
+    Ok(text)
 }
 
 /// Appends a difference, the words of its path with the generator between them, and the place.
@@ -34,9 +37,86 @@ pub fn print_seen(
     ensures { OnOk result
         (text.new.items ≡ text.old.items ++ text_of_seen names.now paths.now seen.now) }
 {
-    let _ = names;
-    let _ = paths;
-    let _ = seen;
-    let _ = text;
-    Err(Memory)
+    print_field(names, &seen.word, text)?;
+    print_path(names, paths, seen.path, text)?;
+    print_number(seen.place, text)
+}
+
+/// Appends the lines of differences, numbered from 2 on.
+fn print_kept(
+    names: &Names,
+    paths: &[Path],
+    kept: &[Seen],
+    text: &mut Vec<u8>,
+) -> Result<(), Memory>
+    ensures { OnOk result
+        (text.new.items ≡ text.old.items ++ text_of_kept names.now paths.now 2 kept.now) }
+{
+    for (index, seen) in kept.iter().enumerate() {
+        print_number(index + 2, text)?;
+        text.push(b' ')?;
+        print_seen(names, paths, seen, text)?;
+        text.push(b'\n')?;
+    }
+    Ok(())
+}
+
+/// Appends the line of the difference that is needed, where there is one.
+fn print_needed(names: &Names, listing: &Listing, text: &mut Vec<u8>) -> Result<(), Memory>
+    ensures { OnOk result (text.new.items ≡ text.old.items
+        ++ text_of_needed names.now listing.now.paths.items listing.now.needed true) }
+{
+    if let Some(needed) = &listing.needed {
+        text.extend_from_slice(b"need ")?;
+        print_seen(names, &listing.paths, needed, text)?;
+        text.push(b'\n')?;
+    }
+    Ok(())
+}
+
+/// Appends the words of the path at an index and its generator, each with a blank behind it.
+fn print_path(names: &Names, paths: &[Path], index: usize, text: &mut Vec<u8>) -> Result<(), Memory>
+    ensures { OnOk result (text.new.items
+        ≡ text.old.items ++ text_of_path names.now (slice_get paths.now index)) }
+{
+    let Some(path) = paths.get(index) else {
+        return Ok(());
+    };
+    print_field(names, &path.u, text)?;
+    print_field(names, &path.v, text)?;
+    print_generator(names, path.x, text)?;
+    text.push(b' ')?;
+    Ok(())
+}
+
+/// Appends a generator, or the empty word where there is none.
+fn print_generator(names: &Names, x: Option<Letter>, text: &mut Vec<u8>) -> Result<(), Memory>
+    ensures { OnOk result
+        (text.new.items ≡ text.old.items ++ text_of_word names.now (word_of x)) }
+{
+    let name = match x {
+        Some(x) => names.name_of(x).unwrap_or(""),
+        None => "IdWord",
+    };
+    text.extend_from_slice(name.as_bytes())?;
+    Ok(())
+}
+
+/// Appends a word with a blank behind it.
+fn print_field(names: &Names, word: &Word, text: &mut Vec<u8>) -> Result<(), Memory>
+    ensures { OnOk result
+        (text.new.items ≡ text.old.items ++ (text_of_word names.now word.now ++ 32 ∷ [])) }
+{
+    print_word(names, word, text)?;
+    text.push(b' ')?;
+    Ok(())
+}
+
+/// Appends a number.
+fn print_number(number: usize, text: &mut Vec<u8>) -> Result<(), Memory>
+    ensures { OnOk result (text.new.items ≡ text.old.items ++ decimal number) }
+{
+    let mut buffer = Buffer::new();
+    text.extend_from_slice(buffer.format(number).as_bytes())?;
+    Ok(())
 }

@@ -13,7 +13,8 @@
 //!   one. `AreListed` of `specs/Listed.antt` says what such a listing is, without how it was made: exactly the
 //!   differences of the paths, in the order of paths and places, up to the one for which there was no room.
 //!
-//! Below is `kb_diff`, which keeps differences.
+//! The listing is made with a set of the words that are known; `specs/Finding.antt` says what is found up to a place and
+//! what is left to find. Below is `kb_diff`, which keeps differences.
 #![tactic(auto)]
 
 mod listing;
