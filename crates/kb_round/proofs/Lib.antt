@@ -1,0 +1,3 @@
+pub mod LedWords
+pub mod DifferenceStructures
+pub mod CanonicalForms

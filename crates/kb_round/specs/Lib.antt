@@ -1,1 +1,3 @@
+pub mod Reduced
 pub mod Rounds
+pub mod Shown

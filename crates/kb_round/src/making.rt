@@ -1,1 +1,83 @@
 //! The automata of word differences.
+
+ghost use Rattle.std.specs.Prelude.{◌≡◌, All, Ok, None, IfOk, IfSome};
+ghost use Rattle.kb_word.specs.declared.word_order.WordOrder.TheVariants.{ShortLex};
+ghost use Rattle.kb_fsa.specs.Canonical.{IsCanonical};
+ghost use Rattle.kb_fsa.specs.declared.alphabet.Alphabet.TheVariants.{Plain};
+ghost use Rattle.kb_diff.specs.Steps.{AreSteps};
+ghost use Rattle.kb_diff.specs.Tables.{step_in};
+ghost use Rattle.kb_diffwa.specs.Multipliers.{AreMultipliers, CountedPlaces};
+ghost use Rattle.kb_diffwa.specs.Rivals.{CountedRivals};
+ghost use Rattle.kb_round.specs.Reduced.{AreCanonicalForms};
+ghost use Rattle.kb_round.specs.Rounds.{IsAcceptorOf};
+
+use kb_diff::{Differences, Machine};
+use kb_diffwa::{acceptor, multipliers};
+use kb_explore::Det;
+use kb_fsa::Fsa;
+use kb_fsamin::canonical;
+use kb_rules::Reducer;
+use kb_word::Memory;
+use std::alloc::Global;
+
+/// The canonical word acceptor of the differences; none where it counts more states than the limit.
+pub(crate) fn canonical_acceptor<R: Reducer>(
+    alloc: Global,
+    differences: &Differences<R>,
+    machine: &Machine,
+    limit: u32,
+) -> Result<Option<Fsa>, Memory>
+    requires order { differences.now.group.order ≡ ShortLex }
+    requires steps { AreSteps differences.now.group differences.now.words (step_in machine.now) }
+    ensures found { IfOk result (λ found.
+        IfSome found (IsAcceptorOf differences.now.group differences.now.words)) }
+    ensures none { result ≡ Ok None
+        → CountedRivals differences.now.group differences.now.words limit }
+{
+    match acceptor(alloc, differences, machine, limit) {
+        Ok(explored) => Ok(Some(canonical(alloc, &explored)?)),
+        Err(Det::TooManyStates { .. }) => Ok(None),
+        Err(Det::Memory) => Err(Memory),
+    }
+}
+
+/// The canonical multipliers of the differences over their acceptor; none where they count more states than the limit.
+pub(crate) fn canonical_multipliers<R: Reducer>(
+    alloc: Global,
+    differences: &Differences<R>,
+    machine: &Machine,
+    acceptor: &Fsa,
+    limit: u32,
+) -> Result<Option<Vec<Fsa>>, Memory>
+    requires steps { AreSteps differences.now.group differences.now.words (step_in machine.now) }
+    requires alphabet { acceptor.now.alphabet ≡ Plain differences.now.group.n }
+    ensures multiply { IfOk result (λ found. IfSome found (λ multipliers. AreMultipliers
+        differences.now.group differences.now.words acceptor.now differences.now.group.n
+        multipliers.items)) }
+    ensures canonical { IfOk result (λ found. IfSome found (λ multipliers.
+        All (λ multiplier. IsCanonical multiplier.table) multipliers.items)) }
+    ensures none { result ≡ Ok None
+        → CountedPlaces differences.now.group differences.now.words acceptor.now.table limit }
+{
+    match multipliers(alloc, differences, machine, acceptor, limit) {
+        Ok(explored) => Ok(Some(canonical_each(alloc, explored)?)),
+        Err(Det::TooManyStates { .. }) => Ok(None),
+        Err(Det::Memory) => Err(Memory),
+    }
+}
+
+/// The canonical automata of the same languages. Each automaton is let go as soon as its canonical form stands.
+fn canonical_each(alloc: Global, explored: Vec<Fsa>) -> Result<Vec<Fsa>, Memory>
+    ensures { IfOk result (λ reduced. AreCanonicalForms explored.items reduced.items) }
+{
+    let mut reduced = Vec::with_capacity(alloc, explored.len())?;
+    for fsa in explored {
+        reduced.push(canonical(alloc, &fsa)?)?;
+    }
+    Ok(reduced)
+}
+
+/// How many states the largest of the automata has.
+pub(crate) fn largest(automata: &[Fsa]) -> u32 {
+    automata.iter().map(|fsa| fsa.len()).max().unwrap_or(0)
+}

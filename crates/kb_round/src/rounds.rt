@@ -5,9 +5,12 @@ ghost use Rattle.kb_word.specs.Relations.{relations_of};
 ghost use Rattle.kb_word.specs.declared.word_order.WordOrder.TheVariants.{ShortLex};
 ghost use Rattle.kb_diff.specs.Groups.{EachInverts, group_of};
 ghost use Rattle.kb_labels.specs.Labels.{AreEqualSides};
-ghost use Rattle.kb_round.specs.Rounds.{RoundSays};
+ghost use Rattle.kb_round.specs.Rounds.{AreMadeOf, RoundSays};
 
-use crate::answers::{Figures, Round};
+use crate::answers::{Construction, Figures, Round, Structure};
+use crate::making::{canonical_acceptor, canonical_multipliers, largest};
+use crate::showing::path_of;
+use kb_axioms::{Automata, automata_that_pass_are_the_groups_own, check_automata};
 use kb_diff::Differences;
 use kb_rules::Reducer;
 use kb_word::{Memory, Presentation};
@@ -35,11 +38,73 @@ pub fn round<R: Reducer, T: Threads + Wait + Sync>(
     ensures { IfOk result (λ answer. RoundSays presentation.now differences.now.group.rules
         differences.now.words limit answer.0) }
 {
-    let _ = rt;
-    let _ = alloc;
-    let _ = presentation;
-    let _ = differences;
-    let _ = limit;
-    let _ = workers;
-    Err(Memory)
+    let mut figures = Figures {
+        differences: differences.len(),
+        acceptor: 0,
+        multiplier: 0,
+    };
+    let machine = differences.machine(alloc)?;
+    let Some(acceptor) = canonical_acceptor(alloc, differences, &machine, limit)? else {
+        return Ok((Round::TooManyStates(Construction::Acceptor), figures));
+    };
+    figures.acceptor = acceptor.len();
+    let Some(multipliers) =
+        canonical_multipliers(alloc, differences, &machine, &acceptor, limit)?
+    else {
+        return Ok((Round::TooManyStates(Construction::Multipliers), figures));
+    };
+    figures.multiplier = largest(&multipliers);
+    // The check has more need of the memory.
+    drop(machine);
+    let structure = Structure {
+        acceptor,
+        multipliers,
+    };
+    let round = checked(rt, alloc, presentation, differences, structure, limit, workers)?;
+    Ok((round, figures))
+}
+
+/// What the check finds of the automata of word differences.
+fn checked<R: Reducer, T: Threads + Wait + Sync>(
+    rt: &T,
+    alloc: Global,
+    presentation: &Presentation,
+    differences: &Differences<R>,
+    structure: Structure,
+    limit: u32,
+    workers: u32,
+) -> Result<Round, Memory>
+    requires group { EachInverts presentation.now.n presentation.now.inv }
+    requires shortlex { presentation.now.order ≡ ShortLex }
+    requires sides { AreEqualSides (relations_of presentation.now.inv presentation.now.eqs)
+        differences.now.group.rules }
+    requires made { AreMadeOf (group_of presentation.now differences.now.group.rules)
+        differences.now.words structure.acceptor structure.multipliers.items }
+    requires workers { (1 ≤ workers) × (workers ≤ 64) }
+    ensures { IfOk result (RoundSays presentation.now differences.now.group.rules
+        differences.now.words limit) }
+{
+    automata_that_pass_are_the_groups_own();
+    // A use of the acceptor brings its invariant.
+    let _alphabet = structure.acceptor.alphabet();
+    let relations = presentation.relations(alloc)?;
+    match check_automata(
+        rt,
+        alloc,
+        &structure.acceptor,
+        &structure.multipliers,
+        &relations,
+        limit,
+        workers,
+    )? {
+        Automata::Pass => Ok(Round::Own(structure)),
+        Automata::No(cert) => Ok(Round::Refuted(path_of(
+            alloc,
+            differences.reducer(),
+            cert,
+        )?)),
+        Automata::TooManyStates { which } => {
+            Ok(Round::TooManyStates(Construction::Check(which)))
+        }
+    }
 }
