@@ -1,0 +1,10 @@
+mod Elements
+mod Letters
+mod Leading
+mod KeptDifferences
+mod LeastWords
+mod GeneratorForms
+mod SoundStructures
+mod Extensions
+mod MadeStructures
+mod Certificates

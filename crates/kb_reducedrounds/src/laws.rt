@@ -11,6 +11,8 @@ ghost use Rattle.kb_structure.specs.declared.cert.Cert.TheVariants.{N4};
 ghost use Rattle.kb_round.specs.Rounds.{IsRefuted};
 ghost use Rattle.kb_reducedrounds.specs.Kept.{KeepsReduced};
 
+use kb_reduced::reduced_complete_systems_are_complete;
+
 /// A certificate against the automata of a round by a reduced complete system, by all differences of its rules, is of
 /// the kind N4.
 pub fn rounds_by_reduced_systems_lack_images()
@@ -18,7 +20,9 @@ pub fn rounds_by_reduced_systems_lack_images()
         (cert : Cert) → KeepsReduced presentation rules words
         → IsRefuted presentation rules words limit cert
         → (x : ℕ) × (u : List ℕ) × (cert ≡ N4 x u) }
-{}
+{
+    reduced_complete_systems_are_complete();
+}
 
 /// The word without image and the normal form of its image are irreducible, and have a difference that isn't kept.
 pub fn rounds_by_reduced_systems_keep_more()
@@ -31,4 +35,6 @@ pub fn rounds_by_reduced_systems_keep_more()
         → IsRefuted presentation rules words limit (N4 x u)
         → NormalForm rules (u ++ x ∷ []) v
         → ¬ HaveDifferences (group_of presentation rules) words u v }
-{}
+{
+    reduced_complete_systems_are_complete();
+}

@@ -11,6 +11,18 @@
 //!   word without image.
 //! - [`rounds_by_reduced_systems_keep_more`] is the law that the words of its path are irreducible, and have a difference
 //!   that isn't kept. So each such round keeps one more, or finds no room for it.
+//!
+//! # Where things are
+//!
+//! In `specs/`, `Kept` says what is known of the rules and the differences. In `proofs/`, `Elements` has words as elements
+//! of the group, and their normal forms; `Leading` that words which lead by differences differ by what they lead to, and
+//! `KeptDifferences` that words whose differences are kept do lead so. `LeastWords` has which words are accepted,
+//! `GeneratorForms` that the normal form of each generator is kept, and `Extensions` where a word with its extension
+//! leads. By these the automata are a sound structure (`MadeStructures`), against which no certificate but a word without
+//! image is possible (`SoundStructures`, `Certificates`).
+//!
+//! Below are `kb_round` with the automata and their certificates, and `kb_reduced` with the law that reduced complete
+//! systems are complete.
 #![tactic(auto)]
 
 mod laws;
