@@ -2,3 +2,5 @@ pub mod RunLemmas
 pub mod LineLemmas
 pub mod LoadRuns
 pub mod FindingLemmas
+pub mod AutgroupNames
+pub mod AutgroupRuns
