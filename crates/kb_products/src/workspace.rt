@@ -23,6 +23,11 @@ impl Workspace {
             trails: Vec::new(alloc),
         }
     }
+
+    /// Whence it takes memory, for those who have no allocator of their own.
+    pub fn allocator(&self) -> Global {
+        *self.trails.allocator()
+    }
 }
 
 /// Makes as many trails, none of which knows a state.
