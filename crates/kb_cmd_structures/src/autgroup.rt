@@ -65,11 +65,11 @@ impl Task for Autgroup {
 impl Concludes for Autgroup {
     ghost use Rattle.kb_cmd_structures.specs.Autgroup.{AutgroupMayStore, autgroup_own, autgroup_shows};
 
-    ghost own = { λ task. autgroup_own task };
+    ghost own = { autgroup_own };
 
-    ghost shows = { λ task. autgroup_shows task };
+    ghost shows = { autgroup_shows };
 
-    ghost may_store = { λ task. AutgroupMayStore task };
+    ghost may_store = { AutgroupMayStore };
 }
 
 impl Autgroup {
@@ -123,7 +123,7 @@ fn find<T: Threads + Wait + Sync, G: Gate, E: Sink>(
 {
     let workers = Workers::of(task.workers, gate);
     let answer = autgroup(rt, alloc, &presentation, &task.limits, &workers, progress)?;
-    conclusion_of(alloc, &task.file, presentation, answer)
+    Ok(conclusion_of(alloc, task, presentation, answer)?)
 }
 
 /// Stores and writes what is to be stored and written.
