@@ -4,3 +4,5 @@ pub mod LoadRuns
 pub mod FindingLemmas
 pub mod AutgroupNames
 pub mod AutgroupRuns
+pub mod MadeStructures
+pub mod AutgroupLimits

@@ -13,6 +13,7 @@ ghost use Rattle.kb_cmd_structures.specs.Autgroup.{AutgroupMayStore, autgroup_ow
 ghost use Rattle.kb_cmd_structures.specs.Concluded.{ConcludesAs};
 
 use crate::conclusion::{Conclusion, conclusion_of};
+use crate::figures::figures_of_search;
 use kb_answering::{Concludes, show_limit, store_and_answer};
 use kb_auto::autgroup;
 use kb_book::Limits;
@@ -122,7 +123,9 @@ fn find<T: Threads + Wait + Sync, G: Gate, E: Sink>(
     ensures { IfOk result (ConcludesAs task.now (parts_of presentation)) }
 {
     let workers = Workers::of(task.workers, gate);
-    let answer = autgroup(rt, alloc, &presentation, &task.limits, &workers, progress)?;
+    let limits = &task.limits;
+    let answer = autgroup(rt, alloc, &presentation, limits, &workers, progress)?;
+    progress.ended(figures_of_search(&answer, limits));
     Ok(conclusion_of(alloc, task, presentation, answer)?)
 }
 

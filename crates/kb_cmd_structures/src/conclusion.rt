@@ -133,7 +133,9 @@ fn structure_files(
     let names = &presentation.names;
     let mut files = Vec::with_capacity(alloc, multipliers.len() + 1)?;
     files.push(automaton_file(alloc, acceptor_file(alloc, file)?, names, acceptor)?)?;
+    let n = presentation.n;
     for (place, multiplier) in multipliers.iter().enumerate() {
+        prove!(place < usize::from(n));
         let generator = Letter::new(place as u16 + 1);
         let name = multiplier_file(alloc, file, generator)?;
         files.push(automaton_file(alloc, name, names, multiplier)?)?;
