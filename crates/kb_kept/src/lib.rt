@@ -14,7 +14,9 @@
 //!   differences of the paths, in the order of paths and places, up to the one for which there was no room.
 //!
 //! The listing is made with a set of the words that are known; `specs/Finding.antt` says what is found up to a place and
-//! what is left to find. Below is `kb_diff`, which keeps differences.
+//! what is left to find.
+//!
+//! Below is `kb_diff`, which keeps differences.
 #![tactic(auto)]
 
 mod listing;
