@@ -1,10 +1,9 @@
 -- Canonical forms, automaton by automaton, and what stays so of them.
-use Rattle.std.proofs.Common.{◌≡◌, ◌↔◌, ℕ, suc, ◌<◌, ◌≤◌, All, List, [], ◌∷◌, ◌++◌, length, get_or, slice_get, Some, refl, sym, ap, ◌∙◌, subst, inl, inr, length-append, arith}
+use Rattle.std.proofs.Common.{◌≡◌, ℕ, suc, All, List, [], ◌∷◌, ◌++◌, get_or, slice_get, Some, refl, sym, ap, ◌∙◌, subst, inl, inr, length-append, arith}
 use Rattle.std.proofs.lemmas.List.Elements.{All-nil, All-from_get_or}
 use Rattle.std.proofs.lemmas.Option.{slice_get_within, slice_get-get_or}
-use Rattle.kb_word.specs.Relations.{IsOver}
 use Rattle.kb_fsa.specs.Canonical.{IsCanonical}
-use Rattle.kb_fsa.specs.Language.{AcceptsText, Automaton, SameLanguage, generators}
+use Rattle.kb_fsa.specs.Language.{AcceptsText, Automaton, generators}
 use Rattle.kb_fsa.specs.Padding.{padded}
 use Rattle.kb_fsa.specs.declared.alphabet.Alphabet.TheVariants.{Pair}
 use Rattle.kb_explore.proofs.Lists.{item_cases}

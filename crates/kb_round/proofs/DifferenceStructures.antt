@@ -157,10 +157,10 @@ module _ (presentation : Presentation) (rules : List Sides) (words : List (List 
   has_path is limit cert (n8 passes at) = tt
 
   -- where they pass they are the group's own
-  pub own_structure_made : IsAutomaton acceptor → (limit : ℕ) → presentation.order ≡ ShortLex
+  pub own_structure_made : (limit : ℕ) → presentation.order ≡ ShortLex
       → AreEqualSides (relations_of presentation.inv presentation.eqs) rules
       → PassesRelations (checked_in presentation acceptor multipliers limit) → IsOwnStructure presentation limit acceptor multipliers
-  own_structure_made is limit shortlex equal_sides passes = record {
+  own_structure_made limit shortlex equal_sides passes = record {
     words = made.accepts.alphabet;
     pairs = read_pairs;
     passes = passes;

@@ -3,7 +3,6 @@
 -- Theory, chapter 13.
 use Rattle.std.specs.Prelude.{◌≡◌, ℕ, All, List, [], ◌∷◌, ◌++◌, Some, None}
 use Rattle.kb_word.specs.Words.{Pair as Sides}
-use Rattle.kb_word.specs.Relations.{relations_of}
 use Rattle.kb_word.specs.Rewriting.{NormalForm}
 use Rattle.kb_word.specs.declared.presentation.Presentation.{Presentation}
 use Rattle.kb_fsa.specs.Canonical.{IsCanonical}

@@ -1,5 +1,4 @@
 -- Certificates that have a path.
-use Rattle.std.specs.Prelude.{ℕ, List}
 use Rattle.kb_structure.specs.declared.cert.Cert.{Cert}
 use Rattle.kb_structure.specs.declared.cert.Cert.TheVariants.{N1, N2, N3, N4, N5, N6, N7, N8}
 

@@ -35,7 +35,7 @@ pub enum Round {
     TooManyStates(Construction),
 }
 
-/// How large the automata of a round are.
+/// How large the automata of a round are. What was not made any more has no states.
 #[derive(Clone, Copy, Debug, PartialEq, Eq)]
 pub struct Figures {
     /// How many word differences they are made of.

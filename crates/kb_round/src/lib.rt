@@ -19,6 +19,14 @@
 //! rest of the check are the group's own. There is none of the kinds N1 and N2 either: which words are accepted depends
 //! on their factors, and a pair is accepted only where both of its words are.
 //!
+//! # Where things are
+//!
+//! In `specs/`, `Rounds` has what each answer says, `Reduced` what canonical forms of a list of automata are, and `Shown`
+//! which certificates have a path. In `proofs/`, `LedWords` shows that words which lead from one difference to another are
+//! the same element but for the two, and `DifferenceStructures` what is always so of these automata: that they are true to
+//! the group, and that there is no certificate N1 or N2 against them. `CanonicalForms` has that canonical forms of
+//! multipliers are multipliers too.
+//!
 //! Below are `kb_diffwa`, which makes the automata, `kb_fsamin`, which makes them canonical, and `kb_axioms` with the
 //! check.
 #![tactic(auto)]

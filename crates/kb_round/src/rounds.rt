@@ -10,7 +10,7 @@ ghost use Rattle.kb_round.specs.Rounds.{AreMadeOf, RoundSays};
 use crate::answers::{Construction, Figures, Round, Structure};
 use crate::making::{canonical_acceptor, canonical_multipliers, largest};
 use crate::showing::path_of;
-use kb_axioms::{Automata, automata_that_pass_are_the_groups_own, check_automata};
+use kb_axioms::{Automata, check_automata};
 use kb_diff::Differences;
 use kb_rules::Reducer;
 use kb_word::{Memory, Presentation};
@@ -48,8 +48,7 @@ pub fn round<R: Reducer, T: Threads + Wait + Sync>(
         return Ok((Round::TooManyStates(Construction::Acceptor), figures));
     };
     figures.acceptor = acceptor.len();
-    let Some(multipliers) =
-        canonical_multipliers(alloc, differences, &machine, &acceptor, limit)?
+    let Some(multipliers) = canonical_multipliers(alloc, differences, &machine, &acceptor, limit)?
     else {
         return Ok((Round::TooManyStates(Construction::Multipliers), figures));
     };
@@ -60,7 +59,15 @@ pub fn round<R: Reducer, T: Threads + Wait + Sync>(
         acceptor,
         multipliers,
     };
-    let round = checked(rt, alloc, presentation, differences, structure, limit, workers)?;
+    let round = checked(
+        rt,
+        alloc,
+        presentation,
+        differences,
+        structure,
+        limit,
+        workers,
+    )?;
     Ok((round, figures))
 }
 
@@ -84,7 +91,6 @@ fn checked<R: Reducer, T: Threads + Wait + Sync>(
     ensures { IfOk result (RoundSays presentation.now differences.now.group.rules
         differences.now.words limit) }
 {
-    automata_that_pass_are_the_groups_own();
     // A use of the acceptor brings its invariant.
     let _alphabet = structure.acceptor.alphabet();
     let relations = presentation.relations(alloc)?;
@@ -98,11 +104,7 @@ fn checked<R: Reducer, T: Threads + Wait + Sync>(
         workers,
     )? {
         Automata::Pass => Ok(Round::Own(structure)),
-        Automata::No(cert) => Ok(Round::Refuted(path_of(
-            alloc,
-            differences.reducer(),
-            cert,
-        )?)),
+        Automata::No(cert) => Ok(Round::Refuted(path_of(alloc, differences.reducer(), cert)?)),
         Automata::TooManyStates { which } => {
             Ok(Round::TooManyStates(Construction::Check(which)))
         }

@@ -29,12 +29,7 @@ pub(crate) fn path_of<R: Reducer>(alloc: Global, reducer: &R, cert: Cert) -> Res
 }
 
 /// The path of a word without image: from the word to the normal form of its product by the generator.
-fn without_image<R: Reducer>(
-    alloc: Global,
-    reducer: &R,
-    x: Letter,
-    u: Word,
-) -> Result<Path, Memory>
+fn without_image<R: Reducer>(alloc: Global, reducer: &R, x: Letter, u: Word) -> Result<Path, Memory>
     ensures { IfOk result (ShowsPath (R.rules reducer.now) (N4 x u)) }
 {
     let v = reducer.nf(alloc, &extended(alloc, &u, x)?)?;
