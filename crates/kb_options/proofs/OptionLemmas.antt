@@ -24,10 +24,10 @@ same_limits rows limits other a b =
 module _ (rows : List Row) (limits other : Limits) (most others : ℕ) (a : GivesAllLimits rows limits most)
     (b : GivesAllLimits rows other others) where
   pub same_all_limits : limits ≡ other
-  same_all_limits = same_limits rows limits other a.limits b.limits
+  same_all_limits = same_limits rows limits other a.completion b.completion
 
   pub same_most : most ≡ others
-  same_most = option_given-at rows MaxDiffs most a.most ∙ sym (option_given-at rows MaxDiffs others b.most)
+  same_most = option_given-at rows MaxDiffs most a.differences ∙ sym (option_given-at rows MaxDiffs others b.differences)
 
 pub same_workers : (rows : List Row) (workers other : ℕ) → GivesOption rows Workers workers
     → GivesOption rows Workers other → workers ≡ other
