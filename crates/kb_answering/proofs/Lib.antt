@@ -1,4 +1,3 @@
-pub mod NamedTexts
 pub mod LineRuns
 pub mod StoreRuns
 pub mod LoadedRuns

@@ -1,5 +1,5 @@
 -- A run that answers word lines, from how the answers ended.
-use Rattle.std.proofs.Common.{◌≡◌, ℕ, List, refl, sym, subst, arith}
+use Rattle.std.proofs.Common.{◌≡◌, refl, sym, subst, arith}
 use Rattle.kb_io.specs.Outside.{Outside, outside}
 use Rattle.kb_io.specs.States.{ShelfState}
 use Rattle.kb_word.specs.Presentations.{PresentationParts}

@@ -30,5 +30,5 @@ module _ (own : Own) (shows : Shows) (parts : PresentationParts) {MayStore : Lis
   run-loaded shelf loaded input output loads after status means run =
       run-after_loads shelf loaded input output loads {Then = AnswersMean own shows parts} after status run (λ name stored. stored)
       (λ told later. means told (
-        answers-later own shows parts shelf loaded input output (unchanged-loads shelf loaded input output loads) after status later
+      answers-later own shows parts shelf loaded input output (unchanged-loads shelf loaded input output loads) after status later
       ))

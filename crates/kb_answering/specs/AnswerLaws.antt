@@ -17,7 +17,7 @@ use Rattle.kb_task.specs.declared.status.Which.TheVariants.{Load, Store, Input, 
 use Rattle.kb_task.proofs.EffectLemmas.{unchanged-later}
 use Rattle.kb_system.specs.Completed.{IsLeastIn}
 use Rattle.kb_answering.specs.Answers.{Own, Shows, streams_of, HasStored, AnswersMean}
-use Rattle.kb_answering.proofs.NamedTexts.{named_or_not}
+use Rattle.kb_answering.specs.NamedTexts.{named_or_not}
 
 -- ---- what is unique
 
@@ -48,8 +48,13 @@ answers-complete own shows parts before after (Refused (RefusedLine number fault
     lines number fault means.1.means.refused
 answers-complete own shows parts before after (Refused InputTooLong) lines short faultless means =
     let more = means.1.means.0 in
-    omega (arith, more, short, ap length means.1.takes,
-      length-append means.1.taken after.input.left)
+    omega (
+      arith,
+      more,
+      short,
+      ap length means.1.takes,
+      length-append means.1.taken after.input.left,
+    )
 answers-complete own shows parts before after (Refused (File name fault)) lines short
     faultless means =
     means

@@ -1,2 +1,3 @@
 pub mod Answers
+pub mod NamedTexts
 pub mod AnswerLaws

@@ -17,7 +17,8 @@ use kb_progress::Progress;
 use kb_task::{Status, TextFile, status_of};
 use std::alloc::Global;
 
-/// Stores the files that belong to a presentation, and answers the word lines with its least words.
+/// Stores the files that belong to a presentation, and answers the word lines with its least words. Of the command
+/// nothing is read: it says what the run means.
 pub fn store_and_answer<C: Concludes, A: Answerer, F: Shelf, I: Source, O: Sink, E: Sink>(
     alloc: Global,
     command: &C,
@@ -40,7 +41,6 @@ pub fn store_and_answer<C: Concludes, A: Answerer, F: Shelf, I: Source, O: Sink,
         (outside (F.state shelf.old) (I.state input.old) (O.state out.old))
         (outside (F.state shelf.new) (I.state input.new) (O.state out.new)) result }
 {
-    let _ = command;
     match store_all(alloc, files, shelf) {
         Ok(()) => {
             progress.finish();

@@ -17,7 +17,8 @@ use kb_progress::Progress;
 use kb_task::{Status, print_line};
 use std::alloc::Global;
 
-/// Stores the files that show a limit, and writes the line that says so.
+/// Stores the files that show a limit, and writes the line that says so. Of the command nothing is read: it says what the
+/// run means.
 pub fn show_limit<C: Concludes, F: Shelf, O: Sink, E: Sink>(
     alloc: Global,
     command: &C,
@@ -37,7 +38,6 @@ pub fn show_limit<C: Concludes, F: Shelf, O: Sink, E: Sink>(
         (outside (F.state shelf.old) input (O.state out.old))
         (outside (F.state shelf.new) input (O.state out.new)) result }
 {
-    let _ = command;
     let Evidence { limit, files, line } = shown;
     match store_all(alloc, files, shelf) {
         Ok(()) => {
