@@ -1,5 +1,5 @@
 -- The names of the commands of completion, and of those on automatic structures, are apart from those of other families.
-use Rattle.std.proofs.Common.{◌≡◌, ◌≢◌, ◌∙◌, ℕ, sym, ap, arith, slice_index, refl, codes}
+use Rattle.std.proofs.Common.{◌≡◌, ◌≢◌, ◌<◌, ◌≤◌, ◌∙◌, ℕ, sym, ap, arith, slice_index, refl, codes}
 use Rattle.clap.specs.Words.{Text}
 use Rattle.kb_cmd_automata.specs.Line.{name_text as automata_text, name_of_task as automata_name}
 use Rattle.kb_cmd_automata.specs.declared.task.AutomataTask.{AutomataTask}
@@ -9,7 +9,7 @@ use Rattle.kb_cmd_completion.specs.declared.task.CompletionTask.{CompletionTask}
 use Rattle.kb_cmd_completion.specs.declared.task.CompletionTask.TheVariants.{Kbprog, Logread, SelfTest}
 use Rattle.kb_cmd_structures.specs.Line.{name_text as structures_text, name_of_task as structures_name}
 use Rattle.kb_cmd_structures.specs.declared.task.StructuresTask.{StructuresTask}
-use Rattle.kb_cmd_structures.specs.declared.task.StructuresTask.TheVariants.{Gpaxioms}
+use Rattle.kb_cmd_structures.specs.declared.task.StructuresTask.TheVariants.{Autgroup, Gpaxioms}
 
 first_byte : Text → ℕ
 first_byte text = slice_index text 0
@@ -56,37 +56,50 @@ not_automata task other same =
 
 -- ---- names on automatic structures
 
--- the first byte is that of g
-begins_with_g : (task : StructuresTask) → first_byte (structures_text (structures_name task)) ≡ 103
-unfolding first_byte
-begins_with_g (Gpaxioms task) = refl
+-- the first bytes are those of a and g
+abbrev structures_begin : StructuresTask → ℕ
+structures_begin (Autgroup task) = 97
+structures_begin (Gpaxioms task) = 103
 
-begin_below : (task : CompletionTask) → begin task ≢ 103
-begin_below (Kbprog task) same = omega (arith, same)
-begin_below (Logread task) same = omega (arith, same)
-begin_below (SelfTest task) same = omega (arith, same)
+structures_begins : (task : StructuresTask) → first_byte (structures_text (structures_name task)) ≡ structures_begin task
+unfolding first_byte
+structures_begins (Autgroup task) = refl
+structures_begins (Gpaxioms task) = refl
+
+structures_begin_other : (task : StructuresTask) → (structures_begin task ≢ 102) × (structures_begin task ≢ 119)
+structures_begin_other (Autgroup task) = (λ same. omega (arith, same), λ same. omega (arith, same))
+structures_begin_other (Gpaxioms task) = (λ same. omega (arith, same), λ same. omega (arith, same))
+
+-- the first bytes of completion's are above 103
+begin_above : (task : CompletionTask) → 103 < begin task
+begin_above (Kbprog task) = omega arith
+begin_above (Logread task) = omega arith
+begin_above (SelfTest task) = omega arith
+
+structures_begin_within : (task : StructuresTask) → structures_begin task ≤ 103
+structures_begin_within (Autgroup task) = omega arith
+structures_begin_within (Gpaxioms task) = omega arith
 
 pub structures_not_wordreduce : (task : StructuresTask) → codes "wordreduce" ≢ structures_text (structures_name task)
 structures_not_wordreduce task same =
     let bytes = ap first_byte same in
     let w = begins_with_w in
-    let own = begins_with_g task in
-    let apart : 119 ≡ 103 = sym w ∙ (bytes ∙ own) in
-    omega (arith, apart)
+    let own = structures_begins task in
+    (structures_begin_other task).1 (sym own ∙ (sym bytes ∙ w))
 
 pub structures_not_automata : (task : AutomataTask) (other : StructuresTask)
     → automata_text (automata_name task) ≢ structures_text (structures_name other)
 structures_not_automata task other same =
     let bytes = ap first_byte same in
     let f = begins_with_f task in
-    let own = begins_with_g other in
-    let apart : 102 ≡ 103 = sym f ∙ (bytes ∙ own) in
-    omega (arith, apart)
+    let own = structures_begins other in
+    (structures_begin_other other).0 (sym own ∙ (sym bytes ∙ f))
 
 pub structures_not_completion : (task : CompletionTask) (other : StructuresTask)
     → name_text (name_of_task task) ≢ structures_text (structures_name other)
 structures_not_completion task other same =
     let bytes = ap first_byte same in
     let first = begins task in
-    let own = begins_with_g other in
-    begin_below task (sym first ∙ (bytes ∙ own))
+    let own = structures_begins other in
+    let apart : begin task ≡ structures_begin other = sym first ∙ (bytes ∙ own) in
+    omega (arith, apart, begin_above task, structures_begin_within other)

@@ -66,7 +66,7 @@ Status 0 is a theorem: the answer to each word line is the least word equal to i
 /// What `--help` says after the list of commands.
 const AFTER_HELP: &str = "\
 Words and completion: wordreduce, kbprog, logread
-Automatic structures: gpaxioms
+Automatic structures: autgroup, gpaxioms
 Automata:             fsaand to fsaenumerate
 The program itself:   selftest, help
 

@@ -1,4 +1,4 @@
--- What the command line gives the command.
+-- What the command line gives each command.
 use Rattle.std.specs.Prelude.{ℕ, List}
 use Rattle.kb_system.specs.Evidence.{Limits}
 pub use Rattle.kb_system.specs.Problems.{limits_of}

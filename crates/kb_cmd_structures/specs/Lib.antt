@@ -7,6 +7,7 @@ pub mod Made
 pub mod Tried
 pub mod Autgroup
 pub mod Concluded
+pub mod OneStructure
 pub mod AutgroupLaws
 pub mod Gpaxioms
 pub mod GpaxiomsLaws

@@ -13,6 +13,7 @@ ghost use Rattle.kb_cmd_structures.specs.Autgroup.{AutgroupMayStore, autgroup_ow
 ghost use Rattle.kb_cmd_structures.specs.Concluded.{ConcludesAs};
 
 use crate::conclusion::{Conclusion, conclusion_of};
+use crate::figures::figures_of_search;
 use kb_answering::{Concludes, show_limit, store_and_answer};
 use kb_auto::autgroup;
 use kb_book::Limits;
@@ -65,11 +66,11 @@ impl Task for Autgroup {
 impl Concludes for Autgroup {
     ghost use Rattle.kb_cmd_structures.specs.Autgroup.{AutgroupMayStore, autgroup_own, autgroup_shows};
 
-    ghost own = { λ task. autgroup_own task };
+    ghost own = { autgroup_own };
 
-    ghost shows = { λ task. autgroup_shows task };
+    ghost shows = { autgroup_shows };
 
-    ghost may_store = { λ task. AutgroupMayStore task };
+    ghost may_store = { AutgroupMayStore };
 }
 
 impl Autgroup {
@@ -122,8 +123,10 @@ fn find<T: Threads + Wait + Sync, G: Gate, E: Sink>(
     ensures { IfOk result (ConcludesAs task.now (parts_of presentation)) }
 {
     let workers = Workers::of(task.workers, gate);
-    let answer = autgroup(rt, alloc, &presentation, &task.limits, &workers, progress)?;
-    conclusion_of(alloc, &task.file, presentation, answer)
+    let limits = &task.limits;
+    let answer = autgroup(rt, alloc, &presentation, limits, &workers, progress)?;
+    progress.ended(figures_of_search(&answer, limits));
+    Ok(conclusion_of(alloc, task, presentation, answer)?)
 }
 
 /// Stores and writes what is to be stored and written.

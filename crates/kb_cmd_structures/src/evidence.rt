@@ -1,12 +1,12 @@
 //! What shows a limit at which the search for a group's automatic structure ended.
 
-ghost use Rattle.std.specs.Prelude.{◌≡◌, ◌++◌, [], ◌∷◌, None, IfOk, true, false};
+ghost use Rattle.std.specs.Prelude.{◌≡◌, ◌++◌, [], ◌∷◌, IfOk, OnOk, true, false};
 ghost use Rattle.kb_word.specs.Presentations.{parts_of};
 ghost use Rattle.kb_task.specs.Limits.{undecided_line, undecided_words_line};
 ghost use Rattle.kb_task.specs.Stores.{text_of, texts_of};
 ghost use Rattle.kb_task.specs.declared.status.Limit.TheVariants.{Diffs, States};
 ghost use Rattle.kb_evidence.specs.Files.{halted_texts, limit_of};
-ghost use Rattle.kb_cmd_structures.specs.Tried.{counted_of, difference_text, needed_line, tried_texts};
+ghost use Rattle.kb_cmd_structures.specs.Tried.{counted_of, difference_text, needed_line, needed_text, tried_texts};
 
 use crate::finding::construction_of;
 use kb_diffprint::{print_differences, print_seen};
@@ -18,7 +18,7 @@ use kb_round::Construction as Counted;
 use kb_rules::Rules;
 use kb_system::Halted;
 use kb_task::{Construction, Limit, TextFile, undecided_line};
-use kb_word::{Letter, Memory, OwnedText, Presentation};
+use kb_word::{Letter, Memory, Names, OwnedText, Presentation};
 use std::alloc::Global;
 
 /// The completion reached a limit of its log.
@@ -162,9 +162,18 @@ fn needed_line(
     ensures { IfOk result (λ line. line.items ≡ needed_line presentation.now.names listing.now) }
 {
     let mut line = Vec::from_slice(alloc, b"undecided diffs ")?;
-    if let Some(needed) = &listing.needed {
-        print_seen(&presentation.names, &listing.paths, needed, &mut line)?;
-    }
+    append_needed(&presentation.names, listing, &mut line)?;
     line.push(b'\n')?;
     Ok(line)
+}
+
+/// Appends the difference that is needed where it was first seen, if there is one.
+fn append_needed(names: &Names, listing: &Listing, line: &mut Vec<u8>) -> Result<(), Memory>
+    ensures { OnOk result (line.new.items ≡ line.old.items
+        ++ needed_text names.now listing.now.paths.items listing.now.needed) }
+{
+    match &listing.needed {
+        Some(needed) => print_seen(names, &listing.paths, needed, line),
+        None => Ok(()),
+    }
 }

@@ -1,20 +1,39 @@
-//! The command on automatic structures: `gpaxioms FILE`.
+//! The commands on automatic structures: `autgroup FILE`, which makes that of a group, and `gpaxioms FILE`, which checks
+//! automata that may be it.
 //!
-//! The public contract is that of `kb_task::Task`, with what the command's statuses mean in `specs/Gpaxioms.antt`. It is
-//! given a group by a presentation, and automata that may be its word acceptor and its multipliers, in files beside that
-//! of the presentation (`specs/Loaded.antt`). A yes means that they are the group's own (`IsAutomaticStructure` of
-//! `kb_structure`), a no that they aren't, with the first certificate, whose line `specs/Lines.antt` has. By the laws of
-//! `Task` the files settle both, and no option changes them: there is one first certificate, and none against automata
-//! that are the group's own (`specs/FirstCertificates.antt`). At a limit of the completion its log and its rules are
-//! stored: there is no certificate but perhaps of the last kind, and the rules don't settle that.
+//! The public contract is that of `kb_task::Task`, with what the statuses mean in `specs/Autgroup.antt` and
+//! `specs/Gpaxioms.antt`. Both commands are given a group by a presentation. No option changes an answer yes or no; whether
+//! a limit is reached may depend on the options, and on the course of the completion.
 //!
-//! - `gpaxioms` is the command, and `task` has the enum of the family.
-//! - `loading` loads the group and the automata; `finding` makes what is stored and written of what is found, and
-//!   `certificates` the line of a certificate. `figures` says which limit a long completion reached.
-//! - `line` is what the command line says of the command.
+//! # What `autgroup` promises
 //!
-//! Below are `kb_auto`, which decides, `kb_evidence`, with what shows a limit, `kb_progress`, which shows how far a
-//! completion has come, and `kb_task`.
+//! A yes means that the files of the group's own automatic structure were stored, whole: the canonical word acceptor and
+//! a canonical multiplier for each generator (`specs/Made.antt`). Then each word of the input was answered with the least
+//! word of its element, by the multipliers. By the laws of `Task` the group settles what is stored and written: it has one
+//! such structure (`specs/OneStructure.antt`).
+//!
+//! At a limit what shows it is stored, and no word is read (`specs/Tried.antt`): the log of the completion, its rules, and
+//! the word differences that were kept, each with two words that show it to be one.
+//!
+//! # What `gpaxioms` promises
+//!
+//! It is given automata besides, in files beside that of the presentation (`specs/Loaded.antt`). A yes means that they are
+//! the group's own structure (`IsAutomaticStructure` of `kb_structure`), a no that they aren't, with the first certificate,
+//! whose line `specs/Lines.antt` has. By the laws of `Task` the files settle both: there is one first certificate, and none
+//! against automata that are the group's own (`specs/FirstCertificates.antt`). At a limit of the completion its log and its
+//! rules are stored: there is no certificate but perhaps of the last kind, and the rules don't settle that.
+//!
+//! # Where things are
+//!
+//! - `autgroup` and `gpaxioms` are the commands, and `task` has the enum of the family.
+//! - `conclusion` makes what is stored and written of the search for a structure, and `evidence` what shows a limit of it.
+//! - `loading` loads a group and automata; `finding` makes what is stored and written of what is found of them, and
+//!   `certificates` the line of a certificate. `figures` says how a long run ended.
+//! - `line` is what the command line says of the commands.
+//!
+//! Below are `kb_auto`, which searches and decides, `kb_answering`, which stores and answers, `kb_evidence`, with what shows
+//! a limit, `kb_diffprint`, which prints word differences, `kb_reduce` with least words, `kb_progress`, which shows how far
+//! a completion has come, and `kb_task`.
 #![tactic(auto)]
 
 mod autgroup;

@@ -3,9 +3,9 @@ use Rattle.std.proofs.Common.{◌≡◌, ◌∙◌, ℕ, List, sym}
 use Rattle.clap.specs.Words.{Row}
 use Rattle.kb_system.specs.Evidence.{Limits}
 use Rattle.kb_task.specs.Arguments.{GivesOption}
-use Rattle.kb_task.specs.declared.arguments.NumberOption.TheVariants.{Workers, MaxRules, MaxLen, MaxStates}
+use Rattle.kb_task.specs.declared.arguments.NumberOption.TheVariants.{Workers, MaxRules, MaxLen, MaxDiffs, MaxStates}
 use Rattle.kb_task.proofs.ArgumentLemmas.{option_given-at}
-use Rattle.kb_options.specs.Options.{GivesLimits}
+use Rattle.kb_options.specs.Options.{GivesAllLimits, GivesLimits}
 
 pub same_limits : (rows : List Row) (limits other : Limits) → GivesLimits rows limits → GivesLimits rows other → limits ≡ other
 same_limits rows limits other a b =
@@ -19,6 +19,15 @@ same_limits rows limits other a b =
     option_given-at rows MaxStates limits.states a.states
     ∙ sym (option_given-at rows MaxStates other.states b.states) in
     λ i. record { lines = most_lines i; letters = most_letters i; states = most_states i }
+
+-- the same with how many word differences may be kept
+module _ (rows : List Row) (limits other : Limits) (most others : ℕ) (a : GivesAllLimits rows limits most)
+    (b : GivesAllLimits rows other others) where
+  pub same_all_limits : limits ≡ other
+  same_all_limits = same_limits rows limits other a.completion b.completion
+
+  pub same_most : most ≡ others
+  same_most = option_given-at rows MaxDiffs most a.differences ∙ sym (option_given-at rows MaxDiffs others b.differences)
 
 pub same_workers : (rows : List Row) (workers other : ℕ) → GivesOption rows Workers workers
     → GivesOption rows Workers other → workers ≡ other

@@ -24,5 +24,5 @@ pub record GivesLimits (rows : List Row) (limits : Limits) : Type 0 where
 
 -- the options give the limits, and how many word differences may be kept
 pub record GivesAllLimits (rows : List Row) (limits : Limits) (most : ℕ) : Type 0 where
-  pub limits : GivesLimits rows limits
-  pub most : GivesOption rows MaxDiffs most
+  pub completion : GivesLimits rows limits
+  pub differences : GivesOption rows MaxDiffs most

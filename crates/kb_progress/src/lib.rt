@@ -13,4 +13,4 @@ mod progress;
 mod summary;
 
 pub use progress::Progress;
-pub use summary::Summary;
+pub use summary::{SearchLimit, Summary};

@@ -1,0 +1,15 @@
+use Rattle.std.proofs.Common.{rules, ◌≡◌, None}
+use Rattle.clap.specs.Words.{found_of, rows_of}
+use Rattle.kb_cmd_structures.specs.declared.line.name.Name.TheVariants as names
+use Rattle.kb_cmd_structures.proofs.LineLemmas.{no_workers, no_bounds}
+use Rattle.kb_cmd_structures.proofs.line.reading.autgroup_given.Goals as goal
+
+pub returns-in_default-option_given : goal.returns-in_default-option_given
+returns-in_default-option_given c =
+    let none : c.option_given.result ≡ None = search rules in
+    no_workers (rows_of (found_of c.args.matches.now)) (c.option_given.ensures.none none) names.Autgroup
+
+pub returns-in_default-all_limits_given : goal.returns-in_default-all_limits_given
+returns-in_default-all_limits_given c =
+    let none : c.all_limits_given.result ≡ None = search rules in
+    no_bounds (rows_of (found_of c.args.matches.now)) (c.all_limits_given.ensures.none none)
