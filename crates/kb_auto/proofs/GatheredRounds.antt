@@ -10,15 +10,15 @@ use Rattle.kb_diff.specs.Keeping.{Adds, AddsPairs, IsFull}
 use Rattle.kb_diff.specs.declared.grow.Grow.{Grow}
 use Rattle.kb_diff.specs.declared.grow.Grow.TheVariants.{Full, Grew}
 use Rattle.kb_diff.proofs.PathLemmas.{adds_by}
-use Rattle.kb_kept.specs.Listed.{ArePathsOver, Lists, pair_of, rule_paths}
+use Rattle.kb_kept.specs.Listed.{AreEqualitiesOver, Lists, pair_of, rule_equalities}
 use Rattle.kb_kept.specs.declared.listing.Listing.{Listing}
-use Rattle.kb_kept.specs.declared.path.Path.{Path}
+use Rattle.kb_kept.specs.declared.equality.Equality.{Equality}
 use Rattle.kb_round.specs.Rounds.{RefutesBy}
 use Rattle.kb_auto.specs.Autgroup.{IsShort}
-use Rattle.kb_auto.specs.Kept.{AddsPath, IsKept, IsPathOfRound, KeepsRounds, KeepsRules, NeedsMore, Tried, of_round, one_more}
+use Rattle.kb_auto.specs.Kept.{AddsEquality, IsKept, IsEqualityOfRound, KeepsRounds, KeepsRules, NeedsMore, Tried, of_round, one_more}
 use Rattle.kb_auto.specs.Trials.{AddsRound, BringsNothing, Gathers, LacksRoom}
 use Rattle.kb_auto.specs.declared.gathering.Gathered.{Gathered}
-use Rattle.kb_auto.proofs.KeptPaths.{is_kept, is_short, kept_pairs, needed_pairs, needs_over, rounds_over, rules_full, rules_grew}
+use Rattle.kb_auto.proofs.KeptEqualities.{is_kept, is_short, kept_pairs, needed_pairs, needs_over, rounds_over, rules_full, rules_grew}
 
 abbrev Words : Type 0
 Words = List (List ℕ)
@@ -27,46 +27,46 @@ module _ (tried : Tried) where
   abbrev group : Group
   group = group_of tried.presentation tried.rules
 
-  abbrev Refuted : Words → Path → Type 0
-  Refuted words path = RefutesBy tried.presentation tried.rules words tried.states path
+  abbrev Refuted : Words → Equality → Type 0
+  Refuted words equality = RefutesBy tried.presentation tried.rules words tried.states equality
 
   -- ---- the differences of the rules
 
   pub begins_with_rules : (gathered : Gathered) (answer : Grow) → gathered.differences.group ≡ group → gathered.differences.most ≡ tried.most
       → gathered.rounds.items ≡ [] → KeepsRules tried gathered.differences.words answer → ¬ IsFull answer → Gathers tried gathered
   begins_with_rules gathered answer same most none keeps room =
-      let P : List Path → Type 0 = λ rounds. KeepsRounds tried rounds gathered.differences.words in
+      let P : List Equality → Type 0 = λ rounds. KeepsRounds tried rounds gathered.differences.words in
       record { group = same; most = most; keeps = subst P (sym none) (rules_grew tried gathered.differences.words answer keeps room) }
 
   pub rules_lack_room : (gathered : Gathered) (answer : Grow) → gathered.differences.group ≡ group → gathered.differences.most ≡ tried.most
       → gathered.rounds.items ≡ [] → KeepsRules tried gathered.differences.words answer → IsFull answer → LacksRoom tried gathered
   rules_lack_room gathered answer same most none keeps full =
-      let P : List Path → Type 0 = λ rounds. NeedsMore tried rounds gathered.differences.words in
+      let P : List Equality → Type 0 = λ rounds. NeedsMore tried rounds gathered.differences.words in
       record { group = same; most = most; needs = subst P (sym none) (rules_full tried gathered.differences.words answer keeps full) }
 
   -- ---- the differences of a round
 
-  module _ (before : Gathered) (path : Path) (gathers : Gathers tried before) (refutes : Refuted before.differences.words path) where
-    of_the_round : (answer : Grow) (after : Gathered) → AddsRound before path answer after → IsPathOfRound tried before.differences.words path
+  module _ (before : Gathered) (equality : Equality) (gathers : Gathers tried before) (refutes : Refuted before.differences.words equality) where
+    of_the_round : (answer : Grow) (after : Gathered) → AddsRound before equality answer after → IsEqualityOfRound tried before.differences.words equality
     of_the_round answer after adds =
-        let U : Group → Type 0 = λ it. IsIrreducible (OneOf it.rules) path.u in
-        let V : Group → Type 0 = λ it. IsIrreducible (OneOf it.rules) path.v in
+        let U : Group → Type 0 = λ it. IsIrreducible (OneOf it.rules) equality.u in
+        let V : Group → Type 0 = λ it. IsIrreducible (OneOf it.rules) equality.v in
         record {
           refutes = refutes;
           first = subst U gathers.group adds.first;
           second = subst V gathers.group adds.second;
         }
 
-    added : (answer : Grow) (after : Gathered) → AddsRound before path answer after
-        → AddsPath tried path before.differences.words after.differences.words answer
+    added : (answer : Grow) (after : Gathered) → AddsRound before equality answer after
+        → AddsEquality tried equality before.differences.words after.differences.words answer
     added answer after adds =
-        adds_by group before.differences.group tried.most before.differences.most path.u path.v path.u path.v before.differences.words
+        adds_by group before.differences.group tried.most before.differences.most equality.u equality.v equality.u equality.v before.differences.words
         after.differences.words answer gathers.group gathers.most refl refl adds.adds
 
     -- there are more
-    pub gathers_more : (after : Gathered) → AddsRound before path Grew after → Gathers tried after
+    pub gathers_more : (after : Gathered) → AddsRound before equality Grew after → Gathers tried after
     gathers_more after adds =
-        let P : List Path → Type 0 = λ rounds. KeepsRounds tried rounds after.differences.words in
+        let P : List Equality → Type 0 = λ rounds. KeepsRounds tried rounds after.differences.words in
         record {
           group = adds.group ∙ gathers.group;
           most = adds.most ∙ gathers.most;
@@ -74,9 +74,9 @@ module _ (tried : Tried) where
         }
 
     -- there is no room for one of them
-    pub lacks_room : (after : Gathered) (needed : List ℕ) (place : ℕ) → AddsRound before path (Full needed place) after → LacksRoom tried after
+    pub lacks_room : (after : Gathered) (needed : List ℕ) (place : ℕ) → AddsRound before equality (Full needed place) after → LacksRoom tried after
     lacks_room after needed place adds =
-        let P : List Path → Type 0 = λ rounds. NeedsMore tried rounds after.differences.words in
+        let P : List Equality → Type 0 = λ rounds. NeedsMore tried rounds after.differences.words in
         record {
           group = adds.group ∙ gathers.group;
           most = adds.most ∙ gathers.most;
@@ -85,12 +85,12 @@ module _ (tried : Tried) where
         }
 
     -- there are none
-    pub nothing_in_group : BringsNothing before path
-        → IsIrreducible (OneOf tried.rules) path.u → IsIrreducible (OneOf tried.rules) path.v
-        → HaveDifferences group before.differences.words path.u path.v
+    pub nothing_in_group : BringsNothing before equality
+        → IsIrreducible (OneOf tried.rules) equality.u → IsIrreducible (OneOf tried.rules) equality.v
+        → HaveDifferences group before.differences.words equality.u equality.v
     nothing_in_group nothing =
-        let P : Group → Type 0 = λ it. IsIrreducible (OneOf it.rules) path.u → IsIrreducible (OneOf it.rules) path.v
-        → HaveDifferences it before.differences.words path.u path.v in
+        let P : Group → Type 0 = λ it. IsIrreducible (OneOf it.rules) equality.u → IsIrreducible (OneOf it.rules) equality.v
+        → HaveDifferences it before.differences.words equality.u equality.v in
         subst P gathers.group nothing
 
   -- ---- listings
@@ -126,15 +126,15 @@ module _ (tried : Tried) where
     back_to_n P holds = subst P (sym (ap (λ (it : Group). it.n) same)) holds
 
     pub gathered_over : AreRulesOver gathered.differences.group.n tried.rules → Gathers tried gathered
-        → ArePathsOver gathered.differences.group.n gathered.rounds.items
+        → AreEqualitiesOver gathered.differences.group.n gathered.rounds.items
     gathered_over over gathers =
-        back_to_n (λ n. ArePathsOver n gathered.rounds.items)
+        back_to_n (λ n. AreEqualitiesOver n gathered.rounds.items)
         (rounds_over tried (by_n (λ n. AreRulesOver n tried.rules) over) gathers.keeps)
 
     pub lacking_over : AreRulesOver gathered.differences.group.n tried.rules → LacksRoom tried gathered
-        → ArePathsOver gathered.differences.group.n gathered.rounds.items
+        → AreEqualitiesOver gathered.differences.group.n gathered.rounds.items
     lacking_over over lacks =
-        back_to_n (λ n. ArePathsOver n gathered.rounds.items)
+        back_to_n (λ n. AreEqualitiesOver n gathered.rounds.items)
         (needs_over tried (by_n (λ n. AreRulesOver n tried.rules) over) lacks.needs)
 
     lists_in_group : (listing : Listing) → Lists gathered.differences.group gathered.differences.words listing
@@ -143,16 +143,16 @@ module _ (tried : Tried) where
         let P : Group → Type 0 = λ it. Lists it gathered.differences.words listing in subst P same lists
 
   module _ (gathered : Gathered) (listing : Listing)
-      (paths : listing.paths.items ≡ rule_paths tried.rules ++ gathered.rounds.items)
+      (equalities : listing.equalities.items ≡ rule_equalities tried.rules ++ gathered.rounds.items)
       (lists : Lists gathered.differences.group gathered.differences.words listing)
       (needed : (answer : Grow) → AreOfPairs gathered answer → (listing.needed ≢ None) ↔ IsFull answer) where
     pub lists_kept : Gathers tried gathered → IsKept tried gathered.differences.words listing
     lists_kept gathers =
-        is_kept tried gathered.differences.words gathered.rounds.items listing gathers.keeps paths
+        is_kept tried gathered.differences.words gathered.rounds.items listing gathers.keeps equalities
         (lists_in_group gathered gathers.group listing lists) (needed Grew (gathered_pairs gathered gathers))
 
     pub lists_short : LacksRoom tried gathered → IsShort tried listing
     lists_short lacks =
         let all = lacking_pairs gathered lacks in
-        is_short tried gathered.differences.words gathered.rounds.items listing all.0 all.1 lacks.needs paths
+        is_short tried gathered.differences.words gathered.rounds.items listing all.0 all.1 lacks.needs equalities
         (lists_in_group gathered lacks.group listing lists) (needed (Full all.0 all.1) all.2)

@@ -3,10 +3,10 @@ mod Decisions
 mod Growing
 mod GoingOn
 mod LiveRules
-mod PathsOver
-mod KeptPaths
+mod EqualitiesOver
+mod KeptEqualities
 mod TriedAtHalt
 mod RulesOfLogs
 mod GatheredRounds
-mod IrreduciblePaths
+mod IrreducibleEqualities
 mod StuckRounds

@@ -15,14 +15,14 @@ use Rattle.kb_diff.specs.declared.grow.Grow.{Grow}
 use Rattle.kb_diff.proofs.GroupLemmas.{empty_is_irreducible}
 use Rattle.kb_diff.proofs.Growing.{Keeps-contains, Keeps-seen, grows_keeps}
 use Rattle.kb_diff.proofs.Places.{have_from_all}
-use Rattle.kb_kept.specs.declared.path.Path.{Path}
-use Rattle.kb_round.specs.Rounds.{IsRefuted, RefutesBy, ShowsPath, no_image}
+use Rattle.kb_kept.specs.declared.equality.Equality.{Equality}
+use Rattle.kb_round.specs.Rounds.{IsRefuted, RefutesBy, ShowsEquality, no_image}
 use Rattle.kb_reducedrounds.specs.Kept.{KeepsReduced}
 use Rattle.kb_structure.specs.declared.cert.Cert.{Cert}
 use Rattle.kb_structure.specs.declared.cert.Cert.TheVariants.{N4}
 use Rattle.kb_system.specs.Completed.{IsReducedSystem}
 use Rattle.kb_auto.specs.Kept.{KeepsRounds, Tried}
-use Rattle.kb_auto.proofs.KeptPaths.{rounds_added}
+use Rattle.kb_auto.proofs.KeptEqualities.{rounds_added}
 
 abbrev Words : Type 0
 Words = List (List ℕ)
@@ -69,7 +69,7 @@ among (first ∷ rules) more rule (suc index, is) =
 has_empty : Contains {X = List ℕ} ([] ∷ []) []
 has_empty = (0, omega arith, refl)
 
-pub keeps_reduced : (tried : Tried) (rounds : List Path) (words : Words) → EachInverts tried.presentation.n tried.presentation.inv
+pub keeps_reduced : (tried : Tried) (rounds : List Equality) (words : Words) → EachInverts tried.presentation.n tried.presentation.inv
     → tried.presentation.order ≡ ShortLex → AreDecreasing (Below tried.presentation.order) tried.rules
     → IsReducedSystem (parts_of tried.presentation) tried.rules → KeepsRounds tried rounds words
     → KeepsReduced tried.presentation tried.rules words
@@ -85,7 +85,7 @@ keeps_reduced tried rounds words inverts shortlex decreasing reduced keeps =
       kept = λ rule one. all_have group tried.most empty added has_empty rule (among tried.rules _ rule one);
     }
 
--- ---- the path of a round
+-- ---- the equality of a round
 
 -- a certificate by a reduced complete system is of the kind N4
 abbrev pub LackImages : Type 0
@@ -104,24 +104,24 @@ HaveMore = (presentation : Presentation) (rules : List Pair) (words : Words) (li
     → KeepsReduced presentation rules words → IsRefuted presentation rules words limit (N4 x u)
     → NormalForm rules (u ++ x ∷ []) v → ¬ HaveDifferences (group_of presentation rules) words u v
 
-by_image : (rules : List Pair) (x : ℕ) (u : List ℕ) (path : Path) → ShowsPath rules (N4 x u) path
-    → (path.u ≡ u) × NormalForm rules (u ++ x ∷ []) path.v
+by_image : (rules : List Pair) (x : ℕ) (u : List ℕ) (equality : Equality) → ShowsEquality rules (N4 x u) equality
+    → (equality.u ≡ u) × NormalForm rules (u ++ x ∷ []) equality.v
 by_image rules x u _ (no_image normal) = (refl, normal)
 
--- the words of a failed round's path are irreducible, and have another difference
-pub brings_more : LackImages → AreIrreducible → HaveMore → (presentation : Presentation) (rules : List Pair) (words : Words) (limit : ℕ) (path : Path)
-    → KeepsReduced presentation rules words → RefutesBy presentation rules words limit path
-    → ¬ (IsIrreducible (OneOf rules) path.u → IsIrreducible (OneOf rules) path.v
-    → HaveDifferences (group_of presentation rules) words path.u path.v)
-brings_more lack irreducible more presentation rules words limit path keeps refutes nothing =
+-- the words of a failed round's equality are irreducible, and have another difference
+pub brings_more : LackImages → AreIrreducible → HaveMore → (presentation : Presentation) (rules : List Pair) (words : Words) (limit : ℕ) (equality : Equality)
+    → KeepsReduced presentation rules words → RefutesBy presentation rules words limit equality
+    → ¬ (IsIrreducible (OneOf rules) equality.u → IsIrreducible (OneOf rules) equality.v
+    → HaveDifferences (group_of presentation rules) words equality.u equality.v)
+brings_more lack irreducible more presentation rules words limit equality keeps refutes nothing =
     let kind = lack presentation rules words limit refutes.cert keeps refutes.refuted in
     let x = kind.0 in
     let u = kind.1 in
     let R : Cert → Type 0 = λ cert. IsRefuted presentation rules words limit cert in
-    let S : Cert → Type 0 = λ cert. ShowsPath rules cert path in
+    let S : Cert → Type 0 = λ cert. ShowsEquality rules cert equality in
     let refuted = subst R kind.2 refutes.refuted in
-    let image = by_image rules x u path (subst S kind.2 refutes.shows) in
+    let image = by_image rules x u equality (subst S kind.2 refutes.shows) in
     let I : List ℕ → Type 0 = λ w. IsIrreducible (OneOf rules) w in
-    let D : List ℕ → Type 0 = λ w. HaveDifferences (group_of presentation rules) words w path.v in
+    let D : List ℕ → Type 0 = λ w. HaveDifferences (group_of presentation rules) words w equality.v in
     let first = subst I (sym image.0) (irreducible presentation rules words limit x u keeps refuted) in
-    more presentation rules words limit x u path.v keeps refuted image.1 (subst D image.0 (nothing first image.1.irreducible))
+    more presentation rules words limit x u equality.v keeps refuted image.1 (subst D image.0 (nothing first image.1.irreducible))

@@ -7,41 +7,41 @@ use Rattle.kb_diff.specs.Groups.{AreRulesOver, Group, group_of}
 use Rattle.kb_diff.specs.Keeping.{AddsPairs}
 use Rattle.kb_diff.specs.Kept.{KeptDifferences}
 use Rattle.kb_diff.specs.declared.grow.Grow.{Grow}
-use Rattle.kb_kept.specs.Listed.{ArePathsOver, Lists, pair_of, rule_path, rule_paths}
+use Rattle.kb_kept.specs.Listed.{AreEqualitiesOver, Lists, pair_of, rule_equality, rule_equalities}
 use Rattle.kb_kept.specs.declared.listing.Listing.{Listing}
-use Rattle.kb_kept.specs.declared.path.Path.{Path}
+use Rattle.kb_kept.specs.declared.equality.Equality.{Equality}
 use Rattle.kb_auto.specs.Autgroup.{HasFailed, IsTriedAtHalt}
 use Rattle.kb_auto.specs.Kept.{Tried}
-use Rattle.kb_auto.proofs.KeptPaths.{pairs_of_all, pairs_of_rules}
-use Rattle.kb_auto.proofs.PathsOver.{IsPathOver}
+use Rattle.kb_auto.proofs.KeptEqualities.{pairs_of_all, pairs_of_rules}
+use Rattle.kb_auto.proofs.EqualitiesOver.{IsEqualityOver}
 
--- the paths of rules over the generators are over them
-pub rule_paths_over : (n : ℕ) (rules : List Pair) → AreRulesOver n rules → ArePathsOver n (rule_paths rules)
-rule_paths_over n [] over = All-nil (IsPathOver n)
-rule_paths_over n (rule ∷ rules) over =
-    All-cons (IsPathOver n) (rule_path rule) (rule_paths rules) (over rule (0, refl))
-    (rule_paths_over n rules (λ other one. over other (suc one.0, one.1)))
+-- the equalities of rules over the generators are over them
+pub rule_equalities_over : (n : ℕ) (rules : List Pair) → AreRulesOver n rules → AreEqualitiesOver n (rule_equalities rules)
+rule_equalities_over n [] over = All-nil (IsEqualityOver n)
+rule_equalities_over n (rule ∷ rules) over =
+    All-cons (IsEqualityOver n) (rule_equality rule) (rule_equalities rules) (over rule (0, refl))
+    (rule_equalities_over n rules (λ other one. over other (suc one.0, one.1)))
 
-pub all_paths_over : (n : ℕ) (rules : List Pair) (rounds paths : List Path) → AreRulesOver n rules → ArePathsOver n rounds
-    → paths ≡ rule_paths rules ++ rounds → ArePathsOver n paths
-all_paths_over n rules rounds paths over rounds_over are =
-    let P : List Path → Type 0 = λ l. ArePathsOver n l in
-    subst P (sym are) (All-append (IsPathOver n) (rule_paths rules) rounds (rule_paths_over n rules over) rounds_over)
+pub all_equalities_over : (n : ℕ) (rules : List Pair) (rounds equalities : List Equality) → AreRulesOver n rules → AreEqualitiesOver n rounds
+    → equalities ≡ rule_equalities rules ++ rounds → AreEqualitiesOver n equalities
+all_equalities_over n rules rounds equalities over rounds_over are =
+    let P : List Equality → Type 0 = λ l. AreEqualitiesOver n l in
+    subst P (sym are) (All-append (IsEqualityOver n) (rule_equalities rules) rounds (rule_equalities_over n rules over) rounds_over)
 
--- what is added of the rules is added of their paths
-pub of_rule_paths : {group : Group} {most : ℕ} {words : List (List ℕ)} (rules : List Pair) (paths : List Path) (answer : Grow)
-    → paths ≡ rule_paths rules → AddsPairs group most rules ([] ∷ []) words answer
-    → AddsPairs group most (map pair_of paths) ([] ∷ []) words answer
-of_rule_paths {group = group} {most = most} {words = words} rules paths answer are adds =
+-- what is added of the rules is added of their equalities
+pub of_rule_equalities : {group : Group} {most : ℕ} {words : List (List ℕ)} (rules : List Pair) (equalities : List Equality) (answer : Grow)
+    → equalities ≡ rule_equalities rules → AddsPairs group most rules ([] ∷ []) words answer
+    → AddsPairs group most (map pair_of equalities) ([] ∷ []) words answer
+of_rule_equalities {group = group} {most = most} {words = words} rules equalities answer are adds =
     let P : List Pair → Type 0 = λ pairs. AddsPairs group most pairs ([] ∷ []) words answer in
-    subst P (sym (ap (λ (l : List Path). map pair_of l) are ∙ pairs_of_rules rules)) adds
+    subst P (sym (ap (λ (l : List Equality). map pair_of l) are ∙ pairs_of_rules rules)) adds
 
-pub of_all_paths : {group : Group} {most : ℕ} {words : List (List ℕ)} (rules : List Pair) (rounds paths : List Path) (answer : Grow)
-    → paths ≡ rule_paths rules ++ rounds → AddsPairs group most (rules ++ map pair_of rounds) ([] ∷ []) words answer
-    → AddsPairs group most (map pair_of paths) ([] ∷ []) words answer
-of_all_paths {group = group} {most = most} {words = words} rules rounds paths answer are adds =
+pub of_all_equalities : {group : Group} {most : ℕ} {words : List (List ℕ)} (rules : List Pair) (rounds equalities : List Equality) (answer : Grow)
+    → equalities ≡ rule_equalities rules ++ rounds → AddsPairs group most (rules ++ map pair_of rounds) ([] ∷ []) words answer
+    → AddsPairs group most (map pair_of equalities) ([] ∷ []) words answer
+of_all_equalities {group = group} {most = most} {words = words} rules rounds equalities answer are adds =
     let P : List Pair → Type 0 = λ pairs. AddsPairs group most pairs ([] ∷ []) words answer in
-    subst P (sym (ap (λ (l : List Path). map pair_of l) are ∙ pairs_of_all rules rounds)) adds
+    subst P (sym (ap (λ (l : List Equality). map pair_of l) are ∙ pairs_of_all rules rounds)) adds
 
 -- the same, where the group and the limit go by other names
 pub by_own_names : {group own : Group} {most limit : ℕ} {pairs : List Pair} {words : List (List ℕ)} {answer : Grow} → own ≡ group
@@ -52,12 +52,12 @@ by_own_names {group = group} {own = own} {most = most} {pairs = pairs} {words = 
     subst M (sym count) (subst G (sym same) adds)
 
 -- the rules that were tried, and their differences where they were first seen
-pub is_tried_at_halt : (tried : Tried) (differences : KeptDifferences) (answer : Grow) (paths : List Path) (listing : Listing)
+pub is_tried_at_halt : (tried : Tried) (differences : KeptDifferences) (answer : Grow) (equalities : List Equality) (listing : Listing)
     → differences.group ≡ group_of tried.presentation tried.rules → differences.most ≡ tried.most
     → AddsPairs differences.group differences.most tried.rules ([] ∷ []) differences.words answer
-    → paths ≡ rule_paths tried.rules → listing.paths.items ≡ paths → Lists differences.group differences.words listing
+    → equalities ≡ rule_equalities tried.rules → listing.equalities.items ≡ equalities → Lists differences.group differences.words listing
     → HasFailed tried differences.words → IsTriedAtHalt tried listing
-is_tried_at_halt tried differences answer paths listing same most adds are listed lists failed =
+is_tried_at_halt tried differences answer equalities listing same most adds are listed lists failed =
     let G : Group → Type 0 = λ it. AddsPairs it differences.most tried.rules ([] ∷ []) differences.words answer in
     let M : ℕ → Type 0 = λ it. AddsPairs (group_of tried.presentation tried.rules) it tried.rules ([] ∷ []) differences.words answer in
     let L : Group → Type 0 = λ it. Lists it differences.words listing in
@@ -65,7 +65,7 @@ is_tried_at_halt tried differences answer paths listing same most adds are liste
       words = differences.words;
       answer = answer;
       keeps = subst M most (subst G same adds);
-      paths = listed ∙ are;
+      equalities = listed ∙ are;
       lists = subst L same lists;
       failed = failed;
     }

@@ -11,7 +11,7 @@ use Rattle.kb_diff.specs.Groups.{group_of}
 use Rattle.kb_diff.specs.Keeping.{Adds}
 use Rattle.kb_diff.specs.declared.grow.Grow.{Grow}
 use Rattle.kb_diff.specs.declared.grow.Grow.TheVariants.{Grew, Full}
-use Rattle.kb_kept.specs.declared.path.Path.{Path}
+use Rattle.kb_kept.specs.declared.equality.Equality.{Equality}
 use Rattle.kb_machine.specs.Course.{Course}
 use Rattle.kb_complete.specs.declared.answers.Grown.{Grown}
 use Rattle.kb_complete.specs.declared.answers.Grown.TheVariants as grown
@@ -31,29 +31,29 @@ IsTwofold before (grown.More after) =
 IsTwofold before (grown.Confluent rules after) = Unit {0}
 IsTwofold before (grown.Halted after) = Unit {0}
 
--- the path's differences were added to those that are kept, with this answer, and its words are irreducible
-pub record AddsRound (before : Gathered) (path : Path) (answer : Grow) (after : Gathered) : Type 0 where
+-- the equality's differences were added to those that are kept, with this answer, and its words are irreducible
+pub record AddsRound (before : Gathered) (equality : Equality) (answer : Grow) (after : Gathered) : Type 0 where
   pub group : after.differences.group ≡ before.differences.group
   pub most : after.differences.most ≡ before.differences.most
-  pub first : IsIrreducible (OneOf before.differences.group.rules) path.u
-  pub second : IsIrreducible (OneOf before.differences.group.rules) path.v
-  pub adds : Adds before.differences.group before.differences.most path.u path.v
+  pub first : IsIrreducible (OneOf before.differences.group.rules) equality.u
+  pub second : IsIrreducible (OneOf before.differences.group.rules) equality.v
+  pub adds : Adds before.differences.group before.differences.most equality.u equality.v
       before.differences.words after.differences.words answer
-  pub rounds : after.rounds.items ≡ before.rounds.items ++ path ∷ []
+  pub rounds : after.rounds.items ≡ before.rounds.items ++ equality ∷ []
 
--- a word of the path is reducible, or its differences are kept already
-abbrev pub BringsNothing : Gathered → Path → Type 0
-BringsNothing before path =
-    IsIrreducible (OneOf before.differences.group.rules) path.u
-    → IsIrreducible (OneOf before.differences.group.rules) path.v
-    → HaveDifferences before.differences.group before.differences.words path.u path.v
+-- a word of the equality is reducible, or its differences are kept already
+abbrev pub BringsNothing : Gathered → Equality → Type 0
+BringsNothing before equality =
+    IsIrreducible (OneOf before.differences.group.rules) equality.u
+    → IsIrreducible (OneOf before.differences.group.rules) equality.v
+    → HaveDifferences before.differences.group before.differences.words equality.u equality.v
 
--- what comes of a round's path
-abbrev pub GatheringSays : Gathered → Path → Gathering → Type 0
-GatheringSays before path (gatherings.More after) = AddsRound before path Grew after
-GatheringSays before path (gatherings.NoRoom after) =
-    (needed : List ℕ) × (place : ℕ) × AddsRound before path (Full needed place) after
-GatheringSays before path gatherings.Nothing = BringsNothing before path
+-- what comes of a round's equality
+abbrev pub GatheringSays : Gathered → Equality → Gathering → Type 0
+GatheringSays before equality (gatherings.More after) = AddsRound before equality Grew after
+GatheringSays before equality (gatherings.NoRoom after) =
+    (needed : List ℕ) × (place : ℕ) × AddsRound before equality (Full needed place) after
+GatheringSays before equality gatherings.Nothing = BringsNothing before equality
 
 -- the differences are those of the rules and of failed rounds
 pub record Gathers (tried : Tried) (gathered : Gathered) : Type 0 where

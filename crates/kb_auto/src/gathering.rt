@@ -8,28 +8,28 @@ ghost use Rattle.kb_diff.specs.Groups.{AreRulesOver};
 ghost use Rattle.kb_diff.specs.declared.grow.Grow.{Grow as Answer};
 ghost use Rattle.kb_diff.specs.declared.grow.Grow.TheVariants.{Same};
 ghost use Rattle.kb_diff.specs.Keeping.{AddsPairs, IsFull};
-ghost use Rattle.kb_kept.specs.declared.path.Path.{Path as Round};
-ghost use Rattle.kb_kept.specs.Listed.{ArePathsOver, Lists, pair_of, rule_paths};
+ghost use Rattle.kb_kept.specs.declared.equality.Equality.{Equality as Round};
+ghost use Rattle.kb_kept.specs.Listed.{AreEqualitiesOver, Lists, pair_of, rule_equalities};
 ghost use Rattle.kb_auto.specs.Trials.{AddsRound, BringsNothing, GatheringSays};
 ghost use Rattle.kb_auto.specs.declared.gathering.Gathered.{Gathered as Kept};
 
 use kb_diff::{Differences, Grow};
 use kb_index::Index;
-use kb_kept::{Listing, Path, list_differences, rule_paths};
+use kb_kept::{Equality, Listing, list_differences, rule_equalities};
 use kb_rules::{Reducer, Rules};
 use kb_word::{Memory, Word};
 use std::alloc::Global;
 
-/// The word differences that are kept of rules and of the paths of failed rounds.
+/// The word differences that are kept of rules and of the equalities of failed rounds.
 #[derive(Drop)]
 pub(crate) struct Gathered {
     /// The differences.
     pub differences: Differences<Index>,
-    /// The paths of the failed rounds, in order.
-    pub rounds: Vec<Path>,
+    /// The equalities of the failed rounds, in order.
+    pub rounds: Vec<Equality>,
 }
 
-/// What comes of the path of a failed round.
+/// What comes of the equality of a failed round.
 #[derive(Drop)]
 pub(crate) enum Gathering {
     /// It has more differences, and they are kept.
@@ -41,56 +41,58 @@ pub(crate) enum Gathering {
 }
 
 impl Gathered {
-    /// Keeps the differences of the path of a failed round, and the path.
-    pub(crate) fn gather(self, alloc: Global, path: Path) -> Result<Gathering, Memory>
-        requires first { IsOver self.differences.group.n path.u }
-        requires second { IsOver self.differences.group.n path.v }
-        ensures { IfOk result (GatheringSays self path) }
+    /// Keeps the differences of the equality of a failed round, and the equality.
+    pub(crate) fn gather(self, alloc: Global, equality: Equality) -> Result<Gathering, Memory>
+        requires first { IsOver self.differences.group.n equality.u }
+        requires second { IsOver self.differences.group.n equality.v }
+        ensures { IfOk result (GatheringSays self equality) }
     {
-        if are_irreducible(alloc, &path, self.differences.reducer())? {
-            self.gather_irreducible(alloc, path)
+        if are_irreducible(alloc, &equality, self.differences.reducer())? {
+            self.gather_irreducible(alloc, equality)
         } else {
             Ok(Gathering::Nothing)
         }
     }
 
-    /// Keeps the differences of a path of irreducible words, and the path.
-    fn gather_irreducible(mut self, alloc: Global, path: Path) -> Result<Gathering, Memory>
-        requires first { IsOver self.differences.group.n path.u }
-        requires second { IsOver self.differences.group.n path.v }
-        requires first_is_irreducible { IsIrreducible (OneOf self.differences.group.rules) path.u }
-        requires second_is_irreducible { IsIrreducible (OneOf self.differences.group.rules) path.v }
-        ensures { IfOk result (GatheringSays self path) }
+    /// Keeps the differences of an equality of irreducible words, and the equality.
+    fn gather_irreducible(mut self, alloc: Global, equality: Equality) -> Result<Gathering, Memory>
+        requires first { IsOver self.differences.group.n equality.u }
+        requires second { IsOver self.differences.group.n equality.v }
+        requires first_is_irreducible { IsIrreducible (OneOf self.differences.group.rules) equality.u }
+        requires second_is_irreducible { IsIrreducible (OneOf self.differences.group.rules) equality.v }
+        ensures { IfOk result (GatheringSays self equality) }
     {
         let none = Word::new(alloc);
-        let answer = self.differences.add_path(alloc, &path.u, &path.v, &none)?;
-        self.rounds.push(path)?;
+        let answer = self
+            .differences
+            .add_path(alloc, &equality.u, &equality.v, &none)?;
+        self.rounds.push(equality)?;
         Ok(gathering_of(self, answer))
     }
 
     /// Where the differences were first seen.
     pub(crate) fn list(self, alloc: Global, rules: &Rules) -> Result<Listing, Memory>
         requires rules { AreRulesOver self.differences.group.n rules.now.rules }
-        requires rounds { ArePathsOver self.differences.group.n self.rounds.items }
+        requires rounds { AreEqualitiesOver self.differences.group.n self.rounds.items }
         requires kept { (answer : Answer) × AddsPairs self.differences.group self.differences.most
             (rules.now.rules ++ map pair_of self.rounds.items) ([] ∷ []) self.differences.words answer }
-        ensures paths { IfOk result
-            (λ listing. listing.paths.items ≡ rule_paths rules.now.rules ++ self.rounds.items) }
+        ensures equalities { IfOk result
+            (λ listing. listing.equalities.items ≡ rule_equalities rules.now.rules ++ self.rounds.items) }
         ensures lists { IfOk result (Lists self.differences.group self.differences.words) }
         ensures needed { (answer : Answer)
             → AddsPairs self.differences.group self.differences.most
             (rules.now.rules ++ map pair_of self.rounds.items) ([] ∷ []) self.differences.words answer
             → IfOk result (λ listing. (listing.needed ≢ None) ↔ IsFull answer) }
     {
-        let paths = joined(rule_paths(alloc, rules)?, self.rounds)?;
-        list_differences(alloc, &self.differences, paths)
+        let equalities = joined(rule_equalities(alloc, rules)?, self.rounds)?;
+        list_differences(alloc, &self.differences, equalities)
     }
 }
 
-/// What comes of a path whose differences were added with an answer.
+/// What comes of an equality whose differences were added with an answer.
 fn gathering_of(after: Gathered, answer: Grow) -> Gathering
-    ensures { (before : Kept) (path : Round) → AddsRound before path answer after
-        → ((answer ≡ Same) → BringsNothing before path) → GatheringSays before path result }
+    ensures { (before : Kept) (equality : Round) → AddsRound before equality answer after
+        → ((answer ≡ Same) → BringsNothing before equality) → GatheringSays before equality result }
 {
     match answer {
         Grow::Grew => Gathering::More(after),
@@ -99,23 +101,27 @@ fn gathering_of(after: Gathered, answer: Grow) -> Gathering
     }
 }
 
-/// Whether both words of the path are irreducible.
-fn are_irreducible<R: Reducer>(alloc: Global, path: &Path, reducer: &R) -> Result<bool, Memory>
+/// Whether both words of the equality are irreducible.
+fn are_irreducible<R: Reducer>(
+    alloc: Global,
+    equality: &Equality,
+    reducer: &R,
+) -> Result<bool, Memory>
     ensures { IfOk result (λ answer. IsTrue answer
-        ↔ (IsIrreducible (OneOf (R.rules reducer.now)) path.now.u
-        × IsIrreducible (OneOf (R.rules reducer.now)) path.now.v)) }
+        ↔ (IsIrreducible (OneOf (R.rules reducer.now)) equality.now.u
+        × IsIrreducible (OneOf (R.rules reducer.now)) equality.now.v)) }
 {
-    let first = reducer.nf(alloc, &path.u)? == path.u;
-    let second = reducer.nf(alloc, &path.v)? == path.v;
+    let first = reducer.nf(alloc, &equality.u)? == equality.u;
+    let second = reducer.nf(alloc, &equality.v)? == equality.v;
     Ok(first && second)
 }
 
-/// The paths of both lists, one list after the other.
-fn joined(mut paths: Vec<Path>, more: Vec<Path>) -> Result<Vec<Path>, Memory>
-    ensures { IfOk result (λ all. all.items ≡ paths.items ++ more.items) }
+/// The equalities of both lists, one list after the other.
+fn joined(mut equalities: Vec<Equality>, more: Vec<Equality>) -> Result<Vec<Equality>, Memory>
+    ensures { IfOk result (λ all. all.items ≡ equalities.items ++ more.items) }
 {
-    for path in more {
-        paths.push(path)?;
+    for equality in more {
+        equalities.push(equality)?;
     }
-    Ok(paths)
+    Ok(equalities)
 }

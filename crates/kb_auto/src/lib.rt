@@ -26,8 +26,8 @@
 //! A completion grows, and after each growth its live rules are tried (`searching`). The log is twice as long after a
 //! growth as before (`growth`), so that all trials together take few times as long as the last one. A trial makes rounds
 //! (`trying`): automata are made of the word differences of the rules, and checked (`kb_round`). Where the check fails,
-//! the path of its certificate has differences that the automata lack. They are kept too (`gathering`), and another
-//! round is made, unless a word of the path is reducible, or its differences are kept already: then only better rules
+//! the equality of its certificate has differences that the automata lack. They are kept too (`gathering`), and another
+//! round is made, unless a word of the equality is reducible, or its differences are kept already: then only better rules
 //! help. Nor do few rules get many rounds: as many as there were lines, in proportion. By the reduced complete system
 //! each failed round keeps more (`kb_reducedrounds`), so that it is tried until the automata are the group's own or a
 //! limit is reached. Where the completion halts a last round is made by its live rules (`outcomes`).

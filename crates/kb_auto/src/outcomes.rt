@@ -22,7 +22,7 @@ use crate::trying::{Trial, try_rules, watched_round};
 use kb_book::{Book, Limits};
 use kb_diff::Differences;
 use kb_index::Index;
-use kb_kept::{list_differences, rule_paths};
+use kb_kept::{list_differences, rule_equalities};
 use kb_machine::Line;
 use kb_reduced::{reduced_complete_systems_are_complete, reduced_left_sides_keep_the_letters};
 use kb_round::{Construction, Round, WatchRounds};
@@ -187,8 +187,8 @@ fn failed_at_halt(
         → HasFailed (tried_by limits most presentation halt.rules.rules) differences.words
         → IfOk result (AutgroupSays limits most presentation) }
 {
-    let paths = rule_paths(alloc, &halt.rules)?;
-    let listing = list_differences(alloc, &differences, paths)?;
+    let equalities = rule_equalities(alloc, &halt.rules)?;
+    let listing = list_differences(alloc, &differences, equalities)?;
     Ok(Autgroup::Halted {
         halted: halt,
         listing,

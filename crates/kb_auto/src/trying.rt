@@ -122,11 +122,11 @@ fn try_rounds<W: WatchRounds, T: Threads + Wait + Sync>(
         )? {
             Round::Own(structure) => return Ok(Trial::Own(structure)),
             Round::TooManyStates(which) => return Ok(Trial::Counted(which, gathered)),
-            Round::Refuted(path) => {
+            Round::Refuted(equality) => {
                 if is_used_up(budget, gathered.rounds.len()) {
                     return Ok(Trial::Stuck);
                 }
-                match gathered.gather(alloc, path)? {
+                match gathered.gather(alloc, equality)? {
                     Gathering::More(more) => gathered = more,
                     Gathering::NoRoom(full) => return Ok(Trial::NoRoom(full)),
                     Gathering::Nothing => return Ok(Trial::Stuck),

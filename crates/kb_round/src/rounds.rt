@@ -9,7 +9,7 @@ ghost use Rattle.kb_round.specs.Rounds.{AreMadeOf, RoundSays};
 
 use crate::answers::{Axiom, Construction, Figures, Round, Structure};
 use crate::making::{canonical_acceptor, canonical_multipliers, largest};
-use crate::showing::{axiom_of, path_of};
+use crate::showing::{axiom_of, equality_of};
 use kb_axioms::{Automata, check_automata};
 use kb_diff::Differences;
 use kb_rules::Reducer;
@@ -108,8 +108,8 @@ fn checked<R: Reducer, T: Threads + Wait + Sync>(
         Automata::Pass => Ok((Round::Own(structure), None)),
         Automata::No(cert) => {
             let broken = axiom_of(&cert);
-            let path = path_of(alloc, differences.reducer(), cert)?;
-            Ok((Round::Refuted(path), broken))
+            let equality = equality_of(alloc, differences.reducer(), cert)?;
+            Ok((Round::Refuted(equality), broken))
         }
         Automata::TooManyStates { which } => {
             Ok((Round::TooManyStates(Construction::Check(which)), None))

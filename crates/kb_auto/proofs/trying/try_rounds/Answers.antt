@@ -12,8 +12,8 @@ use Rattle.kb_auto.specs.Autgroup.{tried_by}
 use Rattle.kb_auto.specs.Trials.{GatheringSays}
 use Rattle.kb_auto.specs.declared.gathering.Gathering.TheVariants as gatherings
 use Rattle.kb_auto.proofs.GatheredRounds.{gathers_more, lacks_room, nothing_in_group}
-use Rattle.kb_auto.proofs.KeptPaths.{adds_longer}
-use Rattle.kb_auto.proofs.PathsOver.{path_is_over}
+use Rattle.kb_auto.proofs.KeptEqualities.{adds_longer}
+use Rattle.kb_auto.proofs.EqualitiesOver.{equality_is_over}
 use Rattle.kb_auto.proofs.StuckRounds.{brings_more, keeps_reduced}
 use Rattle.kb_auto.proofs.trying.try_rounds.Goals as goal
 
@@ -25,7 +25,7 @@ rounds-preserved g c =
     let tried = tried_by (limits_of c.args.limits.now) c.args.limits.now.diffs c.args.presentation.now c.args.rules.now.rules in
     let refutes = rw c.in-Refuted.is at c.in_ok-structure.ensures in
     let adds = rw c.in-More.is at c.in_ok-more-in-Refuted.ensures in
-    gathers_more tried c.rounds.gathered c.in-Refuted.path c.rounds.invariant refutes c.in-More.more adds
+    gathers_more tried c.rounds.gathered c.in-Refuted.equality c.rounds.invariant refutes c.in-More.more adds
 
 pub rounds-smaller : goal.rounds-smaller
 rounds-smaller g c =
@@ -39,16 +39,16 @@ rounds-smaller g c =
 pub gather-requires-clause-first : goal.gather-requires-clause-first
 gather-requires-clause-first g c =
     let refutes = rw c.in-Refuted.is at c.in_ok-structure.ensures in
-    let P : Group → Type 0 = λ it. IsOver it.n c.in-Refuted.path.u in
+    let P : Group → Type 0 = λ it. IsOver it.n c.in-Refuted.equality.u in
     subst P (sym c.rounds.invariant.group)
-    (path_is_over c.args.presentation.now c.args.rules.now.rules _ _ c.in-Refuted.path c.requires.letters refutes).0
+    (equality_is_over c.args.presentation.now c.args.rules.now.rules _ _ c.in-Refuted.equality c.requires.letters refutes).0
 
 pub gather-requires-clause-second : goal.gather-requires-clause-second
 gather-requires-clause-second g c =
     let refutes = rw c.in-Refuted.is at c.in_ok-structure.ensures in
-    let P : Group → Type 0 = λ it. IsOver it.n c.in-Refuted.path.v in
+    let P : Group → Type 0 = λ it. IsOver it.n c.in-Refuted.equality.v in
     subst P (sym c.rounds.invariant.group)
-    (path_is_over c.args.presentation.now c.args.rules.now.rules _ _ c.in-Refuted.path c.requires.letters refutes).1
+    (equality_is_over c.args.presentation.now c.args.rules.now.rules _ _ c.in-Refuted.equality c.requires.letters refutes).1
 
 pub returns-in-Own : goal.returns-in-Own
 returns-in-Own g c = rw c.in-Own.is at c.in_ok-structure.ensures
@@ -64,7 +64,7 @@ returns-in-NoRoom g c =
     let tried = tried_by (limits_of c.args.limits.now) c.args.limits.now.diffs c.args.presentation.now c.args.rules.now.rules in
     let refutes = rw c.in-Refuted.is at c.in_ok-structure.ensures in
     let adds = rw c.in-NoRoom.is at c.in_ok-more-in-Refuted.ensures in
-    lacks_room tried c.rounds.gathered c.in-Refuted.path c.rounds.invariant refutes c.in-NoRoom.full adds.0 adds.1 adds.2
+    lacks_room tried c.rounds.gathered c.in-Refuted.equality c.rounds.invariant refutes c.in-NoRoom.full adds.0 adds.1 adds.2
 
 pub returns-in-Nothing : goal.returns-in-Nothing
 returns-in-Nothing g c = λ none reduced.
@@ -77,5 +77,5 @@ returns-in-Nothing g c = λ none reduced.
     let keeps =
     keeps_reduced tried _ _ c.requires.group c.requires.shortlex complete.decreasing reduced c.rounds.invariant.keeps in
     brings_more c.rounds_by_reduced_systems_lack_images.ensures c.rounds_by_reduced_systems_keep_more.ensures.first
-    c.rounds_by_reduced_systems_keep_more.ensures.more presentation rules _ _ c.in-Refuted.path keeps refutes
-    (nothing_in_group tried c.rounds.gathered c.in-Refuted.path c.rounds.invariant refutes nothing)
+    c.rounds_by_reduced_systems_keep_more.ensures.more presentation rules _ _ c.in-Refuted.equality keeps refutes
+    (nothing_in_group tried c.rounds.gathered c.in-Refuted.equality c.rounds.invariant refutes nothing)

@@ -9,7 +9,7 @@ add_path-requires-clause-second c = c.requires.second
 
 pub returns : goal.returns
 returns c =
-    c.gathering_of.ensures c.args.self c.args.path (record {
+    c.gathering_of.ensures c.args.self c.args.equality (record {
       group = c.in_ok-answer.ensures.group;
       most = c.in_ok-answer.ensures.most;
       first = c.requires.first_is_irreducible;

@@ -1,4 +1,4 @@
--- The paths of certificates are over the generators.
+-- The equalities of certificates are over the generators.
 use Rattle.std.proofs.Common.{◌≡◌, ℕ, ◌<◌, ◌≤◌, List, [], ◌∷◌, ◌++◌, refl, sym, ap, subst}
 use Rattle.std.specs.List.{All}
 use Rattle.std.proofs.lemmas.List.Elements.{All-push}
@@ -11,18 +11,18 @@ use Rattle.kb_rules.proofs.Lists.{All-front}
 use Rattle.kb_fsa.specs.Language.{generators}
 use Rattle.kb_diff.specs.Groups.{AreRulesOver}
 use Rattle.kb_diff.proofs.OverGenerators.{normal_over}
-use Rattle.kb_kept.specs.declared.path.Path.{Path}
+use Rattle.kb_kept.specs.declared.equality.Equality.{Equality}
 use Rattle.kb_structure.specs.Structure.{Structure, Follows}
 use Rattle.kb_structure.specs.StructureOf.{structure_of}
 use Rattle.kb_structure.specs.declared.cert.Cert.{Cert}
 use Rattle.kb_structure.specs.declared.cert.Cert.TheVariants.{N1, N2, N3, N4, N5, N6, N7, N8}
 use Rattle.kb_axioms.specs.Answered.{checked_in}
 use Rattle.kb_axioms.specs.Checked.{Checked, IsFirstCertificate, n4, n5, n6, n7, n8}
-use Rattle.kb_round.specs.Rounds.{RefutesBy, ShowsPath, no_image, two_images, no_extension, not_least, broken}
+use Rattle.kb_round.specs.Rounds.{RefutesBy, ShowsEquality, no_image, two_images, no_extension, not_least, broken}
 
--- both words of a path
-abbrev pub IsPathOver : ℕ → Path → Type 0
-IsPathOver n path = IsOver n path.u × IsOver n path.v
+-- both words of an equality
+abbrev pub IsEqualityOver : ℕ → Equality → Type 0
+IsEqualityOver n equality = IsOver n equality.u × IsOver n equality.v
 
 -- following a word leads from words over the generators to such words
 follows_over : (structure : Structure) (w u v : List ℕ) → IsOver structure.n u → Follows structure w u v → IsOver structure.n v
@@ -39,11 +39,11 @@ module _ (n : ℕ) (rules : List Sides) (over : AreRulesOver n rules) where
   product_over x u v word letter normal =
       normal_over n rules (u ++ x ∷ []) v over normal (All-push IsLetter u x word letter)
 
-  of_certificate : (checked : Checked) → generators checked.acceptor.alphabet ≡ n → (cert : Cert) (path : Path)
-      → IsFirstCertificate checked cert → ShowsPath rules cert path → IsPathOver n path
-  of_certificate checked same (N1 _) path _ shows = elim shows [ ]
-  of_certificate checked same (N2 _ _ _) path _ shows = elim shows [ ]
-  of_certificate checked same (N3 _ _ _) path first _ = elim first [ ]
+  of_certificate : (checked : Checked) → generators checked.acceptor.alphabet ≡ n → (cert : Cert) (equality : Equality)
+      → IsFirstCertificate checked cert → ShowsEquality rules cert equality → IsEqualityOver n equality
+  of_certificate checked same (N1 _) equality _ shows = elim shows [ ]
+  of_certificate checked same (N2 _ _ _) equality _ shows = elim shows [ ]
+  of_certificate checked same (N3 _ _ _) equality first _ = elim first [ ]
   of_certificate checked same (N4 x u) _ (n4 earlier first few) (no_image {v = v} normal) =
       let holds = (first ShortLex checked.relations).least.holds in
       let W : ℕ → Type 0 = λ k. IsOver k u in
@@ -78,10 +78,10 @@ module _ (n : ℕ) (rules : List Sides) (over : AreRulesOver n rules) where
         subst B same (follows_over structure holds.relation.1 u b word holds.right),
       )
 
--- the path of a round's certificate
-pub path_is_over : (presentation : Presentation) (rules : List Sides) (words : List (List ℕ)) (limit : ℕ) (path : Path)
-    → AreRulesOver presentation.n rules → RefutesBy presentation rules words limit path → IsPathOver presentation.n path
-path_is_over presentation rules words limit path over refutes =
+-- the equality of a round's certificate
+pub equality_is_over : (presentation : Presentation) (rules : List Sides) (words : List (List ℕ)) (limit : ℕ) (equality : Equality)
+    → AreRulesOver presentation.n rules → RefutesBy presentation rules words limit equality → IsEqualityOver presentation.n equality
+equality_is_over presentation rules words limit equality over refutes =
     let refuted = refutes.refuted in
     of_certificate presentation.n rules over (checked_in presentation refuted.acceptor refuted.multipliers limit)
-    (ap generators refuted.made.accepts.alphabet) refutes.cert path refuted.first refutes.shows
+    (ap generators refuted.made.accepts.alphabet) refutes.cert equality refuted.first refutes.shows

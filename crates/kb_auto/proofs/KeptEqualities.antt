@@ -11,13 +11,13 @@ use Rattle.kb_diff.specs.declared.grow.Grow.{Grow}
 use Rattle.kb_diff.specs.declared.grow.Grow.TheVariants.{Full, Grew, Same}
 use Rattle.kb_diff.proofs.Growing.{Keeps-front, Keeps-seen}
 use Rattle.kb_diff.proofs.PathLemmas.{each_more}
-use Rattle.kb_kept.specs.Listed.{ArePathsOver, Lists, pair_of, rule_path, rule_paths}
+use Rattle.kb_kept.specs.Listed.{AreEqualitiesOver, Lists, pair_of, rule_equality, rule_equalities}
 use Rattle.kb_kept.specs.declared.listing.Listing.{Listing}
-use Rattle.kb_kept.specs.declared.path.Path.{Path}
+use Rattle.kb_kept.specs.declared.equality.Equality.{Equality}
 use Rattle.kb_kept.specs.declared.seen.Seen.{Seen}
 use Rattle.kb_auto.specs.Autgroup.{IsShort}
-use Rattle.kb_auto.specs.Kept.{IsKept, IsPathOfRound, KeepsRounds, KeepsRules, NeedsMore, Tried, of_round, of_rule, one_more, rules_alone}
-use Rattle.kb_auto.proofs.PathsOver.{IsPathOver, path_is_over}
+use Rattle.kb_auto.specs.Kept.{IsKept, IsEqualityOfRound, KeepsRounds, KeepsRules, NeedsMore, Tried, of_round, of_rule, one_more, rules_alone}
+use Rattle.kb_auto.proofs.EqualitiesOver.{IsEqualityOver, equality_is_over}
 
 abbrev Words : Type 0
 Words = List (List ℕ)
@@ -52,15 +52,15 @@ adds_longer {most = most} {old = old} {new = new} adds = grew_longer most adds.s
 full_length : (most : ℕ) (seen old new : Words) (word : List ℕ) (place : ℕ) → Grows most seen old new (Full word place) → length new ≡ most
 full_length most seen old new word _ (no_room before _ is keeps count fresh) = count
 
--- ---- the paths of rules
+-- ---- the equalities of rules
 
-pub pairs_of_rules : (rules : List Pair) → map pair_of (rule_paths rules) ≡ rules
+pub pairs_of_rules : (rules : List Pair) → map pair_of (rule_equalities rules) ≡ rules
 pairs_of_rules [] = refl
 pairs_of_rules (rule ∷ rules) = ap (λ (l : List Pair). rule ∷ l) (pairs_of_rules rules)
 
-pub pairs_of_all : (rules : List Pair) (rounds : List Path) → map pair_of (rule_paths rules ++ rounds) ≡ rules ++ map pair_of rounds
+pub pairs_of_all : (rules : List Pair) (rounds : List Equality) → map pair_of (rule_equalities rules ++ rounds) ≡ rules ++ map pair_of rounds
 pairs_of_all rules rounds =
-    map-append pair_of (rule_paths rules) rounds ∙ ap (λ (l : List Pair). l ++ map pair_of rounds) (pairs_of_rules rules)
+    map-append pair_of (rule_equalities rules) rounds ∙ ap (λ (l : List Pair). l ++ map pair_of rounds) (pairs_of_rules rules)
 
 -- what a list of rules is answered
 pub full_or_grew : {group : Group} {most : ℕ} {pairs : List Pair} {old new : Words} (answer : Grow)
@@ -87,42 +87,42 @@ module _ (tried : Tried) where
   abbrev group : Group
   group = group_of tried.presentation tried.rules
 
-  abbrev pairs_with : List Path → List Pair
+  abbrev pairs_with : List Equality → List Pair
   pairs_with rounds = tried.rules ++ map pair_of rounds
 
   abbrev AreAdded : List Pair → Words → Type 0
   AreAdded pairs words = AddsEach group tried.most pairs ([] ∷ []) words
 
-  with_one : (rounds : List Path) (path : Path) → pairs_with rounds ++ pair_of path ∷ [] ≡ pairs_with (rounds ++ path ∷ [])
-  with_one rounds path =
-      append_assoc tried.rules (map pair_of rounds) (pair_of path ∷ [])
-      ∙ ap (λ (l : List Pair). tried.rules ++ l) (sym (map-append pair_of rounds (path ∷ [])))
+  with_one : (rounds : List Equality) (equality : Equality) → pairs_with rounds ++ pair_of equality ∷ [] ≡ pairs_with (rounds ++ equality ∷ [])
+  with_one rounds equality =
+      append_assoc tried.rules (map pair_of rounds) (pair_of equality ∷ [])
+      ∙ ap (λ (l : List Pair). tried.rules ++ l) (sym (map-append pair_of rounds (equality ∷ [])))
 
   all_added : {pairs : List Pair} {words : Words} → AddsPairs group tried.most pairs ([] ∷ []) words Grew → AreAdded pairs words
   all_added (each adds) = adds
 
   -- the differences of the rules and of the rounds are those of a list of pairs
-  pub rounds_added : {rounds : List Path} {words : Words} → KeepsRounds tried rounds words → AreAdded (pairs_with rounds) words
+  pub rounds_added : {rounds : List Equality} {words : Words} → KeepsRounds tried rounds words → AreAdded (pairs_with rounds) words
   rounds_added (rules_alone {words = words} keeps) =
       let P : List Pair → Type 0 = λ pairs. AreAdded pairs words in
       subst P (sym (append-nil tried.rules)) (all_added keeps)
-  rounds_added (one_more {paths = paths} {path = path} {words = words} {new = new} keeps is adds) =
+  rounds_added (one_more {equalities = equalities} {equality = equality} {words = words} {new = new} keeps is adds) =
       let P : List Pair → Type 0 = λ pairs. AreAdded pairs new in
-      subst P (with_one paths path) (each_more (pair_of path) Grew (rounds_added keeps) adds (λ full. full))
+      subst P (with_one equalities equality) (each_more (pair_of equality) Grew (rounds_added keeps) adds (λ full. full))
 
-  pub kept_pairs : {rounds : List Path} {words : Words} → KeepsRounds tried rounds words
+  pub kept_pairs : {rounds : List Equality} {words : Words} → KeepsRounds tried rounds words
       → AddsPairs group tried.most (pairs_with rounds) ([] ∷ []) words Grew
   kept_pairs keeps = each (rounds_added keeps)
 
-  pub needed_pairs : {rounds : List Path} {words : Words} → NeedsMore tried rounds words
+  pub needed_pairs : {rounds : List Equality} {words : Words} → NeedsMore tried rounds words
       → (needed : List ℕ) × (place : ℕ) × AddsPairs group tried.most (pairs_with rounds) ([] ∷ []) words (Full needed place)
   needed_pairs (of_rule {words = words} {needed = needed} {place = place} keeps) =
       let P : List Pair → Type 0 = λ pairs. AddsPairs group tried.most pairs ([] ∷ []) words (Full needed place) in
       (needed, place, subst P (sym (append-nil tried.rules)) keeps)
-  needed_pairs (of_round {paths = paths} {path = path} {words = words} {needed = needed} {place = place} keeps is adds) = (
+  needed_pairs (of_round {equalities = equalities} {equality = equality} {words = words} {needed = needed} {place = place} keeps is adds) = (
     needed,
     place,
-    stopped (pairs_with paths) (pair_of path) [] words needed place (sym (with_one paths path)) (rounds_added keeps) adds,
+    stopped (pairs_with equalities) (pair_of equality) [] words needed place (sym (with_one equalities equality)) (rounds_added keeps) adds,
   )
 
   rules_are_full : {words : Words} {needed : List ℕ} {place : ℕ} → KeepsRules tried words (Full needed place) → length words ≡ tried.most
@@ -130,25 +130,25 @@ module _ (tried : Tried) where
       full_length tried.most adds.seen between words word place adds.grows
 
   -- where more is needed, as many are kept as may be
-  pub needs_are_full : {rounds : List Path} {words : Words} → NeedsMore tried rounds words → length words ≡ tried.most
+  pub needs_are_full : {rounds : List Equality} {words : Words} → NeedsMore tried rounds words → length words ≡ tried.most
   needs_are_full (of_rule keeps) = rules_are_full keeps
   needs_are_full (of_round {words = words} {new = new} {needed = needed} {place = place} keeps is adds) =
       full_length tried.most adds.seen words new needed place adds.grows
 
   module _ (over : AreRulesOver tried.presentation.n tried.rules) where
-    of_round_over : (words : Words) (path : Path) → IsPathOfRound tried words path → IsPathOver tried.presentation.n path
-    of_round_over words path is = path_is_over tried.presentation tried.rules words tried.states path over is.refutes
+    of_round_over : (words : Words) (equality : Equality) → IsEqualityOfRound tried words equality → IsEqualityOver tried.presentation.n equality
+    of_round_over words equality is = equality_is_over tried.presentation tried.rules words tried.states equality over is.refutes
 
-    -- the paths of rounds are over the generators
-    pub rounds_over : {rounds : List Path} {words : Words} → KeepsRounds tried rounds words → ArePathsOver tried.presentation.n rounds
-    rounds_over (rules_alone keeps) = All-nil (IsPathOver tried.presentation.n)
-    rounds_over (one_more {paths = paths} {path = path} {words = words} keeps is adds) =
-        All-push (IsPathOver tried.presentation.n) paths path (rounds_over keeps) (of_round_over words path is)
+    -- the equalities of rounds are over the generators
+    pub rounds_over : {rounds : List Equality} {words : Words} → KeepsRounds tried rounds words → AreEqualitiesOver tried.presentation.n rounds
+    rounds_over (rules_alone keeps) = All-nil (IsEqualityOver tried.presentation.n)
+    rounds_over (one_more {equalities = equalities} {equality = equality} {words = words} keeps is adds) =
+        All-push (IsEqualityOver tried.presentation.n) equalities equality (rounds_over keeps) (of_round_over words equality is)
 
-    pub needs_over : {rounds : List Path} {words : Words} → NeedsMore tried rounds words → ArePathsOver tried.presentation.n rounds
-    needs_over (of_rule keeps) = All-nil (IsPathOver tried.presentation.n)
-    needs_over (of_round {paths = paths} {path = path} {words = words} keeps is adds) =
-        All-push (IsPathOver tried.presentation.n) paths path (rounds_over keeps) (of_round_over words path is)
+    pub needs_over : {rounds : List Equality} {words : Words} → NeedsMore tried rounds words → AreEqualitiesOver tried.presentation.n rounds
+    needs_over (of_rule keeps) = All-nil (IsEqualityOver tried.presentation.n)
+    needs_over (of_round {equalities = equalities} {equality = equality} {words = words} keeps is adds) =
+        All-push (IsEqualityOver tried.presentation.n) equalities equality (rounds_over keeps) (of_round_over words equality is)
 
 -- ---- listings
 
@@ -157,22 +157,22 @@ is_none None not_some = refl
 is_none (Some x) not_some = absurd (not_some (λ e. cc e))
 
 -- the listing of differences that are all kept
-pub is_kept : (tried : Tried) (words : Words) (rounds : List Path) (listing : Listing) → KeepsRounds tried rounds words
-    → listing.paths.items ≡ rule_paths tried.rules ++ rounds → Lists (group_of tried.presentation tried.rules) words listing
+pub is_kept : (tried : Tried) (words : Words) (rounds : List Equality) (listing : Listing) → KeepsRounds tried rounds words
+    → listing.equalities.items ≡ rule_equalities tried.rules ++ rounds → Lists (group_of tried.presentation tried.rules) words listing
     → ((listing.needed ≢ None) ↔ IsFull Grew) → IsKept tried words listing
-is_kept tried words rounds listing keeps paths lists needed =
-    record { rounds = rounds; keeps = keeps; paths = paths; lists = lists; complete = is_none listing.needed needed.0 }
+is_kept tried words rounds listing keeps equalities lists needed =
+    record { rounds = rounds; keeps = keeps; equalities = equalities; lists = lists; complete = is_none listing.needed needed.0 }
 
 -- and of those of which one has no room
-pub is_short : (tried : Tried) (words : Words) (rounds : List Path) (listing : Listing) (needed : List ℕ) (place : ℕ) → NeedsMore tried rounds words
-    → listing.paths.items ≡ rule_paths tried.rules ++ rounds → Lists (group_of tried.presentation tried.rules) words listing
+pub is_short : (tried : Tried) (words : Words) (rounds : List Equality) (listing : Listing) (needed : List ℕ) (place : ℕ) → NeedsMore tried rounds words
+    → listing.equalities.items ≡ rule_equalities tried.rules ++ rounds → Lists (group_of tried.presentation tried.rules) words listing
     → ((listing.needed ≢ None) ↔ IsFull (Full needed place)) → IsShort tried listing
-is_short tried words rounds listing needed place needs paths lists full =
+is_short tried words rounds listing needed place needs equalities lists full =
     record {
       rounds = rounds;
       words = words;
       needs = needs;
-      paths = paths;
+      equalities = equalities;
       lists = lists;
       full = needs_are_full tried needs;
       needed = full.1 tt;
