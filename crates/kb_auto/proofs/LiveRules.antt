@@ -10,7 +10,7 @@ use Rattle.kb_word.specs.Presentations.{parts_of}
 use Rattle.kb_word.specs.Relations.{IsOver, relations_of}
 use Rattle.kb_word.specs.declared.presentation.Presentation.{Presentation}
 use Rattle.kb_word.specs.declared.word_order.WordOrder.{WordOrder}
-use Rattle.kb_word.proofs.EqualityLemmas.{congruent_implied}
+use Rattle.kb_word.proofs.PathLemmas.{congruent_implied}
 use Rattle.kb_diff.specs.Groups.{AreRulesOver}
 use Rattle.kb_machine.specs.Course.{IsSound}
 use Rattle.kb_machine.specs.Letters.{IsStateOver}

@@ -8,7 +8,7 @@ use Rattle.kb_word.specs.Relations.{IsOver, inverse_word, relations_of}
 use Rattle.kb_word.specs.Congruence.{Congruent}
 use Rattle.kb_word.specs.Rewriting.{IsIrreducible, NormalForm}
 use Rattle.kb_word.specs.declared.presentation.Presentation.{Presentation}
-use Rattle.kb_word.proofs.EqualityLemmas.{congruent_covered, congruent_symmetric, congruent_transitive}
+use Rattle.kb_word.proofs.PathLemmas.{congruent_covered, congruent_symmetric, congruent_transitive}
 use Rattle.kb_rules.proofs.Exists.{normal_form_exists}
 use Rattle.kb_rules.proofs.Reducts.{normal_form_congruent}
 use Rattle.kb_fsa.specs.declared.alphabet.Alphabet.TheVariants.{Pair as Pairs}

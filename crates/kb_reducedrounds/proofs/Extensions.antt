@@ -8,7 +8,7 @@ use Rattle.kb_word.specs.Words.{Pair, OneOf}
 use Rattle.kb_word.specs.Relations.{IsOver}
 use Rattle.kb_word.specs.Rewriting.{IsIrreducible, NormalForm}
 use Rattle.kb_word.specs.declared.presentation.Presentation.{Presentation}
-use Rattle.kb_word.proofs.EqualityLemmas.{congruent_symmetric}
+use Rattle.kb_word.proofs.PathLemmas.{congruent_symmetric}
 use Rattle.kb_diff.specs.Groups.{group_of}
 use Rattle.kb_diff.specs.Steps.{Leads}
 use Rattle.kb_diff.proofs.GroupLemmas.{empty_is_irreducible}

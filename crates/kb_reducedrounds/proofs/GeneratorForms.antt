@@ -10,7 +10,7 @@ use Rattle.kb_word.specs.Rewriting.{IsIrreducible, NormalForm}
 use Rattle.kb_word.specs.declared.presentation.Presentation.{Presentation}
 use Rattle.kb_word.specs.declared.word_order.WordOrder.{WordOrder}
 use Rattle.kb_word.specs.declared.word_order.WordOrder.TheVariants.{ShortLex}
-use Rattle.kb_word.proofs.EqualityLemmas.{congruent_symmetric, congruent_transitive}
+use Rattle.kb_word.proofs.PathLemmas.{congruent_symmetric, congruent_transitive}
 use Rattle.kb_rules.proofs.Exists.{nothing_below_empty}
 use Rattle.kb_diff.specs.Groups.{group_of}
 use Rattle.kb_diff.specs.Differences.{HaveDifferences}

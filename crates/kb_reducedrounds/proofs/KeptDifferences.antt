@@ -7,7 +7,7 @@ use Rattle.kb_word.specs.Words.{Pair, OneOf}
 use Rattle.kb_word.specs.Relations.{IsOver}
 use Rattle.kb_word.specs.Rewriting.{IsIrreducible}
 use Rattle.kb_word.specs.declared.presentation.Presentation.{Presentation}
-use Rattle.kb_word.proofs.EqualityLemmas.{congruent_reflexive, congruent_symmetric, congruent_transitive}
+use Rattle.kb_word.proofs.PathLemmas.{congruent_reflexive, congruent_symmetric, congruent_transitive}
 use Rattle.kb_fsa.specs.Padding.{letters_of}
 use Rattle.kb_diff.specs.Groups.{group_of}
 use Rattle.kb_diff.specs.Differences.{HaveDifferences}

@@ -7,7 +7,7 @@ use Rattle.kb_word.specs.WordOrderLaws.{word_orders}
 use Rattle.kb_word.specs.Relations.{IsOver}
 use Rattle.kb_word.specs.Rewriting.{IsIrreducible}
 use Rattle.kb_word.specs.declared.presentation.Presentation.{Presentation}
-use Rattle.kb_word.proofs.EqualityLemmas.{congruent_between}
+use Rattle.kb_word.proofs.PathLemmas.{congruent_between}
 use Rattle.kb_diff.specs.Groups.{group_of}
 use Rattle.kb_diff.specs.Differences.{HaveDifferences}
 use Rattle.kb_diff.specs.Languages.{DifferenceAcceptor}

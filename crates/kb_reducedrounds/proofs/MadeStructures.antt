@@ -8,7 +8,7 @@ use Rattle.kb_word.specs.Relations.{IsOver}
 use Rattle.kb_word.specs.Rewriting.{IsIrreducible, NormalForm}
 use Rattle.kb_word.specs.declared.presentation.Presentation.{Presentation}
 use Rattle.kb_word.specs.declared.word_order.WordOrder.TheVariants.{ShortLex}
-use Rattle.kb_word.proofs.EqualityLemmas.{congruent_symmetric, congruent_transitive}
+use Rattle.kb_word.proofs.PathLemmas.{congruent_symmetric, congruent_transitive}
 use Rattle.kb_fsa.specs.declared.alphabet.Alphabet.TheVariants.{Plain}
 use Rattle.kb_fsa.specs.Language.{AcceptsPair, Automaton, generators}
 use Rattle.kb_diff.specs.Groups.{group_of}

@@ -3,7 +3,7 @@
 use Rattle.std.proofs.Common.{◌↔◌, ℕ, List, [], ◌∷◌, ◌++◌, subst, sym, inl, inr}
 use Rattle.kb_word.specs.Words.{OneOf}
 use Rattle.kb_word.specs.Relations.{IsOver}
-use Rattle.kb_word.proofs.EqualityLemmas.{congruent_sides, congruent_symmetric, congruent_transitive}
+use Rattle.kb_word.proofs.PathLemmas.{congruent_sides, congruent_symmetric, congruent_transitive}
 use Rattle.kb_structure.specs.Structure.{Structure, IsGenerator, AreOverGenerators, Accepts, Multiplies, Follows, IsRepresentative, IsProduct}
 use Rattle.kb_structure.specs.Certificates.{PrefixNotAccepted, PairOutsideAcceptor, TwoImages, MissingExtension, ImageNotLeast, RelationBroken, IsTrueToGroup}
 use Rattle.kb_structure.specs.Certificates.PrefixNotAccepted.{empty_word, prefix}

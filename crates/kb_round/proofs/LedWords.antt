@@ -6,7 +6,7 @@ use Rattle.kb_word.specs.Words.{Pair}
 use Rattle.kb_word.specs.Relations.{IsOver, relations_of}
 use Rattle.kb_word.specs.Rewriting.{NormalForm}
 use Rattle.kb_word.specs.declared.presentation.Presentation.{Presentation}
-use Rattle.kb_word.proofs.EqualityLemmas.{congruent_covered, congruent_reflexive, congruent_symmetric, congruent_transitive}
+use Rattle.kb_word.proofs.PathLemmas.{congruent_covered, congruent_reflexive, congruent_symmetric, congruent_transitive}
 use Rattle.kb_rules.proofs.Reducts.{normal_form_congruent}
 use Rattle.kb_fsa.specs.Padding.{letters_of}
 use Rattle.kb_fsa.specs.Language.{Automaton}
