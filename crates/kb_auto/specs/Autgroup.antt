@@ -44,7 +44,8 @@ pub data AreRulesOfLog (parts : PresentationParts) (lines : List Line) (rules : 
 -- The automata of these differences were tried, and aren't known to be the group's own: there is a certificate against
 -- them, or a construction counts too many states.
 pub data HasFailed (tried : Tried) (words : List (List ℕ)) : Type 0 where
-  refuted : {equality : Equality} → RefutesBy tried.presentation tried.rules words tried.states equality
+  refuted : {equality : Equality}
+      → RefutesBy tried.presentation tried.rules words tried.states equality
       → HasFailed tried words
   counted : {which : Construction}
       → IsCounted tried.presentation tried.rules words tried.states which

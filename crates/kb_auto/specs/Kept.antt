@@ -34,7 +34,8 @@ KeepsRules tried words answer =
     answer
 
 -- The round by these differences failed, and this is the equality of its certificate, whose words are irreducible.
-pub record IsEqualityOfRound (tried : Tried) (words : List (List ℕ)) (equality : Equality) : Type 0 where
+pub record IsEqualityOfRound (tried : Tried) (words : List (List ℕ))
+    (equality : Equality) : Type 0 where
   pub refutes : RefutesBy tried.presentation tried.rules words tried.states equality
   pub first : IsIrreducible (OneOf tried.rules) equality.u
   pub second : IsIrreducible (OneOf tried.rules) equality.v
@@ -61,7 +62,7 @@ pub data NeedsMore (tried : Tried) : List Equality → List (List ℕ) → Type 
   of_rule : {words : List (List ℕ)} {needed : List ℕ} {place : ℕ}
       → KeepsRules tried words (Full needed place)
       → NeedsMore tried [] words
-  of_round : {equalities : List Equality} {equality : Equality} {words new : List (List ℕ)} {needed : List ℕ}
-      {place : ℕ} → KeepsRounds tried equalities words → IsEqualityOfRound tried words equality
+  of_round : {equalities : List Equality} {equality : Equality} {words new : List (List ℕ)}
+      {needed : List ℕ} {place : ℕ} → KeepsRounds tried equalities words → IsEqualityOfRound tried words equality
       → AddsEquality tried equality words new (Full needed place)
       → NeedsMore tried (equalities ++ equality ∷ []) new

@@ -32,7 +32,8 @@ IsTwofold before (grown.Confluent rules after) = Unit {0}
 IsTwofold before (grown.Halted after) = Unit {0}
 
 -- the equality's differences were added to those that are kept, with this answer, and its words are irreducible
-pub record AddsRound (before : Gathered) (equality : Equality) (answer : Grow) (after : Gathered) : Type 0 where
+pub record AddsRound (before : Gathered) (equality : Equality) (answer : Grow)
+    (after : Gathered) : Type 0 where
   pub group : after.differences.group ≡ before.differences.group
   pub most : after.differences.most ≡ before.differences.most
   pub first : IsIrreducible (OneOf before.differences.group.rules) equality.u

@@ -30,7 +30,8 @@ abbrev pub text_of_kept : List (List ℕ) → List Equality → ℕ → List See
 text_of_kept names equalities number [] = []
 text_of_kept names equalities number (seen ∷ kept) =
     decimal number ++ 32
-    ∷ (text_of_seen names equalities seen ++ newline ∷ text_of_kept names equalities (suc number) kept)
+    ∷ (text_of_seen names equalities seen ++ newline
+    ∷ text_of_kept names equalities (suc number) kept)
 
 -- the line of the difference that is needed, where that is asked for and there is one
 abbrev pub text_of_needed : List (List ℕ) → List Equality → Option Seen → Bool → List ℕ

@@ -26,7 +26,8 @@ pub data FindsOne (most : ℕ) (seen : Seen) (old new : Found) : Option Seen →
       → FindsOne most seen old new (Some seen)
 
 -- the same of the difference at a place of the equality at an index
-pub record FindsAt (group : Group) (most : ℕ) (equality : Equality) (index place : ℕ) (old new : Found)
+pub record FindsAt (group : Group) (most : ℕ) (equality : Equality) (index place : ℕ)
+    (old new : Found)
     (needed : Option Seen) : Type 0 where
   pub word : List ℕ
   pub difference : IsDifference group equality.u equality.v place word
@@ -71,21 +72,25 @@ pub data KeepsFrom (group : Group) (words : List (List ℕ)) (answer : Grow) : L
       → KeepsFrom group words answer (pair ∷ rest) place known
 
 -- what is found before a place of the equality at an index, and what is left from there on
-pub record Standing (group : Group) (words : List (List ℕ)) (answer : Grow) (equalities : List Equality)
+pub record Standing (group : Group) (words : List (List ℕ)) (answer : Grow)
+    (equalities : List Equality)
     (index place : ℕ) (found : Found) : Type 0 where
   pub known_are : found.known.keys ≡ listed_words found.kept.items
   pub listed : AreListedBefore group equalities found.kept.items (mark index place)
-  pub left : KeepsFrom group words answer (map pair_of (drop index equalities)) place found.known.keys
+  pub left : KeepsFrom group words answer (map pair_of (drop index equalities)) place
+      found.known.keys
 
 -- The listing is finished: it is of these words, and a difference is needed where there was no room for one.
-pub record IsFinished (group : Group) (words : List (List ℕ)) (answer : Grow) (equalities : List Equality)
+pub record IsFinished (group : Group) (words : List (List ℕ)) (answer : Grow)
+    (equalities : List Equality)
     (kept : List Seen) (needed : Option Seen) : Type 0 where
   pub listed : AreListed group equalities kept needed
   pub words_are : listed_words kept ≡ words
   pub full : (needed ≢ None) ↔ IsFull answer
 
 -- the listing stands at a place, or is finished by the difference that is needed
-abbrev pub Reaches : Group → List (List ℕ) → Grow → List Equality → ℕ → ℕ → Found → Option Seen → Type 0
+abbrev pub Reaches : Group → List (List ℕ) → Grow → List Equality → ℕ → ℕ → Found → Option Seen
+    → Type 0
 Reaches group words answer equalities index place found None =
     Standing group words answer equalities index place found
 Reaches group words answer equalities index place found (Some needed) =

@@ -31,7 +31,8 @@ AreEqualitiesOver n = All (λ equality. IsOver n equality.u × IsOver n equality
 
 -- one is at an earlier equality than the other, or at an earlier place of the same
 abbrev pub IsBefore : Seen → Seen → Type 0
-IsBefore one other = (one.equality < other.equality) ⊎ ((one.equality ≡ other.equality) × (one.place < other.place))
+IsBefore one other = (one.equality < other.equality)
+    ⊎ ((one.equality ≡ other.equality) × (one.place < other.place))
 
 -- the word is the difference of the equality at the place
 pub record IsAt (group : Group) (equalities : List Equality) (seen : Seen) : Type 0 where
@@ -57,7 +58,8 @@ ComesBefore None seen = Unit {0}
 ComesBefore (Some end) seen = IsBefore seen end
 
 -- The difference for which there is no room: it is not listed, and first seen where it is.
-pub record IsMissing (group : Group) (equalities : List Equality) (kept : List Seen) (needed : Seen) : Type 0 where
+pub record IsMissing (group : Group) (equalities : List Equality) (kept : List Seen)
+    (needed : Seen) : Type 0 where
   pub first_seen : IsFirstSeen group equalities needed
   pub missing : ¬ Contains (listed_words kept) needed.word
 
