@@ -29,9 +29,9 @@
 //! multiplier is after the pair of the word with itself (N6), or where the projection of the multiplier is after
 //! the word (N4). Or it follows a multiplier along pairs: where the acceptor is after both words (N2), or how the
 //! words compare so far (N7). The least word is that of the least text, and the least pair is found by
-//! `kb_leastpair`. A word has two images where its multiplier has a pair of it that isn't the first with that word:
-//! `kb_laterpairs` finds the least such word, and `kb_leastpair` its least image. The next image is the least second word
-//! beside it of the pairs whose second word is another, which a machine tells that follows the multiplier (N5).
+//! `kb_leastpair`. The least word with two images (N5) is found by `kb_laterpairs`, and its least image by `kb_leastpair`.
+//! Then a machine follows the multiplier along pairs, and tells whose second word is another: its next image is the least
+//! of these beside the word.
 //!
 //! A generator's multiplier is asked without regard to the others, so each kind but N1 is a search of `kb_search`, whose
 //! places are the generators (`automata`); a multiplier that has a certificate brings its least one.

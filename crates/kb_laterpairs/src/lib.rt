@@ -1,14 +1,15 @@
-//! Words with two second words: first words of accepted pairs that aren't the first with their first word.
+//! The least first word beside which an automaton of pairs accepts two second words.
 //!
-//! A pair is later where an automaton of pairs accepts it, and beside it one with the same first word and a lesser second
-//! word, in the shortlex order. The public contract: [`least_later_first`] returns the least first word that has a later
-//! pair, or `None` exactly where there is none. There is no limit: only memory may be wanting.
+//! A pair is later where the automaton accepts it, and one with the same first word and a lesser second word, in the
+//! shortlex order. The public contract: [`least_later_first`] returns the least first word that has a later pair, or
+//! `None` exactly where there is none. There is no limit: only memory may be wanting.
 //!
 //! A branching machine reads a pair, and guesses the lesser word, its rival, letter by letter. Its states are those
 //! of the automaton after the pair and after the pair with the rival, with how the rival compares with the second
 //! word. A lesser word is no longer, so that the rival ends where the text of the pair does, at the latest.
-//! `kb_branching` explores the machine. What comes of it isn't made deterministic, so that it takes no more than pairs
-//! of states: `kb_firstwords` reads its first words, and `kb_fsaleast` finds the least of them.
+//! `kb_branching` explores the machine. What comes of it isn't made deterministic: `kb_firstwords` reads its first words,
+//! and `kb_fsaleast` finds the least of them. So the time grows with the states of the machine and their moves
+//! (transitions); no clause says so.
 //!
 //! In `specs/`, `Later` has what is returned, `Rivalry` the machine, `Containing` what lists have that are made from
 //! others, and `Reading` that the machine reads pairs alone. In `proofs/`, `RivalMoves` has moves of the machine,
