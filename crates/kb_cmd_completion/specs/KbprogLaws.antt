@@ -21,8 +21,8 @@ use Rattle.kb_cmd_completion.specs.Kbprog.{KbprogMeans, kbprog_may_store, kbprog
 
 -- a presentation is completed by one pair of files
 one_completed : {file other_file : List ℕ} → file ≡ other_file → (parts : PresentationParts)
-    (texts others : List Text) → AreCompleted file parts texts → AreCompleted other_file parts others
-    → texts ≡ others
+    (texts others : List Text) → AreCompleted file parts texts
+    → AreCompleted other_file parts others → texts ≡ others
 one_completed {other_file = other_file} same parts texts others one other =
     let rules = one_rules parts one.completion other.completion in
     let acceptor = one_acceptor parts one.completion other.completion in

@@ -149,7 +149,16 @@ fn conclude<F: Shelf, I: Source, O: Sink, E: Sink>(
             normal_forms,
         } => {
             reduced_complete_systems_are_complete();
-            store_and_answer(alloc, task, files, &normal_forms, progress, shelf, input, out)
+            store_and_answer(
+                alloc,
+                task,
+                files,
+                &normal_forms,
+                progress,
+                shelf,
+                input,
+                out,
+            )
         }
         Conclusion::Limit(evidence) => show_limit(alloc, task, evidence, progress, shelf, out),
     }

@@ -1,10 +1,10 @@
-use Rattle.std.proofs.Common.{sym, List, subst}
+use Rattle.std.proofs.Common.{sym, subst}
 use Rattle.kb_io.specs.Outside.{Outside, outside}
 use Rattle.kb_word.specs.Presentations.{PresentationParts, parts_of}
 use Rattle.kb_reduced.specs.Reduced.{IsReducedComplete}
 use Rattle.kb_system.specs.Completed.{below, relations}
 use Rattle.kb_task.specs.Runs.{IsRun}
-use Rattle.kb_task.specs.Stores.{Text, texts_of}
+use Rattle.kb_task.specs.Stores.{texts_of}
 use Rattle.kb_answering.specs.Answers.{AnswersMean}
 use Rattle.kb_cmd_completion.specs.Conclusions.{ConcludesAs}
 use Rattle.kb_cmd_completion.specs.Files.{AreCompleted}
