@@ -1,4 +1,4 @@
-use Rattle.std.proofs.Common.{◌≡◌, sym, ap, subst}
+use Rattle.std.proofs.Common.{◌≡◌, ◌∙◌, sym, ap, subst}
 use Rattle.kb_word.specs.Presentations.{parts_of}
 use Rattle.kb_word.specs.declared.presentation.Presentation.{Presentation}
 use Rattle.kb_reduce.specs.Leading.{LeadToLeastWords}
@@ -21,5 +21,5 @@ returns c =
     let file : c.task.inside.file ≡ given.file = ap (λ (it : AutgroupGiven). it.file) c.task.view_is in (
       are_made c.requires.own given.file c.task.inside.file file (texts_of c.in_ok-files.files.items) c.in_ok-files.ensures.acceptor
       c.in_ok-files.ensures.multipliers c.in_ok-files.ensures.files,
-      ap parts_of (search c.in_ok-reader.ensures),
+      c.new.ensures ∙ ap parts_of c.in_ok-reader.ensures,
     )
