@@ -8,8 +8,8 @@ use Rattle.kb_word.specs.Presentations.{PresentationParts, parts_of}
 use Rattle.kb_word.specs.declared.presentation.Presentation.{Presentation}
 use Rattle.kb_diff.specs.Groups.{group_of}
 use Rattle.kb_diff.specs.declared.grow.Grow.{Grow}
-use Rattle.kb_kept.specs.Listed.{Lists, rule_paths}
-use Rattle.kb_kept.specs.declared.path.Path.{Path}
+use Rattle.kb_kept.specs.Listed.{Lists, rule_equalities}
+use Rattle.kb_kept.specs.declared.equality.Equality.{Equality}
 use Rattle.kb_kept.specs.declared.listing.Listing.{Listing}
 use Rattle.kb_machine.specs.Justified.{IsJustified}
 use Rattle.kb_machine.specs.declared.line.Line.{Line}
@@ -44,7 +44,7 @@ pub data AreRulesOfLog (parts : PresentationParts) (lines : List Line) (rules : 
 -- The automata of these differences were tried, and aren't known to be the group's own: there is a certificate against
 -- them, or a construction counts too many states.
 pub data HasFailed (tried : Tried) (words : List (List ℕ)) : Type 0 where
-  refuted : {path : Path} → RefutesBy tried.presentation tried.rules words tried.states path
+  refuted : {equality : Equality} → RefutesBy tried.presentation tried.rules words tried.states equality
       → HasFailed tried words
   counted : {which : Construction}
       → IsCounted tried.presentation tried.rules words tried.states which
@@ -55,16 +55,16 @@ pub record IsTriedAtHalt (tried : Tried) (listing : Listing) : Type 0 where
   pub words : List (List ℕ)
   pub answer : Grow
   pub keeps : KeepsRules tried words answer
-  pub paths : listing.paths.items ≡ rule_paths tried.rules
+  pub equalities : listing.equalities.items ≡ rule_equalities tried.rules
   pub lists : Lists (group_of tried.presentation tried.rules) words listing
   pub failed : HasFailed tried words
 
 -- as many differences are kept as may be, and another one is needed
 pub record IsShort (tried : Tried) (listing : Listing) : Type 0 where
-  pub rounds : List Path
+  pub rounds : List Equality
   pub words : List (List ℕ)
   pub needs : NeedsMore tried rounds words
-  pub paths : listing.paths.items ≡ rule_paths tried.rules ++ rounds
+  pub equalities : listing.equalities.items ≡ rule_equalities tried.rules ++ rounds
   pub lists : Lists (group_of tried.presentation tried.rules) words listing
   pub full : length words ≡ tried.most
   pub needed : listing.needed ≢ None

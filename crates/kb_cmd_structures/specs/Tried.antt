@@ -6,7 +6,7 @@ use Rattle.kb_word.specs.Presentations.{PresentationParts, parts_of}
 use Rattle.kb_word.specs.declared.presentation.Presentation.{Presentation}
 use Rattle.kb_diffprint.specs.Printed.{text_of_differences, text_of_seen}
 use Rattle.kb_kept.specs.declared.listing.Listing.{Listing}
-use Rattle.kb_kept.specs.declared.path.Path.{Path}
+use Rattle.kb_kept.specs.declared.equality.Equality.{Equality}
 use Rattle.kb_kept.specs.declared.seen.Seen.{Seen}
 use Rattle.kb_machine.specs.declared.line.Line.{Line}
 use Rattle.kb_round.specs.declared.answers.Construction.{Construction as Counted}
@@ -38,15 +38,15 @@ difference_text file names listing with_needed = record {
 }
 
 -- a difference where it was first seen, if there is one
-abbrev pub needed_text : List (List ℕ) → List Path → Option Seen → List ℕ
-needed_text names paths None = []
-needed_text names paths (Some needed) = text_of_seen names paths needed
+abbrev pub needed_text : List (List ℕ) → List Equality → Option Seen → List ℕ
+needed_text names equalities None = []
+needed_text names equalities (Some needed) = text_of_seen names equalities needed
 
 -- the line of a difference for which there was no room
 abbrev pub needed_line : List (List ℕ) → Listing → List ℕ
 needed_line names listing =
     codes "undecided diffs "
-    ++ (needed_text names listing.paths.items listing.needed ++ newline ∷ [])
+    ++ (needed_text names listing.equalities.items listing.needed ++ newline ∷ [])
 
 -- a log that didn't halt, rules, and differences, as files
 abbrev pub tried_texts : List ℕ → PresentationParts → List Line → List Pair → Bool → Text

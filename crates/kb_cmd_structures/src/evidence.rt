@@ -170,10 +170,10 @@ fn needed_line(
 /// Appends the difference that is needed where it was first seen, if there is one.
 fn append_needed(names: &Names, listing: &Listing, line: &mut Vec<u8>) -> Result<(), Memory>
     ensures { OnOk result (line.new.items ≡ line.old.items
-        ++ needed_text names.now listing.now.paths.items listing.now.needed) }
+        ++ needed_text names.now listing.now.equalities.items listing.now.needed) }
 {
     match &listing.needed {
-        Some(needed) => print_seen(names, &listing.paths, needed, line),
+        Some(needed) => print_seen(names, &listing.equalities, needed, line),
         None => Ok(()),
     }
 }

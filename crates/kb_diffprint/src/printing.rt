@@ -2,10 +2,10 @@
 
 ghost use Rattle.std.specs.Prelude.{◌≡◌, true, [], ◌∷◌, ◌++◌, IfOk, OnOk, decimal, slice_get};
 ghost use Rattle.kb_word.specs.Printed.{text_of_word};
-ghost use Rattle.kb_diffprint.specs.Printed.{text_of_differences, text_of_kept, text_of_needed, text_of_path, text_of_seen, word_of};
+ghost use Rattle.kb_diffprint.specs.Printed.{text_of_differences, text_of_kept, text_of_needed, text_of_equality, text_of_seen, word_of};
 
 use itoa::Buffer;
-use kb_kept::{Listing, Path, Seen};
+use kb_kept::{Listing, Equality, Seen};
 use kb_word::{Letter, Memory, Names, Word, print_word};
 use std::alloc::Global;
 
@@ -20,42 +20,42 @@ pub fn print_differences(
         ≡ text_of_differences names.now listing.now with_needed) }
 {
     let mut text = Vec::from_slice(alloc, b"diff 1\n1 IdWord\n")?;
-    print_kept(names, &listing.paths, &listing.kept, &mut text)?;
+    print_kept(names, &listing.equalities, &listing.kept, &mut text)?;
     if with_needed {
         print_needed(names, listing, &mut text)?;
     }
     Ok(text)
 }
 
-/// Appends a difference, the words of its path with the generator between them, and the place.
+/// Appends a difference, the words of its equality with the generator between them, and the place.
 pub fn print_seen(
     names: &Names,
-    paths: &[Path],
+    equalities: &[Equality],
     seen: &Seen,
     text: &mut Vec<u8>,
 ) -> Result<(), Memory>
     ensures { OnOk result
-        (text.new.items ≡ text.old.items ++ text_of_seen names.now paths.now seen.now) }
+        (text.new.items ≡ text.old.items ++ text_of_seen names.now equalities.now seen.now) }
 {
     print_field(names, &seen.word, text)?;
-    print_path(names, paths, seen.path, text)?;
+    print_equality(names, equalities, seen.equality, text)?;
     print_number(seen.place, text)
 }
 
 /// Appends the lines of differences, numbered from 2 on.
 fn print_kept(
     names: &Names,
-    paths: &[Path],
+    equalities: &[Equality],
     kept: &[Seen],
     text: &mut Vec<u8>,
 ) -> Result<(), Memory>
     ensures { OnOk result
-        (text.new.items ≡ text.old.items ++ text_of_kept names.now paths.now 2 kept.now) }
+        (text.new.items ≡ text.old.items ++ text_of_kept names.now equalities.now 2 kept.now) }
 {
     for (index, seen) in kept.iter().enumerate() {
         print_number(index + 2, text)?;
         text.push(b' ')?;
-        print_seen(names, paths, seen, text)?;
+        print_seen(names, equalities, seen, text)?;
         text.push(b'\n')?;
     }
     Ok(())
@@ -64,27 +64,27 @@ fn print_kept(
 /// Appends the line of the difference that is needed, where there is one.
 fn print_needed(names: &Names, listing: &Listing, text: &mut Vec<u8>) -> Result<(), Memory>
     ensures { OnOk result (text.new.items ≡ text.old.items
-        ++ text_of_needed names.now listing.now.paths.items listing.now.needed true) }
+        ++ text_of_needed names.now listing.now.equalities.items listing.now.needed true) }
 {
     if let Some(needed) = &listing.needed {
         text.extend_from_slice(b"need ")?;
-        print_seen(names, &listing.paths, needed, text)?;
+        print_seen(names, &listing.equalities, needed, text)?;
         text.push(b'\n')?;
     }
     Ok(())
 }
 
-/// Appends the words of the path at an index and its generator, each with a blank behind it.
-fn print_path(names: &Names, paths: &[Path], index: usize, text: &mut Vec<u8>) -> Result<(), Memory>
+/// Appends the words of the equality at an index and its generator, each with a blank behind it.
+fn print_equality(names: &Names, equalities: &[Equality], index: usize, text: &mut Vec<u8>) -> Result<(), Memory>
     ensures { OnOk result (text.new.items
-        ≡ text.old.items ++ text_of_path names.now (slice_get paths.now index)) }
+        ≡ text.old.items ++ text_of_equality names.now (slice_get equalities.now index)) }
 {
-    let Some(path) = paths.get(index) else {
+    let Some(equality) = equalities.get(index) else {
         return Ok(());
     };
-    print_field(names, &path.u, text)?;
-    print_field(names, &path.v, text)?;
-    print_generator(names, path.x, text)?;
+    print_field(names, &equality.u, text)?;
+    print_field(names, &equality.v, text)?;
+    print_generator(names, equality.x, text)?;
     text.push(b' ')?;
     Ok(())
 }

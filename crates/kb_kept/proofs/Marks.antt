@@ -1,4 +1,4 @@
--- What is listed before a place, one place and one path on.
+-- What is listed before a place, one place and one equality on.
 use Rattle.std.proofs.Common.{◌≡◌, ◌⊎◌, inl, inr, ℕ, suc, ◌<◌, ◌≤◌, List, [], ◌∷◌, ◌++◌, length, get_or, slice_get, Some, None, sym, subst, refl, ap, ◌∙◌, arith}
 use Rattle.std.specs.List.{Contains, AllPairs}
 use Rattle.std.proofs.lemmas.Bool.{cases_lt}
@@ -8,63 +8,63 @@ use Rattle.std.proofs.lemmas.Option.{same_Some, slice_get_within}
 use Rattle.kb_diff.specs.Groups.{Group}
 use Rattle.kb_diff.specs.Differences.{IsDifference, last_place}
 use Rattle.kb_diff.proofs.Places.{one_difference}
-use Rattle.kb_kept.specs.declared.path.Path.{Path}
+use Rattle.kb_kept.specs.declared.equality.Equality.{Equality}
 use Rattle.kb_kept.specs.declared.seen.Seen.{Seen}
 use Rattle.kb_kept.specs.Listed.{AreListed, IsAt, IsBefore, IsFirstSeen, listed_words}
 use Rattle.kb_kept.specs.Finding.{AreListedBefore, mark}
 
--- ---- the order of paths and places
+-- ---- the order of equalities and places
 
 before_next : (seen : Seen) (index place : ℕ) → IsBefore seen (mark index place) → IsBefore seen (mark index (suc place))
-before_next seen index place (inl path) = inl path
+before_next seen index place (inl equality) = inl equality
 before_next seen index place (inr same) = inr (same.0, omega (arith, same.1))
 
 before_or_at : (seen : Seen) (index place : ℕ) → IsBefore seen (mark index (suc place))
-    → IsBefore seen (mark index place) ⊎ ((seen.path ≡ index) × (seen.place ≡ place))
-before_or_at seen index place (inl path) = inl (inl path)
+    → IsBefore seen (mark index place) ⊎ ((seen.equality ≡ index) × (seen.place ≡ place))
+before_or_at seen index place (inl equality) = inl (inl equality)
 before_or_at seen index place (inr same) = grind arith
 
-before_path : (seen : Seen) (index place : ℕ) → IsBefore seen (mark index place) → IsBefore seen (mark (suc index) 1)
-before_path seen index place (inl path) = inl (omega arith)
-before_path seen index place (inr same) = inl (omega (arith, same.0))
+before_equality : (seen : Seen) (index place : ℕ) → IsBefore seen (mark index place) → IsBefore seen (mark (suc index) 1)
+before_equality seen index place (inl equality) = inl (omega arith)
+before_equality seen index place (inr same) = inl (omega (arith, same.0))
 
 -- ---- nothing is listed
 
-pub listed_none : (group : Group) (paths : List Path) → AreListedBefore group paths [] (mark 0 1)
-listed_none group paths = record {
-  each = All-nil (IsFirstSeen group paths);
+pub listed_none : (group : Group) (equalities : List Equality) → AreListedBefore group equalities [] (mark 0 1)
+listed_none group equalities = record {
+  each = All-nil (IsFirstSeen group equalities);
   not_empty = All-nil (λ (seen : Seen). seen.word ≡ [] → ⊥);
   ascending = λ i j d less within. absurd (omega arith);
   before = All-nil (λ (seen : Seen). IsBefore seen (mark 0 1));
   all = λ seen at before. elim before [
-    | inl path ↦ absurd (omega (arith, path))
+    | inl equality ↦ absurd (omega (arith, equality))
     | inr same ↦ absurd (omega (arith, same.1, at.positive))
   ];
 }
 
 -- ---- one place on
 
-module _ (group : Group) (paths : List Path) (kept : List Seen) (index place : ℕ) (word : List ℕ) where
+module _ (group : Group) (equalities : List Equality) (kept : List Seen) (index place : ℕ) (word : List ℕ) where
   abbrev here : Seen
-  here = record { word = word; path = index; place = place }
+  here = record { word = word; equality = index; place = place }
 
-  module _ (at : IsAt group paths here) (listed : AreListedBefore group paths kept (mark index place)) where
+  module _ (at : IsAt group equalities here) (listed : AreListedBefore group equalities kept (mark index place)) where
     -- what is at the place has its difference
-    same_at : (seen : Seen) → IsAt group paths seen → seen.path ≡ index → seen.place ≡ place → seen.word ≡ word
-    same_at seen is same_path same_place =
-        let same : is.path ≡ at.path = same_Some is.path at.path (sym is.is_path ∙ (ap (slice_get paths) same_path ∙ at.is_path)) in
-        let P : Path → Type 0 = λ p. IsDifference group p.u p.v seen.place seen.word in
-        let Q : ℕ → Type 0 = λ k. IsDifference group at.path.u at.path.v k seen.word in
-        one_difference group at.path.u at.path.v place seen.word word (subst Q same_place (subst P same is.difference)) at.difference
+    same_at : (seen : Seen) → IsAt group equalities seen → seen.equality ≡ index → seen.place ≡ place → seen.word ≡ word
+    same_at seen is same_equality same_place =
+        let same : is.equality ≡ at.equality = same_Some is.equality at.equality (sym is.is_equality ∙ (ap (slice_get equalities) same_equality ∙ at.is_equality)) in
+        let P : Equality → Type 0 = λ p. IsDifference group p.u p.v seen.place seen.word in
+        let Q : ℕ → Type 0 = λ k. IsDifference group at.equality.u at.equality.v k seen.word in
+        one_difference group at.equality.u at.equality.v place seen.word word (subst Q same_place (subst P same is.difference)) at.difference
 
     all_next : (words : List (List ℕ)) → ((other : List ℕ) → Contains (listed_words kept) other → Contains words other) → Contains words word
-        → (seen : Seen) → IsAt group paths seen → IsBefore seen (mark index (suc place)) → Contains words seen.word
+        → (seen : Seen) → IsAt group equalities seen → IsBefore seen (mark index (suc place)) → Contains words seen.word
     all_next words more has seen is before = elim (before_or_at seen index place before) [
       | inl earlier ↦ more seen.word (listed.all seen is earlier)
       | inr same ↦ let P : List ℕ → Type 0 = λ w. Contains words w in subst P (sym (same_at seen is same.0 same.1)) has
     ]
 
-    pub listed_known : Contains (listed_words kept) word → AreListedBefore group paths kept (mark index (suc place))
+    pub listed_known : Contains (listed_words kept) word → AreListedBefore group equalities kept (mark index (suc place))
     listed_known has = record {
       each = listed.each;
       not_empty = listed.not_empty;
@@ -75,7 +75,7 @@ module _ (group : Group) (paths : List Path) (kept : List Seen) (index place : �
     }
 
     module _ (lacks : ¬ Contains (listed_words kept) word) where
-      pub first_seen : IsFirstSeen group paths here
+      pub first_seen : IsFirstSeen group equalities here
       first_seen = record {
         at = at;
         first = λ other is same before.
@@ -104,11 +104,11 @@ module _ (group : Group) (paths : List Path) (kept : List Seen) (index place : �
       words_push : listed_words (kept ++ here ∷ []) ≡ listed_words kept ++ word ∷ []
       words_push = ap (λ (l : List (List ℕ)). [] ∷ l) (map_push (λ (seen : Seen). seen.word) kept here)
 
-      pub listed_first : AreListedBefore group paths (kept ++ here ∷ []) (mark index (suc place))
+      pub listed_first : AreListedBefore group equalities (kept ++ here ∷ []) (mark index (suc place))
       listed_first =
           let P : List (List ℕ) → Type 0 = λ words. Contains words word in
           let Q : List ℕ → List (List ℕ) → Type 0 = λ other words. Contains words other in record {
-            each = All-push (IsFirstSeen group paths) kept here listed.each first_seen;
+            each = All-push (IsFirstSeen group equalities) kept here listed.each first_seen;
             not_empty = All-push (λ (seen : Seen). seen.word ≡ [] → ⊥) kept here listed.not_empty not_empty_here;
             ascending = ascending_push;
             before = All-push (λ (seen : Seen). IsBefore seen (mark index (suc place))) kept here
@@ -121,7 +121,7 @@ module _ (group : Group) (paths : List Path) (kept : List Seen) (index place : �
           }
 
       -- the listing ends where there is no room
-      pub listed_up_to : AreListed group paths kept (Some here)
+      pub listed_up_to : AreListed group equalities kept (Some here)
       listed_up_to = record {
         each = listed.each;
         not_empty = listed.not_empty;
@@ -131,40 +131,40 @@ module _ (group : Group) (paths : List Path) (kept : List Seen) (index place : �
         end = record { first_seen = first_seen; missing = lacks };
       }
 
--- ---- one path on
+-- ---- one equality on
 
-before_last : (group : Group) (paths : List Path) (index place : ℕ) (path : Path) (seen : Seen) → slice_get paths index ≡ Some path
-    → last_place path.u path.v < place → IsAt group paths seen → IsBefore seen (mark (suc index) 1) → IsBefore seen (mark index place)
-before_last group paths index place path seen is past at (inr same) = absurd (omega (arith, same.1, at.positive))
-before_last group paths index place path seen is past at (inl less) = elim (cases_lt seen.path index) [
+before_last : (group : Group) (equalities : List Equality) (index place : ℕ) (equality : Equality) (seen : Seen) → slice_get equalities index ≡ Some equality
+    → last_place equality.u equality.v < place → IsAt group equalities seen → IsBefore seen (mark (suc index) 1) → IsBefore seen (mark index place)
+before_last group equalities index place equality seen is past at (inr same) = absurd (omega (arith, same.1, at.positive))
+before_last group equalities index place equality seen is past at (inl less) = elim (cases_lt seen.equality index) [
   | inl earlier ↦ inl earlier
   | inr later ↦
-      let here : seen.path ≡ index = omega arith in
-      let same : at.path ≡ path = same_Some at.path path (sym at.is_path ∙ (ap (slice_get paths) here ∙ is)) in
-      let last : last_place at.path.u at.path.v ≡ last_place path.u path.v = ap (λ (p : Path). last_place p.u p.v) same in
+      let here : seen.equality ≡ index = omega arith in
+      let same : at.equality ≡ equality = same_Some at.equality equality (sym at.is_equality ∙ (ap (slice_get equalities) here ∙ is)) in
+      let last : last_place at.equality.u at.equality.v ≡ last_place equality.u equality.v = ap (λ (p : Equality). last_place p.u p.v) same in
       let within = at.within in
       let less : seen.place < place = omega arith in inr (here, less)
 ]
 
-pub listed_path : (group : Group) (paths : List Path) (kept : List Seen) (index place : ℕ) (path : Path) → slice_get paths index ≡ Some path
-    → last_place path.u path.v < place → AreListedBefore group paths kept (mark index place) → AreListedBefore group paths kept (mark (suc index) 1)
-listed_path group paths kept index place path is past listed = record {
+pub listed_equality : (group : Group) (equalities : List Equality) (kept : List Seen) (index place : ℕ) (equality : Equality) → slice_get equalities index ≡ Some equality
+    → last_place equality.u equality.v < place → AreListedBefore group equalities kept (mark index place) → AreListedBefore group equalities kept (mark (suc index) 1)
+listed_equality group equalities kept index place equality is past listed = record {
   each = listed.each;
   not_empty = listed.not_empty;
   ascending = listed.ascending;
   before = All-weaker (λ (seen : Seen). IsBefore seen (mark index place)) (λ (seen : Seen). IsBefore seen (mark (suc index) 1))
-      (λ seen before. before_path seen index place before) kept listed.before;
-  all = λ seen at before. listed.all seen at (before_last group paths index place path seen is past at before);
+      (λ seen before. before_equality seen index place before) kept listed.before;
+  all = λ seen at before. listed.all seen at (before_last group equalities index place equality seen is past at before);
 }
 
--- after the last path all is listed
-pub listed_whole : (group : Group) (paths : List Path) (kept : List Seen) (index place : ℕ) → length paths ≤ index
-    → AreListedBefore group paths kept (mark index place) → AreListed group paths kept None
-listed_whole group paths kept index place past listed = record {
+-- after the last equality all is listed
+pub listed_whole : (group : Group) (equalities : List Equality) (kept : List Seen) (index place : ℕ) → length equalities ≤ index
+    → AreListedBefore group equalities kept (mark index place) → AreListed group equalities kept None
+listed_whole group equalities kept index place past listed = record {
   each = listed.each;
   not_empty = listed.not_empty;
   ascending = listed.ascending;
   before = λ k d within. tt;
-  all = λ seen at all. listed.all seen at (inl (let within = slice_get_within paths seen.path at.path at.is_path in omega arith));
+  all = λ seen at all. listed.all seen at (inl (let within = slice_get_within equalities seen.equality at.equality at.is_equality in omega arith));
   end = tt;
 }

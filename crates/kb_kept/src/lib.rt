@@ -6,12 +6,12 @@
 //!
 //! # The public contract
 //!
-//! - A [`Path`] is a pair of words u and v where u, or u followed by a generator x, is the same element as v.
-//! - [`rule_paths`] makes the paths of rules.
-//! - [`list_differences`] is given the differences that were kept of paths in order. It returns the same words, each with the
-//!   first path and place at which it is ([`Seen`]), and the first difference for which there was no room, if there is
+//! - A [`Equality`] is a pair of words u and v where u, or u followed by a generator x, is the same element as v.
+//! - [`rule_equalities`] makes the equalities of rules.
+//! - [`list_differences`] is given the differences that were kept of equalities in order. It returns the same words, each with the
+//!   first equality and place at which it is ([`Seen`]), and the first difference for which there was no room, if there is
 //!   one. `AreListed` of `specs/Listed.antt` says what such a listing is, without how it was made: exactly the
-//!   differences of the paths, in the order of paths and places, up to the one for which there was no room.
+//!   differences of the equalities, in the order of equalities and places, up to the one for which there was no room.
 //!
 //! The listing is made with a set of the words that are known; `specs/Finding.antt` says what is found up to a place and
 //! what is left to find.
@@ -20,9 +20,9 @@
 #![tactic(auto)]
 
 mod listing;
-mod path;
+mod equality;
 mod seen;
 
 pub use listing::{Listing, list_differences};
-pub use path::{Path, rule_paths};
+pub use equality::{Equality, rule_equalities};
 pub use seen::Seen;

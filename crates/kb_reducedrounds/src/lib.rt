@@ -9,7 +9,7 @@
 //!
 //! - [`rounds_by_reduced_systems_lack_images`] is the law that a certificate against the automata is of the kind N4, a
 //!   word without image.
-//! - [`rounds_by_reduced_systems_keep_more`] is the law that the words of its path are irreducible, and have a difference
+//! - [`rounds_by_reduced_systems_keep_more`] is the law that the words of its equality are irreducible, and have a difference
 //!   that isn't kept. So each such round keeps one more, or finds no room for it.
 //!
 //! # Where things are

@@ -31,7 +31,7 @@ use Rattle.kb_axioms.specs.Truth.{AreMultipliers as ReadPairs}
 use Rattle.kb_axioms.proofs.GroupAutomata.{multipliers_read}
 use Rattle.kb_axioms.proofs.Presented.{own}
 use Rattle.kb_round.specs.Rounds.{AreMadeOf, IsOwnStructure}
-use Rattle.kb_round.specs.Shown.{HasPath}
+use Rattle.kb_round.specs.Shown.{HasEquality}
 use Rattle.kb_round.proofs.LedWords.{multiplied_words}
 
 -- ---- the language of differences
@@ -145,16 +145,16 @@ module _ (presentation : Presentation) (rules : List Sides) (words : List (List 
       (subst P number multiplies.first_letters) (subst Q number multiplies.second_letters)
       (multiplied presentation.order (relations_of presentation.inv presentation.eqs) x u v multiplies)
 
-  -- a first certificate against them is of one of the kinds that have a path
-  pub has_path : IsAutomaton acceptor → (limit : ℕ) (cert : Cert)
-      → IsFirstCertificate (checked_in presentation acceptor multipliers limit) cert → HasPath cert
-  has_path is limit cert (n1 least) = no_prefix ShortLex [] is _ (least ShortLex []).holds
-  has_path is limit cert (n2 passes first) = no_outside ShortLex [] is _ _ _ (first ShortLex []).least.holds
-  has_path is limit cert (n4 passes first few) = tt
-  has_path is limit cert (n5 passes first) = tt
-  has_path is limit cert (n6 passes first) = tt
-  has_path is limit cert (n7 passes first) = tt
-  has_path is limit cert (n8 passes at) = tt
+  -- a first certificate against them is of one of the kinds that have an equality
+  pub has_equality : IsAutomaton acceptor → (limit : ℕ) (cert : Cert)
+      → IsFirstCertificate (checked_in presentation acceptor multipliers limit) cert → HasEquality cert
+  has_equality is limit cert (n1 least) = no_prefix ShortLex [] is _ (least ShortLex []).holds
+  has_equality is limit cert (n2 passes first) = no_outside ShortLex [] is _ _ _ (first ShortLex []).least.holds
+  has_equality is limit cert (n4 passes first few) = tt
+  has_equality is limit cert (n5 passes first) = tt
+  has_equality is limit cert (n6 passes first) = tt
+  has_equality is limit cert (n7 passes first) = tt
+  has_equality is limit cert (n8 passes at) = tt
 
   -- where they pass they are the group's own
   pub own_structure_made : (limit : ℕ) → presentation.order ≡ ShortLex

@@ -12,8 +12,8 @@ use Rattle.kb_diff.specs.Groups.{Group, group_of}
 use Rattle.kb_diff.specs.Languages.{IsDifferenceAcceptor}
 use Rattle.kb_diffwa.specs.Multipliers.{AreMultipliers, CountedPlaces}
 use Rattle.kb_diffwa.specs.Rivals.{CountedRivals}
-use Rattle.kb_kept.specs.Listed.{path_of}
-use Rattle.kb_kept.specs.declared.path.Path.{Path}
+use Rattle.kb_kept.specs.Listed.{equality_of}
+use Rattle.kb_kept.specs.declared.equality.Equality.{Equality}
 use Rattle.kb_structure.specs.Structure.{IsAutomaticStructure}
 use Rattle.kb_structure.specs.declared.cert.Cert.{Cert}
 use Rattle.kb_structure.specs.declared.cert.Cert.TheVariants.{N4, N5, N6, N7, N8}
@@ -62,24 +62,24 @@ pub record IsRefuted (presentation : Presentation) (rules : List Sides) (words :
 
 -- The words of a certificate that are the same element, the first one perhaps with the generator behind it. Their
 -- differences are what the automata lack.
-pub data ShowsPath (rules : List Sides) : Cert → Path → Type 0 where
+pub data ShowsEquality (rules : List Sides) : Cert → Equality → Type 0 where
   no_image : {x : ℕ} {u v : List ℕ} → NormalForm rules (u ++ x ∷ []) v
-      → ShowsPath rules (N4 x u) (path_of u v (Some x))
+      → ShowsEquality rules (N4 x u) (equality_of u v (Some x))
   two_images : {x : ℕ} {u v other : List ℕ}
-      → ShowsPath rules (N5 x u v other) (path_of v other None)
+      → ShowsEquality rules (N5 x u v other) (equality_of v other None)
   no_extension : {x : ℕ} {u : List ℕ}
-      → ShowsPath rules (N6 x u) (path_of u (u ++ x ∷ []) (Some x))
+      → ShowsEquality rules (N6 x u) (equality_of u (u ++ x ∷ []) (Some x))
   not_least : {x : ℕ} {u v w : List ℕ} → NormalForm rules (u ++ x ∷ []) w
-      → ShowsPath rules (N7 x u v) (path_of v w None)
+      → ShowsEquality rules (N7 x u v) (equality_of v w None)
   broken : {number : ℕ} {u a b : List ℕ}
-      → ShowsPath rules (N8 number u a b) (path_of a b None)
+      → ShowsEquality rules (N8 number u a b) (equality_of a b None)
 
--- the first certificate against the automata of the differences has this path
+-- the first certificate against the automata of the differences has this equality
 pub record RefutesBy (presentation : Presentation) (rules : List Sides) (words : List (List ℕ))
-    (limit : ℕ) (path : Path) : Type 0 where
+    (limit : ℕ) (equality : Equality) : Type 0 where
   pub cert : Cert
   pub refuted : IsRefuted presentation rules words limit cert
-  pub shows : ShowsPath rules cert path
+  pub shows : ShowsEquality rules cert equality
 
 -- a construction of the round counts more states than the limit
 pub data IsCounted (presentation : Presentation) (rules : List Sides) (words : List (List ℕ))
@@ -98,7 +98,7 @@ pub data IsCounted (presentation : Presentation) (rules : List Sides) (words : L
 abbrev pub RoundSays : Presentation → List Sides → List (List ℕ) → ℕ → Round → Type 0
 RoundSays presentation rules words limit (Own structure) =
     IsOwnStructure presentation limit structure.acceptor structure.multipliers.items
-RoundSays presentation rules words limit (Refuted path) =
-    RefutesBy presentation rules words limit path
+RoundSays presentation rules words limit (Refuted equality) =
+    RefutesBy presentation rules words limit equality
 RoundSays presentation rules words limit (TooManyStates which) =
     IsCounted presentation rules words limit which

@@ -2,7 +2,7 @@
 
 use kb_axioms::Construction as CheckConstruction;
 use kb_fsa::Fsa;
-use kb_kept::Path;
+use kb_kept::Equality;
 
 /// A word acceptor, and a multiplier for each generator.
 #[derive(Drop)]
@@ -29,8 +29,8 @@ pub enum Construction {
 pub enum Round {
     /// The automata are the group's own automatic structure.
     Own(Structure),
-    /// There is a certificate against them, and this is its path.
-    Refuted(Path),
+    /// There is a certificate against them, and this is its equality.
+    Refuted(Equality),
     /// A construction would have more states than it may have.
     TooManyStates(Construction),
 }

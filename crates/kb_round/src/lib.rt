@@ -8,7 +8,7 @@
 //!
 //! - [`Round::Own`]: they are the group's own automatic structure.
 //! - [`Round::Refuted`]: there is a certificate against them, the first in the order of the check; and the two words of it
-//!   that are the same element, so that their differences may be kept for the next round (`ShowsPath`).
+//!   that are the same element, so that their differences may be kept for the next round (`ShowsEquality`).
 //! - [`Round::TooManyStates`]: a construction counts more states than it may, which comes before any certificate.
 //!
 //! # Why passing is enough
@@ -22,7 +22,7 @@
 //! # Where things are
 //!
 //! In `specs/`, `Rounds` has what each answer says, `Reduced` what canonical forms of a list of automata are, and `Shown`
-//! which certificates have a path. In `proofs/`, `LedWords` shows that words which lead from one difference to another are
+//! which certificates have an equality. In `proofs/`, `LedWords` shows that words which lead from one difference to another are
 //! the same element but for the two, and `DifferenceStructures` what is always so of these automata: that they are true to
 //! the group, and that there is no certificate N1 or N2 against them. `CanonicalForms` has that canonical forms of
 //! multipliers are multipliers too.

@@ -9,7 +9,7 @@ ghost use Rattle.kb_round.specs.Rounds.{AreMadeOf, RoundSays};
 
 use crate::answers::{Construction, Figures, Round, Structure};
 use crate::making::{canonical_acceptor, canonical_multipliers, largest};
-use crate::showing::path_of;
+use crate::showing::equality_of;
 use kb_axioms::{Automata, check_automata};
 use kb_diff::Differences;
 use kb_rules::Reducer;
@@ -104,7 +104,7 @@ fn checked<R: Reducer, T: Threads + Wait + Sync>(
         workers,
     )? {
         Automata::Pass => Ok(Round::Own(structure)),
-        Automata::No(cert) => Ok(Round::Refuted(path_of(alloc, differences.reducer(), cert)?)),
+        Automata::No(cert) => Ok(Round::Refuted(equality_of(alloc, differences.reducer(), cert)?)),
         Automata::TooManyStates { which } => {
             Ok(Round::TooManyStates(Construction::Check(which)))
         }

@@ -19,6 +19,6 @@ returns c =
     let same : c.in_ok-reader.reader.presentation ≡ c.args.presentation = c.in_ok-reader.ensures in
     let file : c.task.inside.file ≡ given.file = ap (λ (it : AutgroupGiven). it.file) c.task.view_is in (
       are_made c.requires.own given.file c.task.inside.file file (texts_of c.in_ok-files.files.items) c.in_ok-files.ensures.acceptor
-      c.in_ok-files.ensures.multipliers c.in_ok-files.ensures.files,
+          c.in_ok-files.ensures.multipliers c.in_ok-files.ensures.files,
       c.new-least_words.ensures ∙ ap parts_of same,
     )

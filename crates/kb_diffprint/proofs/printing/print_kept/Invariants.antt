@@ -5,4 +5,4 @@ use Rattle.kb_diffprint.proofs.printing.print_kept.Given as goal
 -- the text so far and the lines that are left are those of all
 abbrev pub invariant-loop-index : goal.invariant-loop-index
 invariant-loop-index l =
-    l.text.items ++ text_of_kept l.names l.paths (l.index + 2) (drop l.index l.kept) ≡ l.initial.text.items ++ text_of_kept l.names l.paths 2 l.kept
+    l.text.items ++ text_of_kept l.names l.equalities (l.index + 2) (drop l.index l.kept) ≡ l.initial.text.items ++ text_of_kept l.names l.equalities 2 l.kept

@@ -5,8 +5,8 @@ use Rattle.kb_kept.specs.Finding.{Standing}
 use Rattle.kb_kept.specs.Listed.{pair_of}
 use Rattle.kb_kept.proofs.listing.list_differences.Given as goal
 
--- what is listed before a path
+-- what is listed before an equality
 abbrev pub invariant-loop-index : goal.invariant-loop-index
 invariant-loop-index g l =
-    (answer : Grow) → AddsPairs l.differences.group l.differences.most (map pair_of l.paths.items) ([] ∷ []) l.differences.words answer
-    → Standing l.differences.group l.differences.words answer l.paths.items l.index 1 l.found
+    (answer : Grow) → AddsPairs l.differences.group l.differences.most (map pair_of l.equalities.items) ([] ∷ []) l.differences.words answer
+    → Standing l.differences.group l.differences.words answer l.equalities.items l.index 1 l.found

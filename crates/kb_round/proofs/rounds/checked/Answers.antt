@@ -10,7 +10,7 @@ use Rattle.kb_axioms.specs.declared.answers.Automata.{Automata}
 use Rattle.kb_axioms.specs.declared.answers.Automata.TheVariants.{No, Pass, TooManyStates}
 use Rattle.kb_axioms.proofs.Presented.{over}
 use Rattle.kb_round.specs.Rounds.IsCounted.{check}
-use Rattle.kb_round.proofs.DifferenceStructures.{has_path, own_structure_made}
+use Rattle.kb_round.proofs.DifferenceStructures.{has_equality, own_structure_made}
 use Rattle.kb_round.proofs.rounds.checked.Goals as goal
 
 -- what is answered of the automata, by the names that the round has for them
@@ -30,12 +30,12 @@ check_automata-requires-clause-over g c κs within =
     subst P (sym (c.deref-2.ensures.value ∙ c.in_ok-relations.ensures))
     (over c.args.presentation.now structure.acceptor structure.multipliers.items c.requires.made.accepts.alphabet)
 
-pub path_of-requires : goal.path_of-requires
-path_of-requires g c =
+pub equality_of-requires : goal.equality_of-requires
+equality_of-requires g c =
     let presentation = c.args.presentation.now in
     let structure = c.args.structure in
     let given = c.args.differences.now in
-    has_path presentation given.group.rules given.words structure.acceptor structure.multipliers.items c.requires.made
+    has_equality presentation given.group.rules given.words structure.acceptor structure.multipliers.items c.requires.made
     c.alphabet-alphabet.ensures.automaton c.args.limit c.in-No.cert
     (said presentation structure.acceptor structure.multipliers.items c.deref.result.now c.deref-2.result.now c.args.limit
     c.in_ok-check_automata.field-0 (No c.in-No.cert) c.deref.ensures.value (c.deref-2.ensures.value ∙ c.in_ok-relations.ensures) c.in-No.is

@@ -1,6 +1,6 @@
 use Rattle.std.proofs.Common.{ℕ, List, subst}
 use Rattle.kb_word.specs.Rewriting.{NormalForm}
-use Rattle.kb_round.specs.Rounds.ShowsPath.{no_image}
+use Rattle.kb_round.specs.Rounds.ShowsEquality.{no_image}
 use Rattle.kb_round.proofs.showing.without_image.Goals as goal
 
 pub returns : goal.returns
