@@ -47,7 +47,7 @@ module _ (given : AutgroupGiven) (presentation : Presentation) (own : List ℕ) 
   shown_halted reached listing halts tried are =
       shown_as (λ name. halted_texts name parts reached.lines.items reached.waiting reached.rules.rules
       ++ difference_text name presentation.names listing false ∷ [])
-      (halted refl halts tried) are.0 are.1 are.2
+      (halted reached refl halts tried) are.0 are.1 are.2
 
   pub shown_differences : (lines : List Line) (rules : List Pair) (confluent : Bool) (listing : Listing)
       → AreRulesOfLog parts lines rules confluent → IsShort (tried_by given.limits given.most presentation rules) listing

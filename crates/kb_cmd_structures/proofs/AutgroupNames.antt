@@ -105,7 +105,7 @@ limit_may given name (suc (suc (suc place))) within is = absurd (omega (arith, w
 module _ (given : AutgroupGiven) {parts : PresentationParts} where
   names_shown : {limit : Limit} {texts : List Text} {line : List ℕ} → ShowsLimit given parts limit texts line
       → names_of texts ≡ limit_names given.file
-  names_shown (halted presented shows tried) = refl
+  names_shown (halted reached presented shows tried) = refl
   names_shown (differences presented rules short) = refl
   names_shown (states presented rules large) = refl
 

@@ -1,7 +1,7 @@
 -- What is stored of a group's own structure, and that words can be followed by it.
 use Rattle.std.proofs.Common.{◌≡◌, ◌∙◌, ℕ, suc, ◌+◌, ◌<◌, ◌≤◌, List, [], ◌∷◌, ◌++◌, All, Some, length, get_or, map, drop, refl, sym, ap, subst, arith}
 use Rattle.std.proofs.Math.Seq.{drop-cons}
-use Rattle.std.proofs.lemmas.List.{append_assoc, map-append}
+use Rattle.std.proofs.lemmas.List.{append_assoc, append-nil, drop_all, map-append}
 use Rattle.std.proofs.lemmas.List.Elements.{All-get_or}
 use Rattle.kb_word.specs.Presentations.{PresentationParts, parts_of}
 use Rattle.kb_word.specs.Relations.{relations_of}
@@ -112,3 +112,21 @@ module _ (file : List ℕ) (names : List (List ℕ)) (multipliers : List Automat
     where
       next_number : (x : ℕ) → x + 1 ≡ suc x
       next_number x = omega arith
+
+  -- and where no multiplier is left they are all there is
+  pub all_there : (files : List TextFile) (place : ℕ) → length multipliers ≤ place → IsPart files place → texts_of files ≡ whole
+  all_there files place past part =
+      sym (append-nil (texts_of files))
+      ∙ (ap (λ (list : List Automaton). texts_of files ++ multiplier_texts file names (place + 1) list) (sym (drop_all place multipliers past))
+      ∙ part)
+
+-- the first file is that of the word acceptor
+pub starts : (file : List ℕ) (names : List (List ℕ)) (acceptor : Automaton) (multipliers : List Automaton) (files pushed : List TextFile)
+    (first : TextFile) (name : List ℕ) → files ≡ [] → pushed ≡ files ++ first ∷ [] → name ≡ acceptor_file file
+    → text_of first ≡ record { name = name; bytes = text_of_automaton names acceptor }
+    → IsPart file names multipliers (structure_texts file names acceptor multipliers) pushed 0
+starts file names acceptor multipliers files pushed first name none is named text =
+    let Named : List ℕ → Type 0 = λ own. text_of first ≡ record { name = own; bytes = text_of_automaton names acceptor } in
+    let one : pushed ≡ first ∷ [] = is ∙ ap (λ (before : List TextFile). before ++ first ∷ []) none in
+    ap (λ (list : List TextFile). texts_of list ++ multiplier_texts file names 1 multipliers) one
+    ∙ ap (λ (t : Text). t ∷ multiplier_texts file names 1 multipliers) (subst Named named text)

@@ -1,6 +1,6 @@
 -- What is stored and written of the search for a group's automatic structure.
 use Rattle.std.specs.Prelude.{◌≡◌}
-use Rattle.kb_word.specs.Presentations.{PresentationParts, parts_of}
+use Rattle.kb_word.specs.Presentations.{PresentationParts}
 use Rattle.kb_task.specs.Stores.{texts_of}
 use Rattle.kb_cmd_structures.specs.Autgroup.{autgroup_own, autgroup_shows}
 use Rattle.kb_cmd_structures.specs.Given.{AutgroupGiven}
@@ -11,6 +11,6 @@ use Rattle.kb_cmd_structures.specs.declared.conclusion.Conclusion.TheVariants.{M
 abbrev pub ConcludesAs : AutgroupGiven → PresentationParts → Conclusion → Type 0
 ConcludesAs given parts (Made files least_words) =
     autgroup_own given parts (texts_of files.items)
-    × (parts_of least_words.reader.presentation ≡ parts)
+    × (least_words ≡ parts)
 ConcludesAs given parts (Limit evidence) =
     autgroup_shows given parts evidence.limit (texts_of evidence.files.items) evidence.line.items

@@ -60,7 +60,7 @@ tried_texts file parts lines rules confluent differences =
 -- system count too many states.
 pub data ShowsLimit (given : AutgroupGiven) (parts : PresentationParts) : Limit → List Text
     → List ℕ → Type 0 where
-  halted : {presentation : Presentation} {halted : Halted} {listing : Listing}
+  halted : {presentation : Presentation} (halted : Halted) {listing : Listing}
       → parts_of presentation ≡ parts → ShowsHalt given.limits parts halted
       → IsTriedAtHalt (tried_by given.limits given.most presentation halted.rules.rules) listing
       → ShowsLimit given parts (limit_of halted.reached)
