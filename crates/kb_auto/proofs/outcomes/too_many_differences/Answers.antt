@@ -18,6 +18,6 @@ pub returns : goal.returns
 returns c = λ limits most presentation order log lacks. (
   order,
   log,
-  lists_short (tried_by limits most presentation c.args.rules.rules) c.args.gathered _ c.in_ok-listing.ensures.paths
+  lists_short (tried_by limits most presentation c.args.rules.rules) c.args.gathered _ c.in_ok-listing.ensures.equalities
       c.in_ok-listing.ensures.lists c.in_ok-listing.ensures.needed lacks,
 )

@@ -19,7 +19,7 @@ returns c = λ limits most presentation order log gathers counted. (
   log,
   record {
     words = c.args.gathered.differences.words;
-    kept = lists_kept (tried_by limits most presentation c.args.rules.rules) c.args.gathered _ c.in_ok-listing.ensures.paths
+    kept = lists_kept (tried_by limits most presentation c.args.rules.rules) c.args.gathered _ c.in_ok-listing.ensures.equalities
         c.in_ok-listing.ensures.lists c.in_ok-listing.ensures.needed gathers;
     counted = counted;
   },
