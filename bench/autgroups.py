@@ -5,30 +5,12 @@ import re
 import subprocess
 
 import presentations as known
-from measuring import GIVEN_UP, run_once
-
-COUNTS = (1, 2, 4)
+from workers import measure_by_workers
 
 
 def measure_autgroups(program, room):
-    """Prints the figures of automatic structures within the default limits: one run for each number of workers."""
-    for what, text in groups():
-        print(what, flush=True)
-        for count in COUNTS:
-            print(f"    {count} workers: {figures(program, room, text, count)}", flush=True)
-
-
-def figures(program, room, text, count):
-    """What a run by so many workers comes to, and how long it takes."""
-    file = f"{room}/presentation"
-    with open(file, "w", encoding="ascii") as it:
-        it.write(text)
-    words = [program, "autgroup", file, "--workers", str(count)]
-    run = run_once(words, os.devnull)
-    if run is None:
-        return f"given up after {GIVEN_UP} s"
-    found = f"status {run.status}, {run.clock:8.3f} s by the clock, {run.spent:8.3f} s in all, {run.memory:4.0f} MiB"
-    return f"{found}, {came_to(words, file)}"
+    """Prints the figures of automatic structures."""
+    measure_by_workers(program, room, "autgroup", groups(), came_to)
 
 
 def came_to(words, file):

@@ -5,7 +5,7 @@ import re
 import subprocess
 
 import presentations as known
-from measuring import GIVEN_UP, run_once
+from workers import measure_by_workers
 
 WORKERS = ["--workers", "1"]
 COUNTS = (1, 2, 4)
@@ -13,24 +13,8 @@ MOST_RULES = 1_000_000
 
 
 def measure_completions(program, room):
-    """Prints the figures of completions within the default limits: one run for each number of workers, by the clock."""
-    for what, text in presentations():
-        print(what, flush=True)
-        for count in COUNTS:
-            print(f"    {count} workers: {figures(program, room, text, count)}", flush=True)
-
-
-def figures(program, room, text, count):
-    """What a completion by so many workers comes to, and how long it takes."""
-    file = f"{room}/presentation"
-    with open(file, "w", encoding="ascii") as it:
-        it.write(text)
-    words = [program, "kbprog", file, "--workers", str(count)]
-    run = run_once(words, os.devnull)
-    if run is None:
-        return f"given up after {GIVEN_UP} s"
-    found = f"status {run.status}, {run.clock:8.3f} s by the clock, {run.spent:8.3f} s in all, {run.memory:4.0f} MiB"
-    return f"{found}, {course(words, file)}"
+    """Prints the figures of completions."""
+    measure_by_workers(program, room, "kbprog", presentations(), course)
 
 
 def course(words, file):

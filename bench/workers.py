@@ -24,6 +24,24 @@ def measure_workers(program, room):
     os.remove(file)
 
 
+def measure_by_workers(program, room, command, known, came_to):
+    """Prints the figures of a command within the default limits on presentations, a name and a text each: one run for each
+    number of workers, by the clock. A function of the command line and the file says what a run came to."""
+    file = f"{room}/presentation"
+    for what, text in known:
+        print(what, flush=True)
+        with open(file, "w", encoding="ascii") as it:
+            it.write(text)
+        for count in COUNTS:
+            words = [program, command, file, "--workers", str(count)]
+            run = run_once(words, os.devnull)
+            if run is None:
+                print(f"    {count} workers: given up after {GIVEN_UP} s", flush=True)
+                continue
+            clocks = f"{run.clock:8.3f} s by the clock, {run.spent:8.3f} s in all, {run.memory:4.0f} MiB"
+            print(f"    {count} workers: status {run.status}, {clocks}, {came_to(words, file)}", flush=True)
+
+
 def clock(run):
     """The time of a run, or that it was given up or failed."""
     if run is None:
