@@ -7,10 +7,6 @@ import subprocess
 import presentations as known
 from workers import measure_by_workers
 
-WORKERS = ["--workers", "1"]
-COUNTS = (1, 2, 4)
-MOST_RULES = 1_000_000
-
 
 def measure_completions(program, room):
     """Prints the figures of completions."""
