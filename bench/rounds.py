@@ -5,10 +5,12 @@ import re
 import subprocess
 
 import data
-from completions import MOST_RULES, WORKERS
 from measuring import measure, run_once
 from presentations import coxeter, free_abelian
 from workers import COUNTS, clock
+
+WORKERS = ["--workers", "1"]
+MOST_RULES = 1_000_000
 
 
 def measure_rounds(program, maker, room):
