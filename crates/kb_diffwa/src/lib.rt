@@ -56,12 +56,16 @@
 
 mod avoiding_rivals;
 mod comparison;
+mod comparisons;
 mod laws;
 mod multiplication;
 mod pairs;
 mod place;
 mod rival;
 mod rival_moves;
+mod rival_set;
+mod rival_sets;
+mod sparse_steps;
 
 pub use avoiding_rivals::acceptor;
 pub use kb_explore::Det;
