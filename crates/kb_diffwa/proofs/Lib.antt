@@ -10,3 +10,6 @@ pub mod ComparisonRuns
 pub mod RivalRuns
 pub mod RivalWords
 pub mod Acceptance
+pub mod Rows
+pub mod LetterMoves
+pub mod StepPairs

@@ -1,12 +1,14 @@
 -- Sets of rivals, each by the numbers of their differences and how they compare, and the machine that goes from set to
 -- set.
-use Rattle.std.specs.Prelude.{◌≡◌, ℕ, zero, suc, ◌+◌, ◌-◌, ◌<◌, ◌≤◌, ◌↔◌, Bool, true, false, not, ◌&&◌, ◌||◌, nat_eq, nat_lt, nat_le, if◌then◌else◌, List, [], ◌∷◌, length, get_or, set, replicate, fold, All, Contains, Option, Some, None}
+use Rattle.std.specs.Prelude.{◌≡◌, ℕ, zero, suc, ◌+◌, ◌-◌, ◌<◌, ◌≤◌, ◌↔◌, Bool, true, false, not, ◌&&◌, ◌||◌, nat_eq, nat_lt, nat_le, if◌then◌else◌, List, [], ◌∷◌, ◌++◌, length, get_or, set, replicate, fold, All, Contains, Option, Some, None}
+use Rattle.std.specs.Bool.{beq}
+use Rattle.std.specs.Hash.{HashWrites, bool, u32}
 use Rattle.kb_explore.specs.Machine.{Machine}
 use Rattle.kb_diffwa.specs.declared.comparison.Comparison.{Comparison}
 use Rattle.kb_diffwa.specs.declared.comparison.Comparison.TheVariants.{Equal, Less, Greater, Ended}
 use Rattle.kb_diffwa.specs.declared.comparisons.Comparisons.{Comparisons}
 use Rattle.kb_diffwa.specs.declared.rival.Rival.{Rival}
-use Rattle.kb_diffwa.specs.declared.rival_set.Rivals.{Rivals}
+use Rattle.kb_diffwa.specs.declared.rivals.Rivals.{Rivals}
 
 -- ---- sets of comparisons
 
@@ -54,6 +56,25 @@ all_compared n comparisons a b = if nat_eq b (n + 1) then record {
       greater = comparisons.greater || (comparisons.equal && nat_lt a b);
       ended = false;
     }
+
+-- ---- tests of equality, and hashes
+
+abbrev pub same_comparisons : Comparisons → Comparisons → Bool
+same_comparisons one other =
+    beq one.equal other.equal
+    && (beq one.less other.less && (beq one.greater other.greater && beq one.ended other.ended))
+
+abbrev pub same_rivals : Rivals → Rivals → Bool
+same_rivals one other =
+    nat_eq one.difference other.difference && same_comparisons one.comparisons other.comparisons
+
+abbrev pub fed_comparisons : Comparisons → HashWrites
+fed_comparisons comparisons =
+    bool comparisons.equal
+    ++ (bool comparisons.less ++ (bool comparisons.greater ++ bool comparisons.ended))
+
+abbrev pub fed_rivals : Rivals → HashWrites
+fed_rivals rivals = u32 rivals.difference ++ fed_comparisons rivals.comparisons
 
 -- ---- rows: for difference 1, difference 2, and so on, how the rivals of that difference compare
 

@@ -65,6 +65,7 @@ mod rival;
 mod rival_moves;
 mod rival_set;
 mod rival_sets;
+mod rivals;
 mod sparse_steps;
 
 pub use avoiding_rivals::acceptor;

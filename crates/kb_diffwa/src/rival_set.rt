@@ -4,24 +4,16 @@ ghost use Rattle.std.specs.Prelude.{◌≡◌, ◌+◌, ◌<◌, ◌^◌, length
 ghost use Rattle.std.specs.Cmp.{partial_equiv_from_equiv};
 ghost use Rattle.std.specs.Cmp.Lexicographic.{pointwise, lists_equiv};
 ghost use Rattle.std.specs.Hash as fed;
-ghost use Rattle.std.specs.Cmp.Rules.{hashing};
-ghost use Rattle.std.proofs.Common.{rules};
-ghost use Rattle.kb_diffwa.specs.RivalSets.{members_from};
+ghost use Rattle.kb_diffwa.specs.RivalSets.{fed_rivals, members_from, same_rivals};
+ghost use Rattle.kb_diffwa.specs.SameSets.{hashed_alike};
+ghost use Rattle.kb_diffwa.specs.contracts.rivals.RivalsEq.TheImpl.Laws.{laws-law};
 
 use crate::comparisons::Comparisons;
+use crate::rivals::Rivals;
 use kb_word::Memory;
 use std::alloc::Global;
 use std::hash::{Hash, Hasher};
 use std::marker::Model;
-
-/// The rivals of one difference.
-#[derive(Clone, Copy, Debug, PartialEq, Eq, Hash)]
-pub struct Rivals {
-    /// The number of the difference.
-    pub difference: u32,
-    /// How they compare with their suffixes.
-    pub comparisons: Comparisons,
-}
 
 /// A set of rivals: those of each difference that has some, by ascending numbers of differences.
 #[derive(Debug, Drop)]
@@ -31,7 +23,7 @@ pub struct RivalSet {
 
 impl Model for RivalSet {
     ghost use Rattle.std.specs.Prelude.{List};
-    ghost use Rattle.kb_diffwa.specs.declared.rival_set.Rivals.{Rivals};
+    ghost use Rattle.kb_diffwa.specs.declared.rivals.Rivals.{Rivals};
 
     ghost Value = { List Rivals };
 
@@ -68,25 +60,25 @@ impl RivalSet {
 }
 
 impl PartialEq for RivalSet {
-    ghost eq = { pointwise Rivals.eq };
+    ghost eq = { pointwise same_rivals };
 
-    ghost laws = { partial_equiv_from_equiv (lists_equiv Rivals.Eq.laws) };
+    ghost laws = { partial_equiv_from_equiv (lists_equiv laws-law) };
 
     fn eq(&self, other: &RivalSet) -> bool
-        ensures { result ≡ pointwise Rivals.eq self.now other.now }
+        ensures { result ≡ pointwise same_rivals self.now other.now }
     {
         self.as_slice() == other.as_slice()
     }
 }
 
 impl Eq for RivalSet {
-    ghost laws = { lists_equiv Rivals.Eq.laws };
+    ghost laws = { lists_equiv laws-law };
 }
 
 impl Hash for RivalSet {
-    ghost hash_input = { fed.slice Rivals.hash_input };
+    ghost hash_input = { fed.slice fed_rivals };
 
-    ghost respects_eq = { Prim.search (hashing, rules) };
+    ghost respects_eq = { hashed_alike };
 
     fn hash<H: Hasher>(&self, state: &mut H) {
         self.as_slice().hash(state);

@@ -2,11 +2,11 @@
 
 ghost use Rattle.std.specs.Prelude.{◌≡◌, ◌<◌, ◌≤◌, ◌^◌, All, length, get_or, IfOk};
 ghost use Rattle.kb_diffwa.specs.RivalSets.{AreWithin, first_row, followed, led_on, pairs_from, rival_sets, row_after, unless_less, with_rivals};
-ghost use Rattle.std.proofs.Common.{rules};
-ghost use Rattle.kb_diffwa.specs.SameSets.{same_lists};
+ghost use Rattle.kb_diffwa.specs.SameSets.{same_from_members};
 
 use crate::comparisons::Comparisons;
-use crate::rival_set::{RivalSet, Rivals};
+use crate::rival_set::RivalSet;
+use crate::rivals::Rivals;
 use crate::sparse_steps::Steps;
 use kb_explore::Machine;
 use kb_word::Memory;
@@ -34,7 +34,7 @@ impl Machine for RivalSets {
 
     ghost symbols = { λ it. it.n };
 
-    ghost same_state = { Prim.search (rules, same_lists) };
+    ghost same_state = { same_from_members };
 
     fn start(&self, alloc: Global) -> Result<Option<RivalSet>, Memory> {
         let row = self.first_row(alloc)?;
