@@ -82,7 +82,8 @@ impl RivalSets {
 
     /// The row of the first rival alone.
     fn first_row(&self, alloc: Global) -> Result<Vec<Comparisons>, Memory>
-        ensures { IfOk result (λ row. row.items ≡ first_row self.now.differences) }
+        ensures first { IfOk result (λ row. row.items ≡ first_row self.now.differences) }
+        ensures short { IfOk result (λ row. length row.items < 2 ^ 32) }
     {
         let mut row = vec![in alloc; Comparisons::NONE; self.differences as usize]?;
         row[0] = Comparisons::FIRST;
