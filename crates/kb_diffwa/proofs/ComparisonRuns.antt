@@ -34,13 +34,13 @@ equal_goes_on n a b letter = rw (ne_eqb b (n + 1) (no_padding n b letter)) refl
 ended_has_none : (n a b : ℕ) → b ≤ n → compared n Ended a b ≡ None
 ended_has_none n a b letter = rw (ne_eqb b (n + 1) (no_padding n b letter)) refl
 
-by_same : (a b : ℕ) → b ≡ a → compared_by a b ≡ Equal
+pub by_same : (a b : ℕ) → b ≡ a → compared_by a b ≡ Equal
 by_same a b same = rw (eq-eqb b a same) refl
 
-by_lesser : (a b : ℕ) → b < a → compared_by a b ≡ Less
+pub by_lesser : (a b : ℕ) → b < a → compared_by a b ≡ Less
 by_lesser a b lesser = rw (ne_eqb b a (λ same. omega (arith, same)), lt-ltb b a lesser) refl
 
-by_greater : (a b : ℕ) → a < b → compared_by a b ≡ Greater
+pub by_greater : (a b : ℕ) → a < b → compared_by a b ≡ Greater
 by_greater a b more = rw (ne_eqb b a (λ same. omega (arith, same)), le-ltb b a (omega arith)) refl
 
 -- a letter more leaves the comparison as it is

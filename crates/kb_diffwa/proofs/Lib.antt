@@ -10,6 +10,7 @@ pub mod ComparisonRuns
 pub mod RivalRuns
 pub mod RivalWords
 pub mod Acceptance
+pub mod AllCompared
 pub mod Rows
 pub mod LetterMoves
 pub mod StepPairs
