@@ -10,6 +10,8 @@ pub mod ComparisonRuns
 pub mod RivalRuns
 pub mod RivalWords
 pub mod Acceptance
+pub mod RivalSteps
+pub mod RivalSetRuns
 pub mod AllCompared
 pub mod Rows
 pub mod LetterMoves
