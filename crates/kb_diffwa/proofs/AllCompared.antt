@@ -2,10 +2,8 @@
 use Rattle.std.proofs.Common.{◌≡◌, ◌≢◌, ℕ, ◌+◌, ◌<◌, ◌≤◌, nat_eq, nat_lt, Bool, true, false, not, ◌&&◌, ◌||◌, Option, Some, None, refl, sym, ap, ◌∙◌, subst, inl, inr, arith}
 use Rattle.std.proofs.lemmas.Bool.{and_from, and_parts, cases_eq, cases_lt, eq-eqb, eqb-true, false≢true, lt-ltb, ltb-true, ne_eqb, or_cases, or_left, or_right}
 use Rattle.std.proofs.lemmas.Option.{none-some, same_Some}
-use Rattle.kb_diffwa.specs.declared.comparison.Comparison.{Comparison}
-use Rattle.kb_diffwa.specs.declared.comparison.Comparison.TheVariants.{Ended, Equal, Greater, Less}
+use Rattle.kb_diffwa.specs.Comparing.{Comparison, Ended, Equal, Greater, Less, compared, compared_by}
 use Rattle.kb_diffwa.specs.declared.comparisons.Comparisons.{Comparisons}
-use Rattle.kb_diffwa.specs.Comparing.{compared, compared_by}
 use Rattle.kb_diffwa.specs.RivalSets.{all_compared, includes, is_none, joined, no_comparisons}
 use Rattle.kb_diffwa.proofs.ComparisonRuns.{by_greater, by_lesser, by_same, padding_ends}
 

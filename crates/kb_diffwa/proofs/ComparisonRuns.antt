@@ -5,9 +5,7 @@ use Rattle.std.proofs.lemmas.List.Elements.{All-head, All-tail}
 use Rattle.std.proofs.lemmas.Option.{none-some, same_Some}
 use Rattle.kb_word.specs.Words.{Less as Precedes, earlier, shorter}
 use Rattle.kb_word.specs.Relations.{IsOver}
-use Rattle.kb_diffwa.specs.declared.comparison.Comparison.{Comparison}
-use Rattle.kb_diffwa.specs.declared.comparison.Comparison.TheVariants.{Ended, Equal, Greater, Less}
-use Rattle.kb_diffwa.specs.Comparing.{Compares, compared, compared_by, ended, equal, greater, less}
+use Rattle.kb_diffwa.specs.Comparing.{Compares, Comparison, Ended, Equal, Greater, Less, compared, compared_by, ended, equal, greater, less}
 
 -- from one comparison to another, as s and v go on and v ends no later
 pub data ComparedRun (n : ℕ) : Comparison → List ℕ → List ℕ → Comparison → Type 0 where

@@ -4,8 +4,6 @@ pub mod TrackRuns
 pub mod PairRuns
 pub mod Multiplying
 pub mod AllGenerators
-pub mod RivalMoveLemmas
-pub mod RivalStates
 pub mod ComparisonRuns
 pub mod RivalRuns
 pub mod RivalWords

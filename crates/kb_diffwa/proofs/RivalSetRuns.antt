@@ -7,12 +7,10 @@ use Rattle.std.proofs.lemmas.List.Elements.{All-nil, All-push, All-contains, Con
 use Rattle.kb_word.specs.Relations.{IsOver}
 use Rattle.kb_explore.specs.Machine.{Machine, lead, leads}
 use Rattle.kb_rules.proofs.Lists.{All-front}
-use Rattle.kb_diffwa.specs.declared.comparison.Comparison.{Comparison}
-use Rattle.kb_diffwa.specs.declared.comparison.Comparison.TheVariants.{Ended, Equal, Greater, Less}
+use Rattle.kb_diffwa.specs.Comparing.{Comparison, Ended, Equal, Greater, Less, compares_less}
 use Rattle.kb_diffwa.specs.declared.comparisons.Comparisons.{Comparisons}
-use Rattle.kb_diffwa.specs.declared.rival.Rival.{Rival}
+use Rattle.kb_diffwa.specs.Rivals.{Rival}
 use Rattle.kb_diffwa.specs.declared.rivals.Rivals.{Rivals}
-use Rattle.kb_diffwa.specs.Comparing.{compares_less}
 use Rattle.kb_diffwa.specs.RivalMoves.{GoesOn, StepsWithin, first_rival, shows_less}
 use Rattle.kb_diffwa.specs.RivalSets.{AreAllSteps, AreWithin, IsInRow, IsPair, Steps, all_compared, any_less, first_row, followed, includes, members_from, no_comparisons, pairs_from, rival_sets, row_after, shows_any_less, unless_less}
 use Rattle.kb_diffwa.proofs.AllCompared.{comes_from, leads_to}

@@ -1,7 +1,7 @@
 -- The rivals that a word has, by their runs, as a letter more is read.
 use Rattle.std.proofs.Common.{◌≡◌, ◌⊎◌, ℕ, List, [], ◌∷◌, ◌++◌, append_assoc, append-nil, refl, sym, ap, ◌∙◌, subst, inl, inr}
 use Rattle.std.proofs.lemmas.List.{same_from_push}
-use Rattle.kb_diffwa.specs.declared.rival.Rival.{Rival}
+use Rattle.kb_diffwa.specs.Rivals.{Rival}
 use Rattle.kb_diffwa.specs.RivalMoves.{GoesOn, first_rival}
 use Rattle.kb_diffwa.proofs.RivalRuns.{RivalRun, rival_end, rival_on}
 

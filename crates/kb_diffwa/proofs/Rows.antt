@@ -5,15 +5,13 @@ use Rattle.std.proofs.lemmas.Bool.{cases_Bool, cases_eq, cases_lt, false≢true,
 use Rattle.std.proofs.lemmas.List.{ext_get_or, get_or-replicate, get_or-set_other, get_or-set_same, get_or_past, length-replicate, length-set}
 use Rattle.std.proofs.lemmas.List.Elements.{All-head, All-nil, All-tail}
 use Rattle.kb_fsadet.proofs.Sets.{Contains-cons_cases, Contains-here, Contains-there, Contains-none}
-use Rattle.kb_diffwa.specs.declared.comparison.Comparison.{Comparison}
-use Rattle.kb_diffwa.specs.declared.comparison.Comparison.TheVariants.{Ended, Equal, Greater, Less}
+use Rattle.kb_diffwa.specs.Comparing.{Comparison, Ended, Equal, Greater, Less}
 use Rattle.kb_diffwa.specs.declared.comparisons.Comparisons.{Comparisons}
-use Rattle.kb_diffwa.specs.declared.rival.Rival.{Rival}
+use Rattle.kb_diffwa.specs.Rivals.{Rival}
 use Rattle.kb_diffwa.specs.declared.rivals.Rivals.{Rivals}
 use Rattle.kb_diffwa.specs.RivalMoves.{first_rival}
 use Rattle.kb_diffwa.specs.RivalSets.{AreWithin, IsInRow, Steps, all_compared, first_comparisons, first_row, includes, is_none, joined, led_by_pair, led_on, members_from, no_comparisons, pairs_from, with_rivals}
 use Rattle.kb_diffwa.proofs.AllCompared.{included_joined, none_included, same_comparisons_of, some_from}
-use Rattle.kb_diffwa.proofs.RivalMoveLemmas.{same_rival}
 
 pub first_row_length : (count : ℕ) → length (first_row count) ≡ count
 first_row_length count =
@@ -31,6 +29,12 @@ in_row_within row index c among =
     ]
 
 -- ---- the row of the first rival
+
+same_rival : (one other : Rival) → one.difference ≡ other.difference → one.comparison ≡ other.comparison
+    → one ≡ other
+same_rival one other difference comparison =
+    let Made = λ (d : ℕ) (c : Comparison). let rival : Rival = record { difference = d; comparison = c } in rival in
+    ap (λ d. Made d one.comparison) difference ∙ ap (λ c. Made other.difference c) comparison
 
 only_equal : (c : Comparison) → includes first_comparisons c ≡ true → c ≡ Equal
 only_equal Equal among = refl

@@ -4,10 +4,9 @@ use Rattle.std.specs.Prelude.{◌≡◌, ℕ, zero, suc, ◌+◌, ◌-◌, ◌<�
 use Rattle.std.specs.Bool.{beq}
 use Rattle.std.specs.Hash.{HashWrites, bool, u32}
 use Rattle.kb_explore.specs.Machine.{Machine}
-use Rattle.kb_diffwa.specs.declared.comparison.Comparison.{Comparison}
-use Rattle.kb_diffwa.specs.declared.comparison.Comparison.TheVariants.{Equal, Less, Greater, Ended}
+use Rattle.kb_diffwa.specs.Comparing.{Comparison, Ended, Equal, Greater, Less}
 use Rattle.kb_diffwa.specs.declared.comparisons.Comparisons.{Comparisons}
-use Rattle.kb_diffwa.specs.declared.rival.Rival.{Rival}
+use Rattle.kb_diffwa.specs.Rivals.{Rival}
 use Rattle.kb_diffwa.specs.declared.rivals.Rivals.{Rivals}
 
 -- ---- sets of comparisons

@@ -55,14 +55,11 @@
 #![tactic(auto)]
 
 mod avoiding_rivals;
-mod comparison;
 mod comparisons;
 mod laws;
 mod multiplication;
 mod pairs;
 mod place;
-mod rival;
-mod rival_moves;
 mod rival_set;
 mod rival_sets;
 mod rivals;
