@@ -1,19 +1,18 @@
 -- The machine of sets of rivals reads the acceptor's words, and goes to as many sets as these have of rivals.
-use Rattle.std.proofs.Common.{◌≡◌, ◌≢◌, ◌↔◌, ℕ, ◌<◌, ◌≤◌, true, nat_eq, List, [], ◌++◌, length, slice_get, Option, Some, None, IsSome, append_assoc, append-nil, refl, sym, ap, ◌∙◌, subst}
+use Rattle.std.proofs.Common.{◌≡◌, ◌≢◌, ◌↔◌, ℕ, ◌≤◌, true, nat_eq, List, [], ◌++◌, length, slice_get, Option, Some, None, IsSome, append_assoc, append-nil, refl, sym, ap, ◌∙◌, subst}
 use Rattle.std.proofs.lemmas.Bool.{and_parts, eqb-true, false≢true}
-use Rattle.std.proofs.lemmas.Option.{none-some, slice_get_within}
+use Rattle.std.proofs.lemmas.Option.{slice_get_within}
 use Rattle.kb_word.specs.Names.{AreApart}
 use Rattle.kb_word.specs.Words.{Less as Precedes, StandsAt, earlier, shorter}
 use Rattle.kb_word.specs.Relations.{IsOver}
 use Rattle.kb_word.specs.WordOrders.{Below}
 use Rattle.kb_word.specs.declared.word_order.WordOrder.{WordOrder}
 use Rattle.kb_word.specs.declared.word_order.WordOrder.TheVariants.{ShortLex}
-use Rattle.kb_fsa.specs.Counted.{MoreSetsThan}
-use Rattle.kb_fsa.specs.Language.{AcceptsText, Automaton, IsAutomaton}
+use Rattle.kb_fsa.specs.Language.{IsAutomaton}
 use Rattle.kb_fsa.specs.Table.{AcceptsFrom, HasSymbols, Table, state_after}
 use Rattle.kb_fsa.specs.declared.alphabet.Alphabet.TheVariants.{Plain}
 use Rattle.kb_explore.specs.Exploration.{IsExploration}
-use Rattle.kb_explore.specs.Machine.{HasMoreStates, Machine, MachineAccepts, leads}
+use Rattle.kb_explore.specs.Machine.{HasMoreStates, Machine, leads}
 use Rattle.kb_explore.proofs.CountingLemmas.{MoreThan-kept}
 use Rattle.kb_explore.proofs.ExplorationLemmas.{accepts_same, leads_nowhere}
 use Rattle.kb_diff.specs.Groups.{Group}
@@ -23,8 +22,8 @@ use Rattle.kb_diff.proofs.StepRuns.{one_word}
 use Rattle.kb_diffwa.specs.Comparing.{Compares, Comparison, Ended, Equal, Greater, Less, compares_less, ended, equal, greater, less}
 use Rattle.kb_diffwa.specs.Rivals.{CountedRivals, IsRivalAfter, IsRivalOfAccepted, Rival}
 use Rattle.kb_diffwa.specs.declared.rivals.Rivals.{Rivals}
-use Rattle.kb_diffwa.specs.RivalMoves.{StepsWithin, first_rival, shows_less}
-use Rattle.kb_diffwa.specs.RivalSets.{AreAllSteps, IsInRow, Steps, members_from, rival_sets}
+use Rattle.kb_diffwa.specs.RivalMoves.{first_rival, shows_less}
+use Rattle.kb_diffwa.specs.RivalSets.{AreAllSteps, Steps, members_from, rival_sets}
 use Rattle.kb_diffwa.proofs.RivalSetRuns.{IsFree, IsLed, IsSetAfter, led}
 use Rattle.kb_diffwa.proofs.RivalSteps.{HasRun, has_first}
 use Rattle.kb_diffwa.proofs.RivalWords.{after_of_run, first_number, over_front, run_of_rival, steps_within}
@@ -229,9 +228,9 @@ module _ (group : Group) (words : List (List ℕ)) (step : ℕ → ℕ → ℕ �
           let two = there.set in
           let rows = same_rows one.row two.row (one.long ∙ sym two.long) (λ rival. (
             λ at. (two.rivals rival).1 (run_of_accepted other rival
-            ((alike rival).0 (rival_of_run w rival free ((one.rivals rival).0 at)))),
+                ((alike rival).0 (rival_of_run w rival free ((one.rivals rival).0 at)))),
             λ at. (one.rivals rival).1 (run_of_accepted w rival
-            ((alike rival).1 (rival_of_run other rival also ((two.rivals rival).0 at)))),
+                ((alike rival).1 (rival_of_run other rival also ((two.rivals rival).0 at)))),
           )) in
           here.leads_there
           ∙ ap (λ (members : List Rivals). Some members) (one.is ∙ ap (members_from 1) rows ∙ sym two.is)

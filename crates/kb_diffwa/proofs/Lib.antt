@@ -8,6 +8,7 @@ pub mod ComparisonRuns
 pub mod RivalRuns
 pub mod RivalWords
 pub mod Acceptance
+pub mod Members
 pub mod RivalSteps
 pub mod RivalSetRuns
 pub mod AllCompared

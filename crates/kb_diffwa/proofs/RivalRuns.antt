@@ -1,11 +1,9 @@
 -- Runs from rival to rival: they are those of words beside a suffix.
-use Rattle.std.proofs.Common.{◌≡◌, ℕ, suc, ◌+◌, ◌-◌, ◌<◌, ◌≤◌, List, [], ◌∷◌, ◌++◌, Some, refl, sym, ap, ◌∙◌, subst, inl, inr, arith}
-use Rattle.std.specs.List.{Contains}
+use Rattle.std.proofs.Common.{◌≡◌, ℕ, suc, ◌+◌, ◌-◌, ◌<◌, ◌≤◌, List, [], ◌∷◌, Some, sym, ap, ◌∙◌, subst, inl, inr, arith}
 use Rattle.std.proofs.lemmas.Bool.{cases_eq}
 use Rattle.std.proofs.lemmas.List.Elements.{All-cons, All-head, All-nil, All-tail}
 use Rattle.std.proofs.lemmas.Option.{same_Some}
 use Rattle.kb_word.specs.Relations.{IsOver}
-use Rattle.kb_fsadet.specs.Nondeterministic.{LeadsFrom, Nondeterministic, moves_from}
 use Rattle.kb_diff.proofs.StepRuns.{StepRun, steps_both, steps_end, steps_first}
 use Rattle.kb_diffwa.specs.Comparing.{Comparison, Ended, compared}
 use Rattle.kb_diffwa.specs.Rivals.{Rival}

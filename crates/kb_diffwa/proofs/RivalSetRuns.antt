@@ -1,7 +1,7 @@
 -- The machine of sets of rivals goes by a word to the set of its rivals, unless one of them shows a lesser word.
-use Rattle.std.proofs.Common.{◌≡◌, ◌≢◌, ◌↔◌, ◌⊎◌, ℕ, zero, suc, ◌+◌, ◌<◌, ◌≤◌, nat_lt, nat_eq, Bool, true, false, ◌&&◌, List, [], ◌∷◌, ◌++◌, length, get_or, Option, Some, None, IsSome, is_some, append_assoc, append-nil, refl, sym, ap, ◌∙◌, subst, inl, inr, arith}
-use Rattle.std.specs.List.{All, Contains, fold}
-use Rattle.std.proofs.lemmas.Bool.{and_from, and_parts, cases_Bool, cases_lt, eqb-true, false≢true, le-ltb, lt-ltb, or_cases, or_left, or_right}
+use Rattle.std.proofs.Common.{◌≡◌, ◌↔◌, ℕ, zero, suc, ◌<◌, ◌≤◌, nat_eq, true, false, List, [], ◌∷◌, ◌++◌, length, get_or, Option, Some, None, append_assoc, append-nil, refl, sym, ap, ◌∙◌, subst, inl, inr, arith}
+use Rattle.std.specs.List.{Contains}
+use Rattle.std.proofs.lemmas.Bool.{and_parts, cases_Bool, cases_lt, eqb-true, false≢true, le-ltb, lt-ltb, or_cases, or_left, or_right}
 use Rattle.std.proofs.lemmas.List.{same_from_push}
 use Rattle.std.proofs.lemmas.List.Elements.{All-nil, All-push, All-contains, Contains-push}
 use Rattle.kb_word.specs.Relations.{IsOver}
@@ -11,10 +11,10 @@ use Rattle.kb_diffwa.specs.Comparing.{Comparison, Ended, Equal, Greater, Less, c
 use Rattle.kb_diffwa.specs.declared.comparisons.Comparisons.{Comparisons}
 use Rattle.kb_diffwa.specs.Rivals.{Rival}
 use Rattle.kb_diffwa.specs.declared.rivals.Rivals.{Rivals}
-use Rattle.kb_diffwa.specs.RivalMoves.{GoesOn, StepsWithin, first_rival, shows_less}
-use Rattle.kb_diffwa.specs.RivalSets.{AreAllSteps, AreWithin, IsInRow, IsPair, Steps, all_compared, any_less, first_row, followed, includes, members_from, no_comparisons, pairs_from, rival_sets, row_after, shows_any_less, unless_less}
+use Rattle.kb_diffwa.specs.RivalMoves.{StepsWithin, first_rival, shows_less}
+use Rattle.kb_diffwa.specs.RivalSets.{AreAllSteps, AreWithin, IsInRow, IsPair, Steps, any_less, first_row, followed, includes, members_from, no_comparisons, pairs_from, rival_sets, row_after, shows_any_less, unless_less}
 use Rattle.kb_diffwa.proofs.AllCompared.{comes_from, leads_to}
-use Rattle.kb_diffwa.proofs.Rows.{IsInSet, IsLedFromSet, all_cases, all_length, all_now, all_still, first_in_row, first_row_length, in_row, in_row_within, in_set, only_first, same_rows}
+use Rattle.kb_diffwa.proofs.Rows.{IsInSet, IsLedFromSet, all_cases, all_length, all_now, all_still, first_in_row, first_row_length, in_row, in_row_within, in_set, only_first}
 use Rattle.kb_diffwa.proofs.RivalSteps.{HasLast, HasRun, IsStepped, first_alone, has_first, has_last, has_push, has_split, is_empty, last_of}
 use Rattle.kb_diffwa.proofs.StepPairs.{within_letters}
 

@@ -1,16 +1,16 @@
 -- Rows: for each difference how its rivals compare. Which rivals are in them, and in the sets that are made of them.
-use Rattle.std.proofs.Common.{◌≡◌, ◌≢◌, ◌↔◌, ◌⊎◌, ℕ, zero, suc, ◌+◌, ◌-◌, ◌<◌, ◌≤◌, Bool, true, false, not, ◌||◌, List, [], ◌∷◌, ◌++◌, length, get_or, set, replicate, refl, sym, ap, ◌∙◌, subst, inl, inr, arith, if◌then◌else◌}
+use Rattle.std.proofs.Common.{◌≡◌, ◌≢◌, ◌↔◌, ◌⊎◌, ℕ, zero, suc, ◌+◌, ◌-◌, ◌<◌, ◌≤◌, true, false, not, List, [], ◌∷◌, length, get_or, set, replicate, refl, sym, ap, ◌∙◌, subst, inl, inr, arith}
 use Rattle.std.specs.List.{All, Contains, fold}
 use Rattle.std.proofs.lemmas.Bool.{cases_Bool, cases_eq, cases_lt, false≢true, or_cases, or_left, or_right}
 use Rattle.std.proofs.lemmas.List.{ext_get_or, get_or-replicate, get_or-set_other, get_or-set_same, get_or_past, length-replicate, length-set}
 use Rattle.std.proofs.lemmas.List.Elements.{All-head, All-nil, All-tail}
-use Rattle.kb_fsadet.proofs.Sets.{Contains-cons_cases, Contains-here, Contains-there, Contains-none}
+use Rattle.kb_diffwa.proofs.Members.{Contains-cons_cases, Contains-here, Contains-there, Contains-none}
 use Rattle.kb_diffwa.specs.Comparing.{Comparison, Ended, Equal, Greater, Less}
 use Rattle.kb_diffwa.specs.declared.comparisons.Comparisons.{Comparisons}
 use Rattle.kb_diffwa.specs.Rivals.{Rival}
 use Rattle.kb_diffwa.specs.declared.rivals.Rivals.{Rivals}
 use Rattle.kb_diffwa.specs.RivalMoves.{first_rival}
-use Rattle.kb_diffwa.specs.RivalSets.{AreWithin, IsInRow, Steps, all_compared, first_comparisons, first_row, includes, is_none, joined, led_by_pair, led_on, members_from, no_comparisons, pairs_from, with_rivals}
+use Rattle.kb_diffwa.specs.RivalSets.{AreWithin, IsInRow, Steps, all_compared, first_comparisons, first_row, includes, is_none, joined, led_by_pair, led_on, members_from, no_comparisons, pairs_from}
 use Rattle.kb_diffwa.proofs.AllCompared.{included_joined, none_included, same_comparisons_of, some_from}
 
 pub first_row_length : (count : ℕ) → length (first_row count) ≡ count

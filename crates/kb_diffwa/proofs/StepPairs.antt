@@ -1,12 +1,12 @@
 -- The letters beside a letter by which the difference machine leads to a kept difference, as they are gathered.
-use Rattle.std.proofs.Common.{◌≡◌, ◌↔◌, ◌⊎◌, ℕ, zero, suc, ◌+◌, ◌-◌, ◌<◌, ◌≤◌, List, [], ◌∷◌, ◌++◌, length, get_or, slice_get, Option, None, refl, sym, ap, ◌∙◌, subst, inl, inr, arith, length-append}
+use Rattle.std.proofs.Common.{◌≡◌, ◌↔◌, ℕ, zero, suc, ◌+◌, ◌-◌, ◌<◌, ◌≤◌, List, [], ◌∷◌, ◌++◌, length, get_or, slice_get, Option, None, sym, ap, ◌∙◌, subst, inl, inr, arith, length-append}
 use Rattle.std.specs.List.{All, Contains}
 use Rattle.std.proofs.lemmas.Bool.{cases_lt}
 use Rattle.std.proofs.lemmas.List.{get_or_append_left, get_or_default, get_or_push}
 use Rattle.std.proofs.lemmas.List.Elements.{Contains-append_left, Contains-push, Contains-push_cases}
 use Rattle.std.specs.Option.{unwrap_or}
 use Rattle.std.proofs.lemmas.Option.{unwrap_or-slice_get}
-use Rattle.kb_fsadet.proofs.Sets.{All-from_contains, Contains-none}
+use Rattle.kb_diffwa.proofs.Members.{All-from_contains, Contains-none}
 use Rattle.kb_diffwa.specs.RivalMoves.{StepsWithin}
 use Rattle.kb_diffwa.specs.RivalSets.{AreAllSteps, ArePairs, AreStepsBy, AreWithin, IsPair, Steps, pairs_from}
 

@@ -1,6 +1,6 @@
 -- Sets of rivals, each by the numbers of their differences and how they compare, and the machine that goes from set to
 -- set.
-use Rattle.std.specs.Prelude.{◌≡◌, ℕ, zero, suc, ◌+◌, ◌-◌, ◌<◌, ◌≤◌, ◌↔◌, Bool, true, false, not, ◌&&◌, ◌||◌, nat_eq, nat_lt, nat_le, if◌then◌else◌, List, [], ◌∷◌, ◌++◌, length, get_or, set, replicate, fold, All, Contains, Option, Some, None}
+use Rattle.std.specs.Prelude.{◌≡◌, ℕ, zero, suc, ◌+◌, ◌-◌, ◌<◌, ◌≤◌, ◌↔◌, Bool, true, false, not, ◌&&◌, ◌||◌, nat_eq, nat_lt, if◌then◌else◌, List, [], ◌∷◌, ◌++◌, length, get_or, set, replicate, fold, All, Contains, Option, Some, None}
 use Rattle.std.specs.Bool.{beq}
 use Rattle.std.specs.Hash.{HashWrites, bool, u32}
 use Rattle.kb_explore.specs.Machine.{Machine}
@@ -45,16 +45,16 @@ joined one other = record {
 -- padding
 abbrev pub all_compared : ℕ → Comparisons → ℕ → ℕ → Comparisons
 all_compared n comparisons a b = if nat_eq b (n + 1) then record {
-      equal = false;
-      less = false;
-      greater = false;
-      ended = not (is_none comparisons);
-    } else record {
-      equal = comparisons.equal && nat_eq b a;
-      less = comparisons.less || (comparisons.equal && nat_lt b a);
-      greater = comparisons.greater || (comparisons.equal && nat_lt a b);
-      ended = false;
-    }
+  equal = false;
+  less = false;
+  greater = false;
+  ended = not (is_none comparisons);
+} else record {
+  equal = comparisons.equal && nat_eq b a;
+  less = comparisons.less || (comparisons.equal && nat_lt b a);
+  greater = comparisons.greater || (comparisons.equal && nat_lt a b);
+  ended = false;
+}
 
 -- ---- tests of equality, and hashes
 

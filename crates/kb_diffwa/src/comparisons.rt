@@ -3,7 +3,8 @@
 ghost use Rattle.std.specs.Prelude.{◌≡◌, ◌≤◌};
 ghost use Rattle.kb_diffwa.specs.RivalSets.{all_compared, any_less, is_none, joined};
 
-/// How the words compare, as `Comparison` has it, that have one difference: which of the comparisons are there.
+/// How the words that have one difference compare, in the shortlex order, with the suffixes that they are beside: which
+/// of four things is true of some of them. None is longer than its suffix.
 #[derive(Clone, Copy, Debug, PartialEq, Eq, Hash)]
 pub struct Comparisons {
     /// Some word is the one that it is beside.

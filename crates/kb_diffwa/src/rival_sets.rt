@@ -58,12 +58,7 @@ impl Machine for RivalSets {
 
 impl RivalSets {
     /// Where a letter leads: to no set where one of its rivals shows that the word isn't least.
-    fn follow(
-        &self,
-        alloc: Global,
-        set: &RivalSet,
-        letter: u16,
-    ) -> Result<Option<RivalSet>, Memory>
+    fn follow(&self, alloc: Global, set: &RivalSet, letter: u16) -> Result<Option<RivalSet>, Memory>
         requires positive { 0 < letter }
         requires letter { letter ≤ self.now.n }
         ensures { IfOk result (λ next. next

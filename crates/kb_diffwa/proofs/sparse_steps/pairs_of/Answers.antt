@@ -1,6 +1,6 @@
-use Rattle.std.proofs.Common.{◌≡◌, ◌<◌, ℕ, ◌+◌, List, [], ◌∷◌, ◌++◌, sym, ap, ◌∙◌, subst, arith, rules}
+use Rattle.std.proofs.Common.{◌≡◌, ℕ, ◌+◌, List, [], ◌∷◌, ◌++◌, sym, ◌∙◌, subst, arith, rules}
 use Rattle.kb_diff.specs.Tables.{step_in}
-use Rattle.kb_diffwa.proofs.StepPairs.{ArePairsUpTo, all_pairs, no_pair, no_pairs, one_pair}
+use Rattle.kb_diffwa.proofs.StepPairs.{ArePairsUpTo, all_pairs, no_pair, one_pair}
 use Rattle.kb_diffwa.proofs.sparse_steps.pairs_of.Goals.{then-target-ne0+in_ok-push, else-target-ne0}
 use Rattle.kb_diffwa.proofs.sparse_steps.pairs_of.Goals as goal
 

@@ -1,6 +1,6 @@
-use Rattle.std.proofs.Common.{◌≡◌, ℕ, ◌+◌, List, [], ◌∷◌, ◌++◌, sym, ap, ◌∙◌, subst, arith}
+use Rattle.std.proofs.Common.{◌≡◌, ℕ, ◌+◌, List, [], ◌∷◌, ◌++◌, sym, ap, ◌∙◌, subst}
 use Rattle.kb_diff.specs.Tables.{step_in}
-use Rattle.kb_diffwa.specs.RivalSets.{ArePairs, AreStepsBy, Steps}
+use Rattle.kb_diffwa.specs.RivalSets.{AreStepsBy, Steps}
 use Rattle.kb_diffwa.proofs.StepPairs.{more_steps}
 use Rattle.kb_diffwa.proofs.sparse_steps.steps_by.Goals as goal
 

@@ -1,5 +1,4 @@
-use Rattle.std.proofs.Common.{◌≡◌, ℕ, ◌+◌, ◌-◌, ◌<◌, length, get_or, sym, ap, ◌∙◌, subst, arith}
-use Rattle.kb_diffwa.specs.declared.comparisons.Comparisons.{Comparisons}
+use Rattle.std.proofs.Common.{◌≡◌, ℕ, ◌-◌, length, sym, ap, ◌∙◌, subst, arith}
 use Rattle.kb_diffwa.specs.RivalSets.{AreWithin, Steps}
 use Rattle.kb_diffwa.proofs.rival_sets.RivalSets.follow.Goals as goal
 

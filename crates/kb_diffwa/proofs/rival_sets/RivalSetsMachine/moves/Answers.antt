@@ -1,7 +1,7 @@
-use Rattle.std.proofs.Common.{◌≡◌, ℕ, ◌+◌, List, [], ◌∷◌, ◌++◌, Option, Some, None, sym, ap, ◌∙◌, subst, arith, Vec, Global}
+use Rattle.std.proofs.Common.{◌≡◌, ℕ, ◌+◌, List, [], ◌∷◌, ◌++◌, Some, None, sym, ap, ◌∙◌, subst, arith, Vec, Global}
 use Rattle.kb_diffwa.specs.declared.rivals.Rivals.{Rivals}
 use Rattle.kb_diffwa.specs.RivalSets.{followed}
-use Rattle.kb_diffwa.proofs.LetterMoves.{AreMovesTo, all_letters, none_more, no_moves, one_more}
+use Rattle.kb_diffwa.proofs.LetterMoves.{AreMovesTo, all_letters, none_more, one_more}
 use Rattle.kb_diffwa.proofs.rival_sets.RivalSetsMachine.moves.Goals.{in-Some+in_ok-push, in_default}
 use Rattle.kb_diffwa.proofs.rival_sets.RivalSetsMachine.moves.Goals as goal
 
