@@ -5,9 +5,7 @@ use Rattle.std.proofs.lemmas.List.Elements.{All-head, All-tail}
 use Rattle.std.proofs.lemmas.Option.{none-some, same_Some}
 use Rattle.kb_word.specs.Words.{Less as Precedes, earlier, shorter}
 use Rattle.kb_word.specs.Relations.{IsOver}
-use Rattle.kb_diffwa.specs.declared.comparison.Comparison.{Comparison}
-use Rattle.kb_diffwa.specs.declared.comparison.Comparison.TheVariants.{Ended, Equal, Greater, Less}
-use Rattle.kb_diffwa.specs.Comparing.{Compares, compared, compared_by, ended, equal, greater, less}
+use Rattle.kb_diffwa.specs.Comparing.{Compares, Comparison, Ended, Equal, Greater, Less, compared, compared_by, ended, equal, greater, less}
 
 -- from one comparison to another, as s and v go on and v ends no later
 pub data ComparedRun (n : ℕ) : Comparison → List ℕ → List ℕ → Comparison → Type 0 where
@@ -34,13 +32,13 @@ equal_goes_on n a b letter = rw (ne_eqb b (n + 1) (no_padding n b letter)) refl
 ended_has_none : (n a b : ℕ) → b ≤ n → compared n Ended a b ≡ None
 ended_has_none n a b letter = rw (ne_eqb b (n + 1) (no_padding n b letter)) refl
 
-by_same : (a b : ℕ) → b ≡ a → compared_by a b ≡ Equal
+pub by_same : (a b : ℕ) → b ≡ a → compared_by a b ≡ Equal
 by_same a b same = rw (eq-eqb b a same) refl
 
-by_lesser : (a b : ℕ) → b < a → compared_by a b ≡ Less
+pub by_lesser : (a b : ℕ) → b < a → compared_by a b ≡ Less
 by_lesser a b lesser = rw (ne_eqb b a (λ same. omega (arith, same)), lt-ltb b a lesser) refl
 
-by_greater : (a b : ℕ) → a < b → compared_by a b ≡ Greater
+pub by_greater : (a b : ℕ) → a < b → compared_by a b ≡ Greater
 by_greater a b more = rw (ne_eqb b a (λ same. omega (arith, same)), le-ltb b a (omega arith)) refl
 
 -- a letter more leaves the comparison as it is

@@ -4,9 +4,14 @@ pub mod TrackRuns
 pub mod PairRuns
 pub mod Multiplying
 pub mod AllGenerators
-pub mod RivalMoveLemmas
-pub mod RivalStates
 pub mod ComparisonRuns
 pub mod RivalRuns
 pub mod RivalWords
 pub mod Acceptance
+pub mod Members
+pub mod RivalSteps
+pub mod RivalSetRuns
+pub mod AllCompared
+pub mod Rows
+pub mod LetterMoves
+pub mod StepPairs

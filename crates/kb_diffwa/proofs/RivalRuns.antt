@@ -1,17 +1,13 @@
--- Runs from rival to rival: they are those of words beside a suffix, and those of the automaton since the suffix began.
-use Rattle.std.proofs.Common.{◌≡◌, ℕ, suc, ◌+◌, ◌-◌, ◌<◌, ◌≤◌, List, [], ◌∷◌, ◌++◌, Some, refl, sym, ap, ◌∙◌, subst, inl, inr, arith}
-use Rattle.std.specs.List.{Contains}
+-- Runs from rival to rival: they are those of words beside a suffix.
+use Rattle.std.proofs.Common.{◌≡◌, ℕ, suc, ◌+◌, ◌-◌, ◌<◌, ◌≤◌, List, [], ◌∷◌, Some, sym, ap, ◌∙◌, subst, inl, inr, arith}
 use Rattle.std.proofs.lemmas.Bool.{cases_eq}
 use Rattle.std.proofs.lemmas.List.Elements.{All-cons, All-head, All-nil, All-tail}
 use Rattle.std.proofs.lemmas.Option.{same_Some}
 use Rattle.kb_word.specs.Relations.{IsOver}
-use Rattle.kb_fsadet.specs.Nondeterministic.{LeadsFrom, Nondeterministic, moves_from}
 use Rattle.kb_diff.proofs.StepRuns.{StepRun, steps_both, steps_end, steps_first}
-use Rattle.kb_diffwa.specs.declared.comparison.Comparison.{Comparison}
-use Rattle.kb_diffwa.specs.declared.comparison.Comparison.TheVariants.{Ended}
-use Rattle.kb_diffwa.specs.declared.rival.Rival.{Rival}
-use Rattle.kb_diffwa.specs.Comparing.{compared}
-use Rattle.kb_diffwa.specs.RivalMoves.{GoesOn, IsMove, IsRivalAutomaton, StepsWithin, begins, first_rival, goes_on, state_of}
+use Rattle.kb_diffwa.specs.Comparing.{Comparison, Ended, compared}
+use Rattle.kb_diffwa.specs.Rivals.{Rival}
+use Rattle.kb_diffwa.specs.RivalMoves.{GoesOn}
 use Rattle.kb_diffwa.proofs.ComparisonRuns.{ComparedRun, compared_both, compared_end, compared_padded, ended_empty, padding_ends}
 
 -- from one rival to another by the letters of s
@@ -25,11 +21,6 @@ pub record WordLeads (n : ℕ) (step : ℕ → ℕ → ℕ → ℕ) (rival : Riv
   pub letters : IsOver n v
   pub steps : StepRun step n rival.difference s v last.difference
   pub compares : ComparedRun n rival.comparison s v last.comparison
-
--- the rival's difference is one of so many
-pub record IsAmong (count : ℕ) (rival : Rival) : Type 0 where
-  pub positive : 0 < rival.difference
-  pub most : rival.difference ≤ count
 
 module _ (n : ℕ) (step : ℕ → ℕ → ℕ → ℕ) where
   letter : (x : ℕ) (w : List ℕ) → IsOver n (x ∷ w) → (0 < x) × (x ≤ n)
@@ -117,102 +108,3 @@ module _ (n : ℕ) (step : ℕ → ℕ → ℕ → ℕ) where
       let most = is.1 in
       rival_on (goes_by d a b k c later is.0 (omega arith) to by)
       (run_of_word s v (suc k) d' later c' (over_rest b v over) steps on)
-
-  -- ---- runs of the automaton
-
-  module _ (count : ℕ) (some : 0 < count) (within : StepsWithin count step) (automaton : Nondeterministic)
-      (is : IsRivalAutomaton n count step automaton) where
-    later_among : (rival later : Rival) (a : ℕ) → GoesOn n step rival a later → IsAmong count later
-    later_among rival later a goes =
-        let least = within rival.difference a goes.b in
-        let to = goes.difference in record {
-          positive = goes.kept;
-          most = omega (arith, least, to);
-        }
-
-    pub first_among : IsAmong count first_rival
-    first_among = record { positive = omega arith; most = some }
-
-    pub last_among : (s : List ℕ) (rival last : Rival) → IsAmong count rival → RivalRun n step rival s last
-        → IsAmong count last
-    last_among [] rival last among rival_end = among
-    last_among (a ∷ s) rival last among (rival_on {later = later} goes rest) =
-        last_among s later last (later_among rival later a goes) rest
-
-    moves_on : (rival : Rival) (a next : ℕ) → IsAmong count rival → IsMove n step rival a next
-        → Contains (moves_from automaton (state_of rival)) (a, next)
-    moves_on rival a next among move = (is.moves rival a next among.positive among.most).1 move
-
-    move_of : (rival : Rival) (a next : ℕ) → IsAmong count rival
-        → Contains (moves_from automaton (state_of rival)) (a, next) → IsMove n step rival a next
-    move_of rival a next among has = (is.moves rival a next among.positive among.most).0 has
-
-    pub leads_by_run : (s : List ℕ) (rival last : Rival) → IsOver n s → IsAmong count rival
-        → RivalRun n step rival s last → LeadsFrom automaton (state_of rival) s (state_of last)
-    leads_by_run [] rival last over among rival_end = refl
-    leads_by_run (a ∷ s) rival last over among (rival_on {later = later} goes rest) =
-        let here = letter a s over in (
-          state_of later,
-          moves_on rival a (state_of later) among (goes_on later here.0 here.1 goes refl),
-          leads_by_run s later last (over_rest a s over) (later_among rival later a goes) rest,
-        )
-
-    -- the first rival waits for a suffix to begin
-    pub leads_since : (front s : List ℕ) (state : ℕ) → IsOver n front
-        → LeadsFrom automaton (state_of first_rival) s state
-        → LeadsFrom automaton (state_of first_rival) (front ++ s) state
-    leads_since [] s state over leads = leads
-    leads_since (a ∷ front) s state over leads =
-        let here = letter a front over in (
-          state_of first_rival,
-          moves_on first_rival a (state_of first_rival) first_among (begins here.0 here.1 refl refl),
-          leads_since front s state (over_rest a front over) leads,
-        )
-
-    -- where w leads from a rival: to where the rival's run ends, or that of a suffix that began since
-    pub data Arrives (rival : Rival) (w : List ℕ) (state : ℕ) : Type 0 where
-      went_on : {last : Rival} → RivalRun n step rival w last → state ≡ state_of last → Arrives rival w state
-      began : (front suffix : List ℕ) {last : Rival} → w ≡ front ++ suffix → RivalRun n step first_rival suffix last
-          → state ≡ state_of last → Arrives rival w state
-
-    arrives_since : (rival : Rival) (a : ℕ) (w : List ℕ) (state : ℕ) → Arrives first_rival w state
-        → Arrives rival (a ∷ w) state
-    arrives_since rival a w state (went_on run same) = began (a ∷ []) w refl run same
-    arrives_since rival a w state (began front suffix whole run same) =
-        began (a ∷ front) suffix (ap (λ rest. a ∷ rest) whole) run same
-
-    arrives_on : (rival later : Rival) (a : ℕ) (w : List ℕ) (state : ℕ) → GoesOn n step rival a later
-        → Arrives later w state → Arrives rival (a ∷ w) state
-    arrives_on rival later a w state goes (went_on run same) = went_on (rival_on goes run) same
-    arrives_on rival later a w state goes (began front suffix whole run same) =
-        began (a ∷ front) suffix (ap (λ rest. a ∷ rest) whole) run same
-
-    -- what is known of a word that leads from a rival to a state
-    pub record IsTraced (rival : Rival) (w : List ℕ) (state : ℕ) : Type 0 where
-      pub letters : IsOver n w
-      pub arrives : Arrives rival w state
-
-    traced_on : (rival : Rival) (a : ℕ) (w : List ℕ) (next state : ℕ) → IsAmong count rival → IsMove n step rival a next
-        → LeadsFrom automaton next w state
-        → ((later : Rival) → IsAmong count later → LeadsFrom automaton (state_of later) w state
-        → IsTraced later w state)
-        → IsTraced rival (a ∷ w) state
-    traced_on rival a w next state among (begins positive most _ to) leads rest =
-        let P : ℕ → Type 0 = λ next. LeadsFrom automaton next w state in
-        let traced = rest first_rival first_among (subst P to leads) in record {
-          letters = over_cons a w positive most traced.letters;
-          arrives = arrives_since rival a w state traced.arrives;
-        }
-    traced_on rival a w next state among (goes_on later positive most goes to) leads rest =
-        let P : ℕ → Type 0 = λ next. LeadsFrom automaton next w state in
-        let traced = rest later (later_among rival later a goes) (subst P to leads) in record {
-          letters = over_cons a w positive most traced.letters;
-          arrives = arrives_on rival later a w state goes traced.arrives;
-        }
-
-    pub traced : (w : List ℕ) (rival : Rival) (state : ℕ) → IsAmong count rival
-        → LeadsFrom automaton (state_of rival) w state → IsTraced rival w state
-    traced [] rival state among leads = record { letters = over_none; arrives = went_on rival_end (sym leads) }
-    traced (a ∷ w) rival state among leads =
-        traced_on rival a w leads.0 state among (move_of rival a leads.0 among leads.1) leads.2
-        (λ later along to. traced w later state along to)

@@ -1,8 +1,17 @@
 -- How a word compares with another one, than which it is no longer, as both are read side by side.
 use Rattle.std.specs.Prelude.{◌≡◌, ℕ, ◌+◌, ◌<◌, Bool, true, false, nat_eq, nat_lt, if◌then◌else◌, List, length, Option, Some, None}
 use Rattle.kb_word.specs.Words.{Less as Precedes}
-use Rattle.kb_diffwa.specs.declared.comparison.Comparison.{Comparison}
-use Rattle.kb_diffwa.specs.declared.comparison.Comparison.TheVariants.{Equal, Less, Greater, Ended}
+
+-- how a word compares in the shortlex order with another one, than which it is no longer
+pub data Comparison : Type 0 where
+  -- both are one word
+  Equal : Comparison
+  -- it is as long, and less
+  Less : Comparison
+  -- it is as long, and greater
+  Greater : Comparison
+  -- it is shorter, and so less
+  Ended : Comparison
 
 -- how v compares with s
 pub data Compares (s v : List ℕ) : Comparison → Type 0 where
@@ -29,10 +38,3 @@ compares_less Equal = false
 compares_less Less = true
 compares_less Greater = false
 compares_less Ended = true
-
--- its place among all comparisons
-abbrev pub place_of : Comparison → ℕ
-place_of Equal = 0
-place_of Less = 1
-place_of Greater = 2
-place_of Ended = 3

@@ -4,3 +4,5 @@ pub mod Multipliers
 pub mod Comparing
 pub mod Rivals
 pub mod RivalMoves
+pub mod RivalSets
+pub mod SameSets

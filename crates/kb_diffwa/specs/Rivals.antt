@@ -6,8 +6,14 @@ use Rattle.kb_fsa.specs.Counted.{MoreSetsThan}
 use Rattle.kb_diff.specs.Groups.{Group}
 use Rattle.kb_diff.specs.Steps.{HasNumber, Leads}
 use Rattle.kb_diff.specs.Languages.{DifferenceAcceptor}
-use Rattle.kb_diffwa.specs.declared.rival.Rival.{Rival}
-use Rattle.kb_diffwa.specs.Comparing.{Compares}
+use Rattle.kb_diffwa.specs.Comparing.{Comparison, Compares}
+
+-- what counts of a word that is read beside a suffix of another
+pub record Rival : Type 0 where
+  -- the number of the difference between the suffix and the word
+  pub difference : ℕ
+  -- how the word compares with the suffix
+  pub comparison : Comparison
 
 -- The rival is that of the word v beside s: by differences that are kept the two lead from the empty word to the one
 -- with the rival's number, and v compares with s as the rival says.

@@ -10,17 +10,16 @@ ghost use Rattle.kb_diff.specs.Steps.{AreSteps};
 ghost use Rattle.kb_diff.specs.Tables.{step_in};
 ghost use Rattle.kb_diffwa.specs.Rivals.{CountedRivals};
 
-use crate::rival_moves::automaton_of_rivals;
+use crate::rival_sets::RivalSets;
+use crate::sparse_steps::all_steps;
 use kb_diff::{Differences, Machine};
-use kb_explore::Det;
-use kb_fsa::Fsa;
-use kb_fsadet::avoiding;
+use kb_explore::{Det, explore};
+use kb_fsa::{Alphabet, Fsa};
 use kb_rules::Reducer;
 use std::alloc::Global;
 
-/// How many differences there may be at most. The automaton of more has no memory that could hold it, and its states no
-/// numbers.
-const MOST_DIFFERENCES: usize = 1 << 28;
+/// How many differences there may be at most. More have no numbers.
+const MOST_DIFFERENCES: usize = u32::MAX as usize;
 
 /// The automaton of the words over the group's generators of which no factor is shown to be greater than another word
 /// by the differences that are kept. Their machine is made once, for this and for the multipliers.
@@ -46,6 +45,12 @@ pub fn acceptor<R: Reducer>(
         return Err(Det::Memory);
     }
     let n = differences.generators();
-    let nfa = automaton_of_rivals(alloc, n, count as u32, machine)?;
-    avoiding(alloc, &nfa, limit)
+    let letters = all_steps(alloc, n, count as u32, machine)?;
+    let sets = RivalSets {
+        n,
+        differences: count as u32,
+        letters,
+    };
+    let exploration = explore(alloc, &sets, limit)?;
+    Ok(Fsa::new(Alphabet::Plain(n), exploration.table))
 }

@@ -13,10 +13,12 @@
 //! is another word that is read beside one of its suffixes, and no longer than that suffix; what counts of it is the
 //! number of their difference, and how it compares with the suffix.
 //!
-//! Rivals are the states of a nondeterministic automaton. It moves from one to another as the difference machine leads
-//! on, begins with a new suffix at each letter, and accepts where a rival is less and back at the empty difference. The
-//! words wanted are those of which it accepts no prefix, and `kb_fsadet` makes their automaton by the subset
-//! construction.
+//! The sets of rivals are the states of a machine that `kb_explore` explores. By a letter it leads each rival on, beside
+//! each letter and the padding by which the difference machine leads to a difference that is kept, and a new suffix
+//! begins; where a rival is less and back at the empty difference, it leads nowhere. A set has the rivals of each
+//! difference together, since only four things can be true of how one compares. The steps that lead to kept
+//! differences, which are few of all, are listed first, so that a set is made in one pass over those of its differences,
+//! with no sort.
 //!
 //! # The multipliers
 //!
@@ -41,27 +43,33 @@
 //! # Where things are
 //!
 //! In `specs/`, `Rivals` has what a rival is and what is counted, `Comparing` how words compare as both go on, and
-//! `RivalMoves` the nondeterministic automaton; `Tracks` has where the track of a word stands, `Pairs` the machine and
-//! its moves, and `Multipliers` what is returned and counted.
+//! `RivalMoves` how a rival goes on; `RivalSets` has the sets, the rows of which they are made and the machine, and
+//! `SameSets` that sets tested as equal are the same. `Tracks` has where the track of a word stands, `Pairs` the
+//! machine and its moves, and `Multipliers` what is returned and counted.
 //!
-//! In `proofs/`, `RivalMoveLemmas` has the moves from a rival as they are added, and `RivalStates` the numbers of
-//! states and the rows of all rivals; `ComparisonRuns` has how words compare letter by letter, `RivalRuns` and
-//! `RivalWords` that the automaton leads to the rivals that a word has, and `Acceptance` the language and the counts.
-//! `Crossing` has the crossing of two rows and `TrackMoves` the moves of a place; `TrackRuns` and `PairRuns` have
-//! where a word's track and the machine lead along a pair of words; `Multiplying` has the language and the counts,
-//! and `AllGenerators` the one exploration for all generators.
+//! In `proofs/`, `ComparisonRuns` has how words compare letter by letter, and `RivalRuns` and `RivalWords` that the
+//! first rival runs to the rivals that a word has; `RivalSteps` has those of a word with a letter more. `AllCompared`
+//! has that comparisons kept together go on as each does, `Rows` which rivals rows and sets have, `StepPairs` the
+//! steps as they are listed and `LetterMoves` the moves of a set. `RivalSetRuns` has that the machine leads to the sets
+//! of rivals, and `Acceptance` the language and the counts. `Crossing` has the crossing of two rows and `TrackMoves`
+//! the moves of a place; `TrackRuns` and `PairRuns` have where a word's track and the machine lead along a pair of
+//! words; `Multiplying` has the language and the counts, and `AllGenerators` the one exploration for all generators.
+//! `Members` has what lists contain.
 //!
-//! Below are `kb_diff`, with the differences and their machine, and `kb_fsadet`, with the subset construction.
+//! Below are `kb_diff`, with the differences and their machine, `kb_explore`, with the exploration, and `kb_ragged`,
+//! with lists side by side.
 #![tactic(auto)]
 
 mod avoiding_rivals;
-mod comparison;
+mod comparisons;
 mod laws;
 mod multiplication;
 mod pairs;
 mod place;
-mod rival;
-mod rival_moves;
+mod rival_set;
+mod rival_sets;
+mod rivals;
+mod sparse_steps;
 
 pub use avoiding_rivals::acceptor;
 pub use kb_explore::Det;
