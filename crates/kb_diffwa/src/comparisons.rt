@@ -3,8 +3,6 @@
 ghost use Rattle.std.specs.Prelude.{◌≡◌, ◌≤◌};
 ghost use Rattle.kb_diffwa.specs.RivalSets.{all_compared, any_less, is_none, joined};
 
-use std::cmp::Ordering;
-
 /// How the words that have one difference compare, in the shortlex order, with the suffixes that they are beside: which
 /// of four things is true of some of them. None is longer than its suffix.
 #[derive(Clone, Copy, Debug, PartialEq, Eq, Hash)]
@@ -74,24 +72,11 @@ impl Comparisons {
                 ..Comparisons::NONE
             };
         }
-        // Each answer is one of three that don't depend on b, so that they are made once for all letters b.
-        match b.cmp(&a) {
-            Ordering::Less => Comparisons {
-                equal: false,
-                less: self.less | self.equal,
-                greater: self.greater,
-                ended: false,
-            },
-            Ordering::Equal => Comparisons {
-                ended: false,
-                ..self
-            },
-            Ordering::Greater => Comparisons {
-                equal: false,
-                less: self.less,
-                greater: self.greater | self.equal,
-                ended: false,
-            },
+        Comparisons {
+            equal: self.equal & (b == a),
+            less: self.less | (self.equal & (b < a)),
+            greater: self.greater | (self.equal & (a < b)),
+            ended: false,
         }
     }
 }
