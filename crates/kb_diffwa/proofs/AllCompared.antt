@@ -1,10 +1,10 @@
 -- How the words of one difference compare as they go on: each as it does by itself.
-use Rattle.std.proofs.Common.{◌≡◌, ◌≢◌, ℕ, ◌+◌, ◌<◌, nat_eq, nat_lt, Bool, true, false, not, ◌&&◌, ◌||◌, Some, None, refl, sym, ap, ◌∙◌, subst, inl, inr, arith}
-use Rattle.std.proofs.lemmas.Bool.{and_from, and_parts, cases_eq, cases_lt, eq-eqb, eqb-true, false≢true, lt-ltb, ltb-true, ne_eqb, or_cases, or_left, or_right}
+use Rattle.std.proofs.Common.{◌≡◌, ◌≢◌, ℕ, ◌+◌, ◌<◌, nat_eq, nat_lt, Bool, true, false, not, ◌&&◌, ◌||◌, Some, None, get_or, refl, sym, ap, ◌∙◌, subst, inl, inr, arith}
+use Rattle.std.proofs.lemmas.Bool.{and_from, and_parts, cases_eq, cases_lt, eq-eqb, eqb-true, false≢true, le-ltb, lt-ltb, ltb-true, ne_eqb, or_cases, or_left, or_right}
 use Rattle.std.proofs.lemmas.Option.{none-some, same_Some}
 use Rattle.kb_diffwa.specs.Comparing.{Comparison, Ended, Equal, Greater, Less, compared, compared_by}
 use Rattle.kb_diffwa.specs.declared.comparisons.Comparisons.{Comparisons}
-use Rattle.kb_diffwa.specs.RivalSets.{all_compared, includes, is_none, joined, no_comparisons}
+use Rattle.kb_diffwa.specs.RivalSets.{all_compared, includes, is_none, joined, no_comparisons, outcome_place, outcomes}
 use Rattle.kb_diffwa.proofs.ComparisonRuns.{by_greater, by_lesser, by_same, padding_ends}
 
 -- ---- none, and those of both
@@ -197,6 +197,80 @@ module _ (n : ℕ) (f : Comparisons) (a b : ℕ) where
         | inl pads ↦ subst P (sym (by_padding pads)) (to_padded earlier later pads among leads)
         | inr differ ↦ subst P (sym (by_letter differ)) (to_lettered earlier later differ among leads)
       ]
+
+-- ---- the table of outcomes
+
+or_false : (b : Bool) → (b || false) ≡ b
+or_false true = refl
+or_false false = refl
+
+and_true : (b : Bool) → (b && true) ≡ b
+and_true true = refl
+and_true false = refl
+
+and_false : (b : Bool) → (b && false) ≡ false
+and_false true = refl
+and_false false = refl
+
+four : Bool → Bool → Bool → Bool → Comparisons
+four equal less greater ended = record { equal = equal; less = less; greater = greater; ended = ended }
+
+-- by how b stands to a
+by_order : (f : Comparisons) (same lesser more : Bool) → Comparisons
+by_order f same lesser more =
+    four (f.equal && same) (f.less || (f.equal && lesser)) (f.greater || (f.equal && more)) false
+
+order_same : (f : Comparisons) → by_order f true false false ≡ four f.equal f.less f.greater false
+unfolding by_order
+order_same f =
+    ap (λ x. four x (f.less || (f.equal && false)) (f.greater || (f.equal && false)) false) (and_true f.equal)
+    ∙ ap (λ x. four f.equal (f.less || x) (f.greater || x) false) (and_false f.equal)
+    ∙ ap (λ x. four f.equal x (f.greater || false) false) (or_false f.less)
+    ∙ ap (λ x. four f.equal f.less x false) (or_false f.greater)
+
+order_lesser : (f : Comparisons) → by_order f false true false ≡ four false (f.less || f.equal) f.greater false
+unfolding by_order
+order_lesser f =
+    ap (λ x. four x (f.less || (f.equal && true)) (f.greater || x) false) (and_false f.equal)
+    ∙ ap (λ x. four false (f.less || x) (f.greater || false) false) (and_true f.equal)
+    ∙ ap (λ x. four false (f.less || f.equal) x false) (or_false f.greater)
+
+order_more : (f : Comparisons) → by_order f false false true ≡ four false f.less (f.greater || f.equal) false
+unfolding by_order
+order_more f =
+    ap (λ x. four x (f.less || x) (f.greater || (f.equal && true)) false) (and_false f.equal)
+    ∙ ap (λ x. four false (f.less || false) (f.greater || x) false) (and_true f.equal)
+    ∙ ap (λ x. four false x (f.greater || f.equal) false) (or_false f.less)
+
+pub outcome_at : (n : ℕ) (f : Comparisons) (a b : ℕ) (d : Comparisons)
+    → get_or (outcomes f) (outcome_place n a b) d ≡ all_compared n f a b
+unfolding by_order four
+outcome_at n f a b d = elim (cases_eq b (n + 1)) [
+  | inl pads ↦ rw (eq-eqb b (n + 1) pads) refl
+  | inr letter ↦ elim (cases_eq b a) [
+    | inl same ↦
+        rw (ne_eqb b (n + 1) letter, eq-eqb b a same, le-ltb b a (omega arith), le-ltb a b (omega arith)) (sym (order_same f))
+    | inr apart ↦ elim (cases_lt b a) [
+      | inl lesser ↦
+          rw (ne_eqb b (n + 1) letter, ne_eqb b a apart, lt-ltb b a lesser, le-ltb a b (omega arith)) (sym (order_lesser f))
+      | inr more ↦
+          rw (ne_eqb b (n + 1) letter, ne_eqb b a apart, le-ltb b a more, lt-ltb a b (omega (arith, apart, more)))
+          (sym (order_more f))
+    ]
+  ]
+]
+
+pub outcome_within : (n a b : ℕ) → outcome_place n a b < 4
+outcome_within n a b = elim (cases_eq b (n + 1)) [
+  | inl pads ↦ rw (eq-eqb b (n + 1) pads) (omega arith)
+  | inr letter ↦ elim (cases_lt b a) [
+    | inl lesser ↦ rw (ne_eqb b (n + 1) letter, lt-ltb b a lesser) (omega arith)
+    | inr more ↦ elim (cases_eq b a) [
+      | inl same ↦ rw (ne_eqb b (n + 1) letter, le-ltb b a more, eq-eqb b a same) (omega arith)
+      | inr apart ↦ rw (ne_eqb b (n + 1) letter, le-ltb b a more, ne_eqb b a apart) (omega arith)
+    ]
+  ]
+]
 
 -- ---- comparisons are told apart by what they include
 

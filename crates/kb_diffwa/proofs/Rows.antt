@@ -228,7 +228,7 @@ pub record IsLedFromSet (n a : ℕ) (steps : Steps) (members : List Rivals) (riv
   pub at : Contains members member
   pub led : IsLedFrom n a member.comparisons (pairs_from steps member.difference) rival
 
-pairs_within : (count : ℕ) (steps : Steps) (difference : ℕ) → AreWithin count steps
+pub pairs_within : (count : ℕ) (steps : Steps) (difference : ℕ) → AreWithin count steps
     → All (λ pair. (0 < pair.1) × (pair.1 ≤ count)) (pairs_from steps difference)
 pairs_within count steps zero within = All-nil (λ (pair : ℕ × ℕ). (0 < pair.1) × (pair.1 ≤ count))
 pairs_within count steps (suc index) within =

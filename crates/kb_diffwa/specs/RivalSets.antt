@@ -56,6 +56,40 @@ all_compared n comparisons a b = if nat_eq b (n + 1) then record {
   ended = false;
 }
 
+-- the same as a table: where the words have a lesser letter, the same one, a greater one, and none
+abbrev pub outcomes : Comparisons → List Comparisons
+outcomes comparisons =
+    record {
+      equal = false;
+      less = comparisons.less || comparisons.equal;
+      greater = comparisons.greater;
+      ended = false;
+    }
+    ∷ record {
+      equal = comparisons.equal;
+      less = comparisons.less;
+      greater = comparisons.greater;
+      ended = false;
+    }
+    ∷ record {
+      equal = false;
+      less = comparisons.less;
+      greater = comparisons.greater || comparisons.equal;
+      ended = false;
+    }
+    ∷ record {
+      equal = false;
+      less = false;
+      greater = false;
+      ended = not (is_none comparisons);
+    }
+    ∷ []
+
+-- at which place of the table it stands
+abbrev pub outcome_place : ℕ → ℕ → ℕ → ℕ
+outcome_place n a b = if nat_eq b (n + 1) then 3 else (if nat_lt b a then 0
+    else (if nat_eq b a then 1 else 2))
+
 -- ---- tests of equality, and hashes
 
 abbrev pub same_comparisons : Comparisons → Comparisons → Bool

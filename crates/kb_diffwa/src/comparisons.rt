@@ -1,7 +1,7 @@
 //! Sets of comparisons.
 
 ghost use Rattle.std.specs.Prelude.{◌≡◌, ◌≤◌};
-ghost use Rattle.kb_diffwa.specs.RivalSets.{all_compared, any_less, is_none, joined};
+ghost use Rattle.kb_diffwa.specs.RivalSets.{any_less, is_none, joined, outcome_place, outcomes};
 
 /// How the words that have one difference compare, in the shortlex order, with the suffixes that they are beside: which
 /// of four things is true of some of them. None is longer than its suffix.
@@ -60,23 +60,43 @@ impl Comparisons {
         }
     }
 
-    /// How the words compare once the longer ones have the letter a more, and the others the letter b, or none where b
-    /// is the padding, letter n + 1. A word that has ended has no further letter.
-    pub(crate) fn after(self, n: u16, a: u16, b: u16) -> Comparisons
-        requires { n ≤ 65534 }
-        ensures { result ≡ all_compared n self a b }
+    /// How the words compare once the longer ones have a letter more: where the others have a lesser letter, the same
+    /// one, a greater one, and none. A word that has ended has no further letter.
+    pub(crate) fn outcomes(self) -> [Comparisons; 4]
+        ensures { result ≡ outcomes self }
     {
-        if b == n + 1 {
-            return Comparisons {
-                ended: !self.is_none(),
-                ..Comparisons::NONE
-            };
-        }
-        Comparisons {
-            equal: self.equal & (b == a),
-            less: self.less | (self.equal & (b < a)),
-            greater: self.greater | (self.equal & (a < b)),
+        let lesser = Comparisons {
+            equal: false,
+            less: self.less | self.equal,
+            greater: self.greater,
             ended: false,
-        }
+        };
+        let same = Comparisons {
+            ended: false,
+            ..self
+        };
+        let greater = Comparisons {
+            equal: false,
+            less: self.less,
+            greater: self.greater | self.equal,
+            ended: false,
+        };
+        let ended = Comparisons {
+            ended: !self.is_none(),
+            ..Comparisons::NONE
+        };
+        [lesser, same, greater, ended]
+    }
+}
+
+/// Which of the outcomes is that of the letter b beside the letter a, where the padding is letter n + 1.
+pub(crate) fn outcome_place(n: u16, a: u16, b: u16) -> usize
+    requires { n ≤ 65534 }
+    ensures { result ≡ outcome_place n a b }
+{
+    if b == n + 1 {
+        3
+    } else {
+        usize::from(b >= a) + usize::from(b > a)
     }
 }

@@ -4,7 +4,7 @@ ghost use Rattle.std.specs.Prelude.{◌≡◌, ◌<◌, ◌≤◌, ◌^◌, All,
 ghost use Rattle.kb_diffwa.specs.RivalSets.{AreWithin, first_row, followed, led_on, pairs_from, rival_sets, row_after, unless_less, with_rivals};
 ghost use Rattle.kb_diffwa.specs.SameSets.{same_from_members};
 
-use crate::comparisons::Comparisons;
+use crate::comparisons::{Comparisons, outcome_place};
 use crate::rival_set::RivalSet;
 use crate::rivals::Rivals;
 use crate::sparse_steps::Steps;
@@ -87,14 +87,16 @@ impl RivalSets {
 }
 
 /// Adds to the row where the letter a leads rivals of one difference.
+#[tactic(auto, using(crate::proofs::AllCompared::outcome_at, crate::proofs::AllCompared::outcome_within))]
 fn lead_on(n: u16, a: u16, steps: &Steps, rivals: Rivals, row: &mut [Comparisons])
     requires generators { n ≤ 65534 }
     requires within { AreWithin (length row.old) steps.now }
     ensures { row.new ≡ led_on n a steps.now row.old rivals }
 {
+    // What a letter leads to is looked up: branches by its order would often be guessed wrong.
+    let outcomes = rivals.comparisons.outcomes();
     for (b, target) in pairs_from(steps, rivals.difference) {
-        let after = rivals.comparisons.after(n, a, *b);
-        add(row, *target, after);
+        add(row, *target, outcomes[outcome_place(n, a, *b)]);
     }
 }
 
