@@ -22,7 +22,7 @@ pub data Begun (text : List ℕ) : Type 0 where
   not_begun : ((token : Token) (rest : List ℕ) → ¬ FirstToken text token rest) → Begun text
 
 -- two lists of bytes are one, or not
-same_decided : (xs ys : List ℕ) → (xs ≡ ys) ⊎ (xs ≢ ys)
+pub same_decided : (xs ys : List ℕ) → (xs ≡ ys) ⊎ (xs ≢ ys)
 same_decided xs ys = go (bytes_eq xs ys) refl
   where
     go : (t : Bool) → bytes_eq xs ys ≡ t → (xs ≡ ys) ⊎ (xs ≢ ys)
@@ -60,7 +60,7 @@ single_decided b =
 
 -- ---- names
 
-begins_decided : (bytes : List ℕ) → BeginsWithNameByte bytes ⊎ ¬ BeginsWithNameByte bytes
+pub begins_decided : (bytes : List ℕ) → BeginsWithNameByte bytes ⊎ ¬ BeginsWithNameByte bytes
 begins_decided [] = inr (λ h. h)
 begins_decided (b ∷ bytes) = name_byte_decided b
 
@@ -77,7 +77,7 @@ goes_on_decided (b ∷ bytes) = byte (name_byte_decided b)
     byte (inl h) = inl (inl h)
     byte (inr one) = dot one (cases_eq b 46) (begins_decided bytes)
 
-name_front : (bytes : List ℕ) → (n : ℕ) × IsLongestFront GoesOnAsName bytes n
+pub name_front : (bytes : List ℕ) → (n : ℕ) × IsLongestFront GoesOnAsName bytes n
 name_front [] = (0, longest_stop [] (λ h. h))
 name_front (b ∷ bytes) = go (goes_on_decided (b ∷ bytes)) (name_front bytes)
   where
@@ -119,7 +119,7 @@ string_begun b bytes at = go _ (longest_string bytes _ refl) (cases_lt (1 + leng
 
 -- ---- marks
 
-single_only : (b : ℕ) (more : List ℕ) → IsSingle b → Kind b more → length more ≤ 0
+pub single_only : (b : ℕ) (more : List ℕ) → IsSingle b → Kind b more → length more ≤ 0
 single_only b more h (word at goes) = absurd (omega arith)
 single_only b more h (digits at each few) = absurd (omega arith)
 single_only b more h (negative at each some few) = absurd (omega arith)
@@ -175,7 +175,7 @@ two_bytes token b c (d ∷ bytes) spelled only = go (cases_eq d c)
     })
     go (inr other) = not_begun (none_from b (d ∷ bytes) (λ more back k e. other (same_head (e ∙ ap (λ x. x ++ back) (only more k)))))
 
-colon_only : (b : ℕ) (more : List ℕ) → b ≡ 58 → Kind b more → more ≡ 61 ∷ []
+pub colon_only : (b : ℕ) (more : List ℕ) → b ≡ 58 → Kind b more → more ≡ 61 ∷ []
 colon_only b more h (word at goes) = absurd (omega arith)
 colon_only b more h (digits at each few) = absurd (omega arith)
 colon_only b more h (negative at each some few) = absurd (omega arith)
@@ -184,7 +184,7 @@ colon_only b more h (assigns at whole) = whole
 colon_only b more h (ranges at whole) = absurd (omega arith)
 colon_only b more h (single at whole) = absurd (omega arith)
 
-dot_only : (b : ℕ) (more : List ℕ) → b ≡ 46 → Kind b more → more ≡ 46 ∷ []
+pub dot_only : (b : ℕ) (more : List ℕ) → b ≡ 46 → Kind b more → more ≡ 46 ∷ []
 dot_only b more h (word at goes) = absurd (omega arith)
 dot_only b more h (digits at each few) = absurd (omega arith)
 dot_only b more h (negative at each some few) = absurd (omega arith)

@@ -5,11 +5,13 @@ use Rattle.kb_lexing.specs.Token as tree
 use Rattle.kb_lexing.specs.Spelling.{Spells, FirstToken, TokensOf, is_blank, after_gap, after_comment}
 use Rattle.kb_lexing.proofs.FirstTokens.{spells_some, same_head}
 
--- what stands before the rest that f leaves of a text, and before any other rest with its first byte
+-- what stands before the rest that f leaves of a text, and before any other rest with its first byte; and where a
+-- newline stands behind it, a gap goes on
 pub record Front (f : List ℕ → List ℕ) (text : List ℕ) : Type 0 where
   pub front : List ℕ
   pub whole : text ≡ front ++ f text
   pub stays : (b : ℕ) (more other : List ℕ) → f text ≡ b ∷ more → f (front ++ b ∷ other) ≡ b ∷ other
+  pub ends : (other : List ℕ) → f (front ++ 10 ∷ other) ≡ after_gap other
 
 -- one byte before
 before_gap : (b : ℕ) (bytes : List ℕ) (f : List ℕ → List ℕ) (step : (bytes : List ℕ) → after_gap (b ∷ bytes) ≡ f bytes) → Front f bytes → Front after_gap (b ∷ bytes)
@@ -17,6 +19,7 @@ before_gap b bytes f step h = record {
   front = b ∷ h.front;
   whole = ap (λ x. b ∷ x) h.whole ∙ ap (λ x. (b ∷ h.front) ++ x) (sym (step bytes));
   stays = λ c more other e. step (h.front ++ c ∷ other) ∙ h.stays c more other (sym (step bytes) ∙ e);
+  ends = λ other. step (h.front ++ 10 ∷ other) ∙ h.ends other;
 }
 
 before_comment : (b : ℕ) (bytes : List ℕ) (f : List ℕ → List ℕ) (step : (bytes : List ℕ) → after_comment (b ∷ bytes) ≡ f bytes) → Front f bytes → Front after_comment (b ∷ bytes)
@@ -24,6 +27,7 @@ before_comment b bytes f step h = record {
   front = b ∷ h.front;
   whole = ap (λ x. b ∷ x) h.whole ∙ ap (λ x. (b ∷ h.front) ++ x) (sym (step bytes));
   stays = λ c more other e. step (h.front ++ c ∷ other) ∙ h.stays c more other (sym (step bytes) ∙ e);
+  ends = λ other. step (h.front ++ 10 ∷ other) ∙ h.ends other;
 }
 
 gap_at : (b : ℕ) (bytes : List ℕ) (t u : Bool) → is_blank b ≡ t → (b == 35) ≡ u → Front after_gap bytes → Front after_comment bytes → Front after_gap (b ∷ bytes)
@@ -31,29 +35,30 @@ gap_at b bytes true u blank hash gap comment = before_gap b bytes after_gap (λ 
 gap_at b bytes false true blank hash gap comment = before_gap b bytes after_comment (λ x. rw (blank, hash)) comment
 gap_at b bytes false false blank hash gap comment = record {
   front = [];
-  whole = sym (ends bytes);
+  whole = sym (alone bytes);
   stays = λ c more other e.
-      let same : b ≡ c = same_head (sym (ends bytes) ∙ e) in
-      subst (λ x. after_gap (x ∷ other) ≡ x ∷ other) same (ends other);
+      let same : b ≡ c = same_head (sym (alone bytes) ∙ e) in
+      subst (λ x. after_gap (x ∷ other) ≡ x ∷ other) same (alone other);
+  ends = λ other. refl;
 }
   where
-    ends : (bytes : List ℕ) → after_gap (b ∷ bytes) ≡ b ∷ bytes
-    ends bytes = rw (blank, hash)
+    alone : (bytes : List ℕ) → after_gap (b ∷ bytes) ≡ b ∷ bytes
+    alone bytes = rw (blank, hash)
 
 comment_at : (b : ℕ) (bytes : List ℕ) (t : Bool) → (b == 10) ≡ t → Front after_gap bytes → Front after_comment bytes → Front after_comment (b ∷ bytes)
 comment_at b bytes true newline gap comment = before_comment b bytes after_gap (λ x. rw newline) gap
 comment_at b bytes false newline gap comment = before_comment b bytes after_comment (λ x. rw newline) comment
 
-no_front : (f : List ℕ → List ℕ) → f [] ≡ [] → Front f []
-no_front f e = record { front = []; whole = sym e; stays = λ b more other h. absurd (let k = sym e ∙ h in cc) }
+no_front : (f : List ℕ → List ℕ) → f [] ≡ [] → ((other : List ℕ) → f (10 ∷ other) ≡ after_gap other) → Front f []
+no_front f e newline = record { front = []; whole = sym e; stays = λ b more other h. absurd (let k = sym e ∙ h in cc); ends = newline }
 
 mutual
   pub gap_front : (text : List ℕ) → Front after_gap text
-  gap_front [] = no_front after_gap refl
+  gap_front [] = no_front after_gap refl (λ other. refl)
   gap_front (b ∷ bytes) = gap_at b bytes (is_blank b) (b == 35) refl refl (gap_front bytes) (comment_front bytes)
 
   comment_front : (text : List ℕ) → Front after_comment text
-  comment_front [] = no_front after_comment refl
+  comment_front [] = no_front after_comment refl (λ other. refl)
   comment_front (b ∷ bytes) = comment_at b bytes (b == 10) refl (gap_front bytes) (comment_front bytes)
 
 -- the text up to some tail, and its tokens

@@ -7,3 +7,14 @@ pub mod TokenFronts
 pub mod Begun
 pub mod FrontTokens
 pub mod NameFronts
+pub mod Longer
+pub mod PassedTokens
+pub mod LastTokens
+pub mod SpelledTexts
+pub mod ExpectedTokens
+pub mod Reached
+pub mod NoFurther
+pub mod LongestPossible
+pub mod ExpectedFronts
+pub mod ExpectedValues
+pub mod MarkedFronts

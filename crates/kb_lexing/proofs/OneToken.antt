@@ -71,7 +71,7 @@ read_string text =
     let long : length text ≡ length (text ++ 34 ∷ []) - 1 = omega (arith, length-append text (34 ∷ [])) in
     ap string (take_at text (34 ∷ []) (length (text ++ 34 ∷ []) - 1) long)
 
-read_spelling : (token : Token) (bytes : List ℕ) → Spells token bytes → reading bytes ≡ token
+pub read_spelling : (token : Token) (bytes : List ℕ) → Spells token bytes → reading bytes ≡ token
 read_spelling (name text) bytes h = ap reading h.0 ∙ read_name text h.1
 read_spelling (number z) bytes h = read_number bytes z h
 read_spelling (string text) bytes h = ap reading h.0 ∙ read_string text

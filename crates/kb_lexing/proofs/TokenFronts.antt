@@ -97,7 +97,7 @@ has_bracket (token ∷ next ∷ tokens) bytes ends h =
     (behind_front h.1.spelling (after_gap bytes) h.0 h.1.whole (has_bracket (next ∷ tokens) h.0 ends h.2))
 
 -- two strings that begin a text are one
-one_close : (text other rest back : List ℕ) → AllByRecursion IsStringByte text → AllByRecursion IsStringByte other → text ++ (34 ∷ rest) ≡ other ++ (34 ∷ back) → rest ≡ back
+pub one_close : (text other rest back : List ℕ) → AllByRecursion IsStringByte text → AllByRecursion IsStringByte other → text ++ (34 ∷ rest) ≡ other ++ (34 ∷ back) → rest ≡ back
 one_close [] [] rest back each all e = same_tail e
 one_close [] (d ∷ other) rest back each all e = absurd (all.0.2 (sym (same_head e)))
 one_close (c ∷ text) [] rest back each all e = absurd (each.0.2 (same_head e))
@@ -131,7 +131,7 @@ no_longer_bracket b other bracket (ranges at whole) = absurd (omega arith)
 no_longer_bracket b other bracket (single at whole) = whole
 
 -- of two fronts of one text, one begins with the other
-one_begins : (xs ys bs cs : List ℕ) → xs ++ bs ≡ ys ++ cs → ((tail : List ℕ) × (xs ≡ ys ++ tail)) ⊎ ((extra : List ℕ) × (ys ≡ xs ++ extra))
+pub one_begins : (xs ys bs cs : List ℕ) → xs ++ bs ≡ ys ++ cs → ((tail : List ℕ) × (xs ≡ ys ++ tail)) ⊎ ((extra : List ℕ) × (ys ≡ xs ++ extra))
 one_begins [] ys bs cs e = inr (ys, refl)
 one_begins (x ∷ xs) [] bs cs e = inl (x ∷ xs, refl)
 one_begins (x ∷ xs) (y ∷ ys) bs cs e = up (same_head e) (one_begins xs ys bs cs (same_tail e))

@@ -50,6 +50,15 @@ pub record IsLongestFront (HasForm : List ℕ → Type 0) (bytes : List ℕ) (n 
   pub formed : HasForm (take n bytes)
   pub longest : (front tail : List ℕ) → HasForm front → bytes ≡ front ++ tail → length front ≤ n
 
+-- this byte stands first
+abbrev pub BeginsWith : ℕ → List ℕ → Type 0
+BeginsWith byte [] = ⊥
+BeginsWith byte (b ∷ bytes) = b ≡ byte
+
+-- the spelling begins with these bytes
+abbrev pub IsFrontOf : List ℕ → List ℕ → Type 0
+IsFrontOf spelling front = (more : List ℕ) × (spelling ≡ front ++ more)
+
 -- the first byte goes on a name: a name byte, or a dot before one
 abbrev pub GoesOnAt : List ℕ → Type 0
 GoesOnAt [] = ⊥
@@ -62,6 +71,10 @@ AreFewDigits digits = AllByRecursion IsDigit digits × (length digits ≤ 18)
 -- a byte from space to `~`, but for `"`
 abbrev pub is_string_byte : ℕ → Bool
 is_string_byte byte = (nat_le 32 byte && nat_le byte 126) && not (byte == 34)
+
+abbrev pub IsString : tree.Token → Type 0
+IsString (tree.string text) = Unit {0}
+IsString _ = ⊥
 
 abbrev pub IsBracket : tree.Token → Type 0
 IsBracket tree.open_round = Unit {0}

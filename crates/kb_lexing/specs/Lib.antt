@@ -1,3 +1,4 @@
 pub mod Token
 pub mod Spelling
 pub mod Lexemes
+pub mod Possible

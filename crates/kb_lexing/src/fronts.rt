@@ -97,7 +97,7 @@ fn ends_name(text: &[u8]) -> bool
 }
 
 /// Whether names begin with this byte.
-fn begins_names(byte: u8) -> bool
+pub(crate) fn begins_names(byte: u8) -> bool
     ensures { IsTrue result ↔ BeginsNames byte }
 {
     byte.is_ascii_alphabetic() || byte == b'_'

@@ -12,6 +12,7 @@ use crate::token::{Lexeme, Token};
 /// The token that comes first in a text, behind blanks and comments. It is as long as possible.
 pub fn first_lexeme<'a>(text: &'a [u8]) -> Option<Lexeme<'a>>
     ensures first { IsFirstLexeme text.now result }
+    ensures text { IfSome result (λ lexeme. lexeme.text.now ≡ after_gap text.now) }
     ensures shorter { IfSome result (λ lexeme. length lexeme.rest.now < length text.now) }
 {
     match text {
@@ -25,6 +26,7 @@ pub fn first_lexeme<'a>(text: &'a [u8]) -> Option<Lexeme<'a>>
 /// The token of these parts.
 fn lexeme<'a>(token: Token<'a>, text: &'a [u8], rest: &'a [u8]) -> Lexeme<'a>
     ensures token { token_view result.token ≡ token_view token.entry }
+    ensures text { result.text.now ≡ text.now }
     ensures rest { result.rest.now ≡ rest.now }
 {
     Lexeme { token, text, rest }
@@ -33,6 +35,7 @@ fn lexeme<'a>(token: Token<'a>, text: &'a [u8], rest: &'a [u8]) -> Lexeme<'a>
 /// The token that comes first in a text, whichever it is.
 fn any_lexeme<'a>(text: &'a [u8]) -> Option<Lexeme<'a>>
     ensures first { IsFirstLexeme text.now result }
+    ensures text { IfSome result (λ lexeme. lexeme.text.now ≡ after_gap text.now) }
     ensures shorter { IfSome result (λ lexeme. length lexeme.rest.now < length text.now) }
 {
     let text = &text[gap_end(text, 0)..];

@@ -10,8 +10,10 @@
 //! and [`starred_name`] a name of one byte. The laws are [`a_text_has_one_list_of_tokens`], and
 //! [`a_front_ending_in_a_bracket_keeps_its_tokens`], by which what is read of a front stays so.
 //!
-//! [`syntax_place`] is the length of the longest front of the bytes with which some text begins. Whole runs
-//! compare it, and no clause speaks of it.
+//! [`syntax_place`] is a place in the bytes where the reading of tokens stops (`IsPlace` of `specs/Possible.antt`). What a text is
+//! the caller says, as a form of lists of tokens, which a clause can't range over: so a lemma says of each form that this place
+//! is the length of the longest front with which some text of the form begins, if the reading stops there (`longest_possible`:
+//! from `PassedAre` and `Stops` follows `IsLongestPossible`). [`last_place`] is the place of the last token that was passed.
 //!
 //! # Where the proofs are
 //!
@@ -24,7 +26,15 @@
 //! - `proofs/Begun.antt`: with which token a text begins, if it begins with one; `proofs/FrontTokens.antt`: the tokens
 //!   that stand first in a text, up to its end or to the first byte that belongs to none.
 //! - `proofs/NameFronts.antt`: the name with which a text begins.
-//! - `proofs/TokenFronts.antt`: where the last token of a front is a bracket, the whole text begins with its tokens.
+//! - `proofs/TokenFronts.antt`: where the last token of a front is a bracket, the whole text begins with its tokens;
+//!   `proofs/MarkedFronts.antt`: the same of marks, and of texts that have tokens at their front alone.
+//! - `proofs/Longer.antt`: when a spelling goes on with what stands behind it; so `proofs/PassedTokens.antt`: the tokens
+//!   at the front of a text keep their places with other bytes behind them, and `proofs/LastTokens.antt`: what may
+//!   stand in place of the last one. `proofs/SpelledTexts.antt`: tokens that can be spelled have a text.
+//! - `proofs/ExpectedTokens.antt`: which tokens are expected; `proofs/ExpectedFronts.antt`, `proofs/ExpectedValues.antt`: the longest
+//!   fronts of bytes that begin one.
+//! - `proofs/Reached.antt`, `proofs/NoFurther.antt`, `proofs/LongestPossible.antt`: up to the place some text of the form begins
+//!   with the bytes, and none begins with more of them.
 //!
 //! Nothing is below but `std`.
 #![tactic(auto)]
@@ -38,5 +48,5 @@ mod token;
 pub use fronts::{behind_gap, first_name, first_number, short_name, starred_name};
 pub use laws::{a_front_ending_in_a_bracket_keeps_its_tokens, a_text_has_one_list_of_tokens};
 pub use lexer::{first_lexeme, has_tokens, is_blank};
-pub use place::{Expected, Passed, last_place, syntax_place};
+pub use place::{Expected, last_place, syntax_place};
 pub use token::{Lexeme, Token};

@@ -1,7 +1,6 @@
-use Rattle.std.proofs.Common.{rules, arith, ◌≡◌, ◌-◌, ℕ, List, inl, inr, refl, sym, length, take, drop, get_or, subst}
+use Rattle.std.proofs.Common.{rules, arith, ◌≡◌, ℕ, List, inl, inr, refl, sym, get_or, subst}
 use Rattle.kb_lexing.specs.Token.{Token, comma, open_square, close_square}
 use Rattle.kb_lexing.specs.Spelling.{FirstToken, after_gap}
-use Rattle.kb_lexing.specs.Lexemes.{token_view}
 use Rattle.kb_lexing.proofs.Begun.{mark_first}
 use Rattle.kb_lexing.proofs.lexer.first_lexeme.Goals as goal
 
