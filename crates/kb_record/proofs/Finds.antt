@@ -6,7 +6,7 @@ use Rattle.kb_record.specs.Reading.{Reading, read, unexpected, too_deep, Parse, 
 -- the reading gives this tree and the rest; or the tree nests deeper than the depth
 abbrev pub Finds : {A : Type 0} → ℕ → ℕ → A → List Token → Reading A → Type 0
 Finds depth nesting tree rest (read found left) = (found ≡ tree) × (left ≡ rest)
-Finds depth nesting tree rest unexpected = ⊥
+Finds depth nesting tree rest (unexpected expected left) = ⊥
 Finds depth nesting tree rest (too_deep left) = depth < nesting
 
 pub found_as : {A : Type 0} (d n : ℕ) (a : A) (rest : List Token) (whole reading : Reading A) → whole ≡ reading → Finds d n a rest reading → Finds d n a rest whole
@@ -18,7 +18,7 @@ found_then d n d' m a b middle rest (read found left) next less h k =
     let P : _ → Type 0 = λ x. Finds d' m b rest (next x left) in
     let Q : List Token → Type 0 = λ ts. Finds d' m b rest (next a ts) in
     subst P (sym h.0) (subst Q (sym h.1) k)
-found_then d n d' m a b middle rest unexpected next less h k = absurd h
+found_then d n d' m a b middle rest (unexpected expected left) next less h k = absurd h
 found_then d n d' m a b middle rest (too_deep left) next less h k = less h
 
 -- a tree made of the one that is found

@@ -2,6 +2,7 @@
 use Rattle.std.proofs.Common.{◌≡◌, ℕ, zero, suc, ◌<◌, max, ℤ, List, [], ◌∷◌, ◌++◌, length, Option, Some, None, refl, ap, subst, arith, append_assoc, append-nil}
 use Rattle.std.proofs.lemmas.List.{length-append}
 use Rattle.kb_lexing.specs.Token.{Token, close_round, star}
+use Rattle.kb_lexing.specs.declared.place.Expected.TheVariants as wanted
 use Rattle.kb_record.specs.Tree.{Factor, named, grouped, Factors, no_factors, factor}
 use Rattle.kb_record.specs.Grammar.{power_tokens, word_tokens, factor_tokens, IsWord, IsFactorTree, AreFactorTrees}
 use Rattle.kb_record.specs.Nesting.{word_nesting, factor_nesting}
@@ -32,7 +33,7 @@ group_found : (fs : Factors) (d : ℕ) (rest : List Token) → ((d' : ℕ) → F
     → Finds d (suc (word_nesting fs)) fs rest (read_group d (word_tokens fs ++ close_round ∷ rest))
 group_found fs zero rest h = omega arith
 group_found fs (suc d) rest h =
-    found_then d (word_nesting fs) (suc d) (suc (word_nesting fs)) fs fs (close_round ∷ rest) rest (read_word d (word_tokens fs ++ close_round ∷ rest)) (λ factors left. past (behind CloseRound left) (read factors)) (λ x. omega arith) (h d) (refl, refl)
+    found_then d (word_nesting fs) (suc d) (suc (word_nesting fs)) fs fs (close_round ∷ rest) rest (read_word d (word_tokens fs ++ close_round ∷ rest)) (λ factors left. past wanted.Mark left (behind CloseRound left) (read factors)) (λ x. omega arith) (h d) (refl, refl)
 
 grouped_found : (fs : Factors) (power : Option ℤ) (d : ℕ) (rest : List Token) → behind Caret rest ≡ None → Finds d (suc (word_nesting fs)) fs (power_tokens power ++ rest) (read_group d (word_tokens fs ++ close_round ∷ (power_tokens power ++ rest)))
     → Finds d (suc (word_nesting fs)) (grouped fs power) rest (read_factor d (factor_tokens (grouped fs power) ++ rest))

@@ -13,25 +13,22 @@ step o close_round = o - 1
 step o close_square = o - 1
 step o _ = o
 
--- at most m are open behind each front
+-- at most m are open before each token
 abbrev pub Within : ℕ → ℕ → List Token → Type 0
-Within m o [] = o ≤ m
+Within m o [] = Unit {0}
 Within m o (t ∷ ts) = (o ≤ m) × Within m (step o t) ts
 
-open_behind-step : (o : ℕ) (t : Token) (ts : List Token) → open_behind o (t ∷ ts) ≡ open_behind (step o t) ts
+pub open_behind-step : (o : ℕ) (t : Token) (ts : List Token) → open_behind o (t ∷ ts) ≡ open_behind (step o t) ts
 open_behind-step o open_round ts = refl
 open_behind-step o open_square ts = refl
 open_behind-step o close_round ts = refl
 open_behind-step o close_square ts = refl
 open_behind-step o _ ts = refl
 
-first_within : (m o : ℕ) (ts : List Token) → Within m o ts → o ≤ m
-first_within m o [] h = h
-first_within m o (t ∷ ts) h = h.0
-
-pub front_within : (m o : ℕ) (front more : List Token) → Within m o (front ++ more) → open_behind o front ≤ m
-front_within m o [] more h = first_within m o more h
-front_within m o (t ∷ front) more h = let P : ℕ → Type 0 = λ n. n ≤ m in subst P (sym (open_behind-step o t front)) (front_within m (step o t) front more h.1)
+-- and so behind each front, where a token comes behind it
+pub front_within : (m o : ℕ) (front : List Token) (next : Token) (more : List Token) → Within m o (front ++ next ∷ more) → open_behind o front ≤ m
+front_within m o [] next more h = h.0
+front_within m o (t ∷ front) next more h = let P : ℕ → Type 0 = λ n. n ≤ m in subst P (sym (open_behind-step o t front)) (front_within m (step o t) front next more h.1)
 
 along : (m o : ℕ) (a b : List Token) → a ≡ b → Within m o b → Within m o a
 along m o a b e h = let P : List Token → Type 0 = λ ts. Within m o ts in subst P (sym e) h

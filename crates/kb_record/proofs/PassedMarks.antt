@@ -1,7 +1,7 @@
 -- What stands where a mark was passed.
 use Rattle.std.proofs.Common.{◌≡◌, ◌<◌, List, [], ◌∷◌, length, Bool, true, false, if◌then◌else◌, Some, None, refl, ap, arith}
-use Rattle.kb_lexing.specs.Token.{Token, name, number, string, assign, open_round, close_round, open_square, close_square, comma, semicolon, star, caret, dots, rec_word}
-use Rattle.kb_record.specs.Reading.{is_mark, behind, begins_with_dots}
+use Rattle.kb_lexing.specs.Token.{Token, assign, open_round, close_round, open_square, close_square, comma, semicolon, star, caret, dots, rec_word}
+use Rattle.kb_record.specs.Reading.{is_mark, behind}
 use Rattle.kb_record.specs.declared.cursor.Mark.{Mark}
 use Rattle.kb_record.specs.declared.cursor.Mark.TheVariants.{Assign, OpenRound, CloseRound, OpenSquare, CloseSquare, Comma, Semicolon, Star, Caret, Dots, Rec}
 
@@ -18,7 +18,7 @@ mark_token Caret = caret
 mark_token Dots = dots
 mark_token Rec = rec_word
 
-is_mark-true : (mark : Mark) (token : Token) → is_mark mark token ≡ true → token ≡ mark_token mark
+pub is_mark-true : (mark : Mark) (token : Token) → is_mark mark token ≡ true → token ≡ mark_token mark
 is_mark-true Assign assign e = refl
 is_mark-true OpenRound open_round e = refl
 is_mark-true CloseRound close_round e = refl
@@ -43,20 +43,3 @@ behind-is mark (token ∷ tokens) rest e = found mark token tokens rest (is_mark
 
 pub behind-shorter : (mark : Mark) (tokens rest : List Token) → behind mark tokens ≡ Some rest → length rest < length tokens
 behind-shorter mark tokens rest e = let whole = ap length (behind-is mark tokens rest e) in omega arith
-
--- the mark `..` stands first where the tokens begin with it
-pub dots_first : (token : Token) (tokens : List Token) → is_mark Dots token ≡ begins_with_dots (token ∷ tokens)
-dots_first (name text) tokens = refl
-dots_first (number z) tokens = refl
-dots_first (string text) tokens = refl
-dots_first assign tokens = refl
-dots_first open_round tokens = refl
-dots_first close_round tokens = refl
-dots_first open_square tokens = refl
-dots_first close_square tokens = refl
-dots_first comma tokens = refl
-dots_first semicolon tokens = refl
-dots_first star tokens = refl
-dots_first caret tokens = refl
-dots_first dots tokens = refl
-dots_first rec_word tokens = refl

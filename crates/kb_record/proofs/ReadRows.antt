@@ -1,17 +1,20 @@
 -- Items in a row, one at a time.
-use Rattle.std.proofs.Common.{◌≡◌, ℕ, zero, suc, ◌-◌, ◌<◌, List, [], ◌∷◌, ◌++◌, map, length, Bool, true, false, if◌then◌else◌, Option, Some, None, Result, Err, ℤ, refl, sym, ap, ◌∙◌, subst, arith, append_assoc}
+use Rattle.std.proofs.Common.{◌≡◌, ℕ, zero, suc, ◌-◌, ◌<◌, List, [], ◌∷◌, ◌++◌, map, length, Bool, true, false, if◌then◌else◌, Option, Some, None, Result, Ok, Err, ℤ, refl, sym, ap, ◌∙◌, subst, arith, append_assoc}
+use Rattle.std.specs.Prelude.{IfOk}
 use Rattle.std.proofs.lemmas.List.{map-append}
 use Rattle.kb_lexing.specs.Token.{Token, number}
-use Rattle.kb_record.specs.Reading.{Reading, read, unexpected, too_deep, Parse, and_then, reading_map, read_number, Reads, joined, behind, passes, passes_to, passes_comma, comma_unless, past}
+use Rattle.kb_lexing.specs.declared.place.Expected.{Expected}
+use Rattle.kb_lexing.specs.declared.place.Expected.TheVariants as wanted
+use Rattle.kb_record.specs.Tree.{Value as ValueTree}
+use Rattle.kb_record.specs.View.{value_view}
+use Rattle.kb_record.specs.Listed.{listed, HasPlaces}
+use Rattle.kb_record.specs.Reading.{Reading, read, unexpected, too_deep, Parse, and_then, reading_map, read_number, Reads, joined, behind, passes, passes_to, passes_comma, comma_unless, past, after_items, first_place, list_from, read_places, numbered_list, number_behind, number_with}
+use Rattle.kb_record.specs.declared.tree.Value.{Value as ValueType}
 use Rattle.kb_record.specs.declared.cursor.Mark.{Mark}
-use Rattle.kb_record.specs.declared.cursor.Mark.TheVariants.{Comma}
+use Rattle.kb_record.specs.declared.cursor.Mark.TheVariants.{Comma, CloseSquare, Dots}
 use Rattle.kb_record.specs.declared.cursor.Stop.{Stop}
 use Rattle.kb_record.proofs.PassedMarks.{behind-shorter}
 use Rattle.kb_record.specs.declared.cursor.Stop.TheVariants.{Unexpected, TooDeep, Memory}
-
--- the items before, and then those that are read
-abbrev pub after_items : {A : Type 0} → List A → Reading (List A) → Reading (List A)
-after_items before reading = reading_map (λ items. before ++ items) reading
 
 -- a reading that fails goes on to fail
 pub fails : {A B C D : Type 0} (reading : Reading A) (view : B → A) (next : A → Parse C) (view' : D → C) (stop : Stop) (rest : List Token) → Reads reading view (Err stop) rest → Reads (and_then reading next) view' (Err stop) rest
@@ -21,12 +24,12 @@ fails reading view next view' Memory rest e = tt
 
 pub none_before : {A : Type 0} (reading : Reading (List A)) → reading ≡ after_items [] reading
 none_before (read items rest) = refl
-none_before unexpected = refl
+none_before (unexpected expected rest) = refl
 none_before (too_deep rest) = refl
 
 pub one_more : {A : Type 0} (before : List A) (x : A) (reading : Reading (List A)) → after_items before (reading_map (λ items. x ∷ items) reading) ≡ after_items (before ++ x ∷ []) reading
 one_more before x (read items rest) = ap (λ l. read l rest) (sym (append_assoc before (x ∷ []) items))
-one_more before x unexpected = refl
+one_more before x (unexpected expected rest) = refl
 one_more before x (too_deep rest) = refl
 
 module _ {A : Type 0} (item : Parse A) (goes_on : Parse Bool) where
@@ -78,17 +81,34 @@ passed mark tokens rest e = ap (passes_to tokens) e
 pub map_one_more : {A B : Type 0} (f : A → B) (xs ys : List A) (x : A) → ys ≡ xs ++ x ∷ [] → map f xs ++ f x ∷ [] ≡ map f ys
 map_one_more f xs ys x e = sym (ap (map f) e ∙ map-append f xs (x ∷ []))
 
-comma_to : (tokens rest : List Token) (more : Bool) (o o' : Option (List Token)) → ((r : List Token) → o ≡ Some r → length r < length tokens) → ((r : List Token) → o' ≡ Some r → length r < length tokens)
-    → behind Comma tokens ≡ o' → comma_unless tokens o ≡ read more rest → length rest < length tokens
-comma_to tokens rest more (Some r) o' h k f e = let same : r ≡ rest = cc in subst (λ x. length x < length tokens) same (h r refl)
-comma_to tokens rest more None (Some r) h k f e = let e' : ◌≡◌ {A = Reading Bool} (read true r) (read more rest) = ap (λ o. past o (λ s. read true s)) (sym f) ∙ e in let same : r ≡ rest = cc in subst (λ x. length x < length tokens) same (k r refl)
-comma_to tokens rest more None None h k f e = let e' : ◌≡◌ {A = Reading Bool} unexpected (read more rest) = ap (λ o. past o (λ s. read true s)) (sym f) ∙ e in cc
+comma_to : (expected : Expected) (tokens rest : List Token) (more : Bool) (o o' : Option (List Token)) → ((r : List Token) → o ≡ Some r → length r < length tokens) → ((r : List Token) → o' ≡ Some r → length r < length tokens)
+    → behind Comma tokens ≡ o' → comma_unless expected tokens o ≡ read more rest → length rest < length tokens
+comma_to expected tokens rest more (Some r) o' h k f e = let same : r ≡ rest = cc in subst (λ x. length x < length tokens) same (h r refl)
+comma_to expected tokens rest more None (Some r) h k f e = let e' : ◌≡◌ {A = Reading Bool} (read true r) (read more rest) = ap (λ o. past expected tokens o (λ s. read true s)) (sym f) ∙ e in let same : r ≡ rest = cc in subst (λ x. length x < length tokens) same (k r refl)
+comma_to expected tokens rest more None None h k f e = let e' : ◌≡◌ {A = Reading Bool} (unexpected expected tokens) (read more rest) = ap (λ o. past expected tokens o (λ s. read true s)) (sym f) ∙ e in cc
 
-pub comma-shorter : (close : Mark) (tokens rest : List Token) (more : Bool) → passes_comma close tokens ≡ read more rest → length rest < length tokens
-comma-shorter close tokens rest more e =
-    comma_to tokens rest more (behind close tokens) (behind Comma tokens) (λ r. behind-shorter close tokens r) (λ r. behind-shorter Comma tokens r) refl e
+pub comma-shorter : (close : Mark) (expected : Expected) (tokens rest : List Token) (more : Bool) → passes_comma close expected tokens ≡ read more rest → length rest < length tokens
+comma-shorter close expected tokens rest more e =
+    comma_to expected tokens rest more (behind close tokens) (behind Comma tokens) (λ r. behind-shorter close tokens r) (λ r. behind-shorter Comma tokens r) refl e
 
 -- behind a number that is read fewer tokens are left
 pub number_shorter : (tokens rest : List Token) (z : ℤ) → read_number tokens ≡ read z rest → length rest < length tokens
 number_shorter (number y ∷ tokens) rest z e = let same : tokens ≡ rest = cc in subst (λ r. length r < length (number y ∷ tokens)) same (omega arith)
 number_shorter _ rest z e = cc
+
+-- the code's list is the one with the places that were read
+as_list : (result : Result ValueType Stop) (reading : Reading (List (Option ValueTree))) (rest : List Token) → Reads reading (λ v. listed (value_view v)) result rest → IfOk result (λ list. HasPlaces (value_view list) (listed (value_view list)))
+    → Reads (list_from reading) value_view result rest
+as_list (Ok v) reading rest h has = ap list_from h ∙ ap (λ x. read x rest) (sym has)
+as_list (Err (Unexpected expected)) reading rest h has = ap list_from h
+as_list (Err TooDeep) reading rest h has = ap list_from h
+as_list (Err Memory) reading rest h has = tt
+
+-- behind the number that comes first and a comma the places are read
+pub numbered_reads : (value : Parse ValueTree) (z : ℤ) (tokens others : List Token) (result : Result ValueType Stop) (rest : List Token) → behind Dots tokens ≡ None → passes_comma CloseSquare wanted.Dots tokens ≡ read true others
+    → Reads (after_items (first_place (Some z)) (read_places value others)) (λ v. listed (value_view v)) result rest → IfOk result (λ list. HasPlaces (value_view list) (listed (value_view list))) → Reads (number_with value z tokens) value_view result rest
+numbered_reads value z tokens others result rest none comes h has =
+    let whole : number_with value z tokens ≡ list_from (after_items (first_place (Some z)) (read_places value others)) =
+    ap (number_behind value z tokens) none ∙ ap (numbered_list value z) comes in
+    let P : Reading ValueTree → Type 0 = λ r. Reads r value_view result rest in
+    subst P (sym whole) (as_list result (after_items (first_place (Some z)) (read_places value others)) rest h has)

@@ -1,9 +1,10 @@
 -- A text that nests no deeper than it may isn't too deep.
-use Rattle.std.proofs.Common.{◌≡◌, ℕ, zero, suc, ◌-◌, ◌<◌, ◌≤◌, List, [], ◌∷◌, ◌++◌, ◌⊎◌, inl, inr, ⊎_elim, refl, ap, ◌∙◌, subst, arith, append_assoc}
+use Rattle.std.proofs.Common.{◌≡◌, ℕ, zero, suc, ◌-◌, ◌<◌, ◌≤◌, List, [], ◌∷◌, ◌++◌, take, drop, ◌⊎◌, inl, inr, ⊎_elim, refl, sym, ap, ◌∙◌, subst, arith, append_assoc}
+use Rattle.std.proofs.lemmas.List.{take-append-drop}
 use Rattle.kb_lexing.specs.Token.{Token, open_round, close_round, open_square, close_square}
 use Rattle.kb_lexing.specs.Spelling.{TokensOf}
 use Rattle.kb_record.specs.Tree.{Factors, TextTree}
-use Rattle.kb_record.specs.Grammar.{IsText, IsWordText, TextOf, WordOf}
+use Rattle.kb_record.specs.Grammar.{IsText, IsWordText, IsTextForm, IsWordForm, TextOf, WordOf}
 use Rattle.kb_record.specs.Nesting.{deepest, open_behind, word_nesting, text_nesting, IsTooDeep}
 use Rattle.kb_lexing.specs.Lexemes.{EndsInBracket}
 use Rattle.kb_lexing.proofs.Lexings.{UpTo, token_before}
@@ -11,7 +12,7 @@ use Rattle.kb_lexing.proofs.TokenFronts.{front_tokens}
 use Rattle.kb_record.proofs.TextFronts.{word_fronts, text_fronts}
 
 -- a front of the tokens that ends in a bracket, behind which more than n are open
-record Opened (n o : ℕ) (tokens : List Token) : Type 0 where
+pub record Opened (n o : ℕ) (tokens : List Token) : Type 0 where
   pub front : List Token
   pub behind : List Token
   pub whole : tokens ≡ front ++ behind
@@ -44,7 +45,7 @@ opened_square : (n o : ℕ) (ts : List Token) → o ≤ n → ((suc o ≤ n) ⊎
 opened_square n o ts h (inl le) more = later n o (suc o) open_square ts (λ front. refl) (more le)
 opened_square n o ts h (inr lt) more = record { front = open_square ∷ []; behind = ts; whole = refl; ends = tt; opens = lt }
 
-opened : (n o : ℕ) (tokens : List Token) → o ≤ n → n < open_behind o tokens → Opened n o tokens
+pub opened : (n o : ℕ) (tokens : List Token) → o ≤ n → n < open_behind o tokens → Opened n o tokens
 opened n o [] h k = let never : ⊥ = omega arith in absurd never
 opened n o (open_round ∷ ts) h k = opened_round n o ts h (at_most (suc o) n) (λ le. opened n (suc o) ts le k)
 opened n o (open_square ∷ ts) h k = opened_square n o ts h (at_most (suc o) n) (λ le. opened n (suc o) ts le k)
@@ -66,25 +67,25 @@ begins_with bytes behind tail tokens front text whole ends up k =
     front_tokens up.front (tail ++ behind) front tokens ends up.spelled (subst Q joined k)
 
 begins_deep : (HasForm : List Token → Type 0) (bytes : List ℕ) (tokens : List Token) → IsTooDeep HasForm bytes → TokensOf bytes tokens → (front : List Token) × (more : List Token) × (tokens ≡ front ++ more) × (deepest < open_behind 0 front)
-begins_deep HasForm bytes tokens h k =
+begins_deep HasForm bytes tokens (n, h) k =
     let high : deepest < open_behind 0 h.tokens = let e = h.opened in omega arith in
     let split = opened deepest 0 h.tokens (omega arith) high in
-    let P : List Token → Type 0 = λ ts. TokensOf h.front ts in
-    let up = cut h.front split.front split.behind split.ends (subst P split.whole h.spelled) in
-    let same = begins_with bytes h.behind up.0 tokens split.front h.front h.whole split.ends up.1 k in
+    let P : List Token → Type 0 = λ ts. TokensOf (take n bytes) ts in
+    let up = cut (take n bytes) split.front split.behind split.ends (subst P split.whole h.spelled) in
+    let same = begins_with bytes (drop n bytes) up.0 tokens split.front (take n bytes) (sym (take-append-drop n bytes)) split.ends up.1 k in
     (split.front, same.0, same.1, split.opens)
 
-pub shallow_word : (bytes : List ℕ) (factors : Factors) → WordOf bytes factors → word_nesting factors ≤ deepest → IsTooDeep (λ tokens. (factors : Factors) × IsWordText tokens factors) bytes → ⊥
+pub shallow_word : (bytes : List ℕ) (factors : Factors) → WordOf bytes factors → word_nesting factors ≤ deepest → IsTooDeep IsWordForm bytes → ⊥
 shallow_word bytes factors word shallow h =
-    let deep = begins_deep (λ tokens. (factors : Factors) × IsWordText tokens factors) bytes word.tokens h word.spelled in
+    let deep = begins_deep IsWordForm bytes word.tokens h word.spelled in
     let P : List Token → Type 0 = λ ts. IsWordText ts factors in
     let low = word_fronts deep.0 deep.1 factors (subst P deep.2 word.formed) in
     let high = deep.3 in
     omega arith
 
-pub shallow_text : (bytes : List ℕ) (text : TextTree) → TextOf bytes text → text_nesting text ≤ deepest → IsTooDeep (λ tokens. (text : TextTree) × IsText tokens text) bytes → ⊥
+pub shallow_text : (bytes : List ℕ) (text : TextTree) → TextOf bytes text → text_nesting text ≤ deepest → IsTooDeep IsTextForm bytes → ⊥
 shallow_text bytes text given shallow h =
-    let deep = begins_deep (λ tokens. (text : TextTree) × IsText tokens text) bytes given.tokens h given.spelled in
+    let deep = begins_deep IsTextForm bytes given.tokens h given.spelled in
     let P : List Token → Type 0 = λ ts. IsText ts text in
     let low = text_fronts deep.0 deep.1 text (subst P deep.2 given.formed) in
     let high = deep.3 in

@@ -11,7 +11,7 @@ use Rattle.kb_record.proofs.FoundWords.{word_found}
 
 both : {A : Type 0} (d n m : ℕ) (a b : A) (rest : List Token) (reading : Reading A) → n ≤ d → Finds d n a rest reading → Finds d m b rest reading → a ≡ b
 both d n m a b rest (read found left) le h k = sym h.0 ∙ k.0
-both d n m a b rest unexpected le h k = absurd h
+both d n m a b rest (unexpected expected left) le h k = absurd h
 both d n m a b rest (too_deep left) le h k = let never : ⊥ = omega arith in absurd never
 
 pub finds_word : (d : ℕ) (tokens : List Token) (fs : Factors) → IsWordText tokens fs → Finds d (word_nesting fs) fs [] (read_word d tokens)
@@ -39,7 +39,7 @@ finds_text d tokens text h =
 
 both_anyhow : {A : Type 0} (d n m : ℕ) (a b : A) (rest rest' : List Token) (reading : Reading A) → n ≤ d → Finds d n a rest reading → Finds d m b rest' reading → m ≤ d → a ≡ b
 both_anyhow d n m a b rest rest' (read found left) le h k le' = sym h.0 ∙ k.0
-both_anyhow d n m a b rest rest' unexpected le h k le' = absurd h
+both_anyhow d n m a b rest rest' (unexpected expected left) le h k le' = absurd h
 both_anyhow d n m a b rest rest' (too_deep left) le h k le' = let never : ⊥ = omega arith in absurd never
 
 same_text : (one other : TextTree) → ◌≡◌ {A = List ℕ × List (List ℕ × Value)} (one.title, list_of_fields one.fields) (other.title, list_of_fields other.fields) → one ≡ other

@@ -1,5 +1,5 @@
 -- Bytes have one meaning at most, and bytes that mean a word have no fault.
-use Rattle.std.proofs.Common.{◌≡◌, ◌≢◌, ℕ, List, Option, Result, Ok, Err, refl, sym, ap, ◌∙◌, subst}
+use Rattle.std.proofs.Common.{◌≡◌, ◌≢◌, ℕ, suc, List, Option, Result, Ok, Err, refl, sym, ap, ◌∙◌, subst}
 use Rattle.kb_lexing.specs.Token.{Token}
 use Rattle.kb_record.specs.Tree.{Factors}
 use Rattle.kb_record.specs.Grammar.{IsWordText, WordOf}
@@ -32,8 +32,8 @@ no_fault_meant bytes names inverses w fault error g h =
 -- bytes that mean a word have no fault; want of memory is none of theirs
 pub no_word_fault : (bytes : List ℕ) (names : List (List ℕ)) (inverses : List (Option ℕ)) (w : List ℕ) (error : WordError)
     → Meaning bytes names inverses (Ok w) → HasWordFault bytes names inverses error → error ≡ Memory
-no_word_fault bytes names inverses w (Syntax at) meant fault = absurd (fault meant.factors meant.formed)
-no_word_fault bytes names inverses w (TooDeep at) meant fault = absurd (shallow_word bytes meant.factors meant.formed meant.shallow fault)
+no_word_fault bytes names inverses w (Syntax at) meant fault = absurd (fault.none meant.formed.tokens meant.formed.spelled (meant.factors, meant.formed.formed))
+no_word_fault bytes names inverses w (TooDeep at) meant fault = absurd (shallow_word bytes meant.factors meant.formed meant.shallow (suc at, fault.deep))
 no_word_fault bytes names inverses w (UnknownGenerator name) meant fault = no_fault_meant bytes names inverses w _ (UnknownGenerator name) meant fault
 no_word_fault bytes names inverses w (NoInverse name) meant fault = no_fault_meant bytes names inverses w _ (NoInverse name) meant fault
 no_word_fault bytes names inverses w WordTooLong meant fault = no_fault_meant bytes names inverses w _ WordTooLong meant fault

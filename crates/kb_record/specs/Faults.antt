@@ -1,27 +1,41 @@
 -- When each refusal comes: the fault that it names is there.
-use Rattle.std.specs.Prelude.{◌≡◌, ℕ, ◌≤◌, List, Option, Result, Ok, Err}
-use Rattle.kb_record.specs.Tree.{Factors, TextTree}
-use Rattle.kb_record.specs.Grammar.{IsText, IsWordText, TextOf, WordOf}
-use Rattle.kb_record.specs.Nesting.{deepest, word_nesting, IsTooDeep}
+use Rattle.std.specs.Prelude.{◌≡◌, ℕ, suc, ◌≤◌, List, Option, Result, Ok, Err}
+use Rattle.kb_lexing.specs.Token.{Token}
+use Rattle.kb_lexing.specs.Spelling.{TokensOf}
+use Rattle.kb_lexing.specs.Possible.{IsLongestPossible}
+use Rattle.kb_record.specs.Tree.{Factors}
+use Rattle.kb_record.specs.Grammar.{IsTextForm, IsWordForm, WordOf}
+use Rattle.kb_record.specs.Nesting.{deepest, word_nesting, IsDeepFront, IsTooDeep}
 use Rattle.kb_record.specs.Meaning.{WordFault, unknown_generator, no_inverse, too_long, word_meaning}
 use Rattle.kb_record.specs.declared.error.RecordError.{RecordError}
 use Rattle.kb_record.specs.declared.error.RecordError.TheVariants as record_errors
 use Rattle.kb_record.specs.declared.error.WordError.{WordError}
 use Rattle.kb_record.specs.declared.error.WordError.TheVariants as word_errors
 
--- no tree is the bytes' tree, or they are too deep
-abbrev pub HasTextFault : List ℕ → RecordError → Type 0
-HasTextFault bytes (record_errors.Syntax at) = (text : TextTree) → ¬ TextOf bytes text
-HasTextFault bytes (record_errors.TooDeep at) =
-    IsTooDeep (λ tokens. (text : TextTree) × IsText tokens text) bytes
-HasTextFault bytes record_errors.Memory = Unit {0}
+-- The bytes are no text of the form, no front of them is too deep, and the first `at` bytes are the longest front with
+-- which some text of the form begins.
+pub record IsSyntaxFault (HasForm : List Token → Type 0) (bytes : List ℕ) (at : ℕ) : Type 0 where
+  pub none : (tokens : List Token) → TokensOf bytes tokens → ¬ HasForm tokens
+  pub shallow : ¬ IsTooDeep HasForm bytes
+  pub longest : IsLongestPossible HasForm bytes at
 
--- the same of a word
+-- the shortest front that is too deep has `at` bytes before its last one, the 65th bracket that is open
+pub record IsDepthFault (HasForm : List Token → Type 0) (bytes : List ℕ) (at : ℕ) : Type 0 where
+  pub deep : IsDeepFront HasForm bytes (suc at)
+  pub shortest : (n : ℕ) → IsDeepFront HasForm bytes n → suc at ≤ n
+
+-- the bytes have the fault that is named; want of memory is none of theirs
+abbrev pub HasFault : (List Token → Type 0) → List ℕ → RecordError → Type 0
+HasFault HasForm bytes (record_errors.Syntax at) = IsSyntaxFault HasForm bytes at
+HasFault HasForm bytes (record_errors.TooDeep at) = IsDepthFault HasForm bytes at
+HasFault HasForm bytes record_errors.Memory = Unit {0}
+
+-- of a text, and of a word
+abbrev pub HasTextFault : List ℕ → RecordError → Type 0
+HasTextFault = HasFault IsTextForm
+
 abbrev pub HasTreeFault : List ℕ → RecordError → Type 0
-HasTreeFault bytes (record_errors.Syntax at) = (factors : Factors) → ¬ WordOf bytes factors
-HasTreeFault bytes (record_errors.TooDeep at) =
-    IsTooDeep (λ tokens. (factors : Factors) × IsWordText tokens factors) bytes
-HasTreeFault bytes record_errors.Memory = Unit {0}
+HasTreeFault = HasFault IsWordForm
 
 -- what the bytes mean over a presentation's names and inverses, or the fault of their word, where they are a word
 pub record Meaning (bytes : List ℕ) (names : List (List ℕ)) (inverses : List (Option ℕ))

@@ -103,6 +103,13 @@ IsText tokens text =
 abbrev pub IsWordText : List Token → Factors → Type 0
 IsWordText tokens factors = IsWord factors × (tokens ≡ word_tokens factors)
 
+-- the tokens of some text, and of some word
+abbrev pub IsTextForm : List Token → Type 0
+IsTextForm tokens = (text : TextTree) × IsText tokens text
+
+abbrev pub IsWordForm : List Token → Type 0
+IsWordForm tokens = (factors : Factors) × IsWordText tokens factors
+
 -- the bytes are a text with this tree
 pub record TextOf (bytes : List ℕ) (text : TextTree) : Type 0 where
   pub tokens : List Token

@@ -10,3 +10,4 @@ pub use Rattle.kb_lexing.specs.Lexemes
 pub mod Faults
 pub mod Reading
 pub mod Refusals
+pub mod Evaluation

@@ -1,7 +1,8 @@
 -- How deep brackets nest.
-use Rattle.std.specs.Prelude.{◌≡◌, ℕ, suc, ◌-◌, max, List, [], ◌∷◌, ◌++◌}
+use Rattle.std.specs.Prelude.{◌≡◌, ℕ, suc, ◌-◌, ◌≤◌, max, List, [], ◌∷◌, length, take}
 use Rattle.kb_lexing.specs.Token.{Token, open_round, close_round, open_square, close_square}
 use Rattle.kb_lexing.specs.Spelling.{TokensOf}
+use Rattle.kb_lexing.specs.Possible.{IsBegun}
 use Rattle.kb_record.specs.Tree.{Factor, named, grouped, Factors, no_factors, factor, Value, number_value, string_value, record_value, list_value, range_value, word_value, Fields, no_fields, field, Places, no_places, place, empty_place, TextTree}
 
 -- brackets in brackets may stand this deep
@@ -47,13 +48,14 @@ open_behind opened (close_round ∷ tokens) = open_behind (opened - 1) tokens
 open_behind opened (close_square ∷ tokens) = open_behind (opened - 1) tokens
 open_behind opened (_ ∷ tokens) = open_behind opened tokens
 
--- A front of the bytes, with which some token list of the form begins, has 65 brackets open at its end.
-pub record IsTooDeep (HasForm : List Token → Type 0) (bytes : List ℕ) : Type 0 where
-  pub front : List ℕ
-  pub behind : List ℕ
-  pub whole : bytes ≡ front ++ behind
+-- Some text of the form begins with the tokens of the first n bytes, which have 65 brackets open at their end.
+pub record IsDeepFront (HasForm : List Token → Type 0) (bytes : List ℕ) (n : ℕ) : Type 0 where
+  pub within : n ≤ length bytes
   pub tokens : List Token
-  pub spelled : TokensOf front tokens
+  pub spelled : TokensOf (take n bytes) tokens
   pub opened : open_behind 0 tokens ≡ suc deepest
-  pub more : List Token
-  pub possible : HasForm (tokens ++ more)
+  pub begun : IsBegun HasForm tokens
+
+-- some front of the bytes is so deep
+abbrev pub IsTooDeep : (List Token → Type 0) → List ℕ → Type 0
+IsTooDeep HasForm bytes = (n : ℕ) × IsDeepFront HasForm bytes n

@@ -1,10 +1,14 @@
 -- Reading tokens from the left: the tree that stands first, and the tokens behind it.
-use Rattle.std.specs.Prelude.{◌≡◌, ◌≢◌, ◌⊎◌, IsTrue, unwrap_or, ℕ, zero, suc, ℤ, List, [], ◌∷◌, length, drop, map, Bool, true, false, if◌then◌else◌, Option, Some, None, Result, Ok, Err}
+use Rattle.std.specs.Prelude.{◌≡◌, unwrap_or, ℕ, zero, suc, ℤ, List, [], ◌∷◌, ◌++◌, length, drop, map, Bool, true, false, if◌then◌else◌, Option, Some, None, Result, Ok, Err}
 use Rattle.std.specs.Borrow.{Bor}
 use Rattle.kb_lexing.specs.Token.{Token, name, number, string, assign, open_round, close_round, open_square, close_square, comma, semicolon, star, caret, dots, rec_word}
 use Rattle.kb_record.specs.Tree.{Factor, named, grouped, Factors, Value, number_value, string_value, record_value, list_value, range_value, word_value, Fields, no_fields, field, no_places}
-use Rattle.kb_record.specs.View.{factors_of, places_of, value_view}
-use Rattle.kb_lexing.proofs.FrontTokens.{tokens_from}
+use Rattle.kb_record.specs.View.{factors_of, places_of, number_place, value_view}
+use Rattle.kb_lexing.proofs.FrontTokens.{tokens_from, tokens_of}
+use Rattle.kb_lexing.specs.Possible.{PassedAre, IsPlace, rest_behind, last_place_of}
+use Rattle.kb_lexing.specs.declared.token.Lexeme.{Lexeme}
+use Rattle.kb_lexing.specs.declared.place.Expected.{Expected}
+use Rattle.kb_lexing.specs.declared.place.Expected.TheVariants as wanted
 use Rattle.kb_record.specs.declared.tree.Value.{Value as ValueType}
 use Rattle.kb_record.specs.declared.tree.Rec.{Rec as RecType}
 use Rattle.kb_record.specs.declared.error.RecordError.{RecordError}
@@ -15,10 +19,11 @@ use Rattle.kb_record.specs.declared.cursor.Mark.TheVariants.{Assign, OpenRound, 
 use Rattle.kb_record.specs.declared.cursor.Stop.{Stop}
 use Rattle.kb_record.specs.declared.cursor.Stop.TheVariants.{Unexpected, TooDeep, Memory}
 
--- the tree and the tokens behind it; no tree; or the tokens behind a bracket that nests too deep
+-- the tree and the tokens behind it; what is expected where the next token can't be read, and the tokens left there;
+-- or the tokens behind a bracket that nests too deep
 pub data Reading (A : Type 0) : Type 0 where
   read : A → List Token → Reading A
-  unexpected : Reading A
+  unexpected : Expected → List Token → Reading A
   too_deep : List Token → Reading A
 
 abbrev pub Parse : Type 0 → Type 0
@@ -26,7 +31,7 @@ Parse A = List Token → Reading A
 
 abbrev pub and_then : {A B : Type 0} → Reading A → (A → Parse B) → Reading B
 and_then (read tree rest) next = next tree rest
-and_then unexpected next = unexpected
+and_then (unexpected expected rest) next = unexpected expected rest
 and_then (too_deep rest) next = too_deep rest
 
 abbrev pub reading_map : {A B : Type 0} → (A → B) → Reading A → Reading B
@@ -35,7 +40,7 @@ reading_map f reading = and_then reading (λ tree rest. read (f tree) rest)
 -- what the code answers, and the tokens that it leaves
 abbrev pub Reads : {A B : Type 0} → Reading A → (B → A) → Result B Stop → List Token → Type 0
 Reads reading view (Ok found) rest = reading ≡ read (view found) rest
-Reads reading view (Err (Unexpected expected)) rest = reading ≡ unexpected
+Reads reading view (Err (Unexpected expected)) rest = reading ≡ unexpected expected rest
 Reads reading view (Err TooDeep) rest = reading ≡ too_deep rest
 Reads reading view (Err Memory) rest = Unit {0}
 
@@ -66,24 +71,24 @@ abbrev pub behind : Mark → List Token → Option (List Token)
 behind mark [] = None
 behind mark (token ∷ tokens) = if is_mark mark token then Some tokens else None
 
--- what is read behind a mark that has to stand there
-abbrev pub past : {A : Type 0} → Option (List Token) → Parse A → Reading A
-past None next = unexpected
-past (Some rest) next = next rest
+-- what is read behind a mark that has to stand there, of the tokens with what is behind the mark
+abbrev pub past : {A : Type 0} → Expected → List Token → Option (List Token) → Parse A → Reading A
+past expected tokens None next = unexpected expected tokens
+past expected tokens (Some rest) next = next rest
 
 abbrev pub read_name : Parse (List ℕ)
 read_name (name text ∷ tokens) = read text tokens
-read_name _ = unexpected
+read_name tokens = unexpected wanted.Name tokens
 
 abbrev pub read_number : Parse ℤ
 read_number (number z ∷ tokens) = read z tokens
-read_number _ = unexpected
+read_number tokens = unexpected wanted.Number tokens
 
 -- ---- items in a row
 
 -- items, each behind the first one only where the reading goes on; the number bounds how many
 unfoldable pub joined : {A : Type 0} → Parse A → Parse Bool → ℕ → Parse (List A)
-joined item goes_on zero tokens = unexpected
+joined item goes_on zero tokens = unexpected wanted.Mark tokens
 joined item goes_on (suc n) tokens =
     and_then (item tokens) (λ first rest.
     and_then (goes_on rest) (λ more others.
@@ -102,13 +107,14 @@ passes_to tokens (Some rest) = read true rest
 abbrev pub passes : Mark → Parse Bool
 passes mark tokens = passes_to tokens (behind mark tokens)
 
-abbrev pub comma_unless : List Token → Option (List Token) → Reading Bool
-comma_unless tokens None = past (behind Comma tokens) (λ rest. read true rest)
-comma_unless tokens (Some rest) = read false rest
+abbrev pub comma_unless : Expected → List Token → Option (List Token) → Reading Bool
+comma_unless expected tokens None =
+    past expected tokens (behind Comma tokens) (λ rest. read true rest)
+comma_unless expected tokens (Some rest) = read false rest
 
 -- whether a comma comes and not the mark that closes; either is passed
-abbrev pub passes_comma : Mark → Parse Bool
-passes_comma close tokens = comma_unless tokens (behind close tokens)
+abbrev pub passes_comma : Mark → Expected → Parse Bool
+passes_comma close expected tokens = comma_unless expected tokens (behind close tokens)
 
 -- ---- words
 
@@ -133,7 +139,8 @@ word_with group tokens = reading_map factors_of (row (factor_with group) (passes
 
 abbrev pub group_with : Parse Factors → Parse Factors
 group_with word tokens =
-    and_then (word tokens) (λ factors rest. past (behind CloseRound rest) (read factors))
+    and_then (word tokens)
+    (λ factors rest. past wanted.Mark rest (behind CloseRound rest) (read factors))
 
 -- a word, with brackets in brackets no deeper than the number
 unfoldable pub read_word : ℕ → Parse Factors
@@ -164,37 +171,64 @@ abbrev pub field_with : Parse Value → Parse (List ℕ × Value)
 field_with value tokens =
     and_then (read_name tokens)
     (λ text rest.
-    past (behind Assign rest) (λ others. reading_map (λ tree. (text, tree)) (value others)))
+    past wanted.Assign rest (behind Assign rest)
+    (λ others. reading_map (λ tree. (text, tree)) (value others)))
 
-abbrev pub begins_with_dots : List Token → Bool
-begins_with_dots (dots ∷ tokens) = true
-begins_with_dots _ = false
-
--- the number that a range begins with, and its dots
-abbrev pub begin_range : List Token → Option (ℤ × List Token)
-begin_range (number z ∷ dots ∷ tokens) = Some (z, tokens)
-begin_range _ = None
+-- the number that stands first, and the tokens behind it
+abbrev pub first_number : List Token → Option (ℤ × List Token)
+first_number (number z ∷ tokens) = Some (z, tokens)
+first_number _ = None
 
 abbrev pub range_from : ℤ → Parse Value
 range_from from tokens =
     and_then (read_number tokens)
-    (λ to rest. past (behind CloseSquare rest) (read (range_value from to)))
+    (λ to rest. past wanted.Mark rest (behind CloseSquare rest) (read (range_value from to)))
+
+-- the places of a list up to its closing bracket, and that one
+abbrev pub read_places : Parse Value → Parse (List (Option Value))
+read_places value = row (place_with value) (passes_comma CloseSquare wanted.Mark)
+
+-- those in front, and then those that are read
+abbrev pub after_items : {A : Type 0} → List A → Reading (List A) → Reading (List A)
+after_items before reading = reading_map (λ items. before ++ items) reading
+
+-- the place of a number, if there is one
+abbrev pub first_place : Option ℤ → List (Option Value)
+first_place None = []
+first_place (Some z) = number_place z ∷ []
+
+abbrev pub list_from : Reading (List (Option Value)) → Reading Value
+list_from reading = reading_map (λ places. list_value (places_of places)) reading
+
+-- the list that a number begins, and more places where a comma comes
+abbrev pub numbered_list : Parse Value → ℤ → Reading Bool → Reading Value
+numbered_list value z comes =
+    list_from (and_then comes (λ more rest. if more then after_items (first_place (Some z))
+    (read_places value rest) else read (first_place (Some z)) rest))
+
+-- behind the number that comes first in a list a range may go on
+abbrev pub number_behind : Parse Value → ℤ → List Token → Option (List Token) → Reading Value
+number_behind value z tokens (Some rest) = range_from z rest
+number_behind value z tokens None =
+    numbered_list value z (passes_comma CloseSquare wanted.Dots tokens)
+
+abbrev pub number_with : Parse Value → ℤ → Parse Value
+number_with value z tokens = number_behind value z tokens (behind Dots tokens)
 
 abbrev pub list_behind : Parse Value → List Token → Option (List Token) → Option (ℤ × List Token)
     → Reading Value
-list_behind value tokens (Some rest) range = read (list_value no_places) rest
-list_behind value tokens None (Some (from, rest)) = range_from from rest
-list_behind value tokens None None =
-    reading_map (λ places. list_value (places_of places))
-    (row (place_with value) (passes_comma CloseSquare) tokens)
+list_behind value tokens (Some rest) first = read (list_value no_places) rest
+list_behind value tokens None (Some (z, rest)) = number_with value z rest
+list_behind value tokens None None = list_from (read_places value tokens)
 
 abbrev pub list_with : Parse Value → Parse Value
-list_with value tokens = list_behind value tokens (behind CloseSquare tokens) (begin_range tokens)
+list_with value tokens = list_behind value tokens (behind CloseSquare tokens) (first_number tokens)
 
 abbrev pub fields_behind : Parse Value → List Token → Option (List Token)
     → Reading (List (List ℕ × Value))
 fields_behind value tokens (Some rest) = read [] rest
-fields_behind value tokens None = row (field_with value) (passes_comma CloseRound) tokens
+fields_behind value tokens None =
+    row (field_with value) (passes_comma CloseRound wanted.Mark) tokens
 
 abbrev pub fields_with : Parse Value → Parse (List (List ℕ × Value))
 fields_with value tokens = fields_behind value tokens (behind CloseRound tokens)
@@ -205,7 +239,7 @@ fields_from (f ∷ fs) = field f.0 f.1 (fields_from fs)
 
 abbrev pub record_with : Parse (List (List ℕ × Value)) → Parse Value
 record_with fields tokens =
-    past (behind OpenRound tokens)
+    past wanted.Fields tokens (behind OpenRound tokens)
     (λ rest. reading_map (λ found. record_value (fields_from found)) (fields rest))
 
 abbrev pub begins_word : List Token → Bool
@@ -217,7 +251,7 @@ begins_word _ = false
 abbrev pub read_scalar : Parse Value
 read_scalar (number z ∷ tokens) = read (number_value z) tokens
 read_scalar (string text ∷ tokens) = read (string_value text) tokens
-read_scalar _ = unexpected
+read_scalar tokens = unexpected wanted.Value tokens
 
 abbrev pub value_behind : Parse Value → Parse (List (List ℕ × Value)) → List Token
     → Option (List Token) → Option (List Token) → Reading Value
@@ -260,9 +294,9 @@ field_view f = (f.0.now, value_view f.1)
 abbrev pub read_text : ℕ → Parse (List ℕ × List (List ℕ × Value))
 read_text depth tokens =
     and_then (read_name tokens) (λ title rest.
-    past (behind Assign rest) (λ others.
-    past (behind Rec others) (λ opening.
-    past (behind OpenRound opening)
+    past wanted.Assign rest (behind Assign rest) (λ others.
+    past wanted.Rec others (behind Rec others) (λ opening.
+    past wanted.Mark opening (behind OpenRound opening)
     (λ inside. reading_map (λ fields. (title, fields)) (read_fields depth inside)))))
 
 -- the tokens behind the semicolon that may come
@@ -277,23 +311,27 @@ read_ended depth tokens =
 abbrev pub rec_view : RecType → List ℕ × List (List ℕ × Value)
 rec_view text = (text.name.now, map field_view text.fields.items)
 
--- no tree is read, or not up to the end of the tokens
-abbrev pub FallsShort : {A : Type 0} → Reading A → Type 0
-FallsShort (read tree rest) = rest ≢ []
-FallsShort unexpected = Unit {0}
-FallsShort (too_deep rest) = ⊥
+-- no token may be left, of tokens that are those of the whole text or not
+abbrev pub ended : Bool → Parse Bool
+ended true [] = read true []
+ended whole tokens = unexpected wanted.Mark tokens
 
--- what the code answers of all tokens, which are those of the whole text or not
-abbrev pub ReadsAll : {A B : Type 0} → Reading A → (B → A) → Bool → Result B Stop → List Token
-    → Type 0
-ReadsAll reading view whole (Ok found) rest = (reading ≡ read (view found) []) × IsTrue whole
-ReadsAll reading view whole (Err (Unexpected expected)) rest = (whole ≡ false) ⊎ FallsShort reading
-ReadsAll reading view whole (Err TooDeep) rest = reading ≡ too_deep rest
-ReadsAll reading view whole (Err Memory) rest = Unit {0}
+-- what is read up to the end
+abbrev pub finished : {A : Type 0} → Bool → Reading A → Reading A
+finished whole reading =
+    and_then reading (λ tree rest. and_then (ended whole rest) (λ done others. read tree others))
 
--- the refusal that says so
-abbrev pub Says : Stop → RecordError → Type 0
-Says (Unexpected expected) (errors.Syntax at) = Unit {0}
-Says TooDeep (errors.TooDeep at) = Unit {0}
-Says Memory errors.Memory = Unit {0}
-Says _ _ = ⊥
+-- the last of so many tokens that stand first in the bytes
+abbrev pub StandsBehind : List ℕ → ℕ → Option Lexeme → Type 0
+StandsBehind bytes count last =
+    (passed rest : List Token) → tokens_of bytes ≡ passed ++ rest → length passed ≡ count
+    → PassedAre bytes passed last × (tokens_of (rest_behind bytes last) ≡ rest)
+
+-- the refusal that says so, where so many tokens of the bytes were passed
+abbrev pub Says : List ℕ → ℕ → Stop → RecordError → Type 0
+Says bytes count (Unexpected expected) (errors.Syntax at) =
+    (last : Option Lexeme) × StandsBehind bytes count last × IsPlace bytes last expected at
+Says bytes count TooDeep (errors.TooDeep at) =
+    (last : Option Lexeme) × StandsBehind bytes count last × (at ≡ last_place_of bytes last)
+Says bytes count Memory errors.Memory = Unit {0}
+Says _ _ _ _ = ⊥

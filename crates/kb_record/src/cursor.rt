@@ -1,17 +1,18 @@
 //! The tokens that are still to be read, made one by one.
 
-ghost use Rattle.std.specs.Prelude.{◌≡◌, ◌≢◌, ◌∷◌, [], Some, None, MatchOption, IfOk, OnOk, IfErr, IsTrue, MatchResult, ◌⊎◌, false};
+ghost use Rattle.std.specs.Prelude.{◌≡◌, ◌∷◌, [], Some, None, MatchOption, MatchResult, true, length, ◌-◌};
 ghost use Rattle.kb_record.specs.declared.cursor.Stop.TheVariants as stops;
 ghost use Rattle.std.specs.Bool.{MatchBool};
 ghost use Rattle.kb_record.specs.View.{value_view};
 ghost use Rattle.kb_lexing.specs.Lexemes.{token_view};
 ghost use Rattle.kb_lexing.proofs.FrontTokens.{tokens_of};
-ghost use Rattle.kb_record.specs.Reading.{Reads, remaining, behind_next, is_mark, behind, read_name, read_number, read_scalar, begins_word, begin_range, begins_with_dots, ends_place, passes_comma};
+ghost use Rattle.kb_record.specs.Reading.{Reads, remaining, behind_next, is_mark, behind, read_name, read_number, read_scalar, begins_word, first_number, ends_place, ended, passes_comma};
 
+use crate::passed::token_count;
 use crate::tree::Value;
-use kb_lexing::{Expected, Lexeme, Passed, Token, first_lexeme};
+use kb_lexing::{Expected, Lexeme, Token, first_lexeme};
 use kb_word::Memory;
-use std::alloc::AllocFailed;
+use std::alloc::{AllocError, AllocFailed};
 
 /// The tokens that are spelled in one way.
 #[derive(Clone, Copy, Debug)]
@@ -69,6 +70,14 @@ impl From<Memory> for Stop {
     }
 }
 
+impl From<AllocError> for Stop {
+    ghost from_gives = { λ _ stop. stop ≡ stops.Memory };
+
+    fn from(_: AllocError) -> Stop {
+        Stop::Memory
+    }
+}
+
 impl<T: Drop> From<AllocFailed<T>> for Stop {
     ghost from_gives = { λ _ stop. stop ≡ stops.Memory };
 
@@ -81,7 +90,6 @@ impl<T: Drop> From<AllocFailed<T>> for Stop {
 #[derive(Drop)]
 pub(crate) struct Cursor<'a> {
     next: Option<Lexeme<'a>>,
-    passed: Passed<'a>,
 }
 
 impl<'a> Cursor<'a> {
@@ -91,13 +99,7 @@ impl<'a> Cursor<'a> {
     {
         Cursor {
             next: first_lexeme(text),
-            passed: Passed::none(),
         }
-    }
-
-    /// The tokens that were passed.
-    pub fn passed(&self) -> &Passed<'a> {
-        &self.passed
     }
 
     /// The next token.
@@ -115,7 +117,6 @@ impl<'a> Cursor<'a> {
     {
         if let Some(lexeme) = self.next {
             self.next = first_lexeme(lexeme.rest);
-            self.passed = self.passed.and(lexeme);
         }
     }
 
@@ -140,7 +141,7 @@ impl<'a> Cursor<'a> {
         ensures { MatchResult result
             (λ _. behind mark (remaining self.old) ≡ Some (remaining self.new))
             (λ stop. (behind mark (remaining self.old) ≡ None)
-            × (stop ≡ stops.Unexpected expected)) }
+            × (remaining self.new ≡ remaining self.old) × (stop ≡ stops.Unexpected expected)) }
     {
         if self.take(mark) {
             Ok(())
@@ -151,14 +152,14 @@ impl<'a> Cursor<'a> {
 
     /// Passes the comma that goes on with a list or a record, or the mark that closes it. Answers
     /// whether it goes on.
-    pub fn passes_comma(&mut self, close: Mark) -> Result<bool, Stop>
-        ensures { Reads (passes_comma close (remaining self.old)) (λ more. more) result
+    pub fn passes_comma(&mut self, close: Mark, expected: Expected) -> Result<bool, Stop>
+        ensures { Reads (passes_comma close expected (remaining self.old)) (λ more. more) result
             (remaining self.new) }
     {
         if self.take(close) {
             return Ok(false);
         }
-        self.expect(Mark::Comma, Expected::Mark)?;
+        self.expect(Mark::Comma, expected)?;
         Ok(true)
     }
 
@@ -214,22 +215,20 @@ impl<'a> Cursor<'a> {
         matches!(self.peek(), Some(Token::Name(_) | Token::OpenRound))
     }
 
-    /// Passes the number and the dots that a range begins with, if they come next.
-    pub fn begin_range(&mut self) -> Option<i64>
+    /// Passes the number that comes next, if one does.
+    pub fn take_number(&mut self) -> Option<i64>
         ensures { MatchOption result
-            ((begin_range (remaining self.old) ≡ None) × (remaining self.new ≡ remaining self.old))
-            (λ from. begin_range (remaining self.old) ≡ Some (from, remaining self.new)) }
+            ((first_number (remaining self.old) ≡ None)
+            × (remaining self.new ≡ remaining self.old))
+            (λ number. first_number (remaining self.old) ≡ Some (number, remaining self.new)) }
     {
-        let lexeme = self.next?;
-        let Token::Number(from) = lexeme.token else {
-            return None;
-        };
-        if !begins_with_dots(lexeme.rest) {
-            return None;
+        match self.peek() {
+            Some(Token::Number(number)) => {
+                self.advance();
+                Some(number)
+            }
+            _ => None,
         }
-        self.advance();
-        self.advance();
-        Some(from)
     }
 
     /// Whether a comma or the bracket that closes a list comes next.
@@ -239,26 +238,28 @@ impl<'a> Cursor<'a> {
         matches!(self.peek(), Some(Token::Comma | Token::CloseSquare))
     }
 
+    /// How many tokens of the text were passed.
+    pub fn passed(&self, text: &[u8]) -> usize
+        ensures { result ≡ length (tokens_of text.now) - length (remaining self.now) }
+    {
+        let count = token_count(text);
+        match self.next {
+            Some(lexeme) => count
+                .saturating_sub(token_count(lexeme.rest))
+                .saturating_sub(1),
+            None => count,
+        }
+    }
+
     /// Nothing may be left, and the tokens have to be all that there are.
     pub fn end(&self, whole: bool) -> Result<(), Stop>
-        ensures { MatchResult result (λ _. (remaining self.now ≡ []) × IsTrue whole)
-            (λ stop. ((remaining self.now ≢ []) ⊎ (whole ≡ false))
-            × (stop ≡ stops.Unexpected Expected.Mark)) }
+        ensures { Reads (ended whole (remaining self.now)) (λ _. true) result
+            (remaining self.now) }
     {
         if whole && self.next.is_none() {
             Ok(())
         } else {
             Err(Stop::Unexpected(Expected::Mark))
         }
-    }
-}
-
-/// Whether the first token of a text is `..`.
-fn begins_with_dots(text: &[u8]) -> bool
-    ensures { result ≡ begins_with_dots (tokens_of text.now) }
-{
-    match first_lexeme(text) {
-        Some(lexeme) => Mark::Dots.is(lexeme.token),
-        None => false,
     }
 }

@@ -8,7 +8,7 @@ use kb_word::{Memory, OwnedText};
 use std::alloc::AllocError;
 use thiserror::Error;
 
-/// Why bytes are no text of a record. No clause speaks of the place `at`.
+/// Why bytes are no text of a record.
 #[derive(Debug, Drop, Error)]
 pub enum RecordError {
     /// The longest front of the bytes with which some text begins has `at` bytes.
@@ -22,7 +22,7 @@ pub enum RecordError {
     Memory,
 }
 
-/// Why bytes are no word of a presentation. No clause speaks of the place `at`.
+/// Why bytes are no word of a presentation.
 #[derive(Debug, Drop, Error)]
 pub enum WordError {
     /// The longest front of the bytes with which some word begins has `at` bytes.

@@ -8,21 +8,19 @@
 //!
 //! # The public contract
 //!
-//! [`parse`] returns the one tree that the bytes have. It refuses bytes that have no tree, and bytes of which
-//! a front, with which some text begins, has a 65th bracket open. [`parse_expr`] does the same for a word
-//! alone. The laws [`a_text_has_one_tree`] and [`a_shallow_text_is_not_too_deep`], and those of words, say
-//! that the tree is unique and that no bytes are both read and refused. [`word_of`] evaluates a word's tree
-//! over a presentation, or returns the first fault from the left, and [`parse_word`] is both in one call. By
-//! [`a_word_that_is_read_has_no_fault`] bytes that mean a word are not refused but for want of memory, and by
-//! [`a_word_has_one_meaning`] they mean one word.
+//! [`parse`] returns the one tree that the bytes have, or their one fault with its place: they are no text, and the longest
+//! front of them with which some text begins has so many bytes; or a front with which some text, however deep, begins has a
+//! 65th bracket open, and the first such bracket stands there. [`parse_expr`] does the same for a word
+//! alone. The laws [`a_text_has_one_tree`], [`a_text_has_one_fault`] and [`a_text_that_is_read_has_no_fault`], and those of words, say
+//! that the tree is unique, that bytes have one fault at most, and that no bytes are both read and refused. [`word_of`] evaluates a
+//! word's tree over a presentation, or returns the first fault from the left, and [`parse_word`] is both in one call. By
+//! [`a_word_that_is_read_has_no_fault`] bytes that mean a word are not refused but for want of memory, by
+//! [`a_word_has_one_meaning`] they mean one word, and by [`a_word_has_one_fault`] others have one fault.
 //!
 //! A list is one tree, in whichever form it is kept: [`Value::place_count`](Value) and [`Value::place`](Value) read it
 //! place by place, and [`Place`] hands out a row of numbers, or of pairs, as it stands.
 //!
 //! Want of memory may be returned by each call that takes memory, and by no other.
-//!
-//! No clause says which of two faults a refusal names, nor which place. Whole runs show them: for `E1` the length
-//! of the longest front with which some text begins, for `E2` the place of the bracket.
 //!
 //! # How it is made
 //!
@@ -32,20 +30,28 @@
 //!   into brackets alone, of which 64 may be open; what is joined by `*` or `,` is read in loops. Each
 //!   function is proved to compute a function on token lists of `specs/Reading.antt`, and what those say of the
 //!   grammar, `specs/Grammar.antt`, is proved in `proofs/`.
+//! - `passed` goes over the tokens of refused bytes once more, up to the last one that was passed: `kb_lexing` says its place.
 //! - `longer` appends a place to a list that is read: a list of numbers, of lists of numbers or of
 //!   lists of pairs stays in arrays (`kb_ragged`) as long as its places allow, which takes a small
 //!   part of the memory of a tree of values. `listed` reads the places of a list in any form.
-//! - `meaning` evaluates the tree of a word.
+//! - `meaning` evaluates the tree of a word. `evaluation` evaluates a word as it is read, without a tree, so that a line
+//!   takes no memory but that of its words.
 //!
 //! # Where the proofs are
 //!
-//! - `proofs/ReadingForms.antt`, with `RowForms`, `WordForms` and `ValueForms`: the tree that is read has the tokens,
-//!   and a bracket that is too deep stands in a front of some tree's tokens.
+//! - `proofs/ReadingForms.antt`, with `RowForms`, `WordForms`, `ValueForms`, `ValueParts` and `TextForms`: the tree that is read has
+//!   the tokens; where the reading can't go on, or a bracket is too deep, what was passed begins some tree's tokens, completed by
+//!   those of `PlainTokens`. `LastRec`: no word or value ends with `rec`.
+//! - `proofs/Elsewhere.antt`, with `KeptTokens`, `KeptWords`, `KeptValues` and `KeptLists`: tokens are read in the same way before
+//!   others that can't be read there either, and with other names. `Halting`, with `RawForms`: so where the reading can't go on,
+//!   with which tokens some word or text goes on there, and with which none does.
+//! - `proofs/FormFaults.antt`, with `ByteFaults` and `LastPassed`: so the bytes have the fault that is named, with its place.
+//!   `OneFault`: they have one at most.
 //! - `proofs/Finds.antt`, with `FoundWords` and `FoundValues`: the tokens of a tree are read as that tree, unless it
 //!   nests too deep. `Unique`: so tokens have one tree.
 //! - `proofs/OpenBrackets.antt`, with `Balanced`: no front of a tree's tokens has more brackets open than the tree
 //!   nests. `Shallow`: so a text that nests no deeper than it may isn't too deep.
-//! - `proofs/TokensToBytes.antt`, with `TextFronts`: from what the tokens say to what the bytes say.
+//! - `proofs/TokensToBytes.antt`: from what is read of the tokens to what the bytes are. `TextFronts`: how many brackets are open.
 //! - `proofs/WordMeanings.antt`, `proofs/WordFaults.antt`: names, repetitions and powers; bytes that mean a word have
 //!   no fault.
 //! - `proofs/ReadRows.antt`, `PassedMarks`, `Depths`, `Views`: one step of the functions and of the
@@ -56,18 +62,21 @@
 
 mod cursor;
 mod error;
+mod evaluation;
 mod laws;
 mod listed;
 mod longer;
 mod meaning;
 mod parser;
+mod passed;
 mod records;
 mod tree;
 mod words;
 
 pub use error::{RecordError, WordError};
 pub use laws::{
-    a_shallow_text_is_not_too_deep, a_shallow_word_is_not_too_deep, a_text_has_one_tree,
+    a_shallow_text_is_not_too_deep, a_shallow_word_is_not_too_deep, a_text_has_one_fault,
+    a_text_has_one_tree, a_text_that_is_read_has_no_fault, a_word_has_one_fault,
     a_word_has_one_meaning, a_word_has_one_tree, a_word_that_is_read_has_no_fault,
     a_word_that_is_read_is_not_refused,
 };

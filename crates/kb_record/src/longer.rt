@@ -7,11 +7,22 @@ ghost use Rattle.std.specs.Prelude.{◌≡◌, ◌++◌, ◌∷◌, [], map, Som
 ghost use Rattle.std.specs.Option.{option_map};
 ghost use Rattle.kb_record.specs.View.{value_view, number_place, row_place, entry_place, entries_place};
 ghost use Rattle.kb_record.specs.Listed.{listed, HasPlaces, pair_row};
+ghost use Rattle.kb_record.specs.Reading.{first_place};
 
 use crate::tree::Value;
 use kb_ragged::Ragged;
 use kb_word::Memory;
 use std::alloc::Global;
+
+/// The list of the number that comes first in it, or of no place.
+pub(crate) fn number_list<'a>(alloc: Global, first: Option<i64>) -> Result<Value<'a>, Memory>
+    ensures { IfOk result (λ list. HasPlaces (value_view list) (first_place first)) }
+{
+    match first {
+        Some(number) => longer_numbers_by(Vec::new(alloc), number),
+        None => Ok(Value::List(Vec::new(alloc))),
+    }
+}
 
 /// The list with one place more.
 pub(crate) fn longer<'a>(
@@ -68,7 +79,8 @@ fn list_of_value<'a>(alloc: Global, value: Value<'a>) -> Result<Value<'a>, Memor
 {
     match pairs_of(alloc, &value)? {
         Some(pairs) => longer_entries_by(Ragged::new(alloc)?, pairs.as_slice()),
-        None => longer_list(Vec::new(alloc), Some(value)),
+        // A list of words is most often an equation, of two places.
+        None => longer_list(Vec::with_capacity(alloc, 2)?, Some(value)),
     }
 }
 

@@ -64,7 +64,7 @@ fn factor_of(alloc: Global, factor: &Factor, presentation: &Presentation) -> Res
 }
 
 /// The product so far and the next factor, where that isn't too long.
-fn times(mut so_far: Word, next: &Word) -> Result<Word, WordError>
+pub(crate) fn times(mut so_far: Word, next: &Word) -> Result<Word, WordError>
     ensures { Evaluates (product so_far next.now) result }
 {
     if so_far.len().saturating_add(next.len()) > MOST_LETTERS {
@@ -75,7 +75,11 @@ fn times(mut so_far: Word, next: &Word) -> Result<Word, WordError>
 }
 
 /// The empty word for `IdWord`, and the generator for another name.
-fn name_of(alloc: Global, name: &str, presentation: &Presentation) -> Result<Word, WordError>
+pub(crate) fn name_of(
+    alloc: Global,
+    name: &str,
+    presentation: &Presentation,
+) -> Result<Word, WordError>
     ensures { Evaluates (name_meaning presentation.now.names name.now) result }
 {
     let mut word = Word::new(alloc);
@@ -91,7 +95,7 @@ fn name_of(alloc: Global, name: &str, presentation: &Presentation) -> Result<Wor
 }
 
 /// A word's power; without exponent it is the word.
-fn power_of(
+pub(crate) fn power_of(
     alloc: Global,
     word: Word,
     exponent: Option<i64>,

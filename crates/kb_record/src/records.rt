@@ -3,14 +3,15 @@
 //! The clauses `shorter` are for the end of the recursion alone: what is read takes tokens.
 
 ghost use Rattle.std.specs.Prelude.{◌≡◌, ◌≤◌, length, map, OnOk, IfOk, option_map};
+ghost use Rattle.kb_lexing.specs.declared.place.Expected.TheVariants as wanted;
 ghost use Rattle.kb_record.specs.declared.cursor.Mark.TheVariants as marks;
 ghost use Rattle.kb_record.specs.Tree.{word_value};
-ghost use Rattle.kb_record.specs.Reading.{Reads, remaining, row, passes_comma, place_with, field_with, range_from, read_list, read_fields, read_record, read_word, reading_map, read_value, field_view};
+ghost use Rattle.kb_record.specs.Reading.{Reads, remaining, row, passes_comma, place_with, field_with, range_from, read_list, read_fields, read_record, read_word, reading_map, read_value, read_places, number_with, after_items, first_place, field_view};
 ghost use Rattle.kb_record.specs.View.{value_view};
 ghost use Rattle.kb_record.specs.Listed.{listed, HasPlaces};
 
 use crate::cursor::{Cursor, Mark, Stop};
-use crate::longer::longer;
+use crate::longer::{longer, number_list};
 use crate::tree::{Expr, Value};
 use crate::words::word;
 use kb_lexing::Expected;
@@ -87,14 +88,15 @@ fn some_fields<'a>(
     depth: usize,
 ) -> Result<Vec<(&'a str, Value<'a>)>, Stop>
     ensures reads { Reads
-        (row (field_with (read_value depth)) (passes_comma marks.CloseRound) (remaining tokens.old))
+        (row (field_with (read_value depth)) (passes_comma marks.CloseRound wanted.Mark)
+        (remaining tokens.old))
         (λ fields. map field_view fields.items) result (remaining tokens.new) }
     ensures shorter { OnOk result (length (remaining tokens.new) ≤ length (remaining tokens.old)) }
 {
-    let mut fields = Vec::new(alloc);
+    let mut fields = Vec::with_capacity(alloc, 1)?;
     loop {
         fields.push(field(alloc, tokens, depth)?)?;
-        if !tokens.passes_comma(Mark::CloseRound)? {
+        if !tokens.passes_comma(Mark::CloseRound, Expected::Mark)? {
             return Ok(fields);
         }
     }
@@ -130,27 +132,52 @@ fn list<'a>(alloc: Global, tokens: &mut Cursor<'a>, depth: usize) -> Result<Valu
     if tokens.take(Mark::CloseSquare) {
         return Ok(Value::List(Vec::new(alloc)));
     }
-    if let Some(from) = tokens.begin_range() {
-        return range(tokens, from);
+    match tokens.take_number() {
+        Some(first) => behind_number(alloc, tokens, depth - 1, first),
+        None => places(alloc, tokens, depth - 1, None),
     }
-    places(alloc, tokens, depth - 1)
 }
 
-/// Reads places joined by `,`, and the closing bracket.
+/// Reads the rest of a list or a range behind the number that comes first in it, and the closing bracket.
 #[cycle(values)]
-fn places<'a>(alloc: Global, tokens: &mut Cursor<'a>, depth: usize) -> Result<Value<'a>, Stop>
+fn behind_number<'a>(
+    alloc: Global,
+    tokens: &mut Cursor<'a>,
+    depth: usize,
+    first: i64,
+) -> Result<Value<'a>, Stop>
+    ensures reads { Reads (number_with (read_value depth) first (remaining tokens.old)) value_view
+        result (remaining tokens.new) }
+    ensures shorter { OnOk result (length (remaining tokens.new) ≤ length (remaining tokens.old)) }
+{
+    if tokens.take(Mark::Dots) {
+        return range(tokens, first);
+    }
+    if !tokens.passes_comma(Mark::CloseSquare, Expected::Dots)? {
+        return Ok(number_list(alloc, Some(first))?);
+    }
+    places(alloc, tokens, depth, Some(first))
+}
+
+/// Reads places joined by `,`, behind the number that may come first, and the closing bracket.
+#[cycle(values)]
+fn places<'a>(
+    alloc: Global,
+    tokens: &mut Cursor<'a>,
+    depth: usize,
+    first: Option<i64>,
+) -> Result<Value<'a>, Stop>
     ensures reads { Reads
-        (row (place_with (read_value depth)) (passes_comma marks.CloseSquare)
-        (remaining tokens.old))
+        (after_items (first_place first) (read_places (read_value depth) (remaining tokens.old)))
         (λ list. listed (value_view list)) result (remaining tokens.new) }
     ensures list { IfOk result (λ list. HasPlaces (value_view list) (listed (value_view list))) }
     ensures shorter { OnOk result (length (remaining tokens.new) ≤ length (remaining tokens.old)) }
 {
-    let mut list = Value::List(Vec::new(alloc));
+    let mut list = number_list(alloc, first)?;
     loop {
         let place = place(alloc, tokens, depth)?;
         list = longer(alloc, list, place)?;
-        if !tokens.passes_comma(Mark::CloseSquare)? {
+        if !tokens.passes_comma(Mark::CloseSquare, Expected::Mark)? {
             return Ok(list);
         }
     }

@@ -23,7 +23,8 @@ pub(crate) fn word<'a>(
         result (remaining tokens.new) }
     ensures shorter { OnOk result (length (remaining tokens.new) ≤ length (remaining tokens.old)) }
 {
-    let mut factors = Vec::new(alloc);
+    // Most words in a text are one name, and there may be millions of them.
+    let mut factors = Vec::with_capacity(alloc, 1)?;
     loop {
         factors.push(factor(alloc, tokens, depth)?)?;
         if !tokens.take(Mark::Star) {
@@ -64,7 +65,7 @@ fn group<'a>(alloc: Global, tokens: &mut Cursor<'a>, depth: usize) -> Result<Vec
 }
 
 /// Reads `^` and a number, if there is a power.
-fn power(tokens: &mut Cursor<'_>) -> Result<Option<i64>, Stop>
+pub(crate) fn power(tokens: &mut Cursor<'_>) -> Result<Option<i64>, Stop>
     ensures reads { Reads (read_power (remaining tokens.old)) (λ power. power) result
         (remaining tokens.new) }
     ensures shorter { OnOk result (length (remaining tokens.new) ≤ length (remaining tokens.old)) }

@@ -13,14 +13,14 @@
 //!
 //! Where that pass meets something else, a second one goes over the factors, with their powers and brackets. A power
 //! repeats the word's end in place. This pass returns words only. Where it gives up, for a fault of the bytes or for
-//! want of memory, the bytes are read by their tree, which has each refusal's cause.
+//! want of memory, the bytes are read token by token, which tells each refusal's cause.
 //!
 //! - `byte_letters` is the table of the letters whose names have one byte.
 //! - `product` adds the letter of one more name, and keeps the first fault.
 //! - `first` takes the name at the front of a text, in a shorter way where it has one byte.
 //! - `plain_product` is the pass over plain products.
 //! - `power` repeats or inverts a word's end, and `factors` is the pass over factors.
-//! - `reader` tries the passes in this order, and then the tree.
+//! - `reader` tries the passes in this order, and then reads token by token.
 //!
 //! # Where the proofs are
 //!

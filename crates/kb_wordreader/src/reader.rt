@@ -52,7 +52,7 @@ impl WordReader {
         }
     }
 
-    /// Reads a word that is no plain product: in one pass, and by its tree where the pass gives up.
+    /// Reads a word that is no plain product: in one pass, and token by token where that gives up.
     fn parse_powers(&self, alloc: Global, bytes: &[u8], word: &mut Word) -> Result<(), WordError>
         ensures read { OnOk result
             (Meaning bytes.now self.now.presentation.names self.now.presentation.inv

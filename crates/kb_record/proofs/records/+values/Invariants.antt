@@ -1,9 +1,9 @@
 use Rattle.std.proofs.Common.{◌≡◌, ℕ, ◌+◌, ◌*◌, ◌<◌, ◌≤◌, suc, map, length}
-use Rattle.kb_record.specs.Reading.{remaining, passes_comma, joined, read_value, place_with, field_with, field_view}
+use Rattle.kb_record.specs.Reading.{remaining, passes_comma, joined, after_items, first_place, read_places, read_value, place_with, field_with, field_view}
 use Rattle.kb_record.specs.View.{value_view}
 use Rattle.kb_record.specs.Listed.{listed, HasPlaces}
 use Rattle.kb_record.specs.declared.cursor.Mark.TheVariants.{CloseRound, CloseSquare}
-use Rattle.kb_record.proofs.ReadRows.{after_items}
+use Rattle.kb_lexing.specs.declared.place.Expected.TheVariants as wanted
 use Rattle.kb_record.proofs.records.+values.Given as goal
 
 abbrev pub decreases-value : goal.decreases-value
@@ -24,6 +24,9 @@ decreases-some_fields l = 6 * l.depth + 6
 abbrev pub decreases-places : goal.decreases-places
 decreases-places l = 6 * l.depth + 6
 
+abbrev pub decreases-behind_number : goal.decreases-behind_number
+decreases-behind_number l = 6 * l.depth + 7
+
 abbrev pub decreases-field : goal.decreases-field
 decreases-field l = 6 * l.depth + 5
 
@@ -33,8 +36,8 @@ decreases-place l = 6 * l.depth + 5
 abbrev pub invariant-some_fields-loop-fields : goal.invariant-some_fields-loop-fields
 invariant-some_fields-loop-fields l =
     (n : ℕ) × (length (remaining l.tokens) < n) × (length (remaining l.tokens) ≤ length (remaining l.initial.tokens))
-    × (joined (field_with (read_value l.depth)) (passes_comma CloseRound) (suc (length (remaining l.initial.tokens))) (remaining l.initial.tokens)
-    ≡ after_items (map field_view l.fields.items) (joined (field_with (read_value l.depth)) (passes_comma CloseRound) n (remaining l.tokens)))
+    × (joined (field_with (read_value l.depth)) (passes_comma CloseRound wanted.Mark) (suc (length (remaining l.initial.tokens))) (remaining l.initial.tokens)
+    ≡ after_items (map field_view l.fields.items) (joined (field_with (read_value l.depth)) (passes_comma CloseRound wanted.Mark) n (remaining l.tokens)))
 
 abbrev pub decreases-some_fields-loop-fields : goal.decreases-some_fields-loop-fields
 decreases-some_fields-loop-fields l = length (remaining l.tokens)
@@ -42,8 +45,8 @@ decreases-some_fields-loop-fields l = length (remaining l.tokens)
 abbrev pub invariant-places-loop-list : goal.invariant-places-loop-list
 invariant-places-loop-list l =
     (n : ℕ) × (length (remaining l.tokens) < n) × (length (remaining l.tokens) ≤ length (remaining l.initial.tokens))
-    × (joined (place_with (read_value l.depth)) (passes_comma CloseSquare) (suc (length (remaining l.initial.tokens))) (remaining l.initial.tokens)
-    ≡ after_items (listed (value_view l.list)) (joined (place_with (read_value l.depth)) (passes_comma CloseSquare) n (remaining l.tokens)))
+    × (after_items (first_place l.fn.first) (read_places (read_value l.depth) (remaining l.initial.tokens))
+    ≡ after_items (listed (value_view l.list)) (joined (place_with (read_value l.depth)) (passes_comma CloseSquare wanted.Mark) n (remaining l.tokens)))
     × HasPlaces (value_view l.list) (listed (value_view l.list))
 
 abbrev pub decreases-places-loop-list : goal.decreases-places-loop-list

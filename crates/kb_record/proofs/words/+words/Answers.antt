@@ -1,11 +1,11 @@
 use Rattle.std.proofs.Common.{◌≡◌, ℕ, ◌+◌, ◌-◌, ◌<◌, ◌≤◌, suc, List, [], ◌∷◌, ◌++◌, Some, None, Err, length, map, Bool, true, false, sym, ap, ◌∙◌, subst, arith, rules}
 use Rattle.std.proofs.Common as prelude
 use Rattle.kb_record.specs.Tree.{Factor as FactorTree}
-use Rattle.kb_record.specs.Reading.{Reads, read, remaining, passes, joined, reading_map, read_factor}
+use Rattle.kb_record.specs.Reading.{Reads, read, remaining, passes, joined, reading_map, after_items, read_factor}
 use Rattle.kb_record.specs.View.{factor_view, factors_view, factors_of}
 use Rattle.kb_record.specs.declared.tree.Factor.{Factor as FactorType}
 use Rattle.kb_record.specs.declared.cursor.Mark.TheVariants.{Star}
-use Rattle.kb_record.proofs.ReadRows.{after_items, fails, turn, last, item_fails, as_answered, not_passed, passed, map_one_more}
+use Rattle.kb_record.proofs.ReadRows.{fails, turn, last, item_fails, as_answered, not_passed, passed, map_one_more}
 use Rattle.kb_record.proofs.Depths.{read_word_is}
 use Rattle.kb_record.proofs.PassedMarks.{behind-shorter}
 use Rattle.kb_record.proofs.words.+words.Goals as goal
@@ -16,7 +16,7 @@ word-returns-in_err-factor-clause-reads t c =
     let stop = c.in_err-factor.field-0.0 in
     let rest = remaining c.factor.new.tokens in
     let failed : Reads (read_factor c.args.depth (remaining l.tokens)) factor_view (Err stop) rest = c.in_err-factor.ensures.reads in
-    let answered : c.from_residual.result ≡ Err stop = search rules in
+    let answered : c.from_residual-in_err-factor.result ≡ Err stop = search rules in
     let n = l.invariant.0 in
     let none = item_fails (read_factor c.args.depth) (passes Star) {D = List FactorTree} (map factor_view l.factors.items) n (remaining l.tokens) rest factor_view (λ fs. fs) stop (omega (arith, l.invariant.1)) failed in
     as_answered _ _ _ _ stop rest (read_word_is c.args.depth (remaining c.args.tokens.now) ∙ ap (reading_map factors_of) l.invariant.3) answered

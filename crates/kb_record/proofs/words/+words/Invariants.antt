@@ -1,8 +1,7 @@
 use Rattle.std.proofs.Common.{◌≡◌, ℕ, ◌+◌, ◌*◌, ◌<◌, ◌≤◌, suc, map, length}
-use Rattle.kb_record.specs.Reading.{remaining, passes, joined, read_factor}
+use Rattle.kb_record.specs.Reading.{remaining, passes, joined, after_items, read_factor}
 use Rattle.kb_record.specs.View.{factor_view}
 use Rattle.kb_record.specs.declared.cursor.Mark.TheVariants.{Star}
-use Rattle.kb_record.proofs.ReadRows.{after_items}
 use Rattle.kb_record.proofs.words.+words.Given as goal
 
 abbrev pub decreases-factor : goal.decreases-factor
