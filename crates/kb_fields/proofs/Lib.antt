@@ -1,8 +1,12 @@
+pub mod BeforeLemmas
+pub mod FirstFaultLemmas
 pub mod ListingLemmas
 pub mod NameFaults
+pub mod NamingLemmas
 pub mod NumberLemmas
 pub mod Outcomes
 pub mod PlaceLemmas
 pub mod RepeatLemmas
+pub mod RepeatOrder
 pub mod TakenLemmas
 pub mod ViewLemmas

@@ -1,5 +1,5 @@
 -- Names that stand twice among the fields of records, field by field.
-use Rattle.std.proofs.Common.{◌≡◌, ℕ, zero, suc, ◌+◌, ◌<◌, ◌≤◌, ℤ, Bool, true, false, not, cond, List, [], ◌∷◌, map, length, get_or, slice_get, Option, Some, None, Ordering, ◌⊎◌, inl, inr, refl, sym, ap, subst, ◌∙◌, arith}
+use Rattle.std.proofs.Common.{◌≡◌, ℕ, suc, ◌+◌, ◌<◌, ◌≤◌, ℤ, Bool, true, false, not, cond, List, [], ◌∷◌, map, length, get_or, slice_get, Option, Some, None, Ordering, ◌⊎◌, inl, inr, refl, sym, ap, subst, ◌∙◌, arith}
 use Rattle.std.specs.Borrow.{Bor}
 use Rattle.std.specs.BTreeSet.{BTreeSet, contains, Updates}
 use Rattle.std.specs.Ordering.{nat_cmp}
@@ -102,13 +102,6 @@ in_some_field [] q e = absurd e
 in_some_field (f ∷ fs) q (inl here) = record { k = 0; f = f; at = refl; twice = here }
 in_some_field (f ∷ fs) q (inr later) = let rest = in_some_field fs q later in record { k = suc rest.k; f = rest.f; at = rest.at; twice = rest.twice }
 
-pub some_field : (fs : List (Bor (List ℕ) × code.Value)) (k : ℕ) (f : Bor (List ℕ) × code.Value) (q : List ℕ) → slice_get fs k ≡ Some f
-    → HasFieldTwice (value_view f.1) q → SomeFieldHasTwice (fields_view fs) q
-some_field [] k f q at twice = cc
-some_field (g ∷ fs) zero f q at twice =
-    let P : Bor (List ℕ) × code.Value → Type 0 = λ h. HasFieldTwice (value_view h.1) q in inl (subst P (sym (field_same at)) twice)
-some_field (g ∷ fs) (suc k) f q at twice = inr (some_field fs k f q at twice)
-
 -- the name stands twice in the value of this place
 pub record InPlace (ps : List (Option code.Value)) (q : List ℕ) : Type 0 where
   pub k : ℕ
@@ -122,16 +115,6 @@ in_some_place (Some v ∷ ps) q (inl here) = record { k = 0; v = v; at = refl; t
 in_some_place (Some v ∷ ps) q (inr later) = let rest = in_some_place ps q later in record { k = suc rest.k; v = rest.v; at = rest.at; twice = rest.twice }
 in_some_place (None ∷ ps) q later = let rest = in_some_place ps q later in record { k = suc rest.k; v = rest.v; at = rest.at; twice = rest.twice }
 
--- what a place's value has twice the list has
-pub some_place : (ps : List (Option code.Value)) (k : ℕ) (v : code.Value) (q : List ℕ) → slice_get ps k ≡ Some (Some v)
-    → HasFieldTwice (value_view v) q → SomePlaceHasTwice (places_view ps) q
-some_place [] k v q at twice = cc
-some_place (Some w ∷ ps) zero v q at twice =
-    let P : code.Value → Type 0 = λ x. HasFieldTwice (value_view x) q in inl (subst P (sym (value_same at)) twice)
-some_place (None ∷ ps) zero v q at twice = cc
-some_place (Some w ∷ ps) (suc k) v q at twice = inr (some_place ps k v q at twice)
-some_place (None ∷ ps) (suc k) v q at twice = some_place ps k v q at twice
-
 abbrev names_in : List (Bor (List ℕ) × code.Value) → List (List ℕ)
 names_in fs = map (λ (f : Bor (List ℕ) × code.Value). f.0.now) fs
 
@@ -141,17 +124,6 @@ module _ (fs : List (Bor (List ℕ) × code.Value)) (n : ℕ) (f : Bor (List ℕ
 
   pub name_at : slice_get (names_in fs) n ≡ Some f.0.now
   name_at = slice_get-map (λ (g : Bor (List ℕ) × code.Value). g.0.now) fs n ∙ ap (option_map (λ (g : Bor (List ℕ) × code.Value). g.0.now)) field_at
-
-  -- a name that the set has stands twice
-  pub again : (seen : BTreeSet (Bor (List ℕ))) → HasSeen (names_in fs) n seen → has seen f.0.now ≡ true → HasFieldTwice (record_value (fields_view fs)) f.0.now
-  again seen first found =
-      let before = first.old f.0.now found in
-      let P : List (List ℕ) → Type 0 = λ names. StandsTwice names f.0.now in
-      inl (subst P (sym (names_of_fields fs)) (record { first = before.0; again = n; later = before.1; at_first = before.2; at_again = name_at }))
-
-  -- what a field's value has twice the record has
-  pub field_twice : (q : List ℕ) → HasFieldTwice (value_view f.1) q → HasFieldTwice (record_value (fields_view fs)) q
-  field_twice q twice = inr (some_field fs n f q field_at twice)
 
 -- nothing stands twice where each field was seen
 pub none_twice : (fs : List (Bor (List ℕ) × code.Value)) (n : ℕ) (seen : BTreeSet (Bor (List ℕ))) → length fs ≤ n → HasSeen (names_in fs) n seen

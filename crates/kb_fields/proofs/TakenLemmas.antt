@@ -4,27 +4,36 @@ use Rattle.std.specs.Borrow.{Bor}
 use Rattle.std.specs.Option.{option_map}
 use Rattle.std.specs.List.{Contains}
 use Rattle.std.proofs.lemmas.List.{length-map, length-take-le, map-append, take-map, take_more}
-use Rattle.std.proofs.lemmas.Option.{none-some, same_Some, slice_get-map, slice_get-get_or, slice_get_within, slice_get_read, get_or_from_slice_get}
+use Rattle.std.proofs.lemmas.Option.{none-some, same_Some, slice_get-map, slice_get-get_or, slice_get_within}
 use Rattle.kb_fields.specs.Fields.{StandsTwice}
-use Rattle.kb_fields.specs.Generators.{most_generators, IsReserved, IsTaken, AreGeneratorNames}
+use Rattle.kb_fields.specs.Generators.{most_generators, IsReserved, IsTaken, IsTakenAt, IsFirstTaken, AreGeneratorNames}
+use Rattle.kb_fields.proofs.BeforeLemmas.{has_place, place_of, stands_before, among_first}
 
-has_place : (names : List (List ℕ)) (place : ℕ) (name : List ℕ) → slice_get names place ≡ Some name → Contains names name
-has_place names place name at = (place, slice_get_within names place name at, get_or_from_slice_get names place name name at)
+-- a name that is taken is so among the names, and among the first of them where it is one of these
+pub taken_among : (names : List (List ℕ)) (k j : ℕ) (name : List ℕ) → j < k → IsTakenAt names j name → IsTaken (take k names) name
+taken_among names k j name h taken = of taken.taken
+  where
+    at : slice_get (take k names) j ≡ Some name
+    at = among_first names k j name taken.stands h
 
-place_of : (names : List (List ℕ)) (name : List ℕ) (has : Contains names name) → slice_get names has.0 ≡ Some name
-place_of names name has = slice_get_read names (length names) has.0 name refl has.1 (sym has.2)
+    of : IsReserved name ⊎ Contains (take j names) name → IsTaken (take k names) name
+    of (inl reserved) = inr (has_place (take k names) j name at, reserved)
+    of (inr has) =
+        let stands = stands_before names j has.0 name (place_of (take j names) name has) in
+        let within : has.0 < k = omega (arith, stands.before, h) in
+        inl (record { first = has.0; again = j; later = stands.before; at_first = among_first names k has.0 name stands.at within; at_again = at })
 
--- one of the first k, and its place
-pub record StandsBefore (names : List (List ℕ)) (k place : ℕ) (name : List ℕ) : Type 0 where
-  pub before : place < k
-  pub at : slice_get names place ≡ Some name
+pub is_taken : (names : List (List ℕ)) (j : ℕ) (name : List ℕ) → IsTakenAt names j name → IsTaken names name
+is_taken names j name taken = of taken.taken
+  where
+    of : IsReserved name ⊎ Contains (take j names) name → IsTaken names name
+    of (inl reserved) = inr (has_place names j name taken.stands, reserved)
+    of (inr has) =
+        let stands = stands_before names j has.0 name (place_of (take j names) name has) in
+        inl (record { first = has.0; again = j; later = stands.before; at_first = stands.at; at_again = taken.stands })
 
-stands_before : (names : List (List ℕ)) (k place : ℕ) (name : List ℕ) → slice_get (take k names) place ≡ Some name → StandsBefore names k place name
-stands_before names zero place name at = absurd (none-some name at)
-stands_before [] (suc k) place name at = absurd (none-some name at)
-stands_before (n ∷ names) (suc k) zero name at = record { before = omega arith; at = at }
-stands_before (n ∷ names) (suc k) (suc place) name at =
-    let rest = stands_before names k place name at in record { before = omega (arith, rest.before); at = rest.at }
+pub one_taken : (names : List (List ℕ)) (j : ℕ) (m n : List ℕ) → IsTakenAt names j m → IsTakenAt names j n → m ≡ n
+one_taken names j m n a b = same_Some m n (sym a.stands ∙ b.stands)
 
 abbrev texts : List (Bor (List ℕ)) → List (List ℕ)
 texts names = map (λ (name : Bor (List ℕ)). name.now) names
@@ -33,14 +42,18 @@ module _ (xs : List (Bor (List ℕ))) (k : ℕ) (d : Bor (List ℕ)) (within : k
   text_at : slice_get (texts xs) k ≡ Some (get_or xs k d).now
   text_at = slice_get-map (λ (name : Bor (List ℕ)). name.now) xs k ∙ ap (option_map (λ (name : Bor (List ℕ)). name.now)) (slice_get-get_or xs k d within)
 
-  -- the name at place k is reserved, or stands among those before it
-  pub taken_at : (names : List (List ℕ)) → names ≡ texts (take k xs) → IsReserved (get_or xs k d).now ⊎ Contains names (get_or xs k d).now
-      → IsTaken (texts xs) (get_or xs k d).now
-  taken_at names same (inl reserved) = inr (has_place (texts xs) k _ text_at, reserved)
-  taken_at names same (inr has) =
+  -- the name at place k is reserved, or stands among those before it, of which none is taken
+  pub first_taken : (names : List (List ℕ)) → names ≡ texts (take k xs) → AreGeneratorNames names
+      → IsReserved (get_or xs k d).now ⊎ Contains names (get_or xs k d).now → IsFirstTaken (texts xs) (get_or xs k d).now
+  first_taken names same are why =
       let among : names ≡ take k (texts xs) = same ∙ sym (take-map (λ (name : Bor (List ℕ)). name.now) k xs) in
-      let stands = stands_before (texts xs) k has.0 _ (ap (λ ns. slice_get ns has.0) (sym among) ∙ place_of names _ has) in
-      inl (record { first = has.0; again = k; later = stands.before; at_first = stands.at; at_again = text_at })
+      let Has : List (List ℕ) → Type 0 = λ ns. IsReserved (get_or xs k d).now ⊎ Contains ns (get_or xs k d).now in
+      let Are : List (List ℕ) → Type 0 = λ ns. AreGeneratorNames ns in
+      record {
+        check = k;
+        found = record { stands = text_at; taken = subst Has among why };
+        first = λ j n h taken. (subst Are among are).free n (taken_among (texts xs) k j n h taken);
+      }
 
 -- a name that stands among these, or is the one behind them
 place_cases : (names : List (List ℕ)) (last : List ℕ) (place : ℕ) (name : List ℕ) → slice_get (names ++ last ∷ []) place ≡ Some name

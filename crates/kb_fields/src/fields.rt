@@ -4,7 +4,7 @@ ghost use Rattle.std.specs.Prelude.{◌≡◌, ℕ, List, IfOk, IfSome, IfNone};
 ghost use Rattle.std.specs.Option.{option_map};
 ghost use Rattle.kb_record.specs.Tree.{record_value};
 ghost use Rattle.kb_record.specs.View.{value_view};
-ghost use Rattle.kb_fields.specs.Fields.{fields_view, value_of, HasFieldTwice};
+ghost use Rattle.kb_fields.specs.Fields.{fields_view, value_of, HasFieldTwice, IsFirstRepeated};
 
 use kb_record::Value;
 use kb_word::{Memory, OwnedText};
@@ -32,7 +32,7 @@ pub fn repeated_name<'a>(
     fields: &[(&'a str, Value<'a>)],
 ) -> Result<Option<OwnedText>, Memory>
     ensures some { IfOk result
-        (λ found. IfSome found (HasFieldTwice (record_value (fields_view fields.now)))) }
+        (λ found. IfSome found (IsFirstRepeated (record_value (fields_view fields.now)))) }
     ensures none { IfOk result
         (λ found. IfNone found
         ((name : List ℕ) → ¬ HasFieldTwice (record_value (fields_view fields.now)) name)) }
@@ -49,10 +49,10 @@ pub fn repeated_name<'a>(
     Ok(None)
 }
 
-/// The name of a field that stands twice in a record in the value. Lists of numbers hold no records.
+/// The same of the records in a value. Lists of numbers hold none.
 #[cycle(repeats)]
 fn repeated_within<'a>(alloc: Global, value: &Value<'a>) -> Result<Option<OwnedText>, Memory>
-    ensures some { IfOk result (λ found. IfSome found (HasFieldTwice (value_view value.now))) }
+    ensures some { IfOk result (λ found. IfSome found (IsFirstRepeated (value_view value.now))) }
     ensures none { IfOk result
         (λ found. IfNone found ((name : List ℕ) → ¬ HasFieldTwice (value_view value.now) name)) }
 {

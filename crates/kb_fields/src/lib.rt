@@ -4,18 +4,15 @@
 //!
 //! - [`field_named`] looks a field up. Where a name stands twice, "the value of the field" is that of the first.
 //! - [`repeated_name`] answers the name of a field that stands twice in some record, nested ones too, and none
-//!   where no name does.
+//!   where no name does: of several, the one whose second place comes first in the text.
 //! - [`bare_name`] takes a value that is a Name, [`number_of`] one that is a number and [`numbers_listed`] one that is
 //!   a list of numbers, and they answer none for any other. [`number_at`] takes a place of a list, as [`number_of`] a
 //!   value.
 //! - [`names_of`] answers the names of generators that a value lists: at most 1,000 Names, none of them twice and
-//!   none `IdWord` or `_`. A refusal names a fault that the value has (`HasNamesFault` of
-//!   `specs/Generators.antt`), and by the law [`names_of_generators_have_no_fault`] a value that lists such names
-//!   has none: so, want of memory apart, a value is refused exactly where it has a fault.
-//!
-//! No clause says which of several names is answered: of repeated names it is the one whose second place comes
-//! first in the text, and of taken names the first that stands earlier in the list too, or is `IdWord` or `_`. The
-//! length of a list is looked at before its names.
+//!   none `IdWord` or `_`. A refusal names the first fault of the value (`HasNamesFault` of `specs/Generators.antt`): it
+//!   is no list of Names; there are too many; a name is taken, the first that stands earlier in the list too, or is
+//!   `IdWord` or `_`. By the laws a value has one fault at most ([`a_value_has_one_names_fault`]), and none where it
+//!   lists such names ([`names_of_generators_have_no_fault`]): so, want of memory apart, the fault is exact.
 //!
 //! # How it is made
 //!
@@ -26,7 +23,8 @@
 //! - `generators` joins them to names of generators: each name is pushed in turn, and one that was there is taken.
 //!
 //! Definitions speak of the tree of the text (`specs/Tree.antt` of `kb_record`): `specs/Fields.antt` of fields and
-//! of values, `specs/Generators.antt` of names of generators.
+//! of values, `specs/Generators.antt` of names of generators, and `specs/FirstFaults.antt` says what the first fault is of
+//! those that checks find.
 //!
 //! # Where the proofs are
 //!
@@ -35,8 +33,10 @@
 //! - `proofs/ViewLemmas.antt`: the trees of words of one factor.
 //! - `proofs/PlaceLemmas.antt`, `proofs/ListingLemmas.antt`, `proofs/NumberLemmas.antt`: places of lists, and lists
 //!   whose places are all of one form.
-//! - `proofs/RepeatLemmas.antt`, `proofs/TakenLemmas.antt`: names that stand twice in a record, and taken names.
-//! - `proofs/NameFaults.antt`: names of generators have no fault.
+//! - `proofs/NamingLemmas.antt`, `proofs/RepeatLemmas.antt`, `proofs/RepeatOrder.antt`: names that stand twice in a
+//!   record, and the first of them in the text.
+//! - `proofs/BeforeLemmas.antt`, `proofs/TakenLemmas.antt`: names that stand among the first, and taken names.
+//! - `proofs/FirstFaultLemmas.antt`, `proofs/NameFaults.antt`: first faults, and those of names of generators.
 //! - `proofs/Outcomes.antt`: what follows from a clause on an outcome.
 //!
 //! Below are `kb_record`, which reads trees, and `kb_word`, whose names are the answers.
@@ -52,6 +52,6 @@ mod values;
 pub use error::NamesFault;
 pub use fields::{field_named, repeated_name};
 pub use generators::names_of;
-pub use laws::names_of_generators_have_no_fault;
+pub use laws::{a_value_has_one_names_fault, names_of_generators_have_no_fault};
 pub use numbers::{number_at, number_of, numbers_listed};
 pub use values::bare_name;

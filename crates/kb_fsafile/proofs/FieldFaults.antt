@@ -1,18 +1,12 @@
 -- Fields as the code reads them.
-use Rattle.std.proofs.Common.{◌≡◌, ◌+◌, ◌-◌, ◌*◌, inl, inr, ℕ, List, Some, sym, subst, arith}
+use Rattle.std.proofs.Common.{◌≡◌, ◌+◌, ◌-◌, ◌*◌, inl, inr, ℕ, List, sym, subst, arith}
 use Rattle.std.specs.Borrow.{Bor}
-use Rattle.kb_record.specs.Tree.{Value, Fields}
+use Rattle.kb_record.specs.Tree.{Fields}
 use Rattle.kb_record.specs.declared.tree.Value as code
-use Rattle.kb_fields.specs.Fields.{fields_view, value_of}
+use Rattle.kb_fields.specs.Fields.{fields_view}
 use Rattle.kb_fsafile.specs.Holds.{HoldsRecord, IsPairSize}
-use Rattle.kb_fsafile.specs.Faults.{name_of, Need, StandsIn, HasFieldKind, IsAlphabetOf, IsBaseOf, HasFieldFault}
-use Rattle.kb_fsafile.specs.declared.error.Field.{Field}
-use Rattle.kb_fsafile.specs.declared.error.FsaError.TheVariants as errors
+use Rattle.kb_fsafile.specs.Standing.{IsAlphabetOf, IsBaseOf}
 use Rattle.std.specs.Prelude.{codes}
-
-pub wrong_kind : (given owner : Fields) (field : Field) (need : Need) (value : Value) → StandsIn given field owner need
-    → value_of owner (name_of field) ≡ Some value → ¬ HasFieldKind owner field value → HasFieldFault given (errors.WrongKind field)
-wrong_kind given owner field need value stands found other = (owner, need, value, stands, found, other)
 
 -- a record's fields, taken as a slice
 pub record_seen : (fields : Fields) (name : List ℕ) (items seen : List (Bor (List ℕ) × code.Value)) → seen ≡ items

@@ -1,9 +1,15 @@
+pub mod CheckLemmas
 pub mod FieldFaults
+pub mod FirstLemmas
 pub mod HeldFields
 pub mod KindLemmas
 pub mod MoveLemmas
 pub mod NoFault
 pub mod NumberLemmas
+pub mod OneFault
+pub mod Owners
+pub mod Refused
+pub mod RowFaults
 pub mod RowLemmas
 pub mod TableLemmas
 pub mod TextLemmas

@@ -1,36 +1,35 @@
--- Fields that say an automaton have no fault.
-use Rattle.std.proofs.Common.{◌≡◌, ◌≢◌, ℕ, zero, suc, ◌<◌, ◌≤◌, ℤ, pos, List, [], ◌∷◌, map, length, get_or, slice_get, Contains, Some, ◌⊎◌, inl, inr, refl, sym, ap, subst, ◌∙◌, arith}
+-- Checks that find nothing in what is read, in the order of the checks.
+use Rattle.std.proofs.Common.{◌≡◌, ℕ, zero, suc, ◌<◌, ◌≤◌, ℤ, pos, List, [], ◌∷◌, length, get_or, Contains, Option, None, Some, ◌⊎◌, inl, inr, refl, sym, ap, subst, ◌∙◌, arith}
 use Rattle.std.specs.Prelude.{codes}
-use Rattle.std.specs.List.{All, AllPairs}
-use Rattle.std.proofs.lemmas.List.{length-map, get_or-map}
-use Rattle.std.proofs.lemmas.Option.{slice_get_within, get_or_from_slice_get}
-use Rattle.std.proofs.lemmas.List.Elements.{All-contains, All-nil, All-cons, All-head, All-tail, Contains-get_or}
-use Rattle.kb_record.specs.Tree.{Value, number_value, list_value, Fields, TextTree}
-use Rattle.kb_record.specs.Grammar.{TextOf, IsText}
-use Rattle.kb_record.specs.Nesting.{deepest, text_nesting, IsTooDeep}
-use Rattle.kb_fields.specs.Fields.{value_of}
-use Rattle.kb_fields.specs.Generators.{IsTaken}
-use Rattle.kb_fields.proofs.ListingLemmas.{one_value}
-use Rattle.kb_fsa.specs.declared.alphabet.Alphabet.{Alphabet}
-use Rattle.kb_fsa.specs.declared.alphabet.Alphabet.TheVariants.{Pair}
-use Rattle.kb_fsa.specs.Table.{Table, AcceptsFrom}
-use Rattle.kb_fsa.specs.Language.{Automaton}
-use Rattle.kb_fsafile.specs.Kinds.{list_of_numbers, list_of_entries, StandsFor, IsNumberOf, IsTargetOf, numbered_from}
-use Rattle.kb_padding.specs.Misplaced.{IsCleaned}
-use Rattle.kb_fsafile.specs.Holds.{HoldsEntries, HoldsTable, HoldsAutomaton, AutomatonOf, IsPairSize}
-use Rattle.kb_fsafile.specs.Faults.{HasOtherAlphabet, HasWrongStates, HasOutOfRange, HasOtherForm, HasPaddingInside, HasFieldFault, HasFsaFault}
-use Rattle.kb_fsafile.specs.declared.format.Format.TheVariants.{Dense, Sparse}
-use Rattle.kb_fsafile.specs.declared.error.FsaError.{FsaError}
-use Rattle.kb_fsafile.specs.declared.error.FsaError.TheVariants as errors
+use Rattle.kb_record.specs.Tree.{Value, number_value, string_value, record_value, list_value, Fields, Places}
+use Rattle.kb_fields.specs.Fields.{value_of, bare_name, list_of_names, place_count, HasFieldTwice}
+use Rattle.kb_fields.specs.Generators.{AreGeneratorNames}
+use Rattle.kb_fields.specs.declared.error.NamesFault.TheVariants as names_faults
+use Rattle.kb_fields.proofs.NamingLemmas.{none_within}
+use Rattle.kb_fields.proofs.NameFaults.{no_names_fault}
+use Rattle.kb_fields.proofs.ListingLemmas.{list_same}
 use Rattle.kb_fields.proofs.NumberLemmas.{one_list_of_numbers}
-use Rattle.kb_fsafile.proofs.NumberLemmas.{pos_contained}
-use Rattle.kb_fsafile.proofs.UniqueAutomaton.{string_same, one_string, one_count, one_list_of_entries, one_table, pos_same, integers}
-use Rattle.kb_fsafile.proofs.HeldFields.{IsHeldRow, row_at_place, count_of_rows, initial_numbers, dense_format, no_default_target, pairs_of, names_of_base, letters_named, listed_names, type_of, generator_names, size_of, count_of, states_of, default_of, format_of, rows_of, none_missing, none_of_other_kind}
+use Rattle.kb_fsa.specs.declared.alphabet.Alphabet.{Alphabet}
+use Rattle.kb_fsa.specs.Table.{Moves, Table}
+use Rattle.kb_fsafile.specs.Kinds.{count_value, list_of_numbers, IsNumbers, StandsFor, IsNumberOf}
+use Rattle.kb_fsafile.specs.Holds.{HoldsRecord, HoldsString, HoldsCount, IsDense, IsPairSize, HoldsNames, HoldsPairs, HoldsAlphabet, HoldsStates, HoldsInitial, HoldsRows, HasNoDefault, HoldsTable, format_name}
+use Rattle.kb_fsafile.specs.Checks.{is_fsa_field, alphabet_field, alphabet_type_field, arity_field, base_field, base_type_field, names_field, names_size_field, pairs_size_field, names_format_field, states_field, states_type_field, states_size_field, initial_field, accepting_field, table_field, default_field, table_format_field, transitions_field}
+use Rattle.kb_fsafile.specs.Checks.{RowStep, Check, no_field_twice, of_field, of_row, padded_texts, stage_of}
+use Rattle.kb_fsafile.specs.Standing.{IsAlphabetOf, IsBaseOf, HasNamesOf, of_words, of_pairs, ListsNames, HasTableOf}
+use Rattle.kb_fsafile.specs.Faults.{IsRefusedValue, Finds, FindsInRows}
+use Rattle.kb_fsafile.specs.Reading.{IsFreeBefore, HasLetters}
+use Rattle.kb_fsafile.specs.declared.format.Format.{Format}
+use Rattle.kb_fsafile.specs.declared.error.FsaError.{FsaError}
+use Rattle.kb_fsafile.proofs.UniqueAutomaton.{string_same, count_same, one_count_of_states, identifiers_or_product}
+use Rattle.kb_fsafile.proofs.CheckLemmas.{order_small, order_positive}
+use Rattle.kb_fsafile.proofs.Owners.{one_type, one_listing, one_table_of}
+use Rattle.kb_fsafile.proofs.HeldFields.{initial_numbers, dense_format, no_default_target, count_of_rows}
+use Rattle.kb_fsafile.proofs.FirstLemmas.{at_start, stage_passed, nowhere_passed, absent_passed, value_passed}
+use Rattle.kb_fsafile.proofs.RowFaults.{number_of, rows_none}
+use Rattle.kb_fsafile.proofs.TextLemmas.{size_of_letters}
 
 number_same : {a b : ℤ} → number_value a ≡ number_value b → a ≡ b
 number_same e = cc
-
--- ---- numbers and entries
 
 -- a list that has one number or none
 only_number : (state : ℕ) (numbers : List ℤ) (z : ℤ) → numbers ≡ pos state ∷ [] → Contains numbers z → z ≡ pos state
@@ -47,263 +46,238 @@ only_number state numbers z same found =
 no_number : (numbers : List ℤ) (z : ℤ) → numbers ≡ [] → Contains numbers z → ⊥
 no_number numbers z same found = let none = ap length same in omega (arith, none, found.1)
 
-targets_within : (count symbol : ℕ) (targets : List ℕ) → All (λ (e : ℕ × ℕ). e.1 ≤ count) (numbered_from symbol targets) → All (λ (t : ℕ). t ≤ count) targets
-targets_within count symbol [] within = All-nil (λ (t : ℕ). t ≤ count)
-targets_within count symbol (t ∷ targets) within =
-    All-cons (λ (u : ℕ). u ≤ count) t targets (All-head (λ (e : ℕ × ℕ). e.1 ≤ count) (symbol, t) (numbered_from (suc symbol) targets) within)
-    (targets_within count (suc symbol) targets (All-tail (λ (e : ℕ × ℕ). e.1 ≤ count) (symbol, t) (numbered_from (suc symbol) targets) within))
-
--- what is among the entries as integers is among the entries
-record IsEntry (entries : List (ℕ × ℕ)) (pair : ℤ × ℤ) : Type 0 where
-  pub entry : ℕ × ℕ
-  pub contained : Contains entries entry
-  pub same : integers entry ≡ pair
-
-entry_contained : (entries : List (ℕ × ℕ)) (pair : ℤ × ℤ) → Contains (map integers entries) pair → IsEntry entries pair
-entry_contained entries pair found = record {
-  entry = get_or entries found.0 (0, 0);
-  contained = Contains-get_or entries found.0 (0, 0) within;
-  same = sym (get_or-map integers entries found.0 (0, 0) pair within) ∙ found.2;
-}
-  where
-    within : found.0 < length entries
-    within = let count = length-map entries integers in omega (arith, count, found.1)
-
-record IsEntryAt (entries : List (ℕ × ℕ)) (k : ℕ) (pair : ℤ × ℤ) : Type 0 where
-  pub entry : ℕ × ℕ
-  pub stands : slice_get entries k ≡ Some entry
-  pub same : integers entry ≡ pair
-
-entry_at_place : (entries : List (ℕ × ℕ)) (k : ℕ) (pair : ℤ × ℤ) → slice_get (map integers entries) k ≡ Some pair → IsEntryAt entries k pair
-entry_at_place [] k pair at = cc
-entry_at_place (e ∷ entries) zero pair at = record { entry = e; stands = refl; same = inner at }
-  where
-    inner : {a b : ℤ × ℤ} → Some a ≡ Some b → a ≡ b
-    inner h = cc
-entry_at_place (e ∷ entries) (suc k) pair at =
-    let rest = entry_at_place entries k pair at in record { entry = rest.entry; stands = rest.stands; same = rest.same }
-
--- ---- rows
-
-record IsDenseRow (size count : ℕ) (numbers : List ℤ) : Type 0 where
-  pub targets : List ℕ
-  pub same : numbers ≡ map pos targets
-  pub full : length targets ≡ size
-  pub within : All (λ (t : ℕ). t ≤ count) targets
-
-dense_parts : (size : ℕ) (value : Value) (entries : List (ℕ × ℕ)) → HoldsEntries size value Dense entries
-    → (targets : List ℕ) × (value ≡ list_value (list_of_numbers (map pos targets))) × (length targets ≡ size) × (entries ≡ numbered_from 1 targets)
-dense_parts size value entries (HoldsEntries.dense targets listed full numbered) = (targets, listed, full, numbered)
-
-dense_row : (size count : ℕ) (value : Value) (numbers : List ℤ) → IsHeldRow size count Dense value → value ≡ list_value (list_of_numbers numbers) → IsDenseRow size count numbers
-dense_row size count value numbers held is =
-    let parts = dense_parts size value held.holds.entries held.holds.holds in
-    let P : List (ℕ × ℕ) → Type 0 = λ es. All (λ (e : ℕ × ℕ). e.1 ≤ count) es in
-    record {
-      targets = parts.0;
-      same = one_list_of_numbers _ _ (sym is ∙ parts.1);
-      full = parts.2;
-      within = targets_within count 1 parts.0 (subst P parts.3 held.holds.targets);
-    }
-
-record IsRowOfEntries (size count : ℕ) (pairs : List (ℤ × ℤ)) : Type 0 where
-  pub entries : List (ℕ × ℕ)
-  pub same : pairs ≡ map integers entries
-  pub apart : AllPairs (λ (e : ℕ × ℕ) (later : ℕ × ℕ). e.0 ≢ later.0) entries
-  pub symbols : All (λ (e : ℕ × ℕ). (0 < e.0) × (e.0 ≤ size)) entries
-  pub targets : All (λ (e : ℕ × ℕ). e.1 ≤ count) entries
-
-sparse_parts : (size : ℕ) (value : Value) (entries : List (ℕ × ℕ)) → HoldsEntries size value Sparse entries
-    → (value ≡ list_value (list_of_entries (map integers entries))) × AllPairs (λ (e : ℕ × ℕ) (later : ℕ × ℕ). e.0 ≢ later.0) entries
-    × All (λ (e : ℕ × ℕ). (0 < e.0) × (e.0 ≤ size)) entries
-sparse_parts size value entries (HoldsEntries.sparse listed apart symbols) = (listed, apart, symbols)
-
-sparse_row : (size count : ℕ) (value : Value) (pairs : List (ℤ × ℤ)) → IsHeldRow size count Sparse value → value ≡ list_value (list_of_entries pairs) → IsRowOfEntries size count pairs
-sparse_row size count value pairs held is =
-    let parts = sparse_parts size value held.holds.entries held.holds.holds in
-    record {
-      entries = held.holds.entries;
-      same = one_list_of_entries _ _ (sym is ∙ parts.0);
-      apart = parts.1;
-      symbols = parts.2;
-      targets = held.holds.targets;
-    }
-
-number_of : (count : ℕ) (state : ℕ) (z : ℤ) → pos state ≡ z → 0 < state → state ≤ count → IsNumberOf count z
-number_of count state z is positive within = record { number = state; is_number = sym is; positive = positive; within = within }
-
-target_of : (count : ℕ) (state : ℕ) (z : ℤ) → pos state ≡ z → state ≤ count → IsTargetOf count z
-target_of count state z is within = record { number = state; is_number = sym is; within = within }
-
--- an entry of a row is in range
-no_entry_outside : (size count : ℕ) (pairs : List (ℤ × ℤ)) (z t : ℤ) → IsRowOfEntries size count pairs → Contains pairs (z, t)
-    → (IsNumberOf size z → ⊥) ⊎ (IsTargetOf count t → ⊥) → ⊥
-no_entry_outside size count pairs z t row found outside = go outside
-  where
-    P : List (ℤ × ℤ) → Type 0
-    P ps = Contains ps (z, t)
-
-    at : IsEntry row.entries (z, t)
-    at = entry_contained row.entries (z, t) (subst P row.same found)
-
-    bounds : (0 < at.entry.0) × (at.entry.0 ≤ size)
-    bounds = All-contains (λ (e : ℕ × ℕ). (0 < e.0) × (e.0 ≤ size)) row.entries at.entry row.symbols at.contained
-
-    small : at.entry.1 ≤ count
-    small = All-contains (λ (e : ℕ × ℕ). e.1 ≤ count) row.entries at.entry row.targets at.contained
-
-    go : (IsNumberOf size z → ⊥) ⊎ (IsTargetOf count t → ⊥) → ⊥
-    go (inl symbol) = symbol (number_of size at.entry.0 z (ap (λ (p : ℤ × ℤ). p.0) at.same) bounds.0 bounds.1)
-    go (inr target) = target (target_of count at.entry.1 t (ap (λ (p : ℤ × ℤ). p.1) at.same) small)
-
--- no symbol of a row stands twice
-no_symbol_twice : (size count : ℕ) (pairs : List (ℤ × ℤ)) (first again : ℕ) (z t u : ℤ) → IsRowOfEntries size count pairs → first < again
-    → slice_get pairs first ≡ Some (z, t) → slice_get pairs again ≡ Some (z, u) → ⊥
-no_symbol_twice size count pairs first again z t u row later at_first at_again = apart (pos_same symbols)
-  where
-    one : IsEntryAt row.entries first (z, t)
-    one = entry_at_place row.entries first (z, t) (ap (λ (ps : List (ℤ × ℤ)). slice_get ps first) (sym row.same) ∙ at_first)
-
-    other : IsEntryAt row.entries again (z, u)
-    other = entry_at_place row.entries again (z, u) (ap (λ (ps : List (ℤ × ℤ)). slice_get ps again) (sym row.same) ∙ at_again)
-
-    symbols : pos one.entry.0 ≡ pos other.entry.0
-    symbols = ap (λ (p : ℤ × ℤ). p.0) one.same ∙ sym (ap (λ (p : ℤ × ℤ). p.0) other.same)
-
-    apart : one.entry.0 ≡ other.entry.0 → ⊥
-    apart same =
-        let here = ap (λ (e : ℕ × ℕ). e.0) (get_or_from_slice_get row.entries first one.entry (0, 0) one.stands) in
-        let there = ap (λ (e : ℕ × ℕ). e.0) (get_or_from_slice_get row.entries again other.entry (0, 0) other.stands) in
-        row.apart first again (0, 0) later (slice_get_within row.entries again other.entry other.stands) (here ∙ (same ∙ sym there))
-
--- ---- fields
-
-module _ (given : Fields) (names : List (List ℕ)) (alphabet : Alphabet) (read : Table) (h : HoldsTable given names alphabet read) where
-  no_other_alphabet : HasOtherAlphabet given → ⊥
-  no_other_alphabet (HasOtherAlphabet.other_type letters type at no_words no_pairs) =
-      elim (type_of given names alphabet read h letters at.is_record) [
-        | inl words ↦ no_words (one_string letters (codes "type") _ _ at.typed words)
-        | inr pairs ↦ no_pairs (one_string letters (codes "type") _ _ at.typed pairs)
-      ]
-  no_other_alphabet (HasOtherAlphabet.other_base base type at typed no_words) =
-      no_words (one_string base (codes "type") _ _ typed (names_of_base given names alphabet read h base at).type)
-  no_other_alphabet (HasOtherAlphabet.other_arity letters z at is other) =
-      other (number_same (one_value letters (codes "arity") _ _ is (pairs_of given names alphabet read h letters at).arity))
-  no_other_alphabet (HasOtherAlphabet.other_size letters others n at listed is other) =
-      let named = letters_named given names alphabet read h letters at in
-      let same = listed_names given names alphabet read h others (record { letters = letters; has_names = at; listed = listed }) in
-      other (one_count letters (codes "size") _ _ is named.counted ∙ sym (ap length same))
-  no_other_alphabet (HasOtherAlphabet.other_product_size letters others n at lists is other) =
-      let held = pairs_of given names alphabet read h letters at in
-      let same = ap length (listed_names given names alphabet read h others lists) in
-      let size = one_count letters (codes "size") _ _ held.sized is in
-      let N : ℕ → Type 0 = λ count. IsPairSize count h.size in
-      let S : ℕ → Type 0 = λ s. IsPairSize (length others) s in
-      other (subst S size (subst N (sym same) held.right_size))
-  no_other_alphabet (HasOtherAlphabet.other_format letters text at is other) =
-      other (string_same (dense_format letters _ (letters_named given names alphabet read h letters at).format is))
-
-  no_wrong_states : HasWrongStates given → ⊥
-  no_wrong_states (HasWrongStates.other_type states type is typed other) =
-      other (one_string states (codes "type") _ _ typed (states_of given names alphabet read h states is).0)
-  no_wrong_states (HasWrongStates.other_rows count format places states lists other) =
-      other (count_of_rows h.size (length read.rows) format places read.rows (rows_of given names alphabet read h format places lists)
-      ∙ sym (count_of given names alphabet read h count states))
-  no_wrong_states (HasWrongStates.other_row size places k numbers has lists at other) =
-      let rows = rows_of given names alphabet read h Dense places lists in
-      let row = dense_row h.size (length read.rows) _ numbers (row_at_place h.size (length read.rows) Dense places read.rows k _ rows at) refl in
-      other (ap length row.same ∙ (length-map row.targets pos ∙ (row.full ∙ sym (size_of given names alphabet read h size has))))
-
-  no_out_of_range : HasOutOfRange given → ⊥
-  no_out_of_range (HasOutOfRange.initial_state count numbers z states listed found outside) = go (initial_numbers given (length read.rows) read.initial h.initial)
+module _ (given : Fields) where
+  pub once_passed : ((name : List ℕ) → HasFieldTwice (record_value given) name → ⊥) → IsFreeBefore given 0 → IsFreeBefore given 1
+  once_passed once free = stage_passed given 0 none free
     where
-      go : (value_of given (codes "initial") ≡ Some (list_value (list_of_numbers [])))
-          ⊎ ((value_of given (codes "initial") ≡ Some (list_value (list_of_numbers (pos read.initial ∷ [])))) × ((0 < read.initial) × (read.initial ≤ length read.rows))) → ⊥
-      go (inl none) = no_number numbers z (one_list_of_numbers _ _ (one_value given (codes "initial") _ _ listed none)) found
-      go (inr one) =
-          let is = only_number read.initial numbers z (one_list_of_numbers _ _ (one_value given (codes "initial") _ _ listed one.0)) found in
-          let count_is = count_of given names alphabet read h count states in
-          outside (number_of count read.initial z (sym is) one.1.0 (omega (arith, one.1.1, count_is)))
-  no_out_of_range (HasOutOfRange.accepting_state count value z states holds stands outside) =
-      let same = one_value given (codes "accepting") _ _ holds h.accepting.holds in
-      let P : Value → Type 0 = λ v. StandsFor v z in
-      let N : ℕ → Type 0 = λ n. IsNumberOf n z in
-      outside (subst N (sym (count_of given names alphabet read h count states)) (h.accepting.within z (subst P same stands)))
-  no_out_of_range (HasOutOfRange.row_target count places k numbers z states lists at found outside) =
-      let rows = rows_of given names alphabet read h Dense places lists in
-      let row = dense_row h.size (length read.rows) _ numbers (row_at_place h.size (length read.rows) Dense places read.rows k _ rows at) refl in
-      let P : List ℤ → Type 0 = λ ns. Contains ns z in
-      let is = pos_contained row.targets z (subst P row.same found) in
-      let small = All-contains (λ (t : ℕ). t ≤ length read.rows) row.targets is.state row.within is.contained in
-      let count_is = count_of given names alphabet read h count states in
-      outside (target_of count is.state z (sym is.same) (omega (arith, small, count_is)))
-  no_out_of_range (HasOutOfRange.row_entry count size places k pairs z t states has lists at found outside) =
-      let rows = rows_of given names alphabet read h Sparse places lists in
-      let row = sparse_row h.size (length read.rows) _ pairs (row_at_place h.size (length read.rows) Sparse places read.rows k _ rows at) refl in
-      let C : ℕ → Type 0 = λ n. IsRowOfEntries h.size n pairs in
-      let S : ℕ → Type 0 = λ n. IsRowOfEntries n count pairs in
-      no_entry_outside size count pairs z t
-      (subst S (sym (size_of given names alphabet read h size has)) (subst C (sym (count_of given names alphabet read h count states)) row)) found outside
+      none : (c : Check) (e : FsaError) → stage_of c ≡ 0 → Finds given c e → ⊥
+      none no_field_twice e at found = none_within (record_value given) once found.2.check found.0 found.2.found
+      none (of_field p s) e at found = let some = order_positive p in omega (arith, at, some)
+      none (of_row k s) e at found = omega (arith, at)
+      none padded_texts e at found = omega (arith, at)
 
-  no_other_form : HasOtherForm given → ⊥
-  no_other_form (HasOtherForm.many_initial numbers listed many) = go (initial_numbers given (length read.rows) read.initial h.initial)
+  pub is_fsa_passed : value_of given (codes "isFSA") ≡ Some (bare_name (codes "true")) → IsFreeBefore given 1 → IsFreeBefore given 2
+  is_fsa_passed is free = value_passed given is_fsa_field given refl (bare_name (codes "true")) is refl (λ e refusal. refusal) (λ e refusal. refusal) free
+
+  -- ---- the alphabet
+
+  pub alphabet_passed : (letters : Fields) → HoldsRecord given (codes "alphabet") letters → IsFreeBefore given 2 → IsFreeBefore given 3
+  alphabet_passed letters is free = value_passed given alphabet_field given refl (record_value letters) is (letters, refl) (λ e refusal. refusal) (λ e refusal. refusal) free
+
+  pub words_passed : (letters : Fields) → IsAlphabetOf given letters (codes "identifiers") → IsFreeBefore given 3 → IsFreeBefore given 4
+  words_passed letters is free =
+      value_passed given alphabet_type_field letters is.is_record (string_value (codes "identifiers")) is.typed (codes "identifiers", refl)
+      (λ e refusal. refusal.3 (sym (string_same refusal.2))) (λ e refusal. refusal) free
+
+  pub pairs_passed : (letters : Fields) → IsAlphabetOf given letters (codes "product") → IsFreeBefore given 3 → IsFreeBefore given 4
+  pairs_passed letters is free =
+      value_passed given alphabet_type_field letters is.is_record (string_value (codes "product")) is.typed (codes "product", refl)
+      (λ e refusal. refusal.4 (sym (string_same refusal.2))) (λ e refusal. refusal) free
+
+  -- an alphabet of words has no fields of pairs
+  no_pairs : (letters other : Fields) → IsAlphabetOf given letters (codes "identifiers") → IsAlphabetOf given other (codes "product") → ⊥
+  no_pairs letters other is product = identifiers_or_product (one_type given letters other _ _ is product)
+
+  pub no_base_passed : (letters : Fields) → IsAlphabetOf given letters (codes "identifiers") → IsFreeBefore given 4 → IsFreeBefore given 7
+  no_base_passed letters is free =
+      nowhere_passed given base_type_field (λ owner at. no_pairs letters at.letters is at.is_product)
+      (nowhere_passed given base_field (λ owner at. no_pairs letters owner is at) (nowhere_passed given arity_field (λ owner at. no_pairs letters owner is at) free))
+
+  pub arity_passed : (letters : Fields) → IsAlphabetOf given letters (codes "product") → HoldsCount letters (codes "arity") 2 → IsFreeBefore given 4 → IsFreeBefore given 5
+  arity_passed letters is two free =
+      value_passed given arity_field letters is (count_value 2) two (pos 2, refl) (λ e refusal. refusal.3 (sym (number_same refusal.2))) (λ e refusal. refusal) free
+
+  pub base_passed : (letters base : Fields) → IsAlphabetOf given letters (codes "product") → HoldsRecord letters (codes "base") base → IsFreeBefore given 5
+      → IsFreeBefore given 6
+  base_passed letters base is at free = value_passed given base_field letters is (record_value base) at (base, refl) (λ e refusal. refusal) (λ e refusal. refusal) free
+
+  pub base_type_passed : (base : Fields) → IsBaseOf given base → HoldsString base (codes "type") (codes "identifiers") → IsFreeBefore given 6 → IsFreeBefore given 7
+  base_type_passed base is typed free =
+      value_passed given base_type_field base is (string_value (codes "identifiers")) typed (codes "identifiers", refl)
+      (λ e refusal. refusal.3 (sym (string_same refusal.2))) (λ e refusal. refusal) free
+
+  module _ (letters : Fields) (names : List (List ℕ)) (is : HasNamesOf given letters)
+      (listed : value_of letters (codes "names") ≡ Some (list_value (list_of_names names))) where
+    pub names_passed : AreGeneratorNames names → IsFreeBefore given 7 → IsFreeBefore given 8
+    names_passed are free =
+        value_passed given names_field letters is (list_value (list_of_names names)) listed (names, refl)
+        (λ e refusal. let never = no_names_fault _ names names_faults.TooMany refl are refusal.1 in cc)
+        (λ e refusal. let never = no_names_fault _ names (names_faults.Taken refusal.0) refl are refusal.2 in cc) free
+
+    pub names_size_passed : HoldsCount letters (codes "size") (length names) → IsFreeBefore given 8 → IsFreeBefore given 9
+    names_size_passed counted free = value_passed given names_size_field letters is (count_value (length names)) counted (length names, refl) other (λ e refusal. refusal) free
+      where
+        same : (others : List (List ℕ)) → value_of letters (codes "names") ≡ Some (list_value (list_of_names others)) → others ≡ names
+        same others at = one_listing given others names (record { letters = letters; has_names = is; listed = at }) (record { letters = letters; has_names = is; listed = listed })
+
+        other : (e : FsaError) → IsRefusedValue given names_size_field letters (count_value (length names)) e → ⊥
+        other e refusal = refusal.5 (sym (count_same refusal.4) ∙ sym (ap length (same refusal.1 refusal.3)))
+
+    pub names_format_passed : IsDense (value_of letters (codes "format")) → IsFreeBefore given 10 → IsFreeBefore given 11
+    names_format_passed dense free = go (value_of letters (codes "format")) refl
+      where
+        go : (v : Option Value) → value_of letters (codes "format") ≡ v → IsFreeBefore given 11
+        go None absent = absent_passed given names_format_field letters is refl absent free
+        go (Some value) at =
+            let same = dense_format letters value dense at in
+            value_passed given names_format_field letters is value at (codes "dense", same) (λ e refusal. refusal.3 (string_same (sym refusal.2 ∙ same))) (λ e refusal. refusal) free
+
+  pub no_pairs_size_passed : (letters : Fields) → IsAlphabetOf given letters (codes "identifiers") → IsFreeBefore given 9 → IsFreeBefore given 10
+  no_pairs_size_passed letters is free = nowhere_passed given pairs_size_field (λ owner at. no_pairs letters owner is at) free
+
+  pub pairs_size_passed : (letters : Fields) (names : List (List ℕ)) (size : ℕ) → IsAlphabetOf given letters (codes "product") → ListsNames given names
+      → HoldsCount letters (codes "size") size → IsPairSize (length names) size → IsFreeBefore given 9 → IsFreeBefore given 10
+  pairs_size_passed letters names size is lists sized right free =
+      value_passed given pairs_size_field letters is (count_value size) sized (size, refl)
+      (λ e refusal.
+      let same = ap length (one_listing given names refusal.1 lists refusal.3) in
+      let N : ℕ → Type 0 = λ n. IsPairSize n size in
+      let S : ℕ → Type 0 = λ s. IsPairSize (length refusal.1) s in
+      refusal.5 (subst S (count_same refusal.4) (subst N same right)))
+      (λ e refusal. refusal) free
+
+  -- the names of an alphabet of words, and what stands beside them
+  pub named_words_passed : (letters : Fields) (names : List (List ℕ)) → IsAlphabetOf given letters (codes "identifiers") → HoldsNames letters names → IsFreeBefore given 4
+      → IsFreeBefore given 11
+  named_words_passed letters names is named free =
+      let has = of_words is in
+      names_format_passed letters names has named.listed named.format (no_pairs_size_passed letters is (names_size_passed letters names has named.listed named.counted
+      (names_passed letters names has named.listed named.free (no_base_passed letters is free))))
+
+  pub named_pairs_passed : (letters : Fields) (names : List (List ℕ)) (size : ℕ) → IsAlphabetOf given letters (codes "product") → HoldsPairs letters names size → IsFreeBefore given 4
+      → IsFreeBefore given 11
+  named_pairs_passed letters names size is held free =
+      let base : IsBaseOf given held.base = record { letters = letters; is_product = is; is_record = held.is_base } in
+      let has = of_pairs base held.named.type in
+      let lists : ListsNames given names = record { letters = held.base; has_names = has; listed = held.named.listed } in
+      names_format_passed held.base names has held.named.listed held.named.format (pairs_size_passed letters names size is lists held.sized held.right_size
+      (names_size_passed held.base names has held.named.listed held.named.counted (names_passed held.base names has held.named.listed held.named.free
+      (base_type_passed held.base base held.named.type (base_passed letters held.base is held.is_base (arity_passed letters is held.arity free))))))
+
+  pub letters_passed : (names : List (List ℕ)) (alphabet : Alphabet) (size : ℕ) → HasLetters given names alphabet size → IsFreeBefore given 2 → IsFreeBefore given 11
+  letters_passed names alphabet size has free = go has.lettered
     where
-      go : (value_of given (codes "initial") ≡ Some (list_value (list_of_numbers [])))
-          ⊎ ((value_of given (codes "initial") ≡ Some (list_value (list_of_numbers (pos read.initial ∷ [])))) × ((0 < read.initial) × (read.initial ≤ length read.rows))) → ⊥
-      go (inl none) =
-          let same : numbers ≡ [] = one_list_of_numbers numbers [] (one_value given (codes "initial") _ _ listed none) in
-          let few : length numbers ≡ 0 = ap length same in omega (arith, few, many)
-      go (inr one) =
-          let same : numbers ≡ pos read.initial ∷ [] = one_list_of_numbers numbers (pos read.initial ∷ []) (one_value given (codes "initial") _ _ listed one.0) in
-          let few : length numbers ≡ 1 = ap length same in omega (arith, few, many)
-  no_other_form (HasOtherForm.other_default table z is at other) =
-      other (number_same (no_default_target table _ (default_of given names alphabet read h table is) at))
-  no_other_form (HasOtherForm.other_table_format table text is named other) =
-      other h.moves.format (one_string table (codes "format") _ _ named (format_of given names alphabet read h table is))
-  no_other_form (HasOtherForm.symbol_twice places k pairs first again z t u lists at later at_first at_again) =
-      let rows = rows_of given names alphabet read h Sparse places lists in
-      let row = sparse_row h.size (length read.rows) _ pairs (row_at_place h.size (length read.rows) Sparse places read.rows k _ rows at) refl in
-      no_symbol_twice h.size (length read.rows) pairs first again z t u row later at_first at_again
+      go : HoldsAlphabet has.letters names alphabet size → IsFreeBefore given 11
+      go (HoldsAlphabet.plain is counted named) =
+          let at : IsAlphabetOf given has.letters (codes "identifiers") = record { is_record = has.is_record; typed = named.type } in
+          named_words_passed has.letters names at named (words_passed has.letters at (alphabet_passed has.letters has.is_record free))
+      go (HoldsAlphabet.pairs is held) =
+          let at : IsAlphabetOf given has.letters (codes "product") = record { is_record = has.is_record; typed = held.type } in
+          named_pairs_passed has.letters names size at held (pairs_passed has.letters at (alphabet_passed has.letters has.is_record free))
 
--- an accepted text is padded
-no_padding_inside : (given : Fields) (names : List (List ℕ)) (automaton : Automaton) → HoldsAutomaton given names automaton → HasPaddingInside given → ⊥
-no_padding_inside given names automaton h fault =
-    let same = one_table given fault.names names (Pair fault.n) automaton.alphabet fault.read h.read fault.holds h.holds in
-    let A : Alphabet → Type 0 = λ a. IsCleaned a h.read automaton.table in
-    let R : Table → Type 0 = λ r. AcceptsFrom r r.initial fault.text in
-    let cleaned = subst A (sym same.alphabets_same) h.cleaned in
-    fault.not_padded (cleaned.1 fault.text (subst R same.tables fault.accepted))
+  -- ---- the states
 
-pub no_fault : (given : Fields) (names : List (List ℕ)) (automaton : Automaton) (error : FsaError) → HoldsAutomaton given names automaton → HasFieldFault given error → error ≡ errors.Memory
-no_fault given names automaton (errors.MissingField field) h fault = absurd (none_missing given names automaton.alphabet h.read h.holds field fault.0 fault.1 fault.2)
-no_fault given names automaton (errors.WrongKind field) h fault =
-    absurd (fault.5 (none_of_other_kind given names automaton.alphabet h.read h.holds field fault.0 fault.1 fault.2 fault.3 fault.4))
-no_fault given names automaton (errors.FieldTwice name) h fault = absurd (h.holds.once name fault)
-no_fault given names automaton (errors.NameTaken name) h fault =
-    let same = listed_names given names automaton.alphabet h.read h.holds fault.0 fault.1 in
-    let P : List (List ℕ) → Type 0 = λ ns. IsTaken ns name in
-    absurd ((generator_names given names automaton.alphabet h.read h.holds).free name (subst P same fault.2))
-no_fault given names automaton errors.TooManyGenerators h fault =
-    let same = ap length (listed_names given names automaton.alphabet h.read h.holds fault.0 fault.1) in
-    let few = (generator_names given names automaton.alphabet h.read h.holds).few in
-    absurd (omega (arith, fault.2, same, few))
-no_fault given names automaton errors.StatesWrong h fault = absurd (no_wrong_states given names automaton.alphabet h.read h.holds fault)
-no_fault given names automaton errors.TargetOutOfRange h fault = absurd (no_out_of_range given names automaton.alphabet h.read h.holds fault)
-no_fault given names automaton errors.AlphabetOther h fault = absurd (no_other_alphabet given names automaton.alphabet h.read h.holds fault)
-no_fault given names automaton errors.NotDeterministic h fault = absurd (no_other_form given names automaton.alphabet h.read h.holds fault)
-no_fault given names automaton errors.PaddingInside h fault = absurd (no_padding_inside given names automaton h fault)
-no_fault given names automaton (errors.Syntax at) h fault = absurd fault
-no_fault given names automaton (errors.TooDeep at) h fault = absurd fault
-no_fault given names automaton errors.Memory h fault = refl
+  pub states_record_passed : (states : Fields) → HoldsRecord given (codes "states") states → IsFreeBefore given 11 → IsFreeBefore given 12
+  states_record_passed states is free = value_passed given states_field given refl (record_value states) is (states, refl) (λ e refusal. refusal) (λ e refusal. refusal) free
 
-pub no_text_fault : (bytes : List ℕ) (names : List (List ℕ)) (automaton : Automaton) (error : FsaError)
-    → ((one other : TextTree) → TextOf bytes one → TextOf bytes other → one ≡ other)
-    → ((text : TextTree) → TextOf bytes text → text_nesting text ≤ deepest → ¬ IsTooDeep (λ tokens. (other : TextTree) × IsText tokens other) bytes)
-    → AutomatonOf bytes names automaton → HasFsaFault bytes error → error ≡ errors.Memory
-no_text_fault bytes names automaton (errors.Syntax at) one_tree not_deep h fault = absurd (fault h.text h.formed)
-no_text_fault bytes names automaton (errors.TooDeep at) one_tree not_deep h fault = absurd (not_deep h.text h.formed h.shallow fault)
-no_text_fault bytes names automaton errors.Memory one_tree not_deep h fault = refl
-no_text_fault bytes names automaton error one_tree not_deep h fault =
-    let same = one_tree fault.0 h.text fault.1 h.formed in
-    let P : TextTree → Type 0 = λ text. HasFieldFault text.fields error in
-    no_fault h.text.fields names automaton error h.holds (subst P same fault.3)
+  pub states_type_passed : (states : Fields) → HoldsRecord given (codes "states") states → HoldsString states (codes "type") (codes "simple") → IsFreeBefore given 12
+      → IsFreeBefore given 13
+  states_type_passed states is typed free =
+      value_passed given states_type_field states is (string_value (codes "simple")) typed (codes "simple", refl)
+      (λ e refusal. refusal.3 (sym (string_same refusal.2))) (λ e refusal. refusal) free
+
+  pub states_passed : (count : ℕ) → HoldsStates given count → IsFreeBefore given 11 → IsFreeBefore given 14
+  states_passed count held free =
+      value_passed given states_size_field held.states held.is_record (count_value count) held.size (count, refl) (λ e refusal. refusal) (λ e refusal. refusal)
+      (states_type_passed held.states held.is_record held.type (states_record_passed held.states held.is_record free))
+
+  module _ (count : ℕ) (counted : HoldsStates given count) where
+    same_count : (other : ℕ) → HoldsStates given other → count ≡ other
+    same_count other holds = one_count_of_states given count other counted holds
+
+    pub initial_passed : (state : ℕ) → HoldsInitial given count state → IsFreeBefore given 14 → IsFreeBefore given 15
+    initial_passed state held free = go (initial_numbers given count state held)
+      where
+        go : (value_of given (codes "initial") ≡ Some (list_value (list_of_numbers [])))
+            ⊎ ((value_of given (codes "initial") ≡ Some (list_value (list_of_numbers (pos state ∷ [])))) × ((0 < state) × (state ≤ count))) → IsFreeBefore given 15
+        go (inl none) =
+            value_passed given initial_field given refl (list_value (list_of_numbers [])) none ([], refl)
+            (λ e refusal. let same : refusal.1 ≡ [] = one_list_of_numbers _ _ (sym refusal.2) in let few = ap length same in omega (arith, few, refusal.3))
+            (λ e refusal. no_number refusal.2 refusal.3 (one_list_of_numbers _ _ (sym refusal.5)) refusal.6) free
+        go (inr one) =
+            value_passed given initial_field given refl (list_value (list_of_numbers (pos state ∷ []))) one.0 (pos state ∷ [], refl)
+            (λ e refusal. let same : refusal.1 ≡ pos state ∷ [] = one_list_of_numbers _ _ (sym refusal.2) in let few : length refusal.1 ≡ 1 = ap length same in omega (arith, few, refusal.3))
+            (λ e refusal.
+            let is = only_number state refusal.2 refusal.3 (one_list_of_numbers _ _ (sym refusal.5)) refusal.6 in
+            let count_is = same_count refusal.1 refusal.4 in
+            refusal.7 (number_of refusal.1 state refusal.3 (sym is) one.1.0 (omega (arith, one.1.1, count_is)))) free
+
+    pub accepting_passed : (value : Value) → value_of given (codes "accepting") ≡ Some value → IsNumbers value → ((z : ℤ) → StandsFor value z → IsNumberOf count z)
+        → IsFreeBefore given 15 → IsFreeBefore given 16
+    accepting_passed value at numbers within free =
+        value_passed given accepting_field given refl value at numbers (λ e refusal. refusal)
+        (λ e refusal. let N : ℕ → Type 0 = λ n. IsNumberOf n refusal.2 in refusal.5 (subst N (same_count refusal.1 refusal.3) (within refusal.2 refusal.4))) free
+
+  -- ---- the table
+
+  module _ (table : Fields) (is : HoldsRecord given (codes "table") table) where
+    pub table_passed : IsFreeBefore given 16 → IsFreeBefore given 17
+    table_passed free = value_passed given table_field given refl (record_value table) is (table, refl) (λ e refusal. refusal) (λ e refusal. refusal) free
+
+    pub default_passed : HasNoDefault (value_of table (codes "defaultTarget")) → IsFreeBefore given 17 → IsFreeBefore given 18
+    default_passed no_default free = go (value_of table (codes "defaultTarget")) refl
+      where
+        go : (v : Option Value) → value_of table (codes "defaultTarget") ≡ v → IsFreeBefore given 18
+        go None absent = absent_passed given default_field table is refl absent free
+        go (Some value) at =
+            let same = no_default_target table value no_default at in
+            value_passed given default_field table is value at (pos 0, same) (λ e refusal. refusal.3 (number_same (sym refusal.2 ∙ same))) (λ e refusal. refusal) free
+
+    pub table_format_passed : (format : Format) → HoldsString table (codes "format") (format_name format) → IsFreeBefore given 18 → IsFreeBefore given 19
+    table_format_passed format named free =
+        value_passed given table_format_field table is (string_value (format_name format)) named (format_name format, refl)
+        (λ e refusal. refusal.3 format (sym (string_same refusal.2))) (λ e refusal. refusal) free
+
+    pub transitions_passed : (count : ℕ) (places : Places) → HoldsStates given count → value_of table (codes "transitions") ≡ Some (list_value places)
+        → place_count places ≡ count → IsFreeBefore given 19 → IsFreeBefore given 20
+    transitions_passed count places counted listed all free =
+        value_passed given transitions_field table is (list_value places) listed (places, refl)
+        (λ e refusal.
+        let same : places ≡ refusal.2 = list_same refusal.4 in
+        refusal.5 (ap place_count (sym same) ∙ (all ∙ one_count_of_states given count refusal.1 counted refusal.3)))
+        (λ e refusal. refusal) free
+
+  -- what is found in the rows of the text's one table
+  module _ (format : Format) (size count : ℕ) (places : Places) (has : HasTableOf given format size count places) where
+    pub in_table : (k : ℕ × RowStep) (e : FsaError) (other : Format) (again recount : ℕ) (others : Places) → HasTableOf given other again recount others
+        → FindsInRows other again recount others k e → FindsInRows format size count places k e
+    in_table k e other again recount others there found =
+        let one = one_table_of given other format again size recount count others places there has in
+        let F : Format → Type 0 = λ f. FindsInRows f again recount others k e in
+        let S : ℕ → Type 0 = λ s. FindsInRows format s recount others k e in
+        let C : ℕ → Type 0 = λ c. FindsInRows format size c others k e in
+        let P : Places → Type 0 = λ p. FindsInRows format size count p k e in
+        subst P one.places_same (subst C one.count_same (subst S one.size_same (subst F one.format_same found)))
+
+    pub rows_passed : (rows : List Moves) → HoldsRows size count format places rows → IsFreeBefore given 20 → IsFreeBefore given 21
+    rows_passed rows held free = stage_passed given 20 none free
+      where
+        none : (c : Check) (e : FsaError) → stage_of c ≡ 20 → Finds given c e → ⊥
+        none no_field_twice e at found = omega (arith, at)
+        none (of_field p s) e at found = let small = order_small p in omega (arith, at, small)
+        none (of_row k s) e at found = rows_none size count format places rows held (k, s) e (in_table (k, s) e found.0 found.1 found.2 found.3 found.4 found.5)
+        none padded_texts e at found = omega (arith, at)
+
+  -- a text that says a table
+  pub table_free : (names : List (List ℕ)) (alphabet : Alphabet) (read : Table) → HoldsTable given names alphabet read → IsFreeBefore given 21
+  table_free names alphabet read h =
+      let m = h.moves in
+      rows_passed m.format h.size (length read.rows) m.places has read.rows m.each (transitions_passed m.table m.is_record (length read.rows) m.places h.states m.listed
+      (count_of_rows h.size (length read.rows) m.format m.places read.rows m.each)
+      (table_format_passed m.table m.is_record m.format m.named (default_passed m.table m.is_record m.no_default (table_passed m.table m.is_record until_table))))
+    where
+      letters : HasLetters given names alphabet h.size
+      letters = record { letters = h.letters; is_record = h.is_record; lettered = h.lettered }
+
+      has : HasTableOf given h.moves.format h.size (length read.rows) h.moves.places
+      has = record {
+        counted = h.states;
+        sized = size_of_letters given names alphabet h.size letters;
+        listed = record { table = h.moves.table; is_record = h.moves.is_record; named = h.moves.named; listed = h.moves.listed };
+      }
+
+      until_table : IsFreeBefore given 16
+      until_table =
+          accepting_passed (length read.rows) h.states h.accepting.value h.accepting.holds h.accepting.kind h.accepting.within
+          (initial_passed (length read.rows) h.states read.initial h.initial (states_passed (length read.rows) h.states
+          (letters_passed names alphabet h.size letters (is_fsa_passed h.is_fsa (once_passed h.once (at_start given))))))

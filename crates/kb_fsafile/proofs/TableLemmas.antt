@@ -1,44 +1,22 @@
--- Rows at the places of a table, and their faults.
+-- Rows at the places of a table.
 use Rattle.std.proofs.Common.{◌≡◌, ℕ, ◌+◌, ◌<◌, ◌≤◌, ◌^◌, ℤ, pos, List, [], ◌∷◌, ◌++◌, length, take, get_or, slice_get, Option, Some, None, refl, sym, ap, ◌∙◌, subst, arith}
 use Rattle.std.specs.List.{All}
 use Rattle.std.proofs.lemmas.List.{length-map, length-take, length_push, take_more}
 use Rattle.std.proofs.lemmas.Option.{slice_get_within, get_or_from_slice_get}
 use Rattle.std.proofs.lemmas.List.Elements.{All-weaker, All-contains, All-push}
-use Rattle.kb_record.specs.Tree.{Value, list_value, Fields, Places}
+use Rattle.kb_record.specs.Tree.{Value, list_value, Fields}
 use Rattle.kb_record.specs.View.{places_of}
-use Rattle.kb_fields.specs.Fields.{value_of, value_at, place_count}
-use Rattle.kb_fields.proofs.ListingLemmas.{list_same}
-use Rattle.kb_fields.proofs.PlaceLemmas.{value_at-places_of, count_places}
+use Rattle.kb_fields.specs.Fields.{value_of}
+use Rattle.kb_fields.proofs.PlaceLemmas.{count_places}
 use Rattle.kb_fsa.specs.Table.{Moves, IsRow, lookup, target}
 use Rattle.kb_fsa.proofs.Lookups.{lookup_at, entry_from_lookup, lookup_from_target, target_some}
 use Rattle.kb_fsafile.specs.Kinds.{list_of_numbers, list_of_entries, numbered_from}
-use Rattle.kb_fsafile.specs.Holds.{HoldsRecord, HoldsString, HoldsStates, HasNoDefault, HoldsRow, HoldsRows, HoldsEntries, format_name}
+use Rattle.kb_fsafile.specs.Holds.{HoldsRecord, HoldsString, HasNoDefault, HoldsRow, HoldsRows, HoldsEntries, format_name}
 use Rattle.std.specs.Prelude.{codes}
-use Rattle.kb_fsafile.specs.Faults.{needed, transitions_field, IsRowKind, IsTransitions, ListsRows, HasSize, HasWrongStates, HasFieldFault}
-use Rattle.kb_fsafile.specs.RowsRead.{HasRows, IsWithin, IsRowAt, AreRowsAt, HasRowAt, AreRowTargets, IsSparseRow}
+use Rattle.kb_fsafile.specs.RowsRead.{HasRows, IsWithin, IsRowAt, AreRowsAt, AreRowTargets, IsSparseRow}
 use Rattle.kb_fsafile.specs.declared.format.Format.{Format}
 use Rattle.kb_fsafile.specs.declared.format.Format.TheVariants.{Dense, Sparse}
-use Rattle.kb_fsafile.specs.declared.error.Field.TheVariants as kinds
-use Rattle.kb_fsafile.specs.declared.error.FsaError.{FsaError}
-use Rattle.kb_fsafile.specs.declared.error.FsaError.TheVariants as errors
-use Rattle.kb_fsafile.proofs.FieldFaults.{wrong_kind}
 use Rattle.kb_fsafile.proofs.MoveLemmas.{target_among, row_among, within_among, numbered_positive, numbered_ascends, numbered_within}
-
--- a place that is no row of the format
-pub other_row_kind : (given : Fields) (format : Format) (size count : ℕ) (row : Option Value) (error : FsaError) → error ≡ errors.WrongKind kinds.Transitions
-    → HasRowAt given format size count row → ((value : Value) → row ≡ Some value → IsRowKind format value → ⊥) → HasFieldFault given error
-other_row_kind given format size count row error named at other =
-    subst P (sym named) (wrong_kind given at.listed.table kinds.Transitions needed (list_value at.places) (transitions_field at.listed.is_record) at.listed.listed no_rows)
-  where
-    P : FsaError → Type 0
-    P e = HasFieldFault given e
-
-    no_rows : IsTransitions at.listed.table (list_value at.places) → ⊥
-    no_rows kind =
-        let same : at.places ≡ kind.0 = list_same kind.1 in
-        let Within : Places → Type 0 = λ ps. at.k < place_count ps in
-        let found = kind.2 format at.listed.named at.k (subst Within same at.within) in
-        other found.0 (sym at.stands ∙ (ap (λ ps. value_at ps at.k) same ∙ found.1)) found.2
 
 -- the row of targets for each symbol
 pub dense_row_at : (size count : ℕ) (numbers : List ℤ) (here : Option Value) (row : Moves) → here ≡ Some (list_value (list_of_numbers numbers)) → length numbers ≡ size
@@ -118,20 +96,6 @@ rows_more size count format ps k p rows row at are is = record {
 
     whole : take (k + 1) ps ≡ take k ps ++ Some is.value ∷ []
     whole = take_more ps k p inside ∙ ap (λ (q : Option Value). take k ps ++ q ∷ []) (get_or_from_slice_get ps k p p at ∙ is.stands)
-
--- what stands at a place of the table
-pub row_stands : (given : Fields) (size count : ℕ) (format : Format) (ps : List (Option Value)) (k : ℕ) (p : Option Value)
-    → slice_get ps k ≡ Some p → HoldsStates given count → HasSize given size → ListsRows given format (places_of ps)
-    → HasRowAt given format size count p
-row_stands given size count format ps k p at counted sized listed =
-    let seen = value_at-places_of ps k p at in
-    record { counted = counted; sized = sized; places = places_of ps; listed = listed; k = k; within = seen.1; stands = seen.0 }
-
--- rows are not one for each state
-pub wrong_count : (given : Fields) (count length_of : ℕ) (format : Format) (ps : List (Option Value)) → HoldsStates given count
-    → ListsRows given format (places_of ps) → length ps ≡ length_of → (length_of ≡ count → ⊥) → HasFieldFault given errors.StatesWrong
-wrong_count given count length_of format ps states rows is other =
-    HasWrongStates.other_rows count format (places_of ps) states rows (λ same. other (sym is ∙ (sym (count_places ps) ∙ same)))
 
 -- the rows of the table, whose count fits
 pub has_rows : (given table : Fields) (size count number : ℕ) (format : Format) (ps : List (Option Value)) (rows : List Moves) → HoldsRecord given (codes "table") table

@@ -1,29 +1,21 @@
--- Automata as fields say them, and faults of the fields as faults of the bytes.
+-- Automata as fields say them.
 use Rattle.std.proofs.Common.{◌≡◌, ◌≢◌, ◌↔◌, ℕ, suc, ◌+◌, ◌*◌, ◌<◌, ◌≤◌, Bool, false, IsTrue, List, [], ◌∷◌, length, get_or, Some, ◌⊎◌, inl, inr, refl, sym, ap, ◌∙◌, subst, arith}
 use Rattle.std.specs.Prelude.{codes}
 use Rattle.std.specs.List.{All}
 use Rattle.std.proofs.lemmas.List.Elements.{All-nil, All-cons, All-contains}
 use Rattle.kb_word.specs.Relations.{IsOver}
-use Rattle.kb_record.specs.Tree.{Fields, TextTree, record_value}
-use Rattle.kb_record.specs.Grammar.{TextOf}
-use Rattle.kb_record.specs.Nesting.{deepest, text_nesting}
+use Rattle.kb_record.specs.Tree.{Fields, record_value}
 use Rattle.kb_fsa.specs.declared.alphabet.Alphabet.{Alphabet}
-use Rattle.kb_fsa.specs.declared.alphabet.Alphabet.TheVariants.{Plain, Pair}
+use Rattle.kb_fsa.specs.declared.alphabet.Alphabet.TheVariants.{Plain}
 use Rattle.kb_fsa.specs.Table.{Moves, Table, IsTable, HasSymbols, moves_of, step, after}
 use Rattle.kb_fsa.specs.Language.{IsAutomaton, generators}
 use Rattle.kb_fields.specs.Fields.{value_of, bare_name, HasFieldTwice}
 use Rattle.kb_fsa.proofs.Lookups.{lookup_from_target, entry_from_lookup, All-moves_of, IsRow-moves_of, after_none}
 use Rattle.kb_fsafile.specs.Holds.{HoldsCount, HoldsAlphabet, plain, pairs, HoldsStates, HoldsInitial, HoldsAccepting, HoldsTable}
-use Rattle.kb_fsafile.specs.Faults.{HasSize, HasFieldFault, HasFsaFault}
+use Rattle.kb_fsafile.specs.Standing.{HasSize}
 use Rattle.kb_fsafile.specs.Reading.{HasLetters, IsAcceptingState, HasAcceptingStates}
-use Rattle.kb_fsafile.specs.RowsRead.{HasRows, HasTable, TableOf, most_symbols, IsCleaningFault}
+use Rattle.kb_fsafile.specs.RowsRead.{HasRows, HasTable, most_symbols}
 use Rattle.kb_fsafile.specs.declared.accepting.Accepting.{Accepting}
-use Rattle.kb_padding.specs.Misplaced.{IsPaddingFault}
-use Rattle.kb_padding.specs.declared.error.PaddingFault.{PaddingFault}
-use Rattle.kb_padding.specs.declared.error.PaddingFault.TheVariants as padding_faults
-use Rattle.kb_fsafile.specs.Refusals.{RefusesPadding}
-use Rattle.kb_fsafile.specs.declared.error.FsaError.{FsaError}
-use Rattle.kb_fsafile.specs.declared.error.FsaError.TheVariants as errors
 
 -- the size of the alphabet, and how many letters it has
 pub size_of_letters : (given : Fields) (names : List (List ℕ)) (alphabet : Alphabet) (size : ℕ) → HasLetters given names alphabet size → HasSize given size
@@ -148,30 +140,3 @@ plain_automaton n alphabet read is few table symbols =
     let S : Alphabet → Type 0 = λ a. HasSymbols (most_symbols a) read in
     let all = subst S is symbols in
     subst A (sym is) (record { generators = subst G is few; table = table; symbols = all; texts = λ text some. words_over n read read.initial text table all some })
-
--- a text that is accepted and not padded is a fault of the fields
-padding_fault : (given : Fields) (names : List (List ℕ)) (n : ℕ) (read : Table) (fault : PaddingFault) (error : FsaError) → HoldsTable given names (Pair n) read
-    → IsPaddingFault n read fault → RefusesPadding fault error → HasFieldFault given error
-padding_fault given names n read padding_faults.Inside error holds unpadded is =
-    let P : FsaError → Type 0 = λ e. HasFieldFault given e in
-    subst P (sym is) (record { names = names; n = n; read = read; holds = holds; text = unpadded.0; accepted = unpadded.1; not_padded = unpadded.2 })
-padding_fault given names n read padding_faults.Memory error holds any is = let P : FsaError → Type 0 = λ e. HasFieldFault given e in subst P (sym is) tt
-
--- a fault of the cleaned table is one of the fields
-pub cleaning_fault : (given : Fields) (names : List (List ℕ)) (alphabet : Alphabet) (read : Table) (error : FsaError) → HoldsTable given names alphabet read
-    → IsCleaningFault alphabet read error → HasFieldFault given error
-cleaning_fault given names (Plain n) read error holds fault = absurd fault
-cleaning_fault given names (Pair n) read error holds fault = padding_fault given names n read fault.0 error holds fault.1 fault.2
-
--- a fault of the fields is one of the bytes
-pub text_fault : (bytes : List ℕ) (text : TextTree) (error : FsaError) → TextOf bytes text → text_nesting text ≤ deepest → HasFieldFault text.fields error → HasFsaFault bytes error
-text_fault bytes text (errors.Syntax at) formed shallow fault = absurd fault
-text_fault bytes text (errors.TooDeep at) formed shallow fault = absurd fault
-text_fault bytes text errors.Memory formed shallow fault = tt
-text_fault bytes text error formed shallow fault = (text, formed, shallow, fault)
-
--- a fault of the cleaned table is one of the bytes
-pub table_fault : (bytes : List ℕ) (names : List (List ℕ)) (alphabet : Alphabet) (read : Table) (error : FsaError) → TableOf bytes names alphabet read
-    → IsCleaningFault alphabet read error → HasFsaFault bytes error
-table_fault bytes names alphabet read error of_text fault =
-    text_fault bytes of_text.text error of_text.formed of_text.shallow (cleaning_fault of_text.text.fields names alphabet read error of_text.has.holds fault)

@@ -1,62 +1,81 @@
 -- What the functions that read fields need and answer.
-use Rattle.std.specs.Prelude.{◌≡◌, ◌↔◌, ℕ, ◌<◌, ◌≤◌, ℤ, pos, List, map, All, Contains, Some, codes}
+use Rattle.std.specs.Prelude.{◌≡◌, ◌↔◌, ℕ, ◌<◌, ◌≤◌, ℤ, pos, List, map, All, Contains, None, Some, codes}
 use Rattle.kb_record.specs.Tree.{Value, number_value, string_value, record_value, list_value, Fields, Places}
 use Rattle.kb_fields.specs.Fields.{value_of, list_of_names}
 use Rattle.kb_fsa.specs.declared.alphabet.Alphabet.{Alphabet}
 use Rattle.kb_fsafile.specs.Kinds.{count_value, IsNumbers, StandsFor, IsNumberOf}
-use Rattle.kb_fsafile.specs.Holds.{HoldsRecord, HoldsAlphabet, HoldsStates}
-use Rattle.kb_fsafile.specs.Faults.{IsAlphabetOf, HasNamesOf, ListsNames, Need, StandsIn, HasFieldKind, HasFieldFault}
+use Rattle.kb_fsafile.specs.Holds.{HoldsRecord, HoldsAlphabet}
+use Rattle.kb_fsafile.specs.Checks.{Need, needed, Check, stage_of}
+use Rattle.kb_fsafile.specs.Standing.{name_of, IsAlphabetOf, HasNamesOf, HasFieldKind, ListsNames}
+use Rattle.kb_fsafile.specs.Faults.{Finds, IsFirstOf}
 use Rattle.kb_fsafile.specs.declared.accepting.Accepting.{Accepting}
 use Rattle.kb_fsafile.specs.declared.accepting.Accepting.TheVariants.{Listed, Range}
 use Rattle.kb_fsafile.specs.declared.error.Field.{Field}
 use Rattle.kb_fsafile.specs.declared.error.FsaError.{FsaError}
+use Rattle.kb_fsafile.specs.declared.error.FsaError.TheVariants as errors
 
 -- the field holds records; lists; strings; numbers; numbers from 0 on
 abbrev pub HasRecords : Field → Type 0
 HasRecords field =
-    (owner : Fields) (value : Value) → HasFieldKind owner field value
-    → (inner : Fields) × (value ≡ record_value inner)
+    (value : Value) → HasFieldKind field value → (inner : Fields) × (value ≡ record_value inner)
 
 abbrev pub HasLists : Field → Type 0
 HasLists field =
-    (owner : Fields) (value : Value) → HasFieldKind owner field value
-    → (places : Places) × (value ≡ list_value places)
+    (value : Value) → HasFieldKind field value → (places : Places) × (value ≡ list_value places)
 
 abbrev pub HasStrings : Field → Type 0
 HasStrings field =
-    (owner : Fields) (value : Value) → HasFieldKind owner field value
-    → (text : List ℕ) × (value ≡ string_value text)
+    (value : Value) → HasFieldKind field value → (text : List ℕ) × (value ≡ string_value text)
 
 abbrev pub HasNumbers : Field → Type 0
 HasNumbers field =
-    (owner : Fields) (value : Value) → HasFieldKind owner field value
-    → (z : ℤ) × (value ≡ number_value z)
+    (value : Value) → HasFieldKind field value → (z : ℤ) × (value ≡ number_value z)
 
 abbrev pub HasCounts : Field → Type 0
 HasCounts field =
-    (owner : Fields) (value : Value) → HasFieldKind owner field value
-    → (n : ℕ) × (value ≡ count_value n)
+    (value : Value) → HasFieldKind field value → (n : ℕ) × (value ≡ count_value n)
 
--- the refusal is for a fault of each text in which the field stands so in the record
-abbrev pub IsFaultOf : Field → Need → Fields → FsaError → Type 0
-IsFaultOf field need owner error =
-    (given : Fields) → StandsIn given field owner need → HasFieldFault given error
+-- the refusal of a record whose field isn't there, or is of another kind
+abbrev pub IsRefusalOf : Field → Need → Fields → FsaError → Type 0
+IsRefusalOf field need owner (errors.MissingField missing) =
+    (missing ≡ field) × (need ≡ needed) × (value_of owner (name_of field) ≡ None)
+IsRefusalOf field need owner (errors.WrongKind other) =
+    (other ≡ field) × (value : Value) × (value_of owner (name_of field) ≡ Some value)
+    × (¬ HasFieldKind field value)
+IsRefusalOf field need owner _ = ⊥
 
--- the refusal is for a fault of each text whose alphabet is the record, of this type; of each whose
--- names of letters it has
-abbrev pub IsFaultOfAlphabet : List ℕ → Fields → FsaError → Type 0
-IsFaultOfAlphabet type letters error =
-    (given : Fields) → IsAlphabetOf given letters type → HasFieldFault given error
+-- it has the fault, or it is want of memory
+abbrev pub IsMemoryOr : (FsaError → Type 0) → FsaError → Type 0
+IsMemoryOr Has errors.Memory = Unit {0}
+IsMemoryOr Has error = Has error
 
-abbrev pub IsFaultOfNames : Fields → FsaError → Type 0
-IsFaultOfNames letters error =
-    (given : Fields) → HasNamesOf given letters → HasFieldFault given error
+-- the checks of earlier stages find nothing
+pub record IsFreeBefore (given : Fields) (stage : ℕ) : Type 0 where
+  pub none : (check : Check) (error : FsaError) → stage_of check < stage → ¬ Finds given check error
 
--- the refusal is for a fault of each text of pairs of words over these names
-abbrev pub IsFaultOfPairs : Fields → List (List ℕ) → FsaError → Type 0
-IsFaultOfPairs letters names error =
+-- where they do, the refusal is the first fault of the fields, or want of memory
+abbrev pub IsFirstFrom : ℕ → Fields → FsaError → Type 0
+IsFirstFrom stage given error = IsFreeBefore given stage → IsMemoryOr (IsFirstOf given) error
+
+-- so for each text whose alphabet is the record, of this type; for each whose names of letters it has
+abbrev pub IsFirstOfAlphabet : ℕ → List ℕ → Fields → FsaError → Type 0
+IsFirstOfAlphabet stage type letters error =
+    (given : Fields) → IsAlphabetOf given letters type → IsFirstFrom stage given error
+
+abbrev pub IsFirstOfNames : ℕ → Fields → FsaError → Type 0
+IsFirstOfNames stage letters error =
+    (given : Fields) → HasNamesOf given letters → IsFirstFrom stage given error
+
+-- so for each text of pairs of words over these names
+abbrev pub IsFirstOfPairs : ℕ → Fields → List (List ℕ) → FsaError → Type 0
+IsFirstOfPairs stage letters names error =
     (given : Fields) → IsAlphabetOf given letters (codes "product") → ListsNames given names
-    → HasFieldFault given error
+    → IsFirstFrom stage given error
+
+-- so for each text with this record of a table
+abbrev pub IsFirstOfTable : ℕ → Fields → FsaError → Type 0
+IsFirstOfTable stage table error =
+    (given : Fields) → HoldsRecord given (codes "table") table → IsFirstFrom stage given error
 
 -- the fields have an alphabet over these names, which has so many symbols
 pub record HasLetters (given : Fields) (names : List (List ℕ)) (alphabet : Alphabet)
@@ -81,21 +100,15 @@ pub record StandsForStates (count : ℕ) (value : Value) (accepting : Accepting)
   pub within : (z : ℤ) → StandsFor value z → IsNumberOf count z
   pub each : (state : ℕ) → IsAcceptingState accepting state ↔ StandsFor value (pos state)
 
--- the refusal is for a fault of each text of so many states that has the value as its accepting states
-abbrev pub IsFaultOfAccepting : ℕ → Value → FsaError → Type 0
-IsFaultOfAccepting count value error =
-    (given : Fields) → HoldsStates given count → value_of given (codes "accepting") ≡ Some value
-    → HasFieldFault given error
+-- the refusal of accepting states of which one is none of so many
+abbrev pub IsOutside : ℕ → Value → FsaError → Type 0
+IsOutside count value error = (error ≡ errors.TargetOutOfRange)
+    × (z : ℤ) × StandsFor value z × (¬ IsNumberOf count z)
 
 -- the numbers are these states, of so many
 pub record AreStates (count : ℕ) (numbers : List ℤ) (states : List ℕ) : Type 0 where
   pub same : numbers ≡ map pos states
   pub within : All (λ state. (0 < state) × (state ≤ count)) states
-
--- the refusal is for a fault of each text with this record of a table
-abbrev pub IsFaultOfTable : Fields → FsaError → Type 0
-IsFaultOfTable table error =
-    (given : Fields) → HoldsRecord given (codes "table") table → HasFieldFault given error
 
 -- the fields have these of so many states as their accepting ones
 pub record HasAcceptingStates (given : Fields) (count : ℕ) (accepting : Accepting) : Type 0 where

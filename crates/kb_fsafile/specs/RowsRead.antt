@@ -5,7 +5,7 @@ use Rattle.std.specs.Ordering.{nat_cmp}
 use Rattle.kb_record.specs.Tree.{Value, list_value, Fields, Places, TextTree}
 use Rattle.kb_record.specs.Grammar.{TextOf}
 use Rattle.kb_record.specs.Nesting.{deepest, text_nesting}
-use Rattle.kb_fields.specs.Fields.{value_at, place_count}
+use Rattle.kb_fields.specs.Fields.{place_count}
 use Rattle.kb_fsa.specs.Table.{Moves, IsRow, Ascends, lookup, target, Table, IsTable, HasSymbols}
 use Rattle.kb_fsa.specs.Language.{generators}
 use Rattle.kb_fsa.specs.declared.alphabet.Alphabet.{Alphabet}
@@ -15,7 +15,10 @@ use Rattle.kb_fsafile.specs.Holds.{HoldsStates, HoldsInitial, HoldsAccepting, Ho
 use Rattle.kb_padding.specs.Misplaced.{IsPaddingFault}
 use Rattle.kb_padding.specs.declared.error.PaddingFault.{PaddingFault}
 use Rattle.kb_fsafile.specs.Refusals.{RefusesPadding}
-use Rattle.kb_fsafile.specs.Faults.{ListsRows, HasSize, HasFieldFault}
+use Rattle.kb_fields.specs.FirstFaults.{IsFirstFault}
+use Rattle.kb_fsafile.specs.Checks.{BeforeInRow, BeforeInTable}
+use Rattle.kb_fsafile.specs.Faults.{FindsInRow, FindsInRows}
+use Rattle.kb_fsafile.specs.Reading.{IsMemoryOr}
 use Rattle.kb_fsafile.specs.declared.format.Format.{Format}
 use Rattle.kb_fsafile.specs.declared.format.Format.TheVariants.{Dense, Sparse}
 use Rattle.kb_fsafile.specs.declared.error.FsaError.{FsaError}
@@ -52,35 +55,24 @@ pub record HasRows (given : Fields) (size count : ℕ) (rows : List Moves) : Typ
   pub are_rows : All IsRow rows
   pub within : All (All (IsWithin size count)) rows
 
--- a table of the text over so many symbols and of so many states has this at the place of a row
-pub record HasRowAt (given : Fields) (format : Format) (size count : ℕ)
-    (row : Option Value) : Type 0 where
-  pub counted : HoldsStates given count
-  pub sized : HasSize given size
-  pub places : Places
-  pub listed : ListsRows given format places
-  pub k : ℕ
-  pub within : k < place_count places
-  pub stands : value_at places k ≡ row
+-- the refusal is the first fault of what stands at the place of a row, or want of memory; so of the rows at these
+-- places
+abbrev pub IsFirstOfRow : Format → ℕ → ℕ → Option Value → FsaError → Type 0
+IsFirstOfRow format size count row =
+    IsMemoryOr (IsFirstFault BeforeInRow (FindsInRow format size count row))
 
--- the refusal is for a fault of each text that has this at the place of a row; these places of rows
-abbrev pub IsFaultOfRow : Format → ℕ → ℕ → Option Value → FsaError → Type 0
-IsFaultOfRow format size count row error =
-    (given : Fields) → HasRowAt given format size count row → HasFieldFault given error
+abbrev pub IsFirstOfRows : Format → ℕ → ℕ → Places → FsaError → Type 0
+IsFirstOfRows format size count places =
+    IsMemoryOr (IsFirstFault BeforeInTable (FindsInRows format size count places))
 
-abbrev pub IsFaultOfRows : Format → ℕ → ℕ → Places → FsaError → Type 0
-IsFaultOfRows format size count places error =
-    (given : Fields) → HoldsStates given count → HasSize given size → ListsRows given format places
-    → HasFieldFault given error
+-- the same of these targets as a row; of these entries as a row
+abbrev pub IsFirstOfTargets : ℕ → ℕ → List ℤ → FsaError → Type 0
+IsFirstOfTargets size count numbers =
+    IsFirstOfRow Dense size count (Some (list_value (list_of_numbers numbers)))
 
--- the refusal is for a fault of each text that has these targets as a row; these entries as a row
-abbrev pub IsFaultOfTargets : ℕ → ℕ → List ℤ → FsaError → Type 0
-IsFaultOfTargets size count numbers =
-    IsFaultOfRow Dense size count (Some (list_value (list_of_numbers numbers)))
-
-abbrev pub IsFaultOfEntries : ℕ → ℕ → List (ℤ × ℤ) → FsaError → Type 0
-IsFaultOfEntries size count pairs =
-    IsFaultOfRow Sparse size count (Some (list_value (list_of_entries pairs)))
+abbrev pub IsFirstOfEntries : ℕ → ℕ → List (ℤ × ℤ) → FsaError → Type 0
+IsFirstOfEntries size count pairs =
+    IsFirstOfRow Sparse size count (Some (list_value (list_of_entries pairs)))
 
 -- the numbers are targets, of so many states, and these are the moves among them
 pub record AreRowTargets (count : ℕ) (numbers : List ℤ) (moves : List (ℕ × ℕ)) : Type 0 where

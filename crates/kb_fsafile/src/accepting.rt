@@ -5,8 +5,8 @@ ghost use Rattle.kb_record.specs.Tree.{list_value, range_value};
 ghost use Rattle.kb_fields.specs.Fields.{fields_view};
 ghost use Rattle.kb_fsafile.specs.Kinds.{list_of_numbers};
 ghost use Rattle.kb_fsafile.specs.Holds.{HoldsStates};
-ghost use Rattle.kb_fsafile.specs.Faults.{HasFieldFault};
-ghost use Rattle.kb_fsafile.specs.Reading.{IsAcceptingState, StandsForStates, HasAcceptingStates, AreStates, IsFaultOfAccepting};
+ghost use Rattle.kb_fsafile.specs.Checks.{order_of, accepting_field};
+ghost use Rattle.kb_fsafile.specs.Reading.{IsAcceptingState, StandsForStates, HasAcceptingStates, AreStates, IsOutside, IsMemoryOr, IsFirstFrom};
 
 use crate::error::{Field, FsaError};
 use crate::fields::needed_value;
@@ -81,7 +81,8 @@ pub fn read_accepting<'a>(
 ) -> Result<Accepting, FsaError>
     requires { HoldsStates (fields_view fields.now) count }
     ensures read { IfOk result (HasAcceptingStates (fields_view fields.now) count) }
-    ensures fault { IfErr result (HasFieldFault (fields_view fields.now)) }
+    ensures fault { IfErr result
+        (IsFirstFrom (order_of accepting_field) (fields_view fields.now)) }
 {
     let value = needed_value(fields, Field::Accepting)?;
     if let Some((from, to)) = range_of(value) {
@@ -101,7 +102,7 @@ pub fn read_accepting<'a>(
 /// The states of a range. One whose first number is above its last has none, whatever its numbers are.
 fn range_within(from: i64, to: i64, count: u64) -> Result<Accepting, FsaError>
     ensures read { IfOk result (StandsForStates count (range_value from to)) }
-    ensures fault { IfErr result (IsFaultOfAccepting count (range_value from to)) }
+    ensures fault { IfErr result (IsOutside count (range_value from to)) }
 {
     if from > to {
         return Ok(Accepting::Range(1, 0));
@@ -118,7 +119,8 @@ fn range_within(from: i64, to: i64, count: u64) -> Result<Accepting, FsaError>
 /// The states of a list.
 fn listed_within(alloc: Global, numbers: &[i64], count: u64) -> Result<Accepting, FsaError>
     ensures read { IfOk result (StandsForStates count (list_value (list_of_numbers numbers.now))) }
-    ensures fault { IfErr result (IsFaultOfAccepting count (list_value (list_of_numbers numbers.now))) }
+    ensures fault { IfErr result
+        (IsMemoryOr (IsOutside count (list_value (list_of_numbers numbers.now)))) }
 {
     let mut states = Vec::with_capacity(alloc, numbers.len())?;
     for number in numbers {

@@ -6,8 +6,8 @@ ghost use Rattle.kb_record.specs.Tree as tree;
 ghost use Rattle.kb_fields.specs.Fields.{fields_view, value_of};
 ghost use Rattle.kb_fields.specs.Generators.{AreGeneratorNames, HasNamesFault};
 ghost use Rattle.kb_fsafile.specs.Holds.{HoldsRecord, HoldsString, HoldsCount, IsDense, IsPairSize, HoldsPairs, HoldsAlphabet};
-ghost use Rattle.kb_fsafile.specs.Faults.{HasNamesOf, HasFieldFault};
-ghost use Rattle.kb_fsafile.specs.Reading.{IsFaultOfAlphabet, IsFaultOfNames, IsFaultOfPairs, HasLetters, ListsLetters};
+ghost use Rattle.kb_fsafile.specs.Checks.{order_of, alphabet_field, arity_field, base_field, names_field, names_size_field, pairs_size_field, names_format_field};
+ghost use Rattle.kb_fsafile.specs.Reading.{IsFirstFrom, IsFirstOfAlphabet, IsFirstOfNames, IsFirstOfPairs, HasLetters, ListsLetters};
 
 use crate::error::{Field, FsaError};
 use crate::fields::{
@@ -37,7 +37,8 @@ pub fn read_alphabet<'a>(
 ) -> Result<Letters, FsaError>
     ensures read { IfOk result
         (λ found. HasLetters (fields_view fields.now) found.names found.alphabet found.size) }
-    ensures fault { IfErr result (HasFieldFault (fields_view fields.now)) }
+    ensures fault { IfErr result
+        (IsFirstFrom (order_of alphabet_field) (fields_view fields.now)) }
 {
     let letters = needed_record(fields, Field::Alphabet)?.as_slice();
     match needed_string(letters, Field::Type)? {
@@ -52,7 +53,8 @@ fn read_words<'a>(alloc: Global, letters: &[(&'a str, Value<'a>)]) -> Result<Let
     requires { HoldsString (fields_view letters.now) (codes "type") (codes "identifiers") }
     ensures read { IfOk result
         (λ found. HoldsAlphabet (fields_view letters.now) found.names found.alphabet found.size) }
-    ensures fault { IfErr result (IsFaultOfAlphabet (codes "identifiers") (fields_view letters.now)) }
+    ensures fault { IfErr result
+        (IsFirstOfAlphabet (order_of arity_field) (codes "identifiers") (fields_view letters.now)) }
 {
     let names = read_names(alloc, letters)?;
     check_size(letters, &names)?;
@@ -70,7 +72,8 @@ fn read_pairs<'a>(alloc: Global, letters: &[(&'a str, Value<'a>)]) -> Result<Let
     requires { HoldsString (fields_view letters.now) (codes "type") (codes "product") }
     ensures read { IfOk result
         (λ found. HoldsAlphabet (fields_view letters.now) found.names found.alphabet found.size) }
-    ensures fault { IfErr result (IsFaultOfAlphabet (codes "product") (fields_view letters.now)) }
+    ensures fault { IfErr result
+        (IsFirstOfAlphabet (order_of arity_field) (codes "product") (fields_view letters.now)) }
 {
     check_arity(letters)?;
     let base = read_base(letters)?.as_slice();
@@ -89,7 +92,8 @@ fn read_pairs<'a>(alloc: Global, letters: &[(&'a str, Value<'a>)]) -> Result<Let
 /// Refuses another number of tracks than two.
 fn check_arity<'a>(letters: &[(&'a str, Value<'a>)]) -> Result<(), FsaError>
     ensures ok { OnOk result (HoldsCount (fields_view letters.now) (codes "arity") 2) }
-    ensures fault { IfErr result (IsFaultOfAlphabet (codes "product") (fields_view letters.now)) }
+    ensures fault { IfErr result
+        (IsFirstOfAlphabet (order_of arity_field) (codes "product") (fields_view letters.now)) }
 {
     if needed_number(letters, Field::Arity)? != 2 {
         return Err(FsaError::AlphabetOther);
@@ -107,7 +111,8 @@ fn read_base<'r, 'a>(
     ensures typed { IfOk result
         (λ base. HoldsString (fields_view base.now.items) (codes "type")
         (codes "identifiers")) }
-    ensures fault { IfErr result (IsFaultOfAlphabet (codes "product") (fields_view letters.now)) }
+    ensures fault { IfErr result
+        (IsFirstOfAlphabet (order_of base_field) (codes "product") (fields_view letters.now)) }
 {
     let base = needed_record(letters, Field::Base)?;
     match needed_string(base.as_slice(), Field::Type)? {
@@ -120,7 +125,8 @@ fn read_base<'r, 'a>(
 fn read_names<'a>(alloc: Global, letters: &[(&'a str, Value<'a>)]) -> Result<Names, FsaError>
     ensures listed { IfOk result (ListsLetters (fields_view letters.now)) }
     ensures free { IfOk result AreGeneratorNames }
-    ensures fault { IfErr result (IsFaultOfNames (fields_view letters.now)) }
+    ensures fault { IfErr result
+        (IsFirstOfNames (order_of names_field) (fields_view letters.now)) }
 {
     let value = needed_value(letters, Field::Names)?;
     match names_of(alloc, value) {
@@ -133,7 +139,7 @@ fn read_names<'a>(alloc: Global, letters: &[(&'a str, Value<'a>)]) -> Result<Nam
 fn refusal_of(fault: NamesFault) -> FsaError
     ensures { (letters : tree.Fields) (value : tree.Value)
         → value_of letters (codes "names") ≡ Some value → HasNamesFault value fault
-        → IsFaultOfNames letters result }
+        → IsFirstOfNames (order_of names_field) letters result }
 {
     match fault {
         NamesFault::WrongKind => FsaError::WrongKind {
@@ -150,7 +156,8 @@ fn check_size<'a>(letters: &[(&'a str, Value<'a>)], names: &Names) -> Result<(),
     requires { ListsLetters (fields_view letters.now) names.now }
     ensures ok { OnOk result
         (HoldsCount (fields_view letters.now) (codes "size") (length names.now)) }
-    ensures fault { IfErr result (IsFaultOfNames (fields_view letters.now)) }
+    ensures fault { IfErr result
+        (IsFirstOfNames (order_of names_size_field) (fields_view letters.now)) }
 {
     if needed_count(letters, Field::Size)? != names.len() as u64 {
         return Err(FsaError::AlphabetOther);
@@ -163,7 +170,8 @@ fn read_pair_size<'a>(letters: &[(&'a str, Value<'a>)], names: &Names) -> Result
     requires { AreGeneratorNames names.now }
     ensures sized { IfOk result (λ size. HoldsCount (fields_view letters.now) (codes "size") size) }
     ensures right { IfOk result (λ size. IsPairSize (length names.now) size) }
-    ensures fault { IfErr result (IsFaultOfPairs (fields_view letters.now) names.now) }
+    ensures fault { IfErr result
+        (IsFirstOfPairs (order_of pairs_size_field) (fields_view letters.now) names.now) }
 {
     let size = needed_count(letters, Field::Size)?;
     let columns = names.len() as u64 + 1;
@@ -177,7 +185,8 @@ fn read_pair_size<'a>(letters: &[(&'a str, Value<'a>)], names: &Names) -> Result
 /// Refuses another format of the letters than `"dense"`, which stands where none is given.
 fn check_format<'a>(letters: &[(&'a str, Value<'a>)]) -> Result<(), FsaError>
     ensures ok { OnOk result (IsDense (value_of (fields_view letters.now) (codes "format"))) }
-    ensures fault { IfErr result (IsFaultOfNames (fields_view letters.now)) }
+    ensures fault { IfErr result
+        (IsFirstOfNames (order_of names_format_field) (fields_view letters.now)) }
 {
     match optional_string(letters, Field::Format)? {
         None | Some("dense") => Ok(()),

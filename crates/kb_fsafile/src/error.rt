@@ -1,6 +1,6 @@
 //! What an automaton file is refused for.
 
-ghost use Rattle.kb_fsafile.specs.Faults.{name_of};
+ghost use Rattle.kb_fsafile.specs.Standing.{name_of};
 ghost use Rattle.kb_fsafile.specs.declared.error.FsaError.TheVariants as errors;
 ghost use Rattle.std.specs.Prelude.{◌≡◌};
 

@@ -7,8 +7,10 @@ ghost use Rattle.kb_record.specs.View.{value_view};
 ghost use Rattle.kb_record.specs.Listed.{listed, HasPlaces};
 ghost use Rattle.kb_fields.specs.Fields.{fields_view, value_of, HasFieldTwice};
 ghost use Rattle.kb_fsafile.specs.Kinds.{count_value};
-ghost use Rattle.kb_fsafile.specs.Faults.{name_of, needed, optional, HasFieldFault};
-ghost use Rattle.kb_fsafile.specs.Reading.{HasRecords, HasLists, HasStrings, HasNumbers, HasCounts, IsFaultOf};
+ghost use Rattle.kb_fsafile.specs.Checks.{needed, optional};
+ghost use Rattle.kb_fsafile.specs.Standing.{name_of};
+ghost use Rattle.kb_fsafile.specs.Faults.{IsFirstOf};
+ghost use Rattle.kb_fsafile.specs.Reading.{HasRecords, HasLists, HasStrings, HasNumbers, HasCounts, IsRefusalOf, IsMemoryOr};
 
 use crate::error::{Field, FsaError};
 use crate::values::string_of;
@@ -20,7 +22,7 @@ use std::alloc::Global;
 pub fn check_once<'a>(alloc: Global, fields: &[(&'a str, Value<'a>)]) -> Result<(), FsaError>
     ensures once { OnOk result
         ((name : List ℕ) → ¬ HasFieldTwice (record_value (fields_view fields.now)) name) }
-    ensures fault { IfErr result (HasFieldFault (fields_view fields.now)) }
+    ensures fault { IfErr result (IsMemoryOr (IsFirstOf (fields_view fields.now))) }
 {
     match repeated_name(alloc, fields)? {
         Some(field) => Err(FsaError::FieldTwice { field }),
@@ -36,7 +38,7 @@ pub fn needed_value<'r, 'a>(
     ensures found { IfOk result
         (λ value. value_of (fields_view fields.now) (name_of field)
         ≡ Some (value_view value.now)) }
-    ensures fault { IfErr result (IsFaultOf field needed (fields_view fields.now)) }
+    ensures fault { IfErr result (IsRefusalOf field needed (fields_view fields.now)) }
 {
     match field_named(fields, field.name()) {
         Some(value) => Ok(value),
@@ -53,7 +55,7 @@ pub fn needed_record<'r, 'a>(
     ensures found { IfOk result
         (λ inner. value_of (fields_view fields.now) (name_of field)
         ≡ Some (record_value (fields_view inner.now.items))) }
-    ensures fault { IfErr result (IsFaultOf field needed (fields_view fields.now)) }
+    ensures fault { IfErr result (IsRefusalOf field needed (fields_view fields.now)) }
 {
     match needed_value(fields, field)? {
         Value::Record(inner) => Ok(inner),
@@ -73,7 +75,7 @@ pub fn needed_list<'r, 'a>(
     ensures listed { IfOk result
         (λ list. HasPlaces (value_view list.0.now) (listed (value_view list.0.now))) }
     ensures counted { IfOk result (λ list. length (listed (value_view list.0.now)) ≡ list.1) }
-    ensures fault { IfErr result (IsFaultOf field needed (fields_view fields.now)) }
+    ensures fault { IfErr result (IsRefusalOf field needed (fields_view fields.now)) }
 {
     let value = needed_value(fields, field)?;
     match value.place_count() {
@@ -88,7 +90,7 @@ pub fn needed_string<'a>(fields: &[(&'a str, Value<'a>)], field: Field) -> Resul
     ensures found { IfOk result
         (λ text. value_of (fields_view fields.now) (name_of field)
         ≡ Some (string_value text.now)) }
-    ensures fault { IfErr result (IsFaultOf field needed (fields_view fields.now)) }
+    ensures fault { IfErr result (IsRefusalOf field needed (fields_view fields.now)) }
 {
     match string_of(needed_value(fields, field)?) {
         Some(text) => Ok(text),
@@ -102,7 +104,7 @@ pub fn needed_number<'a>(fields: &[(&'a str, Value<'a>)], field: Field) -> Resul
     ensures found { IfOk result
         (λ number. value_of (fields_view fields.now) (name_of field)
         ≡ Some (number_value number)) }
-    ensures fault { IfErr result (IsFaultOf field needed (fields_view fields.now)) }
+    ensures fault { IfErr result (IsRefusalOf field needed (fields_view fields.now)) }
 {
     match number_of(needed_value(fields, field)?) {
         Some(number) => Ok(number),
@@ -116,7 +118,7 @@ pub fn needed_count<'a>(fields: &[(&'a str, Value<'a>)], field: Field) -> Result
     ensures found { IfOk result
         (λ count. value_of (fields_view fields.now) (name_of field)
         ≡ Some (count_value count)) }
-    ensures fault { IfErr result (IsFaultOf field needed (fields_view fields.now)) }
+    ensures fault { IfErr result (IsRefusalOf field needed (fields_view fields.now)) }
 {
     match needed_value(fields, field)? {
         Value::Number(number) if *number >= 0 => Ok(*number as u64),
@@ -133,7 +135,7 @@ pub fn optional_string<'a>(
     ensures found { IfOk result
         (λ text. value_of (fields_view fields.now) (name_of field)
         ≡ option_map (λ text. string_value text.now) text) }
-    ensures fault { IfErr result (IsFaultOf field optional (fields_view fields.now)) }
+    ensures fault { IfErr result (IsRefusalOf field optional (fields_view fields.now)) }
 {
     let Some(value) = field_named(fields, field.name()) else {
         return Ok(None);
@@ -153,7 +155,7 @@ pub fn optional_number<'a>(
     ensures found { IfOk result
         (λ number. value_of (fields_view fields.now) (name_of field)
         ≡ option_map number_value number) }
-    ensures fault { IfErr result (IsFaultOf field optional (fields_view fields.now)) }
+    ensures fault { IfErr result (IsRefusalOf field optional (fields_view fields.now)) }
 {
     let Some(value) = field_named(fields, field.name()) else {
         return Ok(None);

@@ -3,7 +3,8 @@
 ghost use Rattle.std.specs.Prelude.{◌≡◌, ◌↔◌, codes, Some, IsTrue, IfErr, OnOk};
 ghost use Rattle.kb_record.specs.View.{value_view};
 ghost use Rattle.kb_fields.specs.Fields.{fields_view, value_of, bare_name};
-ghost use Rattle.kb_fsafile.specs.Faults.{HasFieldFault};
+ghost use Rattle.kb_fsafile.specs.Checks.{order_of, is_fsa_field};
+ghost use Rattle.kb_fsafile.specs.Reading.{IsFirstFrom};
 
 use crate::error::{Field, FsaError};
 use crate::fields::needed_value;
@@ -13,7 +14,8 @@ use kb_record::Value;
 pub fn check_is_fsa<'a>(fields: &[(&'a str, Value<'a>)]) -> Result<(), FsaError>
     ensures ok { OnOk result
         (value_of (fields_view fields.now) (codes "isFSA") ≡ Some (bare_name (codes "true"))) }
-    ensures fault { IfErr result (HasFieldFault (fields_view fields.now)) }
+    ensures fault { IfErr result
+        (IsFirstFrom (order_of is_fsa_field) (fields_view fields.now)) }
 {
     if !is_true(needed_value(fields, Field::IsFsa)?) {
         return Err(FsaError::WrongKind {

@@ -3,7 +3,8 @@
 ghost use Rattle.std.specs.Prelude.{◌≡◌, Some, IfOk, IfErr, length};
 ghost use Rattle.kb_fields.specs.Fields.{fields_view};
 ghost use Rattle.kb_fsafile.specs.Holds.{HoldsStates, HoldsInitial};
-ghost use Rattle.kb_fsafile.specs.Faults.{HasFieldFault};
+ghost use Rattle.kb_fsafile.specs.Checks.{order_of, initial_field};
+ghost use Rattle.kb_fsafile.specs.Reading.{IsFirstFrom};
 
 use crate::error::{Field, FsaError};
 use crate::fields::needed_value;
@@ -20,7 +21,8 @@ pub fn read_initial<'a>(
 ) -> Result<u64, FsaError>
     requires { HoldsStates (fields_view fields.now) count }
     ensures read { IfOk result (HoldsInitial (fields_view fields.now) count) }
-    ensures fault { IfErr result (HasFieldFault (fields_view fields.now)) }
+    ensures fault { IfErr result
+        (IsFirstFrom (order_of initial_field) (fields_view fields.now)) }
 {
     let value = needed_value(fields, Field::Initial)?;
     let Some(numbers) = numbers_listed(alloc, value)? else {

@@ -22,10 +22,13 @@
 //! # The public contract
 //!
 //! [`read`] returns the names and the automaton that the bytes hold (`AutomatonOf` of `specs/Holds.antt`). A
-//! refusal names a fault that the bytes have (`HasFsaFault` of `specs/Faults.antt`). The laws complete that: by
-//! [`an_automaton_file_has_no_fault`] no text is both read and refused, and by [`a_text_says_one_automaton`] a
-//! text is read in one way at most. So, want of memory apart, a text is refused exactly where it has a fault. Which
-//! of several faults is named is tested, and not proved; `docs/formats.md` has the order.
+//! refusal names the first fault that the bytes have (`HasFsaFault` of `specs/Faults.antt`): of those of a text the
+//! one that a check finds before which no check finds any. The checks stand in the order of refusals
+//! (`specs/Checks.antt`): names of fields that stand twice, then field by field, then row by row and entry by entry, and
+//! last the padding of accepted texts. The laws complete that: by [`an_automaton_file_has_no_fault`] no bytes are both
+//! read and refused, by [`an_automaton_file_has_one_fault`] they are refused for one fault at most, and by
+//! [`a_text_says_one_automaton`] they are read in one way at most. So, want of memory apart, the bytes alone say whether
+//! they are refused, and for what.
 //!
 //! # How it is made
 //!
@@ -41,8 +44,10 @@
 //! # Where the definitions and proofs are
 //!
 //! Definitions speak of the tree of the text: in `specs/` the kinds of values in `Kinds`, what a text holds in
-//! `Holds`, what each refusal means in `Faults`; what the functions
-//! for fields and rows return in `Reading` and `RowsRead`. In `proofs/`, `UniqueAutomaton` and `NoFault` have the laws.
+//! `Holds`, the order of the checks in `Checks`, where fields stand in `Standing`, and what each check finds in
+//! `Faults`; what the functions for fields and rows return in `Reading` and `RowsRead`. In `proofs/`, `CheckLemmas` has
+//! that of two checks one comes first, `FirstLemmas`, `Refused` and `RowFaults` that what a function refuses is the first
+//! fault, `NoFault` that checks find nothing in what is read, and `OneFault` and `UniqueAutomaton` the laws.
 //!
 //! Below are `kb_record` (trees), `kb_fields` (fields), `kb_fsa` (automata) and `kb_padding` (moves that no
 //! padded text takes).
@@ -63,5 +68,8 @@ mod table;
 mod values;
 
 pub use error::{Field, FsaError};
-pub use laws::{a_text_says_one_automaton, an_automaton_file_has_no_fault};
+pub use laws::{
+    a_text_says_one_automaton, an_automaton_file_has_no_fault, an_automaton_file_has_one_fault,
+    fields_of_automata_have_one_fault,
+};
 pub use reader::read;

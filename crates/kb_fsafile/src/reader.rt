@@ -9,7 +9,10 @@ ghost use Rattle.kb_fsa.specs.Language.{IsAutomaton, generators};
 ghost use Rattle.kb_fsa.specs.Table.{IsTable, HasSymbols};
 ghost use Rattle.kb_padding.specs.Misplaced.{IsCleaned};
 ghost use Rattle.kb_fsafile.specs.Holds.{AutomatonOf};
-ghost use Rattle.kb_fsafile.specs.Faults.{HasSize, HasFieldFault, HasFsaFault};
+ghost use Rattle.kb_fsafile.specs.Checks.{order_of, states_field};
+ghost use Rattle.kb_fsafile.specs.Standing.{HasSize};
+ghost use Rattle.kb_fsafile.specs.Faults.{IsFirstOf, HasFsaFault};
+ghost use Rattle.kb_fsafile.specs.Reading.{IsMemoryOr, IsFirstFrom};
 ghost use Rattle.kb_fsafile.specs.RowsRead.{HasTable, HasLetteredTable, TableOf, most_symbols, IsCleaningFault};
 
 use crate::accepting::read_accepting;
@@ -28,9 +31,9 @@ use std::alloc::Global;
 
 /// Reads an automaton file: the names of the letters, and the automaton.
 ///
-/// The bytes are a text of a record with the fields that the head of the crate lists. A refusal names a fault that
-/// they have, and bytes that say an automaton have none: so bytes are refused exactly where they have a fault, or
-/// memory runs out. Of several faults the one comes that stands first in the order at the head of the crate.
+/// The bytes are a text of a record with the fields that the head of the crate lists. A refusal names the first fault
+/// that they have, in the order of the checks, and bytes that say an automaton have none: so bytes are refused exactly
+/// where they have a fault, or memory runs out.
 pub fn read(alloc: Global, bytes: &[u8]) -> Result<(Names, Fsa), FsaError>
     ensures read { IfOk result (λ found. AutomatonOf bytes.now found.0 found.1) }
     ensures fault { IfErr result (HasFsaFault bytes.now) }
@@ -66,7 +69,7 @@ fn lettered_table<'a>(
     ensures read { IfOk result
         (λ found. HasLetteredTable (fields_view fields.now) found.0.names
         found.0.alphabet found.1) }
-    ensures fault { IfErr result (HasFieldFault (fields_view fields.now)) }
+    ensures fault { IfErr result (IsMemoryOr (IsFirstOf (fields_view fields.now))) }
 {
     check_once(alloc, fields)?;
     check_is_fsa(fields)?;
@@ -83,7 +86,8 @@ fn read_table<'a>(
 ) -> Result<Table, FsaError>
     requires { HasSize (fields_view fields.now) size }
     ensures read { IfOk result (HasTable (fields_view fields.now) size) }
-    ensures fault { IfErr result (HasFieldFault (fields_view fields.now)) }
+    ensures fault { IfErr result
+        (IsFirstFrom (order_of states_field) (fields_view fields.now)) }
 {
     let count = count_states(fields)?;
     let initial = read_initial(alloc, fields, count)?;

@@ -9,7 +9,7 @@ ghost use Rattle.kb_record.specs.Listed.{place_view};
 ghost use Rattle.kb_fsa.specs.Table.{Ascends};
 ghost use Rattle.kb_fsafile.specs.Kinds.{list_of_numbers, IsNumberOf, IsTargetOf};
 ghost use Rattle.kb_fsafile.specs.RowsRead.{moves_among, IsRowAt, AreRowTargets, HasEntries, IsSparseRow};
-ghost use Rattle.kb_fsafile.specs.RowsRead.{IsFaultOfRow, IsFaultOfTargets, IsFaultOfEntries};
+ghost use Rattle.kb_fsafile.specs.RowsRead.{IsFirstOfRow, IsFirstOfTargets, IsFirstOfEntries};
 ghost use Rattle.kb_fsafile.specs.declared.format.Format.TheVariants.{Dense, Sparse};
 ghost use Rattle.kb_fsafile.specs.declared.error.Field.TheVariants.{Transitions};
 ghost use Rattle.kb_fsafile.specs.declared.error.FsaError.TheVariants.{WrongKind};
@@ -33,7 +33,7 @@ pub fn read_row(
     count: u32,
 ) -> Result<Row, FsaError>
     ensures read { IfOk result (IsRowAt size count format (place_view place.entry)) }
-    ensures fault { IfErr result (IsFaultOfRow format size count (place_view place.entry)) }
+    ensures fault { IfErr result (IsFirstOfRow format size count (place_view place.entry)) }
 {
     match format {
         Format::Dense => read_dense_row(alloc, place, size, count),
@@ -58,7 +58,7 @@ fn read_dense_row(
     count: u32,
 ) -> Result<Row, FsaError>
     ensures read { IfOk result (IsRowAt size count Dense (place_view place.entry)) }
-    ensures fault { IfErr result (IsFaultOfRow Dense size count (place_view place.entry)) }
+    ensures fault { IfErr result (IsFirstOfRow Dense size count (place_view place.entry)) }
 {
     match place {
         Place::Numbers(numbers) => whole_row(alloc, numbers, size, count),
@@ -71,7 +71,7 @@ fn read_dense_row(
 /// The row of a value that lists a target for each symbol.
 fn listed_row<'a>(alloc: Global, value: &Value<'a>, size: u32, count: u32) -> Result<Row, FsaError>
     ensures read { IfOk result (IsRowAt size count Dense (Some (value_view value.now))) }
-    ensures fault { IfErr result (IsFaultOfRow Dense size count (Some (value_view value.now))) }
+    ensures fault { IfErr result (IsFirstOfRow Dense size count (Some (value_view value.now))) }
 {
     let Some(numbers) = numbers_listed(alloc, value)? else {
         return Err(no_row());
@@ -87,7 +87,7 @@ fn row_without_targets(
     count: u32,
 ) -> Result<Row, FsaError>
     ensures read { IfOk result (IsRowAt size count Dense (entries_place entries.now)) }
-    ensures fault { IfErr result (IsFaultOfRow Dense size count (entries_place entries.now)) }
+    ensures fault { IfErr result (IsFirstOfRow Dense size count (entries_place entries.now)) }
 {
     if !entries.is_empty() {
         return Err(no_row());
@@ -99,7 +99,7 @@ fn row_without_targets(
 fn whole_row(alloc: Global, numbers: &[i64], size: u32, count: u32) -> Result<Row, FsaError>
     ensures read { IfOk result
         (IsRowAt size count Dense (Some (list_value (list_of_numbers numbers.now)))) }
-    ensures fault { IfErr result (IsFaultOfTargets size count numbers.now) }
+    ensures fault { IfErr result (IsFirstOfTargets size count numbers.now) }
 {
     if numbers.len() != size as usize {
         return Err(FsaError::StatesWrong);
@@ -111,7 +111,7 @@ fn whole_row(alloc: Global, numbers: &[i64], size: u32, count: u32) -> Result<Ro
 fn dense_row(alloc: Global, numbers: &[i64], size: u32, count: u32) -> Result<Row, FsaError>
     requires { length numbers.now ≡ size }
     ensures read { IfOk result (AreRowTargets count numbers.now) }
-    ensures fault { IfErr result (IsFaultOfTargets size count numbers.now) }
+    ensures fault { IfErr result (IsFirstOfTargets size count numbers.now) }
 {
     let room = numbers.iter().filter(|number| **number != 0).count();
     let mut moves = Vec::with_capacity(alloc, room)?;
@@ -145,7 +145,7 @@ fn read_sparse_row(
     count: u32,
 ) -> Result<Row, FsaError>
     ensures read { IfOk result (IsRowAt size count Sparse (place_view place.entry)) }
-    ensures fault { IfErr result (IsFaultOfRow Sparse size count (place_view place.entry)) }
+    ensures fault { IfErr result (IsFirstOfRow Sparse size count (place_view place.entry)) }
 {
     match place {
         Place::Entries(entries) => sparse_row(alloc, entries, size, count),
@@ -163,7 +163,7 @@ fn listed_sparse_row<'a>(
     count: u32,
 ) -> Result<Row, FsaError>
     ensures read { IfOk result (IsRowAt size count Sparse (Some (value_view value.now))) }
-    ensures fault { IfErr result (IsFaultOfRow Sparse size count (Some (value_view value.now))) }
+    ensures fault { IfErr result (IsFirstOfRow Sparse size count (Some (value_view value.now))) }
 {
     let Some(entries) = entries_listed(alloc, value)? else {
         return Err(no_row());
@@ -179,7 +179,7 @@ fn row_without_entries(
     count: u32,
 ) -> Result<Row, FsaError>
     ensures read { IfOk result (IsRowAt size count Sparse (row_place numbers.now)) }
-    ensures fault { IfErr result (IsFaultOfRow Sparse size count (row_place numbers.now)) }
+    ensures fault { IfErr result (IsFirstOfRow Sparse size count (row_place numbers.now)) }
 {
     if !numbers.is_empty() {
         return Err(no_row());
@@ -190,7 +190,7 @@ fn row_without_entries(
 /// The row with these entries.
 fn sparse_row(alloc: Global, pairs: &[(i64, i64)], size: u32, count: u32) -> Result<Row, FsaError>
     ensures read { IfOk result (IsSparseRow size count pairs.now) }
-    ensures fault { IfErr result (IsFaultOfEntries size count pairs.now) }
+    ensures fault { IfErr result (IsFirstOfEntries size count pairs.now) }
 {
     match ascending_row(alloc, pairs, size, count)? {
         Some(row) => Ok(row),
@@ -206,7 +206,7 @@ fn ascending_row(
     count: u32,
 ) -> Result<Option<Row>, FsaError>
     ensures read { IfOk result (λ row. IfSome row (IsSparseRow size count pairs.now)) }
-    ensures fault { IfErr result (IsFaultOfEntries size count pairs.now) }
+    ensures fault { IfErr result (IsFirstOfEntries size count pairs.now) }
 {
     let mut moves = Vec::with_capacity(alloc, pairs.len())?;
     let mut last = 0;
@@ -239,7 +239,7 @@ fn entry_within(pair: &(i64, i64), size: u32, count: u32) -> Option<(u32, u32)>
 /// The row with these entries, whatever the order of their symbols is.
 fn sorted_row(alloc: Global, pairs: &[(i64, i64)], size: u32, count: u32) -> Result<Row, FsaError>
     ensures read { IfOk result (IsSparseRow size count pairs.now) }
-    ensures fault { IfErr result (IsFaultOfEntries size count pairs.now) }
+    ensures fault { IfErr result (IsFirstOfEntries size count pairs.now) }
 {
     let entries = by_symbol(alloc, pairs, size, count)?;
     Ok(row_of(alloc, &entries)?)
@@ -253,7 +253,7 @@ fn by_symbol(
     count: u32,
 ) -> Result<BTreeMap<u32, u32>, FsaError>
     ensures read { IfOk result (HasEntries size count pairs.now) }
-    ensures fault { IfErr result (IsFaultOfEntries size count pairs.now) }
+    ensures fault { IfErr result (IsFirstOfEntries size count pairs.now) }
 {
     let mut entries = BTreeMap::new(alloc);
     for pair in pairs {

@@ -3,7 +3,8 @@
 ghost use Rattle.std.specs.Prelude.{IfOk, IfErr};
 ghost use Rattle.kb_fields.specs.Fields.{fields_view};
 ghost use Rattle.kb_fsafile.specs.Holds.{HoldsStates};
-ghost use Rattle.kb_fsafile.specs.Faults.{HasFieldFault};
+ghost use Rattle.kb_fsafile.specs.Checks.{order_of, states_field};
+ghost use Rattle.kb_fsafile.specs.Reading.{IsFirstFrom};
 
 use crate::error::{Field, FsaError};
 use crate::fields::{needed_count, needed_record, needed_string};
@@ -12,7 +13,8 @@ use kb_record::Value;
 /// How many states the file says that there are, which may be more than it has rows.
 pub fn count_states<'a>(fields: &[(&'a str, Value<'a>)]) -> Result<u64, FsaError>
     ensures read { IfOk result (HoldsStates (fields_view fields.now)) }
-    ensures fault { IfErr result (HasFieldFault (fields_view fields.now)) }
+    ensures fault { IfErr result
+        (IsFirstFrom (order_of states_field) (fields_view fields.now)) }
 {
     let states = needed_record(fields, Field::States)?.as_slice();
     match needed_string(states, Field::Type)? {

@@ -5,9 +5,10 @@ ghost use Rattle.kb_record.specs.View.{value_view, places_of};
 ghost use Rattle.kb_record.specs.Listed.{listed};
 ghost use Rattle.kb_fields.specs.Fields.{fields_view, value_of};
 ghost use Rattle.kb_fsafile.specs.Holds.{HoldsString, HasNoDefault, HoldsStates, format_name};
-ghost use Rattle.kb_fsafile.specs.Faults.{HasSize, HasFieldFault};
-ghost use Rattle.kb_fsafile.specs.Reading.{IsFaultOfTable};
-ghost use Rattle.kb_fsafile.specs.RowsRead.{HasRows, AreRowsAt, IsFaultOfRows};
+ghost use Rattle.kb_fsafile.specs.Checks.{order_of, table_field, default_field, table_format_field};
+ghost use Rattle.kb_fsafile.specs.Standing.{HasSize};
+ghost use Rattle.kb_fsafile.specs.Reading.{IsFirstFrom, IsFirstOfTable};
+ghost use Rattle.kb_fsafile.specs.RowsRead.{HasRows, AreRowsAt, IsFirstOfRows};
 
 use crate::error::{Field, FsaError};
 use crate::fields::{needed_list, needed_record, needed_string, optional_number};
@@ -27,7 +28,8 @@ pub fn read_rows<'a>(
     requires sized { HasSize (fields_view fields.now) size }
     requires counted { HoldsStates (fields_view fields.now) count }
     ensures read { IfOk result (λ rows. HasRows (fields_view fields.now) size count rows.items) }
-    ensures fault { IfErr result (HasFieldFault (fields_view fields.now)) }
+    ensures fault { IfErr result
+        (IsFirstFrom (order_of table_field) (fields_view fields.now)) }
 {
     let table = needed_record(fields, Field::Table)?.as_slice();
     check_default(table)?;
@@ -46,7 +48,8 @@ pub fn read_rows<'a>(
 fn check_default<'a>(table: &[(&'a str, Value<'a>)]) -> Result<(), FsaError>
     ensures ok { OnOk result
         (HasNoDefault (value_of (fields_view table.now) (codes "defaultTarget"))) }
-    ensures fault { IfErr result (IsFaultOfTable (fields_view table.now)) }
+    ensures fault { IfErr result
+        (IsFirstOfTable (order_of default_field) (fields_view table.now)) }
 {
     let Some(target) = optional_number(table, Field::DefaultTarget)? else {
         return Ok(());
@@ -61,7 +64,8 @@ fn check_default<'a>(table: &[(&'a str, Value<'a>)]) -> Result<(), FsaError>
 fn read_format<'a>(table: &[(&'a str, Value<'a>)]) -> Result<Format, FsaError>
     ensures named { IfOk result
         (λ format. HoldsString (fields_view table.now) (codes "format") (format_name format)) }
-    ensures fault { IfErr result (IsFaultOfTable (fields_view table.now)) }
+    ensures fault { IfErr result
+        (IsFirstOfTable (order_of table_format_field) (fields_view table.now)) }
 {
     match Format::named(needed_string(table, Field::Format)?) {
         Some(format) => Ok(format),
@@ -82,7 +86,7 @@ fn rows_listed<'a>(
         (λ rows. AreRowsAt size count format
         (places_of (listed (value_view list.now))) rows.items) }
     ensures fault { IfErr result
-        (IsFaultOfRows format size count (places_of (listed (value_view list.now)))) }
+        (IsFirstOfRows format size count (places_of (listed (value_view list.now)))) }
 {
     let mut rows = Vec::with_capacity(alloc, count as usize)?;
     for place in 0..count as usize {

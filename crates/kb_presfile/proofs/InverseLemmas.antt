@@ -3,9 +3,12 @@ use Rattle.std.proofs.Common.{◌≡◌, ◌≢◌, ℕ, zero, suc, ◌+◌, ◌
 use Rattle.std.specs.Cmp.Lexicographic.{pointwise}
 use Rattle.std.proofs.lemmas.Option.{slice_get_within}
 use Rattle.kb_word.specs.Relations.{inverse_letter}
+use Rattle.kb_fields.specs.FirstFaults.{IsFirstFault}
 use Rattle.kb_record.specs.Meaning.{letter_from}
 use Rattle.kb_presfile.specs.Holds.{place_at, StandFor}
 use Rattle.kb_presfile.specs.Faults.{IsNotMutual, IsOneSided}
+use Rattle.kb_presfile.specs.declared.error.PresError.{PresError}
+use Rattle.kb_presfile.specs.declared.error.PresError.TheVariants as errors
 
 pub same_text : {a b : List ℕ} → Some a ≡ Some b → a ≡ b
 same_text e = cc
@@ -40,20 +43,22 @@ pub inverse_is : (inverses : List (Option ℕ)) (k y : ℕ) → slice_get invers
 inverse_is inverses k y e = ap (option_and_then (λ inverse. inverse)) e
 
 -- a generator whose inverse doesn't have it as its inverse, as the places say
-pub not_mutual : (names : List (List ℕ)) (places : List (Option (List ℕ))) (inverses : List (Option ℕ)) (name : List ℕ)
-    → StandFor names places inverses → IsOneSided names inverses name → IsNotMutual names places name
-not_mutual names places inverses name stand sided = at_place (place_at places sided.k) refl
+pub not_mutual : (names : List (List ℕ)) (places : List (Option (List ℕ))) (inverses : List (Option ℕ)) (k : ℕ) (name : List ℕ)
+    → StandFor names places inverses → IsOneSided names inverses k name → IsNotMutual names places k (errors.InverseNotMutual name)
+not_mutual names places inverses k name stand sided = at_place (place_at places k) refl
   where
-    within : sided.k < length names
-    within = slice_get_within names sided.k name sided.is_name
+    within : k < length names
+    within = slice_get_within names k name sided.is_name
 
-    stands : slice_get inverses sided.k ≡ Some (Some sided.y)
-    stands = inverse_read inverses sided.k sided.y sided.inverse
+    stands : slice_get inverses k ≡ Some (Some sided.y)
+    stands = inverse_read inverses k sided.y sided.inverse
 
-    at_letter : (inverse : List ℕ) (x y : ℕ) → place_at places sided.k ≡ Some inverse → letter_from 1 names inverse ≡ Some x → x ≡ y → inverse_letter inverses y ≢ Some (suc sided.k) → IsNotMutual names places name
+    at_letter : (inverse : List ℕ) (x y : ℕ) → place_at places k ≡ Some inverse → letter_from 1 names inverse ≡ Some x → x ≡ y → inverse_letter inverses y ≢ Some (suc k)
+        → IsNotMutual names places k (errors.InverseNotMutual name)
     at_letter inverse x zero at letter same not_back = absurd (omega (arith, same, (letter_within 1 names inverse x letter).0))
     at_letter inverse x (suc y) at letter same not_back = record {
-      k = sided.k;
+      name = name;
+      refused = refl;
       is_name = sided.is_name;
       inverse = inverse;
       y = y;
@@ -62,13 +67,49 @@ not_mutual names places inverses name stand sided = at_place (place_at places si
       not_back = λ back at_y is_k.
           let inside : y < length names = omega (arith, same, (letter_within 1 names inverse x letter).1) in
           let found = stand.some y back at_y inside in
-          not_back (inverse_is inverses y (suc sided.k) (found.2 ∙ ap Some (sym found.1 ∙ is_k)));
+          not_back (inverse_is inverses y (suc k) (found.2 ∙ ap Some (sym found.1 ∙ is_k)));
     }
 
-    at_name : (inverse : List ℕ) → place_at places sided.k ≡ Some inverse
-        → (x : ℕ) × (letter_from 1 names inverse ≡ Some x) × (slice_get inverses sided.k ≡ Some (Some x)) → IsNotMutual names places name
+    at_name : (inverse : List ℕ) → place_at places k ≡ Some inverse
+        → (x : ℕ) × (letter_from 1 names inverse ≡ Some x) × (slice_get inverses k ≡ Some (Some x)) → IsNotMutual names places k (errors.InverseNotMutual name)
     at_name inverse at found = at_letter inverse found.0 sided.y at found.1 (twice_some (sym found.2 ∙ stands)) sided.not_back
 
-    at_place : (o : Option (List ℕ)) → place_at places sided.k ≡ o → IsNotMutual names places name
-    at_place None at = absurd (twice_none (sym (stand.empty sided.k within at) ∙ stands))
-    at_place (Some inverse) at = at_name inverse at (stand.some sided.k inverse at within)
+    at_place : (o : Option (List ℕ)) → place_at places k ≡ o → IsNotMutual names places k (errors.InverseNotMutual name)
+    at_place None at = absurd (twice_none (sym (stand.empty k within at) ∙ stands))
+    at_place (Some inverse) at = at_name inverse at (stand.some k inverse at within)
+
+-- the same the other way round, as the letters say
+pub one_sided : (names : List (List ℕ)) (places : List (Option (List ℕ))) (inverses : List (Option ℕ)) (k : ℕ) (error : PresError)
+    → StandFor names places inverses → (fault : IsNotMutual names places k error) → IsOneSided names inverses k fault.name
+one_sided names places inverses k error stand fault = record {
+  y = suc fault.y;
+  is_name = fault.is_name;
+  inverse = at_letter (stand.some k fault.inverse fault.at_k within);
+  not_back = λ back. at_place (place_at places fault.y) refl (inverse_read inverses fault.y (suc k) back);
+}
+  where
+    within : k < length names
+    within = slice_get_within names k fault.name fault.is_name
+
+    inside : fault.y < length names
+    inside = let bounds = letter_within 1 names fault.inverse (suc fault.y) fault.is_y in omega (arith, bounds.1)
+
+    at_letter : (x : ℕ) × (letter_from 1 names fault.inverse ≡ Some x) × (slice_get inverses k ≡ Some (Some x)) → inverse_letter inverses (suc k) ≡ Some (suc fault.y)
+    at_letter x = inverse_is inverses k (suc fault.y) (x.2 ∙ ap Some (sym x.1 ∙ fault.is_y))
+
+    at_place : (o : Option (List ℕ)) → place_at places fault.y ≡ o → slice_get inverses fault.y ≡ Some (Some (suc k)) → ⊥
+    at_place None at is = let never = sym (stand.empty fault.y inside at) ∙ is in cc
+    at_place (Some back) at is =
+        let x = stand.some fault.y back at inside in
+        let same : x.0 ≡ suc k = twice_some (sym x.2 ∙ is) in
+        fault.not_back back at (x.1 ∙ ap Some same)
+
+-- the first such generator
+pub first_not_mutual : (names : List (List ℕ)) (places : List (Option (List ℕ))) (inverses : List (Option ℕ)) (name : List ℕ)
+    → StandFor names places inverses → IsFirstFault ◌<◌ (IsOneSided names inverses) name
+    → IsFirstFault ◌<◌ (IsNotMutual names places) (errors.InverseNotMutual name)
+first_not_mutual names places inverses name stand fault = record {
+  check = fault.check;
+  found = not_mutual names places inverses fault.check name stand fault.found;
+  first = λ k other before found. fault.first k found.name before (one_sided names places inverses k other stand found);
+}

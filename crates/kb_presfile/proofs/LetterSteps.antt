@@ -1,9 +1,13 @@
 -- Letters of names, place by place.
 use Rattle.std.proofs.Common.{◌≡◌, ℕ, zero, suc, ◌+◌, ◌⊎◌, inl, inr, ◌<◌, List, [], ◌∷◌, ◌++◌, length, slice_get, get_or, Option, Some, None, IsSome, IsNone, refl, sym, ap, subst, ◌∙◌, arith}
+use Rattle.std.proofs.lemmas.Bool.{false≢true}
 use Rattle.std.proofs.lemmas.List.{length-append}
 use Rattle.std.proofs.lemmas.Option.{slice_get-get_or}
 use Rattle.kb_record.specs.Meaning.{letter_from}
+use Rattle.kb_fields.specs.FirstFaults.{IsFirstFault}
 use Rattle.kb_presfile.specs.Holds.{place_at, StandFor}
+use Rattle.kb_presfile.specs.Faults.{PlaceIsUnknown}
+use Rattle.kb_presfile.specs.declared.error.PresError.{PresError}
 
 -- the letter is that of the name at the place
 pub record IsLetterOf (names : List (List ℕ)) (place : Option (List ℕ)) (letter : Option ℕ) : Type 0 where
@@ -62,3 +66,25 @@ all_stand names places letters n whole first = record {
     empty : (k : ℕ) (letter : Option ℕ) → slice_get letters k ≡ Some letter → IsNone letter → slice_get letters k ≡ Some None
     empty k None is none = is
     empty k (Some x) is none = cc
+
+-- none of the first places has an unknown name
+pub none_unknown_yet : (names : List (List ℕ)) (places : List (Option (List ℕ))) (letters : List (Option ℕ)) (n k : ℕ) (error : PresError)
+    → StandForFirst names places letters n → k < n → PlaceIsUnknown names places k error → ⊥
+none_unknown_yet names places letters n k error first before fault =
+    is_none (get_or letters k None) ((first.each k (get_or letters k None) here).some fault.name fault.stands)
+  where
+    here : slice_get letters k ≡ Some (get_or letters k None)
+    here = let inside : k < length letters = omega (arith, first.count, before) in slice_get-get_or letters k None inside
+
+    is_none : (letter : Option ℕ) → IsSome letter × (letter_from 1 names fault.name ≡ letter) → ⊥
+    is_none None given = false≢true given.0
+    is_none (Some x) given = let never = sym given.1 ∙ fault.unknown in cc
+
+-- the first place with an unknown name
+pub first_unknown : (names : List (List ℕ)) (places : List (Option (List ℕ))) (letters : List (Option ℕ)) (n : ℕ) (error : PresError)
+    → StandForFirst names places letters n → PlaceIsUnknown names places n error → IsFirstFault ◌<◌ (PlaceIsUnknown names places) error
+first_unknown names places letters n error first fault = record {
+  check = n;
+  found = fault;
+  first = λ k other before found. none_unknown_yet names places letters n k other first before found;
+}

@@ -1,7 +1,12 @@
+pub mod CheckLemmas
+pub mod EquationFaults
 pub mod EquationLemmas
+pub mod FaultLemmas
+pub mod FreeLemmas
 pub mod InverseLemmas
 pub mod LetterSteps
 pub mod NoFault
+pub mod OneFault
 pub mod OverLemmas
 pub mod PlaceLemmas
 pub mod UniqueParts

@@ -1,4 +1,5 @@
 pub mod Kinds
 pub mod Holds
+pub mod Checks
 pub mod Faults
 pub mod Refusals

@@ -1,11 +1,14 @@
 //! The field `equations`: pairs of words that are equal.
 
-ghost use Rattle.std.specs.Prelude.{◌≡◌, length, IfOk, IfErr};
+ghost use Rattle.std.specs.Prelude.{◌≡◌, ◌<◌, length, IfOk, IfErr};
 ghost use Rattle.kb_record.specs.View.{value_view, places_of};
 ghost use Rattle.kb_record.specs.Listed.{listed, place_view};
 ghost use Rattle.kb_fields.specs.Fields.{fields_view};
+ghost use Rattle.kb_fields.specs.FirstFaults.{IsFirstFault};
 ghost use Rattle.kb_presfile.specs.Holds.{HasNames, HasInverses, HasEquations, AreEquations, IsEquation};
-ghost use Rattle.kb_presfile.specs.Faults.{PlaceHasFault, PlacesOfEquationsHaveFault, HasFieldFault};
+ghost use Rattle.kb_presfile.specs.Checks.{is_there};
+ghost use Rattle.kb_presfile.specs.Faults.{IsMemoryOr, PlaceHasFault, HasFaultAt, IsFirstFrom};
+ghost use Rattle.kb_presfile.specs.declared.error.Field.TheVariants as kinds;
 
 use crate::error::{Field, PresError};
 use crate::fields::needed;
@@ -28,7 +31,8 @@ pub fn read_equations<'a>(
         presentation.now.inv }
     ensures read { IfOk result
         (HasEquations (fields_view fields.now) presentation.now.names presentation.now.inv) }
-    ensures fault { IfErr result (HasFieldFault (fields_view fields.now)) }
+    ensures fault { IfErr result
+        (IsFirstFrom (fields_view fields.now) (is_there kinds.Equations)) }
 {
     let list = needed(fields, Field::Equations)?;
     let Some(count) = list.place_count() else {
@@ -54,8 +58,9 @@ fn equations_in<'a>(
         (AreEquations presentation.now.names presentation.now.inv
         (places_of (listed (value_view list.now)))) }
     ensures fault { IfErr result
-        (PlacesOfEquationsHaveFault presentation.now.names presentation.now.inv
-        (places_of (listed (value_view list.now)))) }
+        (IsMemoryOr (IsFirstFault ◌<◌
+        (HasFaultAt presentation.now.names presentation.now.inv
+        (places_of (listed (value_view list.now)))))) }
 {
     let mut equations = Vec::with_capacity(alloc, count)?;
     for place in 0..count {
@@ -73,7 +78,8 @@ fn equation_at(
     ensures read { IfOk result
         (IsEquation presentation.now.names presentation.now.inv (place_view place.entry)) }
     ensures fault { IfErr result
-        (PlaceHasFault presentation.now.names presentation.now.inv (place_view place.entry)) }
+        (IsMemoryOr
+        (PlaceHasFault presentation.now.names presentation.now.inv (place_view place.entry))) }
 {
     let Some((left, right)) = sides_at(place) else {
         return Err(PresError::WrongKind {

@@ -4,7 +4,8 @@ ghost use Rattle.std.specs.Prelude.{◌≡◌, ℕ, List, Some, IfOk, IfErr, OnO
 ghost use Rattle.kb_record.specs.Tree.{record_value};
 ghost use Rattle.kb_record.specs.View.{value_view};
 ghost use Rattle.kb_fields.specs.Fields.{fields_view, value_of, HasFieldTwice};
-ghost use Rattle.kb_presfile.specs.Faults.{name_of, IsNeeded, HasFieldFault};
+ghost use Rattle.kb_presfile.specs.Checks.{is_there};
+ghost use Rattle.kb_presfile.specs.Faults.{name_of, IsNeeded, IsMemoryOr, IsFirstOf, IsFirstFrom};
 
 use crate::error::{Field, PresError};
 use kb_fields::{field_named, repeated_name};
@@ -19,7 +20,7 @@ pub fn needed<'r, 'a>(
     requires { IsNeeded (fields_view fields.now) field }
     ensures found { IfOk result
         (λ value. value_of (fields_view fields.now) (name_of field) ≡ Some (value_view value.now)) }
-    ensures fault { IfErr result (HasFieldFault (fields_view fields.now)) }
+    ensures fault { IfErr result (IsFirstFrom (fields_view fields.now) (is_there field)) }
 {
     match field_named(fields, field.name()) {
         Some(value) => Ok(value),
@@ -31,7 +32,7 @@ pub fn needed<'r, 'a>(
 pub fn check_once<'a>(alloc: Global, fields: &[(&'a str, Value<'a>)]) -> Result<(), PresError>
     ensures once { OnOk result
         ((name : List ℕ) → ¬ HasFieldTwice (record_value (fields_view fields.now)) name) }
-    ensures fault { IfErr result (HasFieldFault (fields_view fields.now)) }
+    ensures fault { IfErr result (IsMemoryOr (IsFirstOf (fields_view fields.now))) }
 {
     match repeated_name(alloc, fields)? {
         Some(field) => Err(PresError::FieldTwice { field }),

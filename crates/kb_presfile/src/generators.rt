@@ -4,7 +4,9 @@ ghost use Rattle.std.specs.Prelude.{IfOk, IfErr};
 ghost use Rattle.kb_fields.specs.Fields.{fields_view};
 ghost use Rattle.kb_fields.specs.Generators.{AreGeneratorNames};
 ghost use Rattle.kb_presfile.specs.Holds.{HasNames};
-ghost use Rattle.kb_presfile.specs.Faults.{HasFieldFault};
+ghost use Rattle.kb_presfile.specs.Checks.{is_there};
+ghost use Rattle.kb_presfile.specs.Faults.{IsFirstFrom};
+ghost use Rattle.kb_presfile.specs.declared.error.Field.TheVariants as kinds;
 
 use crate::error::{Field, PresError};
 use crate::fields::needed;
@@ -17,7 +19,8 @@ use std::alloc::Global;
 pub fn read_names<'a>(alloc: Global, fields: &[(&'a str, Value<'a>)]) -> Result<Names, PresError>
     ensures named { IfOk result (HasNames (fields_view fields.now)) }
     ensures names { IfOk result AreGeneratorNames }
-    ensures fault { IfErr result (HasFieldFault (fields_view fields.now)) }
+    ensures fault { IfErr result
+        (IsFirstFrom (fields_view fields.now) (is_there kinds.GeneratorOrder)) }
 {
     let value = needed(fields, Field::GeneratorOrder)?;
     Ok(names_of(alloc, value)?)

@@ -2,7 +2,9 @@
 
 ghost use Rattle.std.specs.Prelude.{◌≡◌, codes, Some, IfErr, OnOk};
 ghost use Rattle.kb_fields.specs.Fields.{fields_view, value_of, bare_name};
-ghost use Rattle.kb_presfile.specs.Faults.{HasFieldFault};
+ghost use Rattle.kb_presfile.specs.Checks.{is_there, is_of_kind};
+ghost use Rattle.kb_presfile.specs.Faults.{IsFirstFrom};
+ghost use Rattle.kb_presfile.specs.declared.error.Field.TheVariants as kinds;
 
 use crate::error::{Field, PresError};
 use crate::fields::needed;
@@ -12,7 +14,8 @@ use kb_record::Value;
 pub fn check_is_rws<'a>(fields: &[(&'a str, Value<'a>)]) -> Result<(), PresError>
     ensures ok { OnOk result
         (value_of (fields_view fields.now) (codes "isRWS") ≡ Some (bare_name (codes "true"))) }
-    ensures fault { IfErr result (HasFieldFault (fields_view fields.now)) }
+    ensures fault { IfErr result
+        (IsFirstFrom (fields_view fields.now) (is_there kinds.IsRws)) }
 {
     let value = needed(fields, Field::IsRws)?;
     match kb_fields::bare_name(value) {

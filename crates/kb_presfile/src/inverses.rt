@@ -1,12 +1,15 @@
 //! The field `inverses`: the generators' inverses.
 
-ghost use Rattle.std.specs.Prelude.{◌≡◌, ◌≢◌, ◌↔◌, ◌⊎◌, ◌≤◌, ℕ, List, map, length, codes, IsTrue, IsSome, IsNone, IfOk, IfErr, IfSome, IfNone, Option, Some, None};
+ghost use Rattle.std.specs.Prelude.{◌≡◌, ◌≢◌, ◌↔◌, ◌⊎◌, ◌≤◌, ◌<◌, ℕ, List, map, length, codes, IsTrue, IsSome, IsNone, IfOk, IfErr, IfSome, IfNone, Option, Some, None};
 ghost use Rattle.std.specs.Option.{option_copied};
 ghost use Rattle.kb_word.specs.Relations.{inverse_letter};
 ghost use Rattle.kb_record.specs.Meaning.{letter_from};
 ghost use Rattle.kb_fields.specs.Fields.{fields_view, value_of};
 ghost use Rattle.kb_presfile.specs.Holds.{HasNames, HasInverses, place_at, HoldsPlaces, StandFor, AreMutual, GivesInverses};
-ghost use Rattle.kb_presfile.specs.Faults.{PlacesHaveFault, IsOneSided, HasFieldFault};
+ghost use Rattle.kb_fields.specs.FirstFaults.{IsFirstFault};
+ghost use Rattle.kb_presfile.specs.Checks.{is_there, is_of_kind};
+ghost use Rattle.kb_presfile.specs.Faults.{IsMemoryOr, PlaceIsUnknown, PlacesHaveFault, IsOneSided, IsFirstFrom};
+ghost use Rattle.kb_presfile.specs.declared.error.Field.TheVariants as kinds;
 
 use crate::error::{Field, PresError};
 use crate::values::places_listed;
@@ -23,7 +26,8 @@ pub fn read_inverses<'a>(
 ) -> Result<Inverses, PresError>
     requires { HasNames (fields_view fields.now) names.now }
     ensures read { IfOk result (HasInverses (fields_view fields.now) names.now) }
-    ensures fault { IfErr result (HasFieldFault (fields_view fields.now)) }
+    ensures fault { IfErr result
+        (IsFirstFrom (fields_view fields.now) (is_of_kind kinds.Inverses)) }
 {
     let places = read_places(alloc, fields, names)?;
     inverses_at(alloc, places.as_slice(), names)
@@ -42,7 +46,8 @@ fn read_places<'a>(
     ensures none_past { IfOk result
         (λ places. (k : ℕ) → length names.now ≤ k
         → place_at (map option_copied places.items) k ≡ None) }
-    ensures fault { IfErr result (HasFieldFault (fields_view fields.now)) }
+    ensures fault { IfErr result
+        (IsFirstFrom (fields_view fields.now) (is_of_kind kinds.Inverses)) }
 {
     let Some(value) = field_named(fields, "inverses") else {
         return Ok(Vec::new(alloc));
@@ -77,7 +82,8 @@ fn none_past(places: &[Option<&str>], count: usize) -> bool
 fn inverses_at(alloc: Global, places: &[Option<&str>], names: &Names) -> Result<Inverses, PresError>
     requires { (k : ℕ) → length names.now ≤ k → place_at (map option_copied places.now) k ≡ None }
     ensures read { IfOk result (GivesInverses names.now (map option_copied places.now)) }
-    ensures fault { IfErr result (PlacesHaveFault names.now (map option_copied places.now)) }
+    ensures fault { IfErr result
+        (IsMemoryOr (PlacesHaveFault names.now (map option_copied places.now))) }
 {
     let inverses = Inverses::from_vec(letters_at(alloc, places, names)?);
     match first_one_sided(&inverses, names) {
@@ -96,7 +102,8 @@ fn letters_at(
 ) -> Result<Vec<Option<Letter>>, PresError>
     ensures read { IfOk result
         (λ letters. StandFor names.now (map option_copied places.now) letters.items) }
-    ensures fault { IfErr result (PlacesHaveFault names.now (map option_copied places.now)) }
+    ensures fault { IfErr result
+        (IsMemoryOr (IsFirstFault ◌<◌ (PlaceIsUnknown names.now (map option_copied places.now)))) }
 {
     let mut letters = Vec::with_capacity(alloc, names.len())?;
     for place in 0..names.len() {
@@ -115,7 +122,8 @@ fn letter_at(
     ensures empty { place_at (map option_copied places.now) place ≡ None → IfOk result IsNone }
     ensures some { (name : List ℕ) → place_at (map option_copied places.now) place ≡ Some name
         → IfOk result (λ letter. IsSome letter × (letter_from 1 names.now name ≡ letter)) }
-    ensures fault { IfErr result (PlacesHaveFault names.now (map option_copied places.now)) }
+    ensures fault { IfErr result
+        (IsMemoryOr (PlaceIsUnknown names.now (map option_copied places.now) place)) }
 {
     let Some(name) = name_at(places, place) else {
         return Ok(None);
@@ -138,7 +146,8 @@ fn name_at<'a>(places: &[Option<&'a str>], place: usize) -> Option<&'a str>
 /// The name of the first generator whose inverse hasn't it as its inverse.
 fn first_one_sided<'r>(inverses: &Inverses, names: &'r Names) -> Option<&'r str>
     requires { length inverses.now ≡ length names.now }
-    ensures found { IfSome result (λ name. IsOneSided names.now inverses.now name.now) }
+    ensures found { IfSome result
+        (λ name. IsFirstFault ◌<◌ (IsOneSided names.now inverses.now) name.now) }
     ensures none { IfNone result (AreMutual inverses.now) }
 {
     for place in 0..names.len() {

@@ -17,13 +17,13 @@
 //!
 //! [`read`] answers the presentation that the bytes say (`PresentationOf` of `specs/Holds.antt`): the names in
 //! the order of the letters, the inverses as letters, and each equation as the two words that its sides mean.
-//! A refusal names a fault that the bytes have (`HasPresFault` of `specs/Faults.antt`). The laws complete that:
-//! by [`a_presentation_file_has_no_fault`] no text is both read and refused, and by
-//! [`a_text_says_one_presentation`] a text is read in one way at most. So, want of memory apart, a text is
-//! refused exactly where it has a fault.
-//!
-//! A text may have several faults. Which of them is named, and at which place, no clause says: whole runs show
-//! the order that `docs/formats.md` has. Each step of it is a function of its own, called in that order.
+//! A refusal names the first fault that the bytes have (`HasPresFault` of `specs/Faults.antt`): of those of a text the
+//! one that a check finds before which no check finds any. The checks stand in the order of refusals
+//! (`specs/Checks.antt`): names of fields that stand twice, then field by field, and within them place by place, generator
+//! by generator, equation by equation. The laws complete that: by [`a_presentation_file_has_no_fault`] no bytes are both
+//! read and refused, by [`a_presentation_file_has_one_fault`] they are refused for one fault at most, and by
+//! [`a_text_says_one_presentation`] they are read in one way at most. So, want of memory apart, the bytes alone say
+//! whether they are refused, and for what.
 //!
 //! # How it is made
 //!
@@ -35,18 +35,21 @@
 //!
 //! Definitions speak of the tree of the text (`specs/Tree.antt` of `kb_record`) and of its fields and names of
 //! generators (`specs/` of `kb_fields`): `specs/Kinds.antt` of the kinds of values, `specs/Holds.antt` of what a
-//! text says, and `specs/Faults.antt` of what each refusal means. Where a field's name stands twice, "the value of
-//! the field" is that of the first.
+//! text says, `specs/Checks.antt` of the order of checks, and `specs/Faults.antt` of what each check finds. Where a
+//! field's name stands twice, "the value of the field" is that of the first.
 //!
 //! # Where the proofs are
 //!
+//! - `proofs/CheckLemmas.antt`: the order of the checks, and the first fault by steps.
+//! - `proofs/NoFault.antt`, `proofs/FreeLemmas.antt`: which checks find nothing where a field is read.
+//! - `proofs/FaultLemmas.antt`, `proofs/EquationFaults.antt`, `proofs/RefusalLemmas.antt`: what each function refuses is
+//!   the first fault.
+//! - `proofs/OneFault.antt`, `proofs/UniqueParts.antt`: a text's fields, and bytes, have one fault at most, or say one
+//!   presentation.
 //! - `proofs/PlaceLemmas.antt`, `proofs/InverseLemmas.antt`, `proofs/LetterSteps.antt`: names at places, their
 //!   letters, and whether those are mutual.
-//! - `proofs/EquationLemmas.antt`: faults of sides, of equations and of lists of equations.
-//! - `proofs/OverLemmas.antt`: the letters of a word's meaning are generators.
-//! - `proofs/WeightLemmas.antt`: numbers that are weights.
-//! - `proofs/RefusalLemmas.antt`: what lower crates refuse is a fault of the file.
-//! - `proofs/UniqueParts.antt`, `proofs/NoFault.antt`: a text's fields say one presentation, which has no fault.
+//! - `proofs/EquationLemmas.antt`, `proofs/OverLemmas.antt`, `proofs/WeightLemmas.antt`: lists of equations, letters of
+//!   words that are generators, and numbers that are weights.
 //!
 //! Below are `kb_fields`, which looks up fields and reads names of generators, `kb_record`, which reads trees
 //! and evaluates words, and `kb_word`, whose presentations are the answers.
@@ -65,6 +68,7 @@ mod values;
 
 pub use error::{Field, PresError};
 pub use laws::{
-    a_presentation_file_has_no_fault, a_presentation_has_no_fault, a_text_says_one_presentation,
+    a_presentation_file_has_no_fault, a_presentation_file_has_one_fault,
+    a_presentation_has_no_fault, a_text_says_one_presentation, fields_have_one_fault,
 };
 pub use reader::read;

@@ -4,11 +4,14 @@ ghost use Rattle.std.specs.Prelude.{◌≡◌, ◌≢◌, ℕ, List, pos, IfOk, 
 ghost use Rattle.kb_word.specs.Weights.{IsWeight};
 ghost use Rattle.kb_fields.specs.Fields.{fields_view};
 ghost use Rattle.kb_presfile.specs.Holds.{IsOrdering, AreWeights, HasWeights, HasOrder, HasNames};
-ghost use Rattle.kb_presfile.specs.Faults.{HasFieldFault};
+ghost use Rattle.kb_presfile.specs.Checks.{is_there, is_of_kind};
+ghost use Rattle.kb_presfile.specs.Faults.{IsFirstFrom};
+ghost use Rattle.kb_presfile.specs.declared.error.Field.TheVariants as kinds;
 ghost use Rattle.kb_presfile.specs.declared.order.Ordering.TheVariants as orderings;
 
 use crate::error::{Field, PresError};
 use crate::fields::needed;
+use crate::values::string_of;
 use kb_fields::{field_named, numbers_listed};
 use kb_record::Value;
 use kb_word::{Memory, Names, WordOrder, WtLex};
@@ -29,17 +32,24 @@ pub enum Ordering {
 /// The ordering that the file names. Another one is refused.
 pub fn read_ordering<'a>(fields: &[(&'a str, Value<'a>)]) -> Result<Ordering, PresError>
     ensures read { IfOk result (IsOrdering (fields_view fields.now)) }
-    ensures fault { IfErr result (HasFieldFault (fields_view fields.now)) }
+    ensures fault { IfErr result
+        (IsFirstFrom (fields_view fields.now) (is_of_kind kinds.Ordering)) }
 {
-    match field_named(fields, "ordering") {
-        None => Ok(Ordering::ShortLex),
-        Some(Value::String(text)) if *text == "shortlex" => Ok(Ordering::ShortLex),
-        Some(Value::String(text)) if *text == "wtlex" => Ok(Ordering::WtLex),
-        Some(Value::String(_)) => Err(PresError::OtherOrdering),
-        Some(_) => Err(PresError::WrongKind {
+    let Some(value) = field_named(fields, "ordering") else {
+        return Ok(Ordering::ShortLex);
+    };
+    let Some(text) = string_of(value) else {
+        return Err(PresError::WrongKind {
             field: Field::Ordering,
-        }),
+        });
+    };
+    if text == "shortlex" {
+        return Ok(Ordering::ShortLex);
     }
+    if text == "wtlex" {
+        return Ok(Ordering::WtLex);
+    }
+    Err(PresError::OtherOrdering)
 }
 
 /// The order of words of a file that names this ordering. By weight there is a weight for each generator.
@@ -52,7 +62,8 @@ pub fn read_order<'a>(
     requires ordering { IsOrdering (fields_view fields.now) ordering }
     requires named { HasNames (fields_view fields.now) names.now }
     ensures read { IfOk result (HasOrder (fields_view fields.now) names.now) }
-    ensures fault { IfErr result (HasFieldFault (fields_view fields.now)) }
+    ensures fault { IfErr result
+        (IsFirstFrom (fields_view fields.now) (is_there kinds.Weight)) }
 {
     match ordering {
         Ordering::ShortLex => Ok(WordOrder::ShortLex),
@@ -69,7 +80,8 @@ fn read_weights<'a>(
     requires ordering { IsOrdering (fields_view fields.now) orderings.WtLex }
     requires named { HasNames (fields_view fields.now) names.now }
     ensures read { IfOk result (HasWeights (fields_view fields.now) names.now) }
-    ensures fault { IfErr result (HasFieldFault (fields_view fields.now)) }
+    ensures fault { IfErr result
+        (IsFirstFrom (fields_view fields.now) (is_there kinds.Weight)) }
 {
     let Some(numbers) = numbers_listed(alloc, needed(fields, Field::Weight)?)? else {
         return Err(PresError::WrongKind {

@@ -4,7 +4,7 @@ ghost use Rattle.std.specs.Prelude.{IfOk, IfErr};
 ghost use Rattle.kb_fields.specs.Fields.{fields_view};
 ghost use Rattle.kb_word.specs.Presentations.{parts_of};
 ghost use Rattle.kb_presfile.specs.Holds.{HoldsPresentation, PresentationOf};
-ghost use Rattle.kb_presfile.specs.Faults.{HasFieldFault, HasPresFault};
+ghost use Rattle.kb_presfile.specs.Faults.{IsMemoryOr, IsFirstOf, HasPresFault};
 
 use crate::equations::read_equations;
 use crate::error::PresError;
@@ -19,10 +19,10 @@ use std::alloc::Global;
 
 /// Reads a presentation file.
 ///
-/// The bytes are a text of a record with the fields that the head of the crate lists. A refusal names a fault
-/// that they have, and bytes that say a presentation have none
+/// The bytes are a text of a record with the fields that the head of the crate lists. A refusal names the first fault
+/// that they have, in the order of refusals, and bytes that say a presentation have none
 /// ([`a_presentation_file_has_no_fault`](crate::a_presentation_file_has_no_fault)): so bytes are refused exactly
-/// where they have a fault, or memory runs out. No clause says which of several faults is named.
+/// where they have a fault, or memory runs out.
 pub fn read(alloc: Global, bytes: &[u8]) -> Result<Presentation, PresError>
     ensures read { IfOk result (λ presentation. PresentationOf bytes.now (parts_of presentation)) }
     ensures fault { IfErr result (HasPresFault bytes.now) }
@@ -38,7 +38,7 @@ fn presentation_of<'a>(
 ) -> Result<Presentation, PresError>
     ensures read { IfOk result
         (λ presentation. HoldsPresentation (fields_view fields.now) (parts_of presentation)) }
-    ensures fault { IfErr result (HasFieldFault (fields_view fields.now)) }
+    ensures fault { IfErr result (IsMemoryOr (IsFirstOf (fields_view fields.now))) }
 {
     check_once(alloc, fields)?;
     check_is_rws(fields)?;

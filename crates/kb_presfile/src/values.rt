@@ -2,7 +2,7 @@
 
 ghost use Rattle.std.specs.Prelude.{◌≡◌, ◌≢◌, ℕ, List, map, Option, Some, MatchOption, IfOk, IfSome, IfNone};
 ghost use Rattle.std.specs.Option.{option_copied, option_map};
-ghost use Rattle.kb_record.specs.Tree.{Factors, list_value, word_value};
+ghost use Rattle.kb_record.specs.Tree.{Factors, string_value, list_value, word_value};
 ghost use Rattle.kb_record.specs.View.{value_view, word_view};
 ghost use Rattle.kb_record.specs.Listed.{place_view};
 ghost use Rattle.kb_fields.specs.Fields as fields;
@@ -12,6 +12,17 @@ use kb_fields::bare_name;
 use kb_record::{Expr, Place, Value};
 use kb_word::Memory;
 use std::alloc::Global;
+
+/// The text of a value that is a string.
+pub fn string_of<'r, 'a>(value: &'r Value<'a>) -> Option<&'r str>
+    ensures found { IfSome result (λ text. value_view value.now ≡ string_value text.now) }
+    ensures none { IfNone result ((text : List ℕ) → value_view value.now ≢ string_value text) }
+{
+    match value {
+        Value::String(text) => Some(text),
+        _ => None,
+    }
+}
 
 /// The names at the places of a value that is a list of Names and empty places.
 pub fn places_listed<'a>(

@@ -4,6 +4,7 @@ pub mod EquationLemmas
 mod InverseLemmas
 pub mod LoadEnds
 pub mod LoadLemmas
+mod OneReason
 pub mod RunLemmas
 pub mod StopLemmas
 pub mod StoredLogs

@@ -12,7 +12,10 @@
 //!
 //! - `status` is how a run ends, with its exit status and its messages.
 //! - `loading` loads files, and the presentations, automata and logs that they hold. By [`stored_logs_are_read`] the
-//!   log of a completion that is stored beside its presentation can be read (`specs/StoredLogs.antt`). `storing` stores
+//!   log of a completion that is stored beside its presentation can be read (`specs/StoredLogs.antt`). By the laws
+//!   (`laws`) a file is refused for one reason at most: [`a_presentation_is_refused_for_one_reason`],
+//!   [`a_group_is_refused_for_one_reason`], [`an_automaton_is_refused_for_one_reason`],
+//!   [`a_second_automaton_is_refused_for_one_reason`]. `storing` stores
 //!   files, and an automaton in its canonical form; `lines` prints the line of an answer, and `stopping` is how a run
 //!   ends where the word lines stop.
 //! - `arguments` is what commands take of the command line in the same way.
@@ -21,6 +24,7 @@
 #![tactic(auto)]
 
 mod arguments;
+mod laws;
 mod lines;
 mod loading;
 mod status;
@@ -31,6 +35,10 @@ mod task;
 pub use arguments::{
     NumberOption, length_argument, length_given, needed_argument, number_given, number_option,
     option_given, text_given,
+};
+pub use laws::{
+    a_group_is_refused_for_one_reason, a_presentation_is_refused_for_one_reason,
+    a_second_automaton_is_refused_for_one_reason, an_automaton_is_refused_for_one_reason,
 };
 pub use lines::{print_limit, print_line, undecided_line, undecided_words_line};
 pub use loading::automata::{

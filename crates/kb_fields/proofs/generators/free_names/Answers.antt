@@ -1,17 +1,20 @@
-use Rattle.std.proofs.Common.{◌<◌, ℕ, List, map, length, sym, subst, arith}
+use Rattle.std.proofs.Common.{◌<◌, ◌≤◌, ℕ, List, map, length, sym, subst, arith}
 use Rattle.std.specs.Borrow.{Bor}
-use Rattle.kb_fields.specs.Generators.{AreGeneratorNames, IsTaken}
-use Rattle.kb_fields.proofs.TakenLemmas.{one_name_more, room_for_one, taken_at, texts_more}
+use Rattle.std.proofs.lemmas.List.{length-map}
+use Rattle.kb_fields.specs.Generators.{most_generators, AreGeneratorNames, IsFirstTaken}
+use Rattle.kb_fields.proofs.TakenLemmas.{first_taken, one_name_more, room_for_one, texts_more}
 use Rattle.kb_fields.proofs.generators.free_names.Goals as goal
 
 pub returns-then-not-branch-clause-fault : goal.returns-then-not-branch-clause-fault
 returns-then-not-branch-clause-fault c = λ value listed.
     let texts = map (λ (name : Bor (List ℕ)). name.now) c.args.listed.now in
     let within : c.loop-name.name-index < length c.args.listed.now = omega arith in
-    let taken = taken_at c.args.listed.now c.loop-name.name-index _ within c.loop-name.names c.loop-name.invariant.0
+    let taken = first_taken c.args.listed.now c.loop-name.name-index _ within c.loop-name.names c.loop-name.invariant.0 c.loop-name.invariant.1
     (c.in_ok-push_free.ensures.taken c.if-not-branch.true) in
-    let Q : List ℕ → Type 0 = λ name. IsTaken texts name in
-    (texts, listed, subst Q (sym c.in_ok-from_str.ensures) taken)
+    let count = length-map c.args.listed.now (λ (name : Bor (List ℕ)). name.now) in
+    let few : length texts ≤ most_generators = omega (arith, count, c.requires) in
+    let Q : List ℕ → Type 0 = λ name. IsFirstTaken texts name in
+    (texts, listed, few, subst Q (sym c.in_ok-from_str.ensures) taken)
 
 pub loop-name-preserved : goal.loop-name-preserved
 loop-name-preserved c =

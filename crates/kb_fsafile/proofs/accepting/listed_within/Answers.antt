@@ -2,22 +2,18 @@ use Rattle.std.proofs.Common.{◌+◌, ◌<◌, List, take, ℕ, ℤ, pos, lengt
 use Rattle.std.proofs.lemmas.Int.{to_z-of_z}
 use Rattle.std.proofs.lemmas.List.{take_all, get_or_default}
 use Rattle.std.proofs.lemmas.List.Elements.{Contains-get_or}
-use Rattle.kb_record.specs.Tree.{list_value}
-use Rattle.kb_fsafile.specs.Kinds.{list_of_numbers}
 use Rattle.kb_fsafile.specs.Reading.{AreStates}
-use Rattle.kb_fsafile.specs.Faults.{HasOutOfRange}
 use Rattle.kb_fsafile.proofs.NumberLemmas.{states_more, whole_list}
 use Rattle.kb_fsafile.proofs.accepting.listed_within.Goals as goal
 
 pub returns-in_default-clause-fault : goal.returns-in_default-clause-fault
-returns-in_default-clause-fault c = λ given counted holds.
+returns-in_default-clause-fault c =
     let numbers = c.args.numbers.now in
     let z = get_or numbers c.loop-number.number-index (pos 0) in
     let fits : SFits w64 (get_or c.args.numbers.now c.loop-number.number-index (pos 0)) = search rules in
     let none = simp to_z-of_z at c.in_default.ensures.none in
     let within : c.loop-number.number-index < length c.args.numbers.now = omega arith in
-    HasOutOfRange.accepting_state c.args.count (list_value (list_of_numbers numbers)) z counted holds
-    (numbers, refl, Contains-get_or numbers c.loop-number.number-index (pos 0) within) none
+    (refl, z, (numbers, refl, Contains-get_or numbers c.loop-number.number-index (pos 0) within), none)
 
 pub loop-number-preserved : goal.loop-number-preserved
 loop-number-preserved c =

@@ -1,7 +1,5 @@
-use Rattle.std.proofs.Common.{arith}
+use Rattle.std.proofs.Common.{refl, arith}
 use Rattle.std.proofs.lemmas.Int.{ints, to_z-of_z}
-use Rattle.kb_record.specs.Tree.{range_value}
-use Rattle.kb_fsafile.specs.Faults.{HasOutOfRange}
 use Rattle.kb_fsafile.proofs.NumberLemmas.{empty_range, whole_range}
 use Rattle.kb_fsafile.proofs.accepting.range_within.Goals as goal
 
@@ -12,18 +10,18 @@ returns-then-from-to-clause-read c =
     empty_range c.args.count c.args.from c.args.to (λ z low high. grind (arith, ints))
 
 pub returns-in_default-clause-fault : goal.returns-in_default-clause-fault
-returns-in_default-clause-fault c = λ given counted holds.
+returns-in_default-clause-fault c =
     let f = c.ranges.from in let t = c.ranges.to in
     let none = simp to_z-of_z at c.in_default.ensures.none in
     let upto = simp to_z-of_z at c.if-from-to.false in
-    HasOutOfRange.accepting_state c.args.count (range_value c.args.from c.args.to) c.args.from counted holds (omega (arith, ints), grind (arith, ints)) none
+    (refl, c.args.from, (omega (arith, ints), grind (arith, ints)), none)
 
 pub returns-in-None-clause-fault : goal.returns-in-None-clause-fault
-returns-in-None-clause-fault c = λ given counted holds.
+returns-in-None-clause-fault c =
     let f = c.ranges.from in let t = c.ranges.to in
     let none = simp to_z-of_z at c.in-None.ensures.none in
     let upto = simp to_z-of_z at c.if-from-to.false in
-    HasOutOfRange.accepting_state c.args.count (range_value c.args.from c.args.to) c.args.to counted holds (grind (arith, ints), omega (arith, ints)) none
+    (refl, c.args.to, (grind (arith, ints), omega (arith, ints)), none)
 
 pub returns-in-Some-number_within-clause-read : goal.returns-in-Some-number_within-clause-read
 returns-in-Some-number_within-clause-read c =

@@ -1,8 +1,10 @@
 use Rattle.std.proofs.lemmas.Result.{err_from_is_err_and}
-use Rattle.kb_fsafile.specs.Faults.{names_field}
+use Rattle.kb_fields.specs.Fields.{fields_view}
+use Rattle.kb_fsafile.specs.Checks.{names_field}
+use Rattle.kb_fsafile.proofs.FirstLemmas.{refused}
 use Rattle.kb_fsafile.proofs.alphabet.read_names.Goals as goal
 
 pub returns-in_err-value-clause-fault : goal.returns-in_err-value-clause-fault
 returns-in_err-value-clause-fault c =
     let p = err_from_is_err_and c.from_residual.result c.from_residual.ensures.1 in
-    rw (p.1, p.2) (λ given has. c.in_err-value.ensures.fault given (names_field has))
+    rw (p.1, p.2) (λ given has. refused given names_field (fields_view c.args.letters.now) has _ c.in_err-value.ensures.fault)

@@ -7,8 +7,10 @@ use Rattle.kb_fields.specs.Fields.{fields_view}
 use Rattle.kb_fsa.specs.declared.alphabet.Alphabet.TheVariants.{Pair}
 use Rattle.kb_record.specs.Tree.{Fields}
 use Rattle.kb_fsafile.specs.Holds.{HoldsRecord, HoldsString, pairs}
-use Rattle.kb_fsafile.specs.Faults.{of_pairs, IsAlphabetOf, HasNamesOf}
+use Rattle.kb_fsafile.specs.Standing.{of_pairs, IsAlphabetOf, HasNamesOf}
+use Rattle.kb_fsafile.specs.Reading.{IsFreeBefore}
 use Rattle.kb_fsafile.proofs.FieldFaults.{record_seen, base_of}
+use Rattle.kb_fsafile.proofs.NoFault.{arity_passed, base_passed, base_type_passed, names_passed, names_size_passed, pairs_size_passed}
 use Rattle.kb_fsafile.proofs.alphabet.read_pairs.Goals.{After-as_slice-base}
 use Rattle.kb_fsafile.proofs.alphabet.read_pairs.Goals as goal
 
@@ -25,31 +27,58 @@ typed c =
 has_names : (c : After-as_slice-base) (given : Fields) → IsAlphabetOf given (fields_view c.args.letters.now) (codes "product") → HasNamesOf given (fields_view c.as_slice-base.result.now)
 has_names c given is = of_pairs (base_of given _ _ is (is_base c)) (typed c)
 
+until_names : (c : After-as_slice-base) (given : Fields) → IsAlphabetOf given (fields_view c.args.letters.now) (codes "product") → IsFreeBefore given 4 → IsFreeBefore given 7
+until_names c given is free =
+    let letters = fields_view c.args.letters.now in
+    let base = fields_view c.as_slice-base.result.now in
+    base_type_passed given base (base_of given _ _ is (is_base c)) (typed c) (base_passed given letters base is (is_base c) (arity_passed given letters is c.in_ok-check_arity.ensures.ok free))
+
+pub returns-in_err-read_base-clause-fault : goal.returns-in_err-read_base-clause-fault
+returns-in_err-read_base-clause-fault c =
+    let p = err_from_is_err_and c.from_residual-in_err-read_base.result c.from_residual-in_err-read_base.ensures.1 in
+    rw (p.1, p.2) (λ given is free.
+    c.in_err-read_base.ensures.fault given is (arity_passed given (fields_view c.args.letters.now) is c.in_ok-check_arity.ensures.ok free))
+
 pub returns-in_err-names-clause-fault : goal.returns-in_err-names-clause-fault
 returns-in_err-names-clause-fault c =
     let p = err_from_is_err_and c.from_residual-in_err-names.result c.from_residual-in_err-names.ensures.1 in
-    rw (p.1, p.2) (λ given is. c.in_err-names.ensures.fault given (has_names (goal.at.returns-in_err-names-clause-fault c).After-as_slice-base given is))
+    rw (p.1, p.2) (λ given is free.
+    let at = (goal.at.returns-in_err-names-clause-fault c).After-as_slice-base in
+    c.in_err-names.ensures.fault given (has_names at given is) (until_names at given is free))
 
 pub returns-in_err-check_size-clause-fault : goal.returns-in_err-check_size-clause-fault
 returns-in_err-check_size-clause-fault c =
     let p = err_from_is_err_and c.from_residual-in_err-check_size.result c.from_residual-in_err-check_size.ensures.1 in
-    rw (p.1, p.2) (λ given is. c.in_err-check_size.ensures.fault given (has_names (goal.at.returns-in_err-check_size-clause-fault c).After-as_slice-base given is))
-
-pub returns-in_err-check_format-clause-fault : goal.returns-in_err-check_format-clause-fault
-returns-in_err-check_format-clause-fault c =
-    let p = err_from_is_err_and c.from_residual-in_err-check_format.result c.from_residual-in_err-check_format.ensures.1 in
-    rw (p.1, p.2) (λ given is. c.in_err-check_format.ensures.fault given (has_names (goal.at.returns-in_err-check_format-clause-fault c).After-as_slice-base given is))
+    rw (p.1, p.2) (λ given is free.
+    let at = (goal.at.returns-in_err-check_size-clause-fault c).After-as_slice-base in
+    let base = fields_view c.as_slice-base.result.now in
+    let has = has_names at given is in
+    c.in_err-check_size.ensures.fault given has (names_passed given base c.in_ok-names.names has c.in_ok-names.ensures.listed c.in_ok-names.ensures.free (until_names at given is free)))
 
 pub returns-in_err-size-clause-fault : goal.returns-in_err-size-clause-fault
 returns-in_err-size-clause-fault c =
     let p = err_from_is_err_and c.from_residual-in_err-size.result c.from_residual-in_err-size.ensures.1 in
-    rw (p.1, p.2) (λ given is.
-    c.in_err-size.ensures.fault given is
-    (record {
-      letters = fields_view c.as_slice-base.result.now;
-      has_names = has_names (goal.at.returns-in_err-size-clause-fault c).After-as_slice-base given is;
-      listed = c.in_ok-names.ensures.listed;
-    }))
+    rw (p.1, p.2) (λ given is free.
+    let at = (goal.at.returns-in_err-size-clause-fault c).After-as_slice-base in
+    let base = fields_view c.as_slice-base.result.now in
+    let has = has_names at given is in
+    c.in_err-size.ensures.fault given is (record { letters = fields_view c.as_slice-base.result.now; has_names = has; listed = c.in_ok-names.ensures.listed })
+    (names_size_passed given base c.in_ok-names.names has c.in_ok-names.ensures.listed c.in_ok-check_size.ensures.ok
+    (names_passed given base c.in_ok-names.names has c.in_ok-names.ensures.listed c.in_ok-names.ensures.free (until_names at given is free))))
+
+pub returns-in_err-check_format-clause-fault : goal.returns-in_err-check_format-clause-fault
+returns-in_err-check_format-clause-fault c =
+    let p = err_from_is_err_and c.from_residual-in_err-check_format.result c.from_residual-in_err-check_format.ensures.1 in
+    rw (p.1, p.2) (λ given is free.
+    let at = (goal.at.returns-in_err-check_format-clause-fault c).After-as_slice-base in
+    let base = fields_view c.as_slice-base.result.now in
+    let has = has_names at given is in
+    let before = names_size_passed given base c.in_ok-names.names has c.in_ok-names.ensures.listed c.in_ok-check_size.ensures.ok
+    (names_passed given base c.in_ok-names.names has c.in_ok-names.ensures.listed c.in_ok-names.ensures.free (until_names at given is free)) in
+    c.in_err-check_format.ensures.fault given has
+    (pairs_size_passed given (fields_view c.args.letters.now) c.in_ok-names.names c.in_ok-size.size is
+    (record { letters = fields_view c.as_slice-base.result.now; has_names = has; listed = c.in_ok-names.ensures.listed })
+    c.in_ok-size.ensures.sized c.in_ok-size.ensures.right before))
 
 pub returns-clause-read : goal.returns-clause-read
 returns-clause-read c =

@@ -1,20 +1,21 @@
-use Rattle.std.proofs.Common.{sym, ◌∙◌}
+use Rattle.std.proofs.Common.{refl, sym, ◌∙◌}
 use Rattle.std.proofs.lemmas.Bool.{false≢true}
 use Rattle.kb_record.specs.View.{value_view}
 use Rattle.std.proofs.lemmas.Result.{err_from_is_err_and}
 use Rattle.kb_fields.specs.Fields.{fields_view}
-use Rattle.kb_fsafile.specs.Faults.{needed, is_fsa_field}
+use Rattle.kb_fsafile.specs.Checks.{is_fsa_field}
 use Rattle.kb_fsafile.specs.declared.error.Field.TheVariants as kinds
-use Rattle.kb_fsafile.proofs.FieldFaults.{wrong_kind}
+use Rattle.kb_fsafile.specs.declared.error.FsaError.TheVariants as errors
+use Rattle.kb_fsafile.proofs.FirstLemmas.{refused}
 use Rattle.kb_fsafile.proofs.header.check_is_fsa.Goals as goal
 
 pub returns-in_err-needed_value-clause-fault : goal.returns-in_err-needed_value-clause-fault
 returns-in_err-needed_value-clause-fault c =
     let p = err_from_is_err_and c.from_residual.result c.from_residual.ensures.1 in
-    rw (p.1, p.2) (c.in_err-needed_value.ensures.fault (fields_view c.args.fields.now) is_fsa_field)
+    rw (p.1, p.2) (refused (fields_view c.args.fields.now) is_fsa_field (fields_view c.args.fields.now) refl _ c.in_err-needed_value.ensures.fault)
 
 pub returns-then-not-is_true-clause-fault : goal.returns-then-not-is_true-clause-fault
 returns-then-not-is_true-clause-fault c =
     let given = fields_view c.args.fields.now in
-    wrong_kind given given kinds.IsFsa needed (value_view c.in_ok-needed_value.field-0.now) is_fsa_field c.in_ok-needed_value.ensures.found
-    (λ kind. false≢true (sym c.if-not-is_true.true ∙ c.is_true.ensures.1 kind))
+    refused given is_fsa_field given refl (errors.WrongKind kinds.IsFsa)
+    (refl, value_view c.in_ok-needed_value.field-0.now, c.in_ok-needed_value.ensures.found, λ kind. false≢true (sym c.if-not-is_true.true ∙ c.is_true.ensures.1 kind))

@@ -1,5 +1,5 @@
 use Rattle.std.proofs.lemmas.Result.{err_from_is_err_and}
-use Rattle.kb_fsafile.proofs.TextLemmas.{table_fault}
+use Rattle.kb_fsafile.proofs.OneFault.{table_fault}
 use Rattle.kb_fsafile.proofs.reader.read.Goals as goal
 
 pub returns-in_err-table-clause-fault : goal.returns-in_err-table-clause-fault

@@ -1,5 +1,7 @@
 use Rattle.std.proofs.Common.{◌≡◌, length, sym, subst, arith}
+use Rattle.std.proofs.lemmas.Result.{err_from_is_err_and}
 use Rattle.kb_fsa.specs.Table.{Table}
+use Rattle.kb_fsafile.proofs.NoFault.{states_passed, initial_passed, accepting_passed}
 use Rattle.kb_fields.specs.Fields.{fields_view}
 use Rattle.kb_fsafile.specs.RowsRead.{HasTable}
 use Rattle.kb_fsafile.proofs.NumberLemmas.{among_within}
@@ -22,6 +24,28 @@ answers-requires c = λ state among.
     let has = c.in_ok-accepting.ensures.read in
     let bounds = among_within c.in_ok-count.count has.value c.in_ok-accepting.accepting has.stands state among in
     (bounds.0, omega (arith, bounds.1, c.in_ok-rows.ensures.read.one_each, c.in_ok-rows.rows.ok, c.len.ensures))
+
+pub returns-in_err-initial-clause-fault : goal.returns-in_err-initial-clause-fault
+returns-in_err-initial-clause-fault c =
+    let p = err_from_is_err_and c.from_residual-in_err-initial.result c.from_residual-in_err-initial.ensures.1 in
+    rw (p.1, p.2) (λ free. let given = fields_view c.args.fields.now in c.in_err-initial.ensures.fault (states_passed given c.in_ok-count.count c.in_ok-count.ensures.read free))
+
+pub returns-in_err-accepting-clause-fault : goal.returns-in_err-accepting-clause-fault
+returns-in_err-accepting-clause-fault c =
+    let p = err_from_is_err_and c.from_residual-in_err-accepting.result c.from_residual-in_err-accepting.ensures.1 in
+    rw (p.1, p.2) (λ free.
+    let given = fields_view c.args.fields.now in
+    c.in_err-accepting.ensures.fault (initial_passed given c.in_ok-count.count c.in_ok-count.ensures.read c.in_ok-initial.initial c.in_ok-initial.ensures.read (states_passed given c.in_ok-count.count c.in_ok-count.ensures.read free)))
+
+pub returns-in_err-rows-clause-fault : goal.returns-in_err-rows-clause-fault
+returns-in_err-rows-clause-fault c =
+    let p = err_from_is_err_and c.from_residual-in_err-rows.result c.from_residual-in_err-rows.ensures.1 in
+    rw (p.1, p.2) (λ free.
+    let given = fields_view c.args.fields.now in
+    let has = c.in_ok-accepting.ensures.read in
+    c.in_err-rows.ensures.fault
+    (accepting_passed given c.in_ok-count.count c.in_ok-count.ensures.read has.value has.holds has.stands.kind has.stands.within
+    (initial_passed given c.in_ok-count.count c.in_ok-count.ensures.read c.in_ok-initial.initial c.in_ok-initial.ensures.read (states_passed given c.in_ok-count.count c.in_ok-count.ensures.read free))))
 
 pub returns-clause-read : goal.returns-clause-read
 returns-clause-read c =

@@ -1,19 +1,21 @@
-use Rattle.std.proofs.Common.{ℤ, List, pos, ◌<◌, length, get_or, sym, subst, arith}
+use Rattle.std.proofs.Common.{ℤ, List, pos, ◌<◌, length, get_or, refl, sym, subst, arith}
 use Rattle.std.proofs.lemmas.List.{take_all, get_or_default}
-use Rattle.std.proofs.lemmas.List.Elements.{Contains-get_or}
+use Rattle.std.proofs.lemmas.Option.{slice_get-get_or}
 use Rattle.kb_fsa.specs.Table.{Moves}
-use Rattle.kb_fsafile.specs.Faults.{HasOutOfRange}
+use Rattle.kb_fsafile.specs.declared.error.FsaError.TheVariants as errors
+use Rattle.kb_fsafile.proofs.RowFaults.{sparse_outside}
 use Rattle.kb_fsafile.specs.RowsRead.{IsSparseRow, AreAscendingEntries}
 use Rattle.kb_fsafile.proofs.RowLemmas.{ascending_more, ascending_is_row, ascending_row_is}
 use Rattle.kb_fsafile.proofs.rows.ascending_row.Goals as goal
 
 pub returns-in_default-clause-fault : goal.returns-in_default-clause-fault
-returns-in_default-clause-fault c = λ given at.
+returns-in_default-clause-fault c =
     let pairs = c.args.pairs.now in
     let pair = get_or pairs c.loop-pair.pair-index (pos 0, pos 0) in
     let within : c.loop-pair.pair-index < length c.args.pairs.now = omega arith in
-    HasOutOfRange.row_entry c.args.count c.args.size at.places at.k pairs pair.0 pair.1 at.counted at.sized at.listed at.stands
-    (Contains-get_or pairs c.loop-pair.pair-index (pos 0, pos 0) within) c.in_default.ensures.none
+    let k = c.loop-pair.pair-index in
+    sparse_outside c.args.size c.args.count pairs _ refl k c.loop-pair.invariant.entries c.loop-pair.invariant.are pair.0 pair.1 errors.TargetOutOfRange refl
+    (slice_get-get_or pairs k (pos 0, pos 0) within) c.in_default.ensures.none
 
 pub loop-pair-preserved : goal.loop-pair-preserved
 loop-pair-preserved c =

@@ -1,23 +1,26 @@
-use Rattle.std.proofs.Common.{ℤ, pos, ◌+◌, ◌<◌, List, length, get_or, sym, ap, subst, w64, SFits, rules, arith}
+use Rattle.std.proofs.Common.{ℤ, pos, ◌+◌, ◌<◌, List, length, get_or, refl, sym, ap, subst, w64, SFits, rules, arith}
 use Rattle.std.proofs.lemmas.Int.{to_z-of_z}
 use Rattle.std.proofs.lemmas.List.{take_all, get_or_default}
-use Rattle.std.proofs.lemmas.List.Elements.{Contains-get_or}
+use Rattle.std.proofs.lemmas.Option.{slice_get-get_or}
 use Rattle.kb_fsa.specs.Table.{Moves, IsRow}
 use Rattle.kb_fsafile.specs.Kinds.{numbered_from}
 use Rattle.kb_fsafile.specs.RowsRead.{AreRowTargets}
-use Rattle.kb_fsafile.specs.Faults.{HasOutOfRange}
+use Rattle.kb_fsafile.specs.declared.error.FsaError.TheVariants as errors
+use Rattle.kb_fsafile.proofs.RowFaults.{dense_outside}
 use Rattle.kb_fsafile.proofs.MoveLemmas.{row_among, numbered_ascends, numbered_positive}
 use Rattle.kb_fsafile.proofs.RowLemmas.{targets_more}
 use Rattle.kb_fsafile.proofs.rows.dense_row.Goals as goal
 
 pub returns-in_default-clause-fault : goal.returns-in_default-clause-fault
-returns-in_default-clause-fault c = λ given at.
+returns-in_default-clause-fault c =
     let numbers = c.args.numbers.now in
     let fits : SFits w64 (get_or c.args.numbers.now c.loop-number.number-index (pos 0)) = search rules in
     let none = rw c.from.ensures at (simp to_z-of_z at c.in_default.ensures.none) in
     let within : c.loop-number.number-index < length c.args.numbers.now = omega arith in
-    HasOutOfRange.row_target c.args.count at.places at.k numbers (get_or numbers c.loop-number.number-index (pos 0)) at.counted at.listed at.stands
-    (Contains-get_or numbers c.loop-number.number-index (pos 0) within) none
+    let k = c.loop-number.number-index in
+    let are = c.loop-number.invariant.are in
+    dense_outside c.args.size c.args.count numbers _ refl c.requires k are.targets (get_or numbers k (pos 0)) errors.TargetOutOfRange refl are.same are.within
+    (slice_get-get_or numbers k (pos 0) within) none
 
 pub loop-number-preserved : goal.loop-number-preserved
 loop-number-preserved c =

@@ -4,13 +4,14 @@ use Rattle.kb_record.specs.Tree.{list_value}
 use Rattle.kb_fields.proofs.Outcomes.{IfOk_then}
 use Rattle.kb_fsafile.specs.Kinds.{list_of_entries}
 use Rattle.kb_fsafile.specs.declared.format.Format.TheVariants.{Sparse}
-use Rattle.kb_fsafile.proofs.TableLemmas.{other_row_kind, sparse_row_at}
+use Rattle.kb_fsafile.proofs.RowFaults.{other_row_kind}
+use Rattle.kb_fsafile.proofs.TableLemmas.{sparse_row_at}
 use Rattle.kb_fsafile.proofs.rows.listed_sparse_row.Goals as goal
 
 pub returns-in_default-clause-fault : goal.returns-in_default-clause-fault
-returns-in_default-clause-fault c = λ given at.
+returns-in_default-clause-fault c =
     let other = rw c.in_default.is at c.in_ok-entries.ensures.other in
-    other_row_kind given Sparse c.args.size c.args.count _ _ c.no_row.ensures at (λ value is kind. other kind.0 (same_Some _ _ is ∙ kind.1))
+    other_row_kind Sparse c.args.size c.args.count _ _ c.no_row.ensures (λ value is kind. other kind.0 (same_Some _ _ is ∙ kind.1))
 
 pub returns-clause-read : goal.returns-clause-read
 returns-clause-read c =

@@ -4,9 +4,10 @@ use Rattle.kb_record.specs.Listed.{place_view}
 use Rattle.kb_fields.proofs.Outcomes.{IfOk_then}
 use Rattle.kb_fsafile.specs.Kinds.{list_of_entries}
 use Rattle.kb_fsafile.specs.declared.format.Format.TheVariants.{Sparse}
-use Rattle.kb_fsafile.specs.RowsRead.{IsFaultOfRow}
+use Rattle.kb_fsafile.specs.RowsRead.{IsFirstOfRow}
 use Rattle.kb_fsafile.proofs.KindLemmas.{place_of_entries, no_list_at}
-use Rattle.kb_fsafile.proofs.TableLemmas.{other_row_kind, sparse_row_at}
+use Rattle.kb_fsafile.proofs.RowFaults.{other_row_kind}
+use Rattle.kb_fsafile.proofs.TableLemmas.{sparse_row_at}
 use Rattle.kb_fsafile.proofs.rows.read_sparse_row.Goals as goal
 
 pub returns-in-Entries-clause-read : goal.returns-in-Entries-clause-read
@@ -17,10 +18,10 @@ returns-in-Entries-clause-read c =
 pub returns-in-Entries-clause-fault : goal.returns-in-Entries-clause-fault
 returns-in-Entries-clause-fault c =
     let seen = ap place_view c.in-Entries.is ∙ place_of_entries c.in-Entries.entries.now in
-    let P : Option Value → Type 0 = λ p. IfErr c.sparse_row.result (IsFaultOfRow Sparse c.args.size c.args.count p) in
+    let P : Option Value → Type 0 = λ p. IfErr c.sparse_row.result (IsFirstOfRow Sparse c.args.size c.args.count p) in
     subst P (sym seen) c.sparse_row.ensures.fault
 
 pub returns-in_default-clause-fault : goal.returns-in_default-clause-fault
-returns-in_default-clause-fault c = λ given at.
-    other_row_kind given Sparse c.args.size c.args.count _ _ c.no_row.ensures at (λ value is kind.
+returns-in_default-clause-fault c =
+    other_row_kind Sparse c.args.size c.args.count _ _ c.no_row.ensures (λ value is kind.
     no_list_at c.args.place c.in_default.not-Value c.in_default.not-Numbers c.in_default.not-Entries (list_of_entries kind.0) (is ∙ ap Some kind.1))

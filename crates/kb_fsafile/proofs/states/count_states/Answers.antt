@@ -1,10 +1,14 @@
 use Rattle.std.specs.Prelude.{codes}
-use Rattle.std.proofs.Common.{ℕ, List, subst}
+use Rattle.std.proofs.Common.{ℕ, List, refl, subst}
+use Rattle.kb_record.specs.Tree.{string_value}
 use Rattle.std.proofs.lemmas.Result.{err_from_is_err_and}
 use Rattle.kb_fields.specs.Fields.{fields_view}
 use Rattle.kb_fields.proofs.Outcomes.{IfOk_then, IfErr_then}
 use Rattle.kb_fsafile.specs.Holds.{HoldsRecord, HoldsString}
-use Rattle.kb_fsafile.specs.Faults.{states_field, states_type_field, states_size_field, HasWrongStates}
+use Rattle.kb_fsafile.specs.Checks.{states_field, states_type_field, states_size_field}
+use Rattle.kb_fsafile.specs.declared.error.FsaError.TheVariants as errors
+use Rattle.kb_fsafile.proofs.FirstLemmas.{refused, value_refused}
+use Rattle.kb_fsafile.proofs.NoFault.{states_record_passed, states_type_passed}
 use Rattle.kb_fsafile.proofs.FieldFaults.{record_seen}
 use Rattle.kb_fsafile.proofs.states.count_states.Goals.{After-as_slice-states}
 use Rattle.kb_fsafile.proofs.states.count_states.Goals as goal
@@ -17,18 +21,24 @@ is_record c =
 pub returns-in_err-needed_record-clause-fault : goal.returns-in_err-needed_record-clause-fault
 returns-in_err-needed_record-clause-fault c =
     let p = err_from_is_err_and c.from_residual.result c.from_residual.ensures.1 in
-    rw (p.1, p.2) (c.in_err-needed_record.ensures.fault (fields_view c.args.fields.now) states_field)
+    rw (p.1, p.2) (refused (fields_view c.args.fields.now) states_field (fields_view c.args.fields.now) refl _ c.in_err-needed_record.ensures.fault)
 
 pub returns-in_err-needed_string-clause-fault : goal.returns-in_err-needed_string-clause-fault
 returns-in_err-needed_string-clause-fault c =
     let p = err_from_is_err_and c.from_residual-in_err-needed_string.result c.from_residual-in_err-needed_string.ensures.1 in
-    rw (p.1, p.2) (c.in_err-needed_string.ensures.fault (fields_view c.args.fields.now)
-    (states_type_field (is_record (goal.at.returns-in_err-needed_string-clause-fault c).After-as_slice-states)))
+    rw (p.1, p.2) (λ free.
+    let is = is_record (goal.at.returns-in_err-needed_string-clause-fault c).After-as_slice-states in
+    refused (fields_view c.args.fields.now) states_type_field (fields_view c.as_slice-states.result.now) is _ c.in_err-needed_string.ensures.fault
+    (states_record_passed (fields_view c.args.fields.now) (fields_view c.as_slice-states.result.now) is free))
 
 pub returns-in_default-clause-fault : goal.returns-in_default-clause-fault
-returns-in_default-clause-fault c =
-    HasWrongStates.other_type (fields_view c.as_slice-states.result.now) c.in_ok-needed_string.field-0.now
-    (is_record (goal.at.returns-in_default-clause-fault c).After-as_slice-states) c.in_ok-needed_string.ensures.found c.in_default.not-simple
+returns-in_default-clause-fault c = λ free.
+    let given = fields_view c.args.fields.now in
+    let states = fields_view c.as_slice-states.result.now in
+    let text = c.in_ok-needed_string.field-0.now in
+    let is = is_record (goal.at.returns-in_default-clause-fault c).After-as_slice-states in
+    value_refused given states_type_field states is (string_value text) c.in_ok-needed_string.ensures.found (text, refl) errors.StatesWrong
+    (refl, text, refl, c.in_default.not-simple) (states_record_passed given states is free)
 
 pub returns-in-simple-clause-read : goal.returns-in-simple-clause-read
 returns-in-simple-clause-read c =
@@ -42,5 +52,10 @@ returns-in-simple-clause-read c =
 
 pub returns-in-simple-clause-fault : goal.returns-in-simple-clause-fault
 returns-in-simple-clause-fault c =
-    IfErr_then c.needed_count.result c.needed_count.ensures.fault (λ error fault.
-    fault (fields_view c.args.fields.now) (states_size_field (is_record (goal.at.returns-in-simple-clause-fault c).After-as_slice-states)))
+    let given = fields_view c.args.fields.now in
+    let states = fields_view c.as_slice-states.result.now in
+    let P : List ℕ → Type 0 = λ t. HoldsString (fields_view c.as_slice-states.result.now) (codes "type") t in
+    let is = is_record (goal.at.returns-in-simple-clause-fault c).After-as_slice-states in
+    let typed = subst P c.in-simple.is c.in_ok-needed_string.ensures.found in
+    IfErr_then c.needed_count.result c.needed_count.ensures.fault (λ error fault free.
+    refused given states_size_field states is error fault (states_type_passed given states is typed (states_record_passed given states is free)))

@@ -1,13 +1,19 @@
+use Rattle.std.proofs.Common.{refl}
+use Rattle.kb_record.specs.Tree.{string_value}
 use Rattle.std.proofs.lemmas.Result.{err_from_is_err_and}
 use Rattle.kb_fields.specs.Fields.{fields_view}
-use Rattle.kb_fsafile.specs.Faults.{table_format_field, HasOtherForm}
+use Rattle.kb_fsafile.specs.Checks.{table_format_field}
+use Rattle.kb_fsafile.specs.declared.error.FsaError.TheVariants as errors
+use Rattle.kb_fsafile.proofs.FirstLemmas.{refused, value_refused}
 use Rattle.kb_fsafile.proofs.table.read_format.Goals as goal
 
 pub returns-in_err-needed_string-clause-fault : goal.returns-in_err-needed_string-clause-fault
 returns-in_err-needed_string-clause-fault c =
     let p = err_from_is_err_and c.from_residual.result c.from_residual.ensures.1 in
-    rw (p.1, p.2) (λ given is. c.in_err-needed_string.ensures.fault given (table_format_field is))
+    rw (p.1, p.2) (λ given is. refused given table_format_field (fields_view c.args.table.now) is _ c.in_err-needed_string.ensures.fault)
 
 pub returns-in-None-clause-fault : goal.returns-in-None-clause-fault
 returns-in-None-clause-fault c = λ given is.
-    HasOtherForm.other_table_format (fields_view c.args.table.now) c.in_ok-needed_string.field-0.now is c.in_ok-needed_string.ensures.found c.in-None.ensures.none
+    let text = c.in_ok-needed_string.field-0.now in
+    value_refused given table_format_field (fields_view c.args.table.now) is (string_value text) c.in_ok-needed_string.ensures.found (text, refl) errors.NotDeterministic
+    (refl, text, refl, c.in-None.ensures.none)

@@ -1,14 +1,20 @@
-use Rattle.std.proofs.Common.{ℕ, Some, sym, subst, ap, ◌∙◌, arith}
+use Rattle.std.proofs.Common.{◌≡◌, ℕ, Some, length, refl, sym, subst, ap, ◌∙◌, arith}
 use Rattle.std.specs.Prelude.{codes}
 use Rattle.std.proofs.lemmas.Result.{err_from_is_err_and}
-use Rattle.kb_record.specs.View.{value_view}
+use Rattle.kb_record.specs.Tree.{list_value}
+use Rattle.kb_record.specs.View.{value_view, places_of}
 use Rattle.kb_record.specs.Listed.{listed}
 use Rattle.kb_fields.specs.Fields.{fields_view}
 use Rattle.kb_fields.proofs.Outcomes.{IfOk_then, IfErr_then}
 use Rattle.kb_fsafile.specs.Holds.{HoldsRecord, HoldsStates}
-use Rattle.kb_fsafile.specs.Faults.{table_field, transitions_field}
+use Rattle.kb_fields.proofs.PlaceLemmas.{count_places}
+use Rattle.kb_fsafile.specs.Checks.{table_field, transitions_field}
+use Rattle.kb_fsafile.specs.declared.error.FsaError.TheVariants as errors
+use Rattle.kb_fsafile.proofs.FirstLemmas.{refused, value_refused}
+use Rattle.kb_fsafile.proofs.NoFault.{table_passed, default_passed, table_format_passed, transitions_passed}
+use Rattle.kb_fsafile.proofs.Refused.{rows_refused}
 use Rattle.kb_fsafile.proofs.FieldFaults.{record_seen}
-use Rattle.kb_fsafile.proofs.TableLemmas.{has_rows, wrong_count}
+use Rattle.kb_fsafile.proofs.TableLemmas.{has_rows}
 use Rattle.kb_fsafile.proofs.table.read_rows.Goals.{After-as_slice-table}
 use Rattle.kb_fsafile.proofs.table.read_rows.Goals as goal
 
@@ -20,24 +26,49 @@ is_record c =
 pub returns-in_err-needed_record-clause-fault : goal.returns-in_err-needed_record-clause-fault
 returns-in_err-needed_record-clause-fault c =
     let p = err_from_is_err_and c.from_residual.result c.from_residual.ensures.1 in
-    rw (p.1, p.2) (c.in_err-needed_record.ensures.fault (fields_view c.args.fields.now) table_field)
+    rw (p.1, p.2) (refused (fields_view c.args.fields.now) table_field (fields_view c.args.fields.now) refl _ c.in_err-needed_record.ensures.fault)
+
+pub returns-in_err-check_default-clause-fault : goal.returns-in_err-check_default-clause-fault
+returns-in_err-check_default-clause-fault c =
+    let p = err_from_is_err_and c.from_residual-in_err-check_default.result c.from_residual-in_err-check_default.ensures.1 in
+    rw (p.1, p.2) (λ free.
+    let is = is_record (goal.at.returns-in_err-check_default-clause-fault c).After-as_slice-table in
+    c.in_err-check_default.ensures.fault (fields_view c.args.fields.now) is (table_passed (fields_view c.args.fields.now) (fields_view c.as_slice-table.result.now) is free))
+
+pub returns-in_err-format-clause-fault : goal.returns-in_err-format-clause-fault
+returns-in_err-format-clause-fault c =
+    let p = err_from_is_err_and c.from_residual-in_err-format.result c.from_residual-in_err-format.ensures.1 in
+    rw (p.1, p.2) (λ free.
+    let given = fields_view c.args.fields.now in
+    let table = fields_view c.as_slice-table.result.now in
+    let is = is_record (goal.at.returns-in_err-format-clause-fault c).After-as_slice-table in
+    c.in_err-format.ensures.fault given is (default_passed given table is c.in_ok-check_default.ensures.ok (table_passed given table is free)))
 
 pub returns-in_err-list-clause-fault : goal.returns-in_err-list-clause-fault
 returns-in_err-list-clause-fault c =
     let p = err_from_is_err_and c.from_residual-in_err-list.result c.from_residual-in_err-list.ensures.1 in
-    rw (p.1, p.2) (c.in_err-list.ensures.fault (fields_view c.args.fields.now)
-    (transitions_field (is_record (goal.at.returns-in_err-list-clause-fault c).After-as_slice-table)))
+    rw (p.1, p.2) (λ free.
+    let given = fields_view c.args.fields.now in
+    let table = fields_view c.as_slice-table.result.now in
+    let is = is_record (goal.at.returns-in_err-list-clause-fault c).After-as_slice-table in
+    refused given transitions_field table is _ c.in_err-list.ensures.fault
+    (table_format_passed given table is c.in_ok-format.format c.in_ok-format.ensures.named (default_passed given table is c.in_ok-check_default.ensures.ok (table_passed given table is free))))
 
 pub returns-then-length-count-clause-fault : goal.returns-then-length-count-clause-fault
-returns-then-length-count-clause-fault c =
-    wrong_count (fields_view c.args.fields.now) c.args.count c.in_ok-list.length c.in_ok-format.format (listed (value_view c.in_ok-list.list.now)) c.requires.counted
-    (record {
-      table = fields_view c.as_slice-table.result.now;
-      is_record = is_record (goal.at.returns-then-length-count-clause-fault c).After-as_slice-table;
-      named = c.in_ok-format.ensures.named;
-      listed = c.in_ok-list.ensures.found ∙ ap Some c.in_ok-list.ensures.listed;
-    })
-    c.in_ok-list.ensures.counted c.if-length-count.true
+returns-then-length-count-clause-fault c = λ free.
+    let given = fields_view c.args.fields.now in
+    let table = fields_view c.as_slice-table.result.now in
+    let places = places_of (listed (value_view c.in_ok-list.list.now)) in
+    let is = is_record (goal.at.returns-then-length-count-clause-fault c).After-as_slice-table in
+    value_refused given transitions_field table is (list_value places) (c.in_ok-list.ensures.found ∙ ap Some c.in_ok-list.ensures.listed) (places, refl) errors.StatesWrong (
+      refl,
+      c.args.count,
+      places,
+      c.requires.counted,
+      refl,
+      λ same. c.if-length-count.true (sym c.in_ok-list.ensures.counted ∙ (sym (count_places (listed (value_view c.in_ok-list.list.now))) ∙ same)),
+    )
+    (table_format_passed given table is c.in_ok-format.format c.in_ok-format.ensures.named (default_passed given table is c.in_ok-check_default.ensures.ok (table_passed given table is free)))
 
 pub returns-in-Ok-clause-read : goal.returns-in-Ok-clause-read
 returns-in-Ok-clause-read c =
@@ -51,14 +82,22 @@ returns-in-Ok-clause-read c =
 
 pub returns-in-Ok-clause-fault : goal.returns-in-Ok-clause-fault
 returns-in-Ok-clause-fault c =
-    let at = (goal.at.returns-in-Ok-clause-fault c).After-as_slice-table in
     let given = fields_view c.args.fields.now in
-    let Q : ℕ → Type 0 = λ n. HoldsStates given n in
-    IfErr_then c.rows_listed.result c.rows_listed.ensures.fault (λ error fault.
-    fault given (subst Q (sym c.in-Ok.ensures.1) c.requires.counted) c.requires.sized
+    let table = fields_view c.as_slice-table.result.now in
+    let ps = listed (value_view c.in_ok-list.list.now) in
+    let format = c.in_ok-format.format in
+    let counted = c.in_ok-list.ensures.counted in
+    let whole : length (listed (value_view c.in_ok-list.list.now)) ≡ c.args.count = omega (arith, counted) in
+    let is = is_record (goal.at.returns-in-Ok-clause-fault c).After-as_slice-table in
+    let Q : ℕ → Type 0 = λ n. HoldsStates (fields_view c.args.fields.now) n in
+    let found = c.in_ok-list.ensures.found ∙ ap Some c.in_ok-list.ensures.listed in
+    IfErr_then c.rows_listed.result c.rows_listed.ensures.fault (λ error fault free.
+    rows_refused given format c.args.size c.in-Ok.count (places_of ps)
     (record {
-      table = fields_view c.as_slice-table.result.now;
-      is_record = is_record at;
-      named = c.in_ok-format.ensures.named;
-      listed = c.in_ok-list.ensures.found ∙ ap Some c.in_ok-list.ensures.listed;
-    }))
+      counted = subst Q (sym c.in-Ok.ensures.1) c.requires.counted;
+      sized = c.requires.sized;
+      listed = record { table = fields_view c.as_slice-table.result.now; is_record = is; named = c.in_ok-format.ensures.named; listed = found };
+    })
+    (transitions_passed given table is c.args.count (places_of ps) c.requires.counted found (count_places ps ∙ whole)
+    (table_format_passed given table is format c.in_ok-format.ensures.named (default_passed given table is c.in_ok-check_default.ensures.ok (table_passed given table is free))))
+    error fault)

@@ -4,7 +4,8 @@ use Rattle.kb_record.specs.View.{value_view, places_of}
 use Rattle.kb_record.specs.Listed.{listed}
 use Rattle.kb_fsa.specs.Table.{Moves}
 use Rattle.kb_fsafile.specs.RowsRead.{AreRowsAt}
-use Rattle.kb_fsafile.proofs.TableLemmas.{rows_more, row_stands}
+use Rattle.kb_fsafile.proofs.RowFaults.{first_row_of}
+use Rattle.kb_fsafile.proofs.TableLemmas.{rows_more}
 use Rattle.kb_fsafile.proofs.table.rows_listed.Goals as goal
 
 pub loop-place-preserved : goal.loop-place-preserved
@@ -19,5 +20,5 @@ pub returns-in_err-read_row-clause-fault : goal.returns-in_err-read_row-clause-f
 returns-in_err-read_row-clause-fault c =
     let places = listed (value_view c.args.list.now) in
     let p = err_from_is_err_and c.from_residual-in_err-read_row.result c.from_residual-in_err-read_row.ensures.1 in
-    rw (p.1, p.2) (λ given counted sized listed. c.in_err-read_row.ensures.fault given
-    (row_stands given c.args.size c.args.count c.args.format places c.loop-place.place _ c.place.ensures counted sized listed))
+    rw (p.1, p.2) (first_row_of c.args.size c.args.count c.args.format places c.loop-place.place _ c.loop-place.rows.items _ c.place.ensures c.loop-place.invariant
+    c.in_err-read_row.ensures.fault)

@@ -1,19 +1,19 @@
-use Rattle.std.proofs.Common.{inl, inr}
 use Rattle.std.proofs.lemmas.Result.{err_from_is_err_and}
 use Rattle.kb_record.specs.View.{word_view}
 use Rattle.kb_record.specs.Listed.{place_view}
-use Rattle.kb_presfile.proofs.EquationLemmas.{side_fault}
+use Rattle.kb_presfile.proofs.EquationFaults.{left_fault, right_fault}
 use Rattle.kb_presfile.proofs.RefusalLemmas.{word_refused}
 use Rattle.kb_presfile.proofs.equations.equation_at.Goals as goal
 
 pub returns-in_err-left-clause-fault : goal.returns-in_err-left-clause-fault
 returns-in_err-left-clause-fault c =
     let p = err_from_is_err_and c.from_residual.result c.from_residual.ensures.1 in
-    rw p.1 (side_fault c.args.presentation.now.names c.args.presentation.now.inv (place_view c.args.place)
-    (word_view c.in-Some.left.now, word_view c.in-Some.right.now) _ c.in-Some.ensures.found (inl (word_refused _ _ p.0 c.in_err-left.ensures p.2)))
+    rw p.1 (left_fault c.args.presentation.now.names c.args.presentation.now.inv (place_view c.args.place)
+    (word_view c.in-Some.left.now, word_view c.in-Some.right.now) _ c.in-Some.ensures.found (word_refused _ _ p.0 c.in_err-left.ensures p.2))
 
 pub returns-in_err-right-clause-fault : goal.returns-in_err-right-clause-fault
 returns-in_err-right-clause-fault c =
     let p = err_from_is_err_and c.from_residual-in_err-right.result c.from_residual-in_err-right.ensures.1 in
-    rw p.1 (side_fault c.args.presentation.now.names c.args.presentation.now.inv (place_view c.args.place)
-    (word_view c.in-Some.left.now, word_view c.in-Some.right.now) _ c.in-Some.ensures.found (inr (word_refused _ _ p.0 c.in_err-right.ensures p.2)))
+    rw p.1 (right_fault c.args.presentation.now.names c.args.presentation.now.inv (place_view c.args.place)
+    (word_view c.in-Some.left.now, word_view c.in-Some.right.now) _ c.in-Some.ensures.found _ c.in_ok-left.ensures
+    (word_refused _ _ p.0 c.in_err-right.ensures p.2))

@@ -7,7 +7,7 @@ use Rattle.kb_fields.proofs.Outcomes.{IfErr_then, IfOk_then}
 use Rattle.kb_fields.proofs.PlaceLemmas.{count_places}
 use Rattle.kb_presfile.specs.Faults.{name_of}
 use Rattle.kb_presfile.specs.declared.error.Field.TheVariants as kinds
-use Rattle.kb_presfile.proofs.EquationLemmas.{list_fault}
+use Rattle.kb_presfile.proofs.FaultLemmas.{kind_fault_there, many_fault, equations_fault}
 use Rattle.kb_presfile.proofs.equations.read_equations.Goals as goal
 use Rattle.kb_presfile.proofs.equations.read_equations.Goals.{In-Some}
 
@@ -23,7 +23,8 @@ returns-then-count-gt-MOST_EQUATIONS-clause-fault c =
     let places = places_of (listed (value_view c.in_ok-list.list.now)) in
     let count = count_is here in
     let many : 65535 < place_count places = omega (arith, count) in
-    (places, list_is here, many)
+    λ free. many_fault (fields_view c.args.fields.now) c.args.presentation.now.names c.requires.named c.args.presentation.now.inv c.requires.inverted
+    places (list_is here) free many
 
 pub returns-clause-read : goal.returns-clause-read
 returns-clause-read c =
@@ -37,6 +38,14 @@ returns-clause-read c =
 pub returns-clause-fault : goal.returns-clause-fault
 returns-clause-fault c =
     let here = (goal.at.returns-clause-fault c).In-Some in
-    IfErr_then c.equations_in.result c.equations_in.ensures.fault (λ error fault.
-    list_fault (fields_view c.args.fields.now) c.args.presentation.now.names c.args.presentation.now.inv
-    (places_of (listed (value_view c.in_ok-list.list.now))) error c.requires.named c.requires.inverted (list_is here) fault)
+    let places = places_of (listed (value_view c.in_ok-list.list.now)) in
+    let count = count_is here in
+    let few : place_count places ≤ 65535 = omega (arith, count) in
+    IfErr_then c.equations_in.result c.equations_in.ensures.fault (λ error fault free.
+    equations_fault (fields_view c.args.fields.now) c.args.presentation.now.names c.requires.named c.args.presentation.now.inv c.requires.inverted
+    places (list_is here) free few error fault)
+
+pub returns-in_default-clause-fault : goal.returns-in_default-clause-fault
+returns-in_default-clause-fault c =
+    kind_fault_there (fields_view c.args.fields.now) kinds.Equations (value_view c.in_ok-list.list.now) c.in_ok-list.ensures.found
+    (λ kind. c.in_default.ensures.other kind.0 kind.1)

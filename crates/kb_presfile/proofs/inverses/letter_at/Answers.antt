@@ -15,4 +15,4 @@ returns-in_ok-from_str-in-None-clause-fault c =
     let missed = letter_unknown c.args.names.now c.in-Some.name.now c.in-None.ensures.none in
     let copied = c.in_ok-from_str-in-None.ensures in
     let P : List ℕ → Type 0 = λ text. letter_from 1 c.args.names.now text ≡ None in
-    record { place = c.args.place; stands = sym c.in-Some.ensures ∙ ap Some (sym copied); unknown = subst P (sym copied) missed }
+    record { name = c.in_ok-from_str-in-None.field-0; refused = refl; stands = sym c.in-Some.ensures ∙ ap Some (sym copied); unknown = subst P (sym copied) missed }

@@ -1,6 +1,10 @@
-use Rattle.std.proofs.Common.{◌≡◌, ℕ, ◌+◌, List, Option, map, length, sym, subst, arith}
+use Rattle.std.proofs.Common.{◌≡◌, ℕ, ◌+◌, ◌<◌, List, Option, map, length, sym, subst, arith}
 use Rattle.std.specs.Option.{option_copied}
-use Rattle.kb_presfile.proofs.LetterSteps.{StandForFirst, one_more, all_stand}
+use Rattle.std.proofs.lemmas.Result.{err_from_is_err_and}
+use Rattle.kb_fields.specs.FirstFaults.{IsFirstFault}
+use Rattle.kb_presfile.specs.Faults.{PlaceIsUnknown}
+use Rattle.kb_presfile.proofs.CheckLemmas.{memory_or_weaker}
+use Rattle.kb_presfile.proofs.LetterSteps.{StandForFirst, one_more, all_stand, first_unknown}
 use Rattle.kb_presfile.proofs.inverses.letters_at.Goals as goal
 
 pub loop-place-preserved : goal.loop-place-preserved
@@ -16,3 +20,11 @@ pub returns-clause-read : goal.returns-clause-read
 returns-clause-read c =
     let whole : length c.args.names.now ≡ c.loop-place.place = omega arith in
     all_stand c.args.names.now (map option_copied c.args.places.now) c.loop-place.letters.items c.loop-place.place whole c.loop-place.invariant
+
+pub returns-in_err-letter_at-clause-fault : goal.returns-in_err-letter_at-clause-fault
+returns-in_err-letter_at-clause-fault c =
+    let p = err_from_is_err_and c.from_residual-in_err-letter_at.result c.from_residual-in_err-letter_at.ensures.1 in
+    let names = c.args.names.now in
+    let places = map option_copied c.args.places.now in
+    rw (p.1, p.2) (memory_or_weaker (PlaceIsUnknown names places c.loop-place.place) (IsFirstFault ◌<◌ (PlaceIsUnknown names places))
+    (λ e fault. first_unknown names places c.loop-place.letters.items c.loop-place.place e c.loop-place.invariant fault) _ c.in_err-letter_at.ensures.fault)

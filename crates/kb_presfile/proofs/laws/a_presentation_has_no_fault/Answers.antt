@@ -1,4 +1,4 @@
-use Rattle.kb_presfile.proofs.NoFault.{no_fault}
+use Rattle.kb_presfile.proofs.OneFault.{no_fault}
 use Rattle.kb_presfile.proofs.laws.a_presentation_has_no_fault.Goals as goal
 
 pub returns : goal.returns

@@ -4,17 +4,17 @@ use Rattle.std.proofs.Common.{ℕ}
 use Rattle.kb_record.specs.View.{text_view}
 use Rattle.kb_record.specs.declared.tree.Value.{Value}
 use Rattle.kb_fields.specs.Fields.{fields_view}
-use Rattle.kb_presfile.specs.Faults.{HasFieldFault}
+use Rattle.kb_presfile.specs.Faults.{IsMemoryOr, IsFirstOf}
 use Rattle.kb_fields.proofs.Outcomes.{IfErr_then}
 use Rattle.std.proofs.lemmas.Result.{err_from_is_err_and}
-use Rattle.kb_presfile.proofs.NoFault.{text_fault}
+use Rattle.kb_presfile.proofs.OneFault.{text_fault}
 use Rattle.kb_presfile.proofs.RefusalLemmas.{text_refused}
 use Rattle.kb_presfile.proofs.reader.read.Goals as goal
 
 pub returns-clause-fault : goal.returns-clause-fault
 returns-clause-fault c =
     IfErr_then c.presentation_of.result c.presentation_of.ensures.fault (λ error fault.
-    let P : List (Bor (List ℕ) × Value) → Type 0 = λ fields. HasFieldFault (fields_view fields) error in
+    let P : List (Bor (List ℕ) × Value) → Type 0 = λ fields. IsMemoryOr (IsFirstOf (fields_view fields)) error in
     text_fault c.args.bytes.now (text_view c.in_ok-text.text) error c.in_ok-text.ensures.read c.in_ok-text.ensures.shallow
     (subst P c.as_slice.ensures.value fault))
 

@@ -1,0 +1,110 @@
+-- The first name that is repeated in fields and in places, one by one.
+use Rattle.std.proofs.Common.{◌≡◌, ℕ, suc, ◌+◌, ◌<◌, true, false, List, [], ◌∷◌, ◌++◌, map, length, take, drop, get_or, slice_get, Option, Some, None, refl, sym, ap, subst, ◌∙◌, add-one}
+use Rattle.std.specs.Borrow.{Bor}
+use Rattle.std.specs.BTreeSet.{BTreeSet}
+use Rattle.std.specs.List.{Contains}
+use Rattle.std.proofs.Math.Seq.{drop-cons}
+use Rattle.std.proofs.lemmas.Bool.{false≢true}
+use Rattle.std.proofs.lemmas.List.{take_more}
+use Rattle.std.proofs.lemmas.Option.{slice_get_within, get_or_from_slice_get}
+use Rattle.kb_record.specs.View.{value_view}
+use Rattle.kb_record.specs.declared.tree.Value as code
+use Rattle.kb_fields.specs.Fields.{fields_view, places_view, HasFieldTwice, Naming, namings, namings_behind, namings_in}
+use Rattle.kb_fields.proofs.BeforeLemmas.{has_place, place_of, stands_before, among_first}
+use Rattle.kb_fields.proofs.NamingLemmas.{IsFirst, first_here, first_later, first_behind, first_front, none_within}
+use Rattle.kb_fields.proofs.RepeatLemmas.{has, HasSeen, name_at}
+
+abbrev pub names_of : List (Bor (List ℕ) × code.Value) → List (List ℕ)
+names_of fs = map (λ (f : Bor (List ℕ) × code.Value). f.0.now) fs
+
+-- the names from the k-th field on
+abbrev pub from_field : List (Bor (List ℕ) × code.Value) → ℕ → List Naming
+from_field fs k = namings_behind (take k (names_of fs)) (fields_view (drop k fs))
+
+-- the names from the k-th place on
+abbrev pub from_place : List (Option code.Value) → ℕ → List Naming
+from_place ps k = namings_in (places_view (drop k ps))
+
+-- a name that is the first from there on is the first of all
+abbrev pub FirstOfAll : List Naming → List Naming → Type 0
+FirstOfAll rest all = (name : List ℕ) → IsFirst rest name → IsFirst all name
+
+module _ (fs : List (Bor (List ℕ) × code.Value)) (k : ℕ) (f : Bor (List ℕ) × code.Value) (within : k < length fs) (at : f ≡ get_or fs k f) where
+  abbrev naming : Naming
+  naming = record { name = f.0.now; before = take k (names_of fs) }
+
+  named : slice_get (names_of fs) k ≡ Some f.0.now
+  named = name_at fs k f within at
+
+  rest_is : drop k fs ≡ f ∷ drop (k + 1) fs
+  rest_is = drop-cons fs k f within ∙ ap (λ (g : Bor (List ℕ) × code.Value). g ∷ drop (suc k) fs) (sym at) ∙ ap (λ (n : ℕ). f ∷ drop n fs) (sym (add-one k))
+
+  names_more : take (k + 1) (names_of fs) ≡ take k (names_of fs) ++ f.0.now ∷ []
+  names_more =
+      take_more (names_of fs) k f.0.now (slice_get_within (names_of fs) k f.0.now named)
+      ∙ ap (λ (n : List ℕ). take k (names_of fs) ++ n ∷ []) (get_or_from_slice_get (names_of fs) k f.0.now f.0.now named)
+
+  one_more : from_field fs k ≡ record { name = f.0.now; before = take k (names_of fs) } ∷ namings (value_view f.1) ++ from_field fs (k + 1)
+  one_more =
+      ap (λ (gs : List (Bor (List ℕ) × code.Value)). namings_behind (take k (names_of fs)) (fields_view gs)) rest_is
+      ∙ ap (λ (ns : List (List ℕ)). record { name = f.0.now; before = take k (names_of fs) } ∷ namings (value_view f.1) ++ namings_behind ns (fields_view (drop (k + 1) fs))) (sym names_more)
+
+  -- the field's name stands before, or is new
+  pub stands : (seen : BTreeSet (Bor (List ℕ))) → HasSeen (names_of fs) k seen → has seen f.0.now ≡ true → Contains (take k (names_of fs)) f.0.now
+  stands seen first found =
+      let before = first.old f.0.now found in
+      has_place (take k (names_of fs)) before.0 f.0.now (among_first (names_of fs) k before.0 f.0.now before.2 before.1)
+
+  pub is_new : (seen : BTreeSet (Bor (List ℕ))) → HasSeen (names_of fs) k seen → has seen f.0.now ≡ false → Contains (take k (names_of fs)) f.0.now → ⊥
+  is_new seen first absent among =
+      let before = stands_before (names_of fs) k among.0 f.0.now (place_of (take k (names_of fs)) f.0.now among) in
+      false≢true (sym absent ∙ first.all f.0.now among.0 before.before before.at)
+
+  module _ (all : List Naming) (whole : FirstOfAll (from_field fs k) all) where
+    pub repeated_here : Contains (take k (names_of fs)) f.0.now → IsFirst all f.0.now
+    repeated_here again =
+        let P : List Naming → Type 0 = λ ns. IsFirst ns f.0.now in
+        whole f.0.now (subst P (sym one_more) (first_here naming _ again))
+
+    pub repeated_inside : (name : List ℕ) → (Contains (take k (names_of fs)) f.0.now → ⊥) → IsFirst (namings (value_view f.1)) name → IsFirst all name
+    repeated_inside name new found =
+        let P : List Naming → Type 0 = λ ns. IsFirst ns name in
+        whole name (subst P (sym one_more) (first_later naming _ name new (first_front (namings (value_view f.1)) (from_field fs (k + 1)) name found)))
+
+    pub repeated_later : (Contains (take k (names_of fs)) f.0.now → ⊥) → ((q : List ℕ) → HasFieldTwice (value_view f.1) q → ⊥)
+        → FirstOfAll (from_field fs (k + 1)) all
+    repeated_later new once name found =
+        let P : List Naming → Type 0 = λ ns. IsFirst ns name in
+        whole name (subst P (sym one_more) (first_later naming _ name new
+        (first_behind (namings (value_view f.1)) (from_field fs (k + 1)) name (none_within (value_view f.1) once) found)))
+
+module _ (ps : List (Option code.Value)) (k : ℕ) (p : Option code.Value) (at : slice_get ps k ≡ Some p) (all : List Naming)
+    (whole : FirstOfAll (from_place ps k) all) where
+  places_are : drop k ps ≡ p ∷ drop (k + 1) ps
+  places_are =
+      drop-cons ps k p (slice_get_within ps k p at) ∙ ap (λ (q : Option code.Value). q ∷ drop (suc k) ps) (get_or_from_slice_get ps k p p at)
+      ∙ ap (λ (n : ℕ). p ∷ drop n ps) (sym (add-one k))
+
+  value_more : (v : code.Value) → p ≡ Some v → from_place ps k ≡ namings (value_view v) ++ from_place ps (k + 1)
+  value_more v is =
+      ap (λ (qs : List (Option code.Value)). namings_in (places_view qs)) places_are
+      ∙ ap (λ (q : Option code.Value). namings_in (places_view (q ∷ drop (k + 1) ps))) is
+
+  pub repeated_at_place : (v : code.Value) → p ≡ Some v → (name : List ℕ) → IsFirst (namings (value_view v)) name → IsFirst all name
+  repeated_at_place v is name found =
+      let P : List Naming → Type 0 = λ ns. IsFirst ns name in
+      whole name (subst P (sym (value_more v is)) (first_front (namings (value_view v)) (from_place ps (k + 1)) name found))
+
+  pub repeated_behind : ((v : code.Value) → p ≡ Some v → (q : List ℕ) → HasFieldTwice (value_view v) q → ⊥) → FirstOfAll (from_place ps (k + 1)) all
+  repeated_behind once = of p refl
+    where
+      of : (q : Option code.Value) → p ≡ q → FirstOfAll (from_place ps (k + 1)) all
+      of None is name found =
+          let P : List Naming → Type 0 = λ ns. IsFirst ns name in
+          let empty : from_place ps k ≡ from_place ps (k + 1) =
+          ap (λ (qs : List (Option code.Value)). namings_in (places_view qs)) places_are
+          ∙ ap (λ (q : Option code.Value). namings_in (places_view (q ∷ drop (k + 1) ps))) is in
+          whole name (subst P (sym empty) found)
+      of (Some v) is name found =
+          let P : List Naming → Type 0 = λ ns. IsFirst ns name in
+          whole name (subst P (sym (value_more v is)) (first_behind (namings (value_view v)) (from_place ps (k + 1)) name (none_within (value_view v) (once v is)) found))

@@ -1,0 +1,6 @@
+use Rattle.kb_fsafile.proofs.OneFault.{one_file_fault}
+use Rattle.kb_fsafile.proofs.laws.an_automaton_file_has_one_fault.Goals as goal
+
+pub returns : goal.returns
+returns c bytes one other a b given_one given_other =
+    one_file_fault bytes (c.a_text_has_one_tree.ensures bytes) (c.a_text_that_is_read_has_no_fault.ensures bytes) (c.a_text_has_one_fault.ensures bytes) one other a b given_one given_other
