@@ -1,47 +1,83 @@
--- The multipliers of all generators: one exploration serves them all.
-use Rattle.std.proofs.Common.{◌≡◌, ℕ, suc, ◌+◌, ◌≤◌, List, [], ◌∷◌, ◌++◌, refl, sym, subst, inl, inr, length-append, arith}
-use Rattle.std.specs.List.{All}
-use Rattle.std.proofs.lemmas.List.Elements.{All-push}
-use Rattle.std.proofs.lemmas.Option.{slice_get_within}
-use Rattle.kb_fsa.specs.Table.{Table, HasSymbols, Moves}
-use Rattle.kb_fsa.specs.Language.{Automaton}
-use Rattle.kb_fsa.specs.declared.alphabet.Alphabet.TheVariants.{Pair}
-use Rattle.kb_explore.specs.Machine.{AreAlike}
-use Rattle.kb_explore.proofs.Lists.{item_cases}
+-- The multipliers of all generators: one exploration serves them all, and labels tell them apart.
+use Rattle.std.proofs.Common.{◌≡◌, ◌↔◌, ℕ, suc, ◌+◌, ◌<◌, ◌≤◌, List, [], ◌∷◌, ◌++◌, length, get_or, map, slice_get, Some, refl, sym, ap, ◌∙◌, subst, inl, inr, arith}
+use Rattle.std.proofs.lemmas.Bool.{cases_eq}
+use Rattle.std.proofs.lemmas.List.{get_or_append_left, get_or_push, length_push}
+use Rattle.std.proofs.lemmas.Option.{get_or_from_slice_get, slice_get_within}
+use Rattle.kb_word.specs.Names.{AreApart}
+use Rattle.kb_fsa.specs.Table.{AcceptsFrom, Table}
+use Rattle.kb_fsa.specs.Padding.{padded}
+use Rattle.kb_fsa.specs.Language.{Automaton, IsAutomaton}
+use Rattle.kb_fsa.specs.declared.alphabet.Alphabet.TheVariants.{Pair, Plain}
+use Rattle.kb_labelled.specs.Labels.{LabelledAutomaton, label_after}
+use Rattle.kb_explore.specs.Exploration.{IsExploration}
+use Rattle.kb_explore.proofs.ExplorationLemmas.{accepts_same}
 use Rattle.kb_diff.specs.Groups.{Group}
+use Rattle.kb_diff.specs.Steps.{AreSteps}
+use Rattle.kb_diffwa.specs.declared.place.Place.{Place}
 use Rattle.kb_diffwa.specs.Pairs.{pairs}
-use Rattle.kb_diffwa.specs.Multipliers.{AreMultipliers, IsMultiplier}
+use Rattle.kb_diffwa.specs.Multipliers.{AreTargets, HasMultipliers, IsMultiplied, IsMultiplier}
+use Rattle.kb_diffwa.proofs.Ends.{EndsAt, accepts_ends, labelled_ends}
+use Rattle.kb_diffwa.proofs.Multiplying.{made_ends}
 
--- pairs that are accepted at another difference are read alike
-pub pairs_alike : (table : Table) (n : ℕ) (step : ℕ → ℕ → ℕ → ℕ) (target other : ℕ) → AreAlike (pairs table n step target) (pairs table n step other)
-pairs_alike table n step target other = record { start = refl; follow = λ place symbol. refl }
+-- ---- targets
 
-pub symbols_same : (k : ℕ) (one two : Table) → two.rows ≡ one.rows → HasSymbols k one → HasSymbols k two
-symbols_same k one two same low =
-    let P : List Moves → Type 0 = λ rows. All (All (λ (move : ℕ × ℕ). move.0 ≤ k)) rows in subst P (sym same) low
+pub no_targets : (n : ℕ) (step : ℕ → ℕ → ℕ → ℕ) → AreTargets n step 0 []
+no_targets n step = record { count = refl; each = λ index h. absurd (let no : ⊥ = omega arith in no) }
 
--- ---- one multiplier more
-
-pub no_multipliers : (group : Group) (words : List (List ℕ)) (acceptor : Automaton) → AreMultipliers group words acceptor 0 []
-no_multipliers group words acceptor = record {
-  one_each = refl;
-  alphabets = λ k d h. absurd (let no : ⊥ = omega (arith, h) in no);
-  languages = λ index fsa at. absurd (let within = slice_get_within [] index fsa at in let no : ⊥ = omega arith in no);
-}
-
-pub multipliers_more : {group : Group} {words : List (List ℕ)} {acceptor : Automaton} {count : ℕ} (old : List Automaton) (fsa : Automaton)
-    → AreMultipliers group words acceptor count old → fsa.alphabet ≡ Pair group.n → IsMultiplier group words acceptor (count + 1) fsa
-    → AreMultipliers group words acceptor (count + 1) (old ++ fsa ∷ [])
-multipliers_more {group} {words} {acceptor} {count} old fsa are alphabet language = record {
-  one_each = let long = length-append old (fsa ∷ []) in let each = are.one_each in omega arith;
-  alphabets = All-push (λ (made : Automaton). made.alphabet ≡ Pair group.n) old fsa are.alphabets alphabet;
-  languages = λ index made at. elim (item_cases old fsa index made at) [
-    | inl earlier ↦ are.languages index made earlier
-    | inr last ↦
-        let each = are.one_each in
-        let place : count + 1 ≡ suc index = omega (arith, last.0) in
-        let P : ℕ → Type 0 = λ x. IsMultiplier group words acceptor x made in
-        let Q : Automaton → Type 0 = λ one. IsMultiplier group words acceptor (count + 1) one in
-        subst P place (subst Q (sym last.1) language)
+pub targets_more : (n : ℕ) (step : ℕ → ℕ → ℕ → ℕ) (done : ℕ) (targets : List ℕ) (target : ℕ) → target ≡ step 1 (n + 1) (done + 1)
+    → AreTargets n step done targets → AreTargets n step (done + 1) (targets ++ target ∷ [])
+targets_more n step done targets target is are = record {
+  count = length_push targets target ∙ ap (λ k. k + 1) are.count;
+  each = λ index h. elim (cases_eq index done) [
+    | inl here ↦
+        let newest = get_or_push targets target 0 done are.count in
+        let one : done + 1 ≡ suc done = omega arith in
+        let P : ℕ → Type 0 = λ k. get_or (targets ++ target ∷ []) k 0 ≡ step 1 (n + 1) (suc k) in
+        subst P (sym here) (newest ∙ is ∙ ap (step 1 (n + 1)) one)
+    | inr before ↦ get_or_append_left targets (target ∷ []) 0 index (omega (arith, are.count)) ∙ are.each index (omega arith)
   ];
 }
+
+-- ---- the automaton with labels
+
+module _ {group : Group} {words : List (List ℕ)} {acceptor : Automaton} {n : ℕ} {step : ℕ → ℕ → ℕ → ℕ} (same : n ≡ group.n)
+    (alphabet : acceptor.alphabet ≡ Plain group.n) (is : IsAutomaton acceptor) (are : AreSteps group words step)
+    (apart : AreApart words) (empty : slice_get words 0 ≡ Some []) where
+  pub has_multipliers : (targets : List ℕ) → AreTargets n step n targets → {made : Table} {states : List Place} {origins : List (ℕ × ℕ)}
+      → IsExploration (pairs acceptor.table n step targets) made states origins → (labelled : LabelledAutomaton)
+      → labelled ≡ record {
+        automaton = record { alphabet = Pair n; table = made };
+        labels = map (λ (place : Place). place.difference) states;
+      } → HasMultipliers group words acceptor labelled targets
+  has_multipliers targets reach {made} {states} {origins} explored labelled labelled_is = record {
+    one_each = reach.count ∙ same;
+    alphabet = ap (λ (l : LabelledAutomaton). l.automaton.alphabet) labelled_is ∙ ap Pair same;
+    languages = λ index target at u v over also.
+        let text = padded group.n u v in
+        let within = slice_get_within targets index target at in
+        let there : target ≡ step 1 (n + 1) (suc index) =
+        sym (get_or_from_slice_get targets index target 0 at) ∙ reach.each index (omega (arith, within, reach.count)) in
+        let low : suc index ≤ group.n = omega (arith, within, reach.count, same) in
+        let one = labelled_ends acceptor.table n step targets explored text index target at in
+        let two = made_ends same alphabet is are apart empty targets explored (suc index) (omega arith) low u v over also in
+        let L : LabelledAutomaton → Type 0 = λ l. (label_after l text ≡ Some target) ↔ IsMultiplied group words acceptor (suc index) u v in
+        let E : ℕ → Type 0 = λ t. EndsAt acceptor.table (pairs acceptor.table n step targets) text t in
+        subst L (sym labelled_is) (λ has. two.0 (subst E there (one.0 has)), λ pair. one.1 (subst E (sym there) (two.1 pair)));
+  }
+
+  -- ---- one multiplier
+
+  pub made_multiplier : (target x : ℕ) → 0 < x → x ≤ group.n → target ≡ step 1 (n + 1) x → {made : Table} {states : List Place} {origins : List (ℕ × ℕ)}
+      → IsExploration (pairs acceptor.table n step (target ∷ [])) made states origins
+      → IsMultiplier group words acceptor x (record { alphabet = Pair n; table = made })
+  made_multiplier target x positive letter there {made} explored u v over also =
+      let text = padded group.n u v in
+      let accepted = accepts_same explored text in
+      let one = accepts_ends acceptor.table n step target text in
+      let two = made_ends same alphabet is are apart empty (target ∷ []) explored x positive letter u v over also in
+      let E : ℕ → Type 0 = λ t. EndsAt acceptor.table (pairs acceptor.table n step (target ∷ [])) text t in
+      let P : ℕ → Type 0 = λ m. AcceptsFrom made made.initial (padded m u v) ↔ IsMultiplied group words acceptor x u v in
+      subst P (sym same) (
+        λ accepts. two.0 (subst E there (one.0 (accepted.0 accepts))),
+        λ pair. accepted.1 (one.1 (subst E (sym there) (two.1 pair))),
+      )

@@ -3,6 +3,7 @@ pub mod TrackMoves
 pub mod TrackRuns
 pub mod PairRuns
 pub mod Multiplying
+pub mod Ends
 pub mod AllGenerators
 pub mod ComparisonRuns
 pub mod RivalRuns

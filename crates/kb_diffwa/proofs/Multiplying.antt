@@ -22,7 +22,8 @@ use Rattle.kb_diff.specs.Steps.{AreSteps, HasNumber, Leads, LeadsBy}
 use Rattle.kb_diffwa.specs.declared.place.Place.{Place}
 use Rattle.kb_diffwa.specs.Tracks.{IsTrackAfter, at_state, has_ended, may_end}
 use Rattle.kb_diffwa.specs.Pairs.{pairs, start_at}
-use Rattle.kb_diffwa.specs.Multipliers.{CountedPlaces, IsMultiplied, IsMultiplier, IsPlaceAfter}
+use Rattle.kb_diffwa.specs.Multipliers.{CountedPlaces, IsMultiplied, IsPlaceAfter}
+use Rattle.kb_diffwa.proofs.Ends.{EndsAt}
 use Rattle.kb_diffwa.proofs.PairRuns.{PairRun, lead_of_run, run_of_lead}
 use Rattle.kb_diff.proofs.StepRuns.{StepRun, kept_of_number, leads_of_run, leads_step, one_number, one_word, run_of_leads, step_leads}
 use Rattle.kb_diffwa.proofs.TrackRuns.{accepted, after_run, begins, run_after}
@@ -53,14 +54,14 @@ module _ (group : Group) where
         normal = subst Q (sym (own_letters group.n x letter)) normal;
       }
 
-module _ (group : Group) (words : List (List ℕ)) (table : Table) (step : ℕ → ℕ → ℕ → ℕ) (target : ℕ)
+module _ (group : Group) (words : List (List ℕ)) (table : Table) (step : ℕ → ℕ → ℕ → ℕ) (targets : List ℕ)
     (acceptor : IsAutomaton (record { alphabet = Plain group.n; table = table })) (are : AreSteps group words step)
     (apart : AreApart words) (empty : slice_get words 0 ≡ Some []) where
   abbrev n : ℕ
   n = group.n
 
   abbrev machine : Machine Place
-  machine = pairs table n step target
+  machine = pairs table n step targets
 
   first_number : HasNumber words 1 []
   first_number = record { index = 0; is = refl; at = empty }
@@ -103,7 +104,7 @@ module _ (group : Group) (words : List (List ℕ)) (table : Table) (step : ℕ �
         | inr some ↦
             let begun = eqb-false table.initial 0 some in
             place_of_run text place begun
-            (run_of_lead table n step target acceptor.table acceptor.symbols text
+            (run_of_lead table n step targets acceptor.table acceptor.symbols text
             (record { first = table.initial; second = table.initial; difference = 1 }) place
             (sym (ap (λ o. lead machine o text) (start_some begun)) ∙ is))
       ]
@@ -119,7 +120,7 @@ module _ (group : Group) (words : List (List ℕ)) (table : Table) (step : ℕ �
       let same = one_number words run.0 place.difference at.difference apart run.1.0 at.number in
       let P : ℕ → Type 0 = λ d. StepRun step n 1 u v d in
       ap (leads machine) at.is_text.is_text ∙ ap (λ o. lead machine o (padded n u v)) (start_some begun)
-      ∙ lead_of_run table n step target acceptor.table acceptor.symbols u v table.initial table.initial 1 place.first place.second place.difference over also
+      ∙ lead_of_run table n step targets acceptor.table acceptor.symbols u v table.initial table.initial 1 place.first place.second place.difference over also
       (run_after table n acceptor.table acceptor.symbols u v table.initial place.first begun over at.first_track)
       (run_after table n acceptor.table acceptor.symbols v u table.initial place.second begun also at.second_track)
       (subst P same run.1.1)
@@ -141,23 +142,20 @@ module _ (group : Group) (words : List (List ℕ)) (table : Table) (step : ℕ �
       ends zero there = refl
       ends (suc place) there = there
 
-  module _ (x : ℕ) (positive : 0 < x) (letter : x ≤ n) (is_target : target ≡ step 1 (n + 1) x) where
+  module _ (x : ℕ) (positive : 0 < x) (letter : x ≤ n) where
     pad : (0 < n + 1) × (n + 1 ≤ n + 1)
     pad = (omega arith, omega arith)
 
     wide : (0 < x) × (x ≤ n + 1)
     wide = (positive, omega arith)
 
-    multiplied_of_accepts : (u v : List ℕ) → IsOver n u → IsOver n v → MachineAccepts machine (padded n u v)
+    multiplied_of_ends : (u v : List ℕ) → IsOver n u → IsOver n v → EndsAt table machine (padded n u v) (step 1 (n + 1) x)
         → IsMultiplied group words (record { alphabet = Plain n; table = table }) x u v
-    multiplied_of_accepts u v over also accepts =
-        let place = accepts.state in
-        let at = place_of_leads (padded n u v) place accepts.leads_there in
+    multiplied_of_ends u v over also ends =
+        let place = ends.place in
+        let at = place_of_leads (padded n u v) place ends.leads_there in
         let same = padded-injective n u v at.first at.second over also at.is_text.first_over at.is_text.second_over at.is_text.is_text in
-        let parts = and_parts (may_end table place.first) (may_end table place.second && nat_eq place.difference target) accepts.accepts in
-        let more = and_parts (may_end table place.second) (nat_eq place.difference target) parts.1 in
-        let number : step 1 (n + 1) x ≡ suc at.number.index =
-        sym is_target ∙ sym (eqb-true place.difference target more.1) ∙ at.number.is in
+        let number : step 1 (n + 1) x ≡ suc at.number.index = sym ends.difference ∙ at.number.is in
         let to = step_leads group words step are 1 (n + 1) x at.number.index [] first_number pad wide number in
         let H : ℕ → Type 0 = λ z. HasNumber words z at.difference in
         let end = one_word words (suc at.number.index) to.0 at.difference to.1.1 (subst H at.number.is at.number) in
@@ -167,26 +165,26 @@ module _ (group : Group) (words : List (List ℕ)) (table : Table) (step : ℕ �
         let M : List ℕ → Type 0 = λ w. Leads group words [] at.first w at.difference in
         record {
           first = subst A (sym same.0)
-              (accepted table n acceptor.table acceptor.symbols at.first at.second table.initial place.first at.first_track parts.0);
+              (accepted table n acceptor.table acceptor.symbols at.first at.second table.initial place.first at.first_track ends.first);
           second = subst A (sym same.1)
-              (accepted table n acceptor.table acceptor.symbols at.second at.first table.initial place.second at.second_track more.0);
+              (accepted table n acceptor.table acceptor.symbols at.second at.first table.initial place.second at.second_track ends.second);
           end = at.difference;
           normal = normal_of_leads group x at.difference letter (subst E end to.1.0);
           leads = subst L (sym same.0) (subst M (sym same.1) at.leads);
         }
 
-    accepts_of_multiplied : (u v : List ℕ) → IsOver n u → IsOver n v
-        → IsMultiplied group words (record { alphabet = Plain n; table = table }) x u v → MachineAccepts machine (padded n u v)
-    accepts_of_multiplied u v over also is =
+    ends_of_multiplied : (u v : List ℕ) → IsOver n u → IsOver n v
+        → IsMultiplied group words (record { alphabet = Plain n; table = table }) x u v → EndsAt table machine (padded n u v) (step 1 (n + 1) x)
+    ends_of_multiplied u v over also is =
         let one = track_of_accepted u v is.first in
         let two = track_of_accepted v u is.second in
         let run = run_of_leads group words step are u v 1 [] is.end over also first_number is.leads in
         let kept = kept_of_number words run.0 is.end run.1.0 in
         let to = leads_step group words step are 1 (n + 1) x [] is.end first_number pad wide (leads_of_normal group x is.end letter is.normal) kept in
-        let same : run.0 ≡ target = one_number words run.0 (suc to.0) is.end apart run.1.0 to.1.1 ∙ sym to.1.0 ∙ sym is_target in
+        let same : run.0 ≡ step 1 (n + 1) x = one_number words run.0 (suc to.0) is.end apart run.1.0 to.1.1 ∙ sym to.1.0 in
         let place : Place = record { first = one.0; second = two.0; difference = run.0 } in
         record {
-          state = place;
+          place = place;
           leads_there = leads_of_place (padded n u v) place (record {
             first = u;
             second = v;
@@ -197,19 +195,15 @@ module _ (group : Group) (words : List (List ℕ)) (table : Table) (step : ℕ �
             number = run.1.0;
             leads = is.leads;
           });
-          accepts =
-              and_from (may_end table one.0) (may_end table two.0 && nat_eq run.0 target) one.1.1
-              (and_from (may_end table two.0) (nat_eq run.0 target) two.1.1 (eq-eqb run.0 target same));
+          first = one.1.1;
+          second = two.1.1;
+          difference = same;
         }
 
-    -- the table that is explored accepts the multiplier's pairs
-    pub multiplies : {made : Table} {states : List Place} {origins : List (ℕ × ℕ)} → IsExploration machine made states origins
-        → IsMultiplier group words (record { alphabet = Plain n; table = table }) x (record { alphabet = Pair n; table = made })
-    multiplies explored u v over also =
-        let same = accepts_same explored (padded n u v) in (
-          λ accepts. multiplied_of_accepts u v over also (same.0 accepts),
-          λ is. same.1 (accepts_of_multiplied u v over also is),
-        )
+    pub ends_multiplied : (u v : List ℕ) → IsOver n u → IsOver n v
+        → EndsAt table machine (padded n u v) (step 1 (n + 1) x)
+        ↔ IsMultiplied group words (record { alphabet = Plain n; table = table }) x u v
+    ends_multiplied u v over also = (multiplied_of_ends u v over also, ends_of_multiplied u v over also)
 
   -- ---- the automaton
 
@@ -259,32 +253,33 @@ module _ {group : Group} {words : List (List ℕ)} {acceptor : Automaton} {n : �
   plain_automaton =
       let P : Alphabet → Type 0 = λ a. IsAutomaton (record { alphabet = a; table = acceptor.table }) in subst P alphabet is
 
-  module _ (target : ℕ) {made : Table} {states : List Place} {origins : List (ℕ × ℕ)}
-      (explored : IsExploration (pairs acceptor.table n step target) made states origins) where
-    explored_same : IsExploration (pairs acceptor.table group.n step target) made states origins
+  module _ (targets : List ℕ) {made : Table} {states : List Place} {origins : List (ℕ × ℕ)}
+      (explored : IsExploration (pairs acceptor.table n step targets) made states origins) where
+    explored_same : IsExploration (pairs acceptor.table group.n step targets) made states origins
     explored_same =
-        let P : ℕ → Type 0 = λ m. IsExploration (pairs acceptor.table m step target) made states origins in subst P same explored
+        let P : ℕ → Type 0 = λ m. IsExploration (pairs acceptor.table m step targets) made states origins in subst P same explored
 
     pub made_automaton : HasSymbols (pair_symbols n) made → IsAutomaton (record { alphabet = Pair n; table = made })
     made_automaton low =
         let P : ℕ → Type 0 = λ m. HasSymbols (pair_symbols m) made in
         let Q : ℕ → Type 0 = λ m. IsAutomaton (record { alphabet = Pair m; table = made }) in
         subst Q (sym same)
-        (pairs_automaton group words acceptor.table step target plain_automaton are apart empty explored_same (subst P same low))
+        (pairs_automaton group words acceptor.table step targets plain_automaton are apart empty explored_same (subst P same low))
 
-    pub made_multiplier : (x : ℕ) → 0 < x → x ≤ group.n → target ≡ step 1 (n + 1) x
-        → IsMultiplier group words acceptor x (record { alphabet = Pair n; table = made })
-    made_multiplier x positive letter is_target =
-        let T : ℕ → Type 0 = λ m. target ≡ step 1 (m + 1) x in
-        let F : ℕ → Type 0 = λ m.
-        IsMultiplier group words (record { alphabet = Plain group.n; table = acceptor.table }) x (record { alphabet = Pair m; table = made }) in
+    -- the pairs that end at the number of a generator's normal form are those of its multiplier
+    pub made_ends : (x : ℕ) → 0 < x → x ≤ group.n → (u v : List ℕ) → IsOver group.n u → IsOver group.n v
+        → EndsAt acceptor.table (pairs acceptor.table n step targets) (padded group.n u v) (step 1 (n + 1) x) ↔ IsMultiplied group words acceptor x u v
+    made_ends x positive letter u v over also =
+        let E : ℕ → Type 0 = λ m. EndsAt acceptor.table (pairs acceptor.table m step targets) (padded group.n u v) (step 1 (m + 1) x)
+        ↔ IsMultiplied group words acceptor x u v in
         let A : Alphabet → Type 0 = λ a.
-        IsMultiplier group words (record { alphabet = a; table = acceptor.table }) x (record { alphabet = Pair n; table = made }) in
-        subst A (sym alphabet) (subst F (sym same)
-        (multiplies group words acceptor.table step target plain_automaton are apart empty x positive letter (subst T same is_target) explored_same))
+        EndsAt acceptor.table (pairs acceptor.table group.n step targets) (padded group.n u v) (step 1 (group.n + 1) x)
+        ↔ IsMultiplied group words (record { alphabet = a; table = acceptor.table }) x u v in
+        subst E (sym same) (subst A (sym alphabet)
+        (ends_multiplied group words acceptor.table step targets plain_automaton are apart empty x positive letter u v over also))
 
-  pub made_counts : (target m : ℕ) → HasMoreStates (pairs acceptor.table n step target) m ↔ CountedPlaces group words acceptor.table m
-  made_counts target m =
-      let counted = places_counted group words acceptor.table step target plain_automaton are apart empty m in
-      let P : ℕ → Type 0 = λ k. HasMoreStates (pairs acceptor.table k step target) m in
+  pub made_counts : (targets : List ℕ) (m : ℕ) → HasMoreStates (pairs acceptor.table n step targets) m ↔ CountedPlaces group words acceptor.table m
+  made_counts targets m =
+      let counted = places_counted group words acceptor.table step targets plain_automaton are apart empty m in
+      let P : ℕ → Type 0 = λ k. HasMoreStates (pairs acceptor.table k step targets) m in
       (λ more. counted.0 (subst P same more), λ more. subst P (sym same) (counted.1 more))

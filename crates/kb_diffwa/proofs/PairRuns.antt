@@ -70,9 +70,9 @@ IsTextOfPair-letters {n} {symbol} {x} {y} {text} {u} {v} one two same is = recor
   is_text = ap (λ s. s ∷ text) same ∙ ap (λ t. pair_symbol n x y ∷ t) is.is_text;
 }
 
-module _ (table : Table) (n : ℕ) (step : ℕ → ℕ → ℕ → ℕ) (target : ℕ) (is : IsTable table) (low : HasSymbols n table) where
+module _ (table : Table) (n : ℕ) (step : ℕ → ℕ → ℕ → ℕ) (targets : List ℕ) (is : IsTable table) (low : HasSymbols n table) where
   abbrev machine : Machine Place
-  machine = pairs table n step target
+  machine = pairs table n step targets
 
   -- where the letters of a symbol lead from a place
   abbrev led : Place → ℕ → Option Place

@@ -130,7 +130,7 @@ module _ (step : ℕ → ℕ → ℕ → ℕ) (n d : ℕ) where
       ap (λ (test : Bool). if test then None else placed first second (step d (n + 1) (n + 1)))
       (and_from (nat_eq (n + 1) (n + 1)) (nat_eq (n + 1) (n + 1)) (eq-eqb (n + 1) (n + 1) refl) (eq-eqb (n + 1) (n + 1) refl))
 
-module _ (table : Table) (n : ℕ) (step : ℕ → ℕ → ℕ → ℕ) (target : ℕ) (low : HasSymbols n table) (place : Place)
+module _ (table : Table) (n : ℕ) (step : ℕ → ℕ → ℕ → ℕ) (targets : List ℕ) (low : HasSymbols n table) (place : Place)
     (one : IsRow (moves_of table place.first)) (two : IsRow (moves_of table place.second)) where
   abbrev firsts : Moves
   firsts = track_moves table n place.first
@@ -175,7 +175,7 @@ module _ (table : Table) (n : ℕ) (step : ℕ → ℕ → ℕ → ℕ) (target 
         ∙ no_paddings step n place.difference (lookup firsts (n + 1)) (lookup seconds (n + 1))
   ]
 
-  follows : (symbol : ℕ) → lookup moves symbol ≡ (pairs table n step target).follow place symbol
+  follows : (symbol : ℕ) → lookup moves symbol ≡ (pairs table n step targets).follow place symbol
   follows symbol =
       elim (cases_lt 0 symbol) [
         | inl positive ↦ elim (cases_lt (pair_symbols n) symbol) [
@@ -190,7 +190,7 @@ module _ (table : Table) (n : ℕ) (step : ℕ → ℕ → ℕ → ℕ) (target 
       ]
 
   -- the crossed moves of the tracks are the machine's
-  pub place_moves : AreMovesOf (pairs table n step target) (pair_symbols n) place moves
+  pub place_moves : AreMovesOf (pairs table n step targets) (pair_symbols n) place moves
   place_moves = record {
     ascends = crossed_ascends step n place.difference firsts seconds (track_letters table n low place.first one)
         (track_letters table n low place.second two) (track_ascends table n low place.first one) (track_ascends table n low place.second two);

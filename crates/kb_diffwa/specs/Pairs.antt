@@ -1,6 +1,6 @@
 -- The machine that reads pairs of an acceptor's words, side by side, with their difference.
 use Rattle.std.specs.Prelude.{ℕ, zero, suc, ◌+◌, ◌&&◌, nat_eq, if◌then◌else◌, List, Option, Some, None}
-use Rattle.std.specs.List.{filter_map, flat_map}
+use Rattle.std.specs.List.{filter_map, flat_map, list_any}
 use Rattle.std.specs.Option.{option_map}
 use Rattle.kb_fsa.specs.Table.{Table, Moves, lookup}
 use Rattle.kb_fsa.specs.PairSymbols.{pair_symbol, first_letter, second_letter}
@@ -26,9 +26,10 @@ both_placed (Some p) (Some q) difference = placed p q difference
 abbrev pub start_at : ℕ → Option Place
 start_at state = placed state state 1
 
--- the machine: a symbol leads each track on by its letter, and the difference by both, to one that is kept
-abbrev pub pairs : Table → ℕ → (ℕ → ℕ → ℕ → ℕ) → ℕ → Machine Place
-pairs table n step target = record {
+-- The machine: a symbol leads each track on by its letter, and the difference by both, to one that is kept. Pairs are
+-- accepted at differences of these numbers.
+abbrev pub pairs : Table → ℕ → (ℕ → ℕ → ℕ → ℕ) → List ℕ → Machine Place
+pairs table n step targets = record {
   start = if nat_eq table.initial 0 then None else start_at table.initial;
   follow = λ place symbol. if is_symbol (Pair n) symbol
       then both_placed (lookup (track_moves table n place.first) (first_letter n symbol))
@@ -36,7 +37,8 @@ pairs table n step target = record {
       (step place.difference (first_letter n symbol) (second_letter n symbol))
       else None;
   accepts = λ place.
-      may_end table place.first && (may_end table place.second && nat_eq place.difference target);
+      may_end table place.first && (may_end table place.second
+      && list_any (λ target. nat_eq target place.difference) targets);
 }
 
 -- ---- the moves from a place

@@ -27,8 +27,8 @@
 //! empty difference to the normal form of x, each difference on the way being kept. So v is the element u x. An
 //! acceptor of one word for each element, with a multiplier of each generator, is an automatic structure.
 //!
-//! The public contract: [`multiplier`] returns the automaton of exactly these pairs, and [`multipliers`] those of all
-//! generators in order. Each answers `TooManyStates` exactly where texts of pairs lead to more different places than
+//! The public contract: [`multiplier`] returns the automaton of exactly these pairs, and [`multipliers`] one automaton
+//! with labels, in which the pairs of each generator's multiplier have a label of their own. Each answers `TooManyStates` exactly where texts of pairs lead to more different places than
 //! the limit. A place is where the reading of two words stands: the acceptor's state after each word, or that the word
 //! has ended, which it may where it is accepted, and the number of the difference. Over the acceptor of the same
 //! differences the pairs are those of `DifferenceMultiplier` of `kb_diff`, as the law
@@ -38,7 +38,8 @@
 //! crossed, each track with the acceptor's moves and with padding where its word may end, by ascending symbols; the
 //! difference machine's table tells which of them lead to a difference that is kept. Which places texts lead to does
 //! not depend on the generator, so that one exploration serves all multipliers: they have one set of moves, and differ
-//! in the difference at which they accept. None is reduced to the fewest states: `kb_fsamin` does that.
+//! in the difference at which they accept. Its number is the label (`kb_labelled`), and the moves are there once. Nothing
+//! is reduced to the fewest states: `kb_fsamin` does that, of all multipliers together.
 //!
 //! # Where things are
 //!
@@ -53,11 +54,12 @@
 //! steps as they are listed and `LetterMoves` the moves of a set. `RivalSetRuns` has that the machine leads to the sets
 //! of rivals, and `Acceptance` the language and the counts. `Crossing` has the crossing of two rows and `TrackMoves`
 //! the moves of a place; `TrackRuns` and `PairRuns` have where a word's track and the machine lead along a pair of
-//! words; `Multiplying` has the language and the counts, and `AllGenerators` the one exploration for all generators.
+//! words; `Ends` has at which places pairs are accepted and which labels they have, `Multiplying` the language and the
+//! counts, and `AllGenerators` the one exploration for all generators.
 //! `Members` has what lists contain.
 //!
-//! Below are `kb_diff`, with the differences and their machine, `kb_explore`, with the exploration, and `kb_ragged`,
-//! with lists side by side.
+//! Below are `kb_diff`, with the differences and their machine, `kb_explore`, with the exploration, `kb_labelled`, with
+//! labels, and `kb_ragged`, with lists side by side.
 #![tactic(auto)]
 
 mod avoiding_rivals;
@@ -74,4 +76,4 @@ mod sparse_steps;
 pub use avoiding_rivals::acceptor;
 pub use kb_explore::Det;
 pub use laws::pairs_over_the_difference_acceptor;
-pub use multiplication::{multiplier, multipliers};
+pub use multiplication::{AllMultipliers, multiplier, multipliers};

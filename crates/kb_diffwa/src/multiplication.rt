@@ -1,17 +1,21 @@
 //! The multipliers of generators.
 
-ghost use Rattle.std.specs.Prelude.{◌≡◌, ◌<◌, ◌≤◌, ℕ, Err, IsOk, IfOk};
+ghost use Rattle.std.specs.Prelude.{◌≡◌, ◌<◌, ◌≤◌, ℕ, Err, map, IsOk, IfOk};
 ghost use Rattle.kb_fsa.specs.declared.alphabet.Alphabet.TheVariants.{Plain, Pair};
 ghost use Rattle.kb_explore.specs.declared.det.Det.TheVariants.{TooManyStates};
 ghost use Rattle.kb_diff.specs.Steps.{AreSteps};
 ghost use Rattle.kb_diff.specs.Tables.{step_in};
-ghost use Rattle.kb_diffwa.specs.Multipliers.{AreMultipliers, CountedPlaces, IsMultiplier};
+ghost use Rattle.kb_diffwa.specs.Multipliers.{AreTargets, CountedPlaces, HasMultipliers, IsMultiplier};
+ghost use Rattle.kb_diffwa.specs.declared.place.Place.{Place as PlaceModel};
 
 use crate::pairs::Pairs;
+use crate::place::Place;
 use kb_diff::{Differences, Machine};
 use kb_explore::{Det, explore};
 use kb_fsa::{Alphabet, Fsa, PairSymbols};
+use kb_labelled::Labelled;
 use kb_rules::Reducer;
+use kb_word::Memory;
 use std::alloc::Global;
 
 /// The multiplier of generator x: an automaton of the pairs of accepted words that lead, read side by side, from the
@@ -42,28 +46,39 @@ pub fn multiplier<R: Reducer>(
     let symbols = PairSymbols { n };
     // From the empty difference the padding and x lead to the normal form of x.
     let target = machine.step(1, n + 1, x);
+    let targets = [target];
     let pairs = Pairs {
         acceptor,
         symbols,
         differences: machine,
-        target,
+        targets: &targets,
     };
     let exploration = explore(alloc, &pairs, limit)?;
     Ok(Fsa::new(Alphabet::Pair(n), exploration.table))
 }
 
-/// The multipliers of all generators, in order, by one exploration: they differ in nothing but the states that accept.
+/// The multipliers of all generators as one automaton of pairs: they have one set of moves, and differ in nothing but the
+/// difference at which they accept, whose number is the label.
+#[derive(Drop)]
+pub struct AllMultipliers {
+    /// The pairs of all multipliers, each with the number of the difference to which it leads.
+    pub labelled: Labelled,
+    /// For each generator in order, the label of its multiplier's pairs.
+    pub targets: Vec<u32>,
+}
+
+/// The multipliers of all generators, by one exploration.
 pub fn multipliers<R: Reducer>(
     alloc: Global,
     differences: &Differences<R>,
     machine: &Machine,
     acceptor: &Fsa,
     limit: u32,
-) -> Result<Vec<Fsa>, Det>
+) -> Result<AllMultipliers, Det>
     requires steps { AreSteps differences.now.group differences.now.words (step_in machine.now) }
     requires alphabet { acceptor.now.alphabet ≡ Plain differences.now.group.n }
-    ensures multipliers { IfOk result (λ multipliers. AreMultipliers differences.now.group
-        differences.now.words acceptor.now differences.now.group.n multipliers.items) }
+    ensures multipliers { IfOk result (λ all. HasMultipliers differences.now.group
+        differences.now.words acceptor.now all.labelled all.targets.items) }
     ensures few { IsOk result
         → ¬ CountedPlaces differences.now.group differences.now.words acceptor.now.table limit }
     ensures many { (most : ℕ) → result ≡ Err (TooManyStates most) → (most ≡ limit)
@@ -72,26 +87,42 @@ pub fn multipliers<R: Reducer>(
     // As in `multiplier`.
     let _kept = differences.len();
     let n = acceptor.alphabet().generators();
-    let symbols = PairSymbols { n };
-    // Where nothing is accepted the places are the same.
+    let targets = targets_of(alloc, machine, n)?;
     let pairs = Pairs {
         acceptor,
-        symbols,
+        symbols: PairSymbols { n },
         differences: machine,
-        target: 0,
+        targets: targets.as_slice(),
     };
     let exploration = explore(alloc, &pairs, limit)?;
-    let mut multipliers = Vec::with_capacity(alloc, usize::from(n))?;
+    let labels = differences_of(alloc, exploration.states.as_slice())?;
+    let automaton = Fsa::new(Alphabet::Pair(n), exploration.table);
+    Ok(AllMultipliers {
+        labelled: Labelled::new(automaton, labels),
+        targets,
+    })
+}
+
+/// For each generator in order, the number of the difference that is its normal form.
+fn targets_of(alloc: Global, machine: &Machine, n: u16) -> Result<Vec<u32>, Memory>
+    requires { n ≤ 65534 }
+    ensures { IfOk result (λ targets. AreTargets n (step_in machine.now) n targets.items) }
+{
+    let mut targets = Vec::with_capacity(alloc, usize::from(n))?;
     for index in 0..n {
-        let target = machine.step(1, n + 1, index + 1);
-        let aimed = Pairs {
-            acceptor,
-            symbols,
-            differences: machine,
-            target,
-        };
-        let table = exploration.answered_by(alloc, &aimed)?;
-        multipliers.push(Fsa::new(Alphabet::Pair(n), table))?;
+        targets.push(machine.step(1, n + 1, index + 1))?;
     }
-    Ok(multipliers)
+    Ok(targets)
+}
+
+/// The numbers of the differences of places, in order.
+fn differences_of(alloc: Global, places: &[Place]) -> Result<Vec<u32>, Memory>
+    ensures { IfOk result (λ numbers.
+        numbers.items ≡ map (λ (place : PlaceModel). place.difference) places.now) }
+{
+    let mut numbers = Vec::with_capacity(alloc, places.len())?;
+    for place in places {
+        numbers.push(place.difference)?;
+    }
+    Ok(numbers)
 }

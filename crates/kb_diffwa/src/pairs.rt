@@ -1,7 +1,7 @@
 //! The machine that reads the pairs of a multiplier.
 
-ghost use Rattle.std.specs.Prelude.{◌≡◌, ◌<◌, ◌≤◌, ◌+◌, ◌++◌, [], ◌∷◌, OnOk};
-ghost use Rattle.std.specs.List.{filter_map};
+ghost use Rattle.std.specs.Prelude.{◌≡◌, ◌<◌, ◌≤◌, ◌+◌, ◌++◌, [], ◌∷◌, nat_eq, OnOk};
+ghost use Rattle.std.specs.List.{filter_map, list_any};
 ghost use Rattle.std.proofs.Common.{rules};
 ghost use Rattle.kb_fsa.specs.Language.{IsAutomaton};
 ghost use Rattle.kb_fsa.specs.declared.alphabet.Alphabet.TheVariants.{Plain};
@@ -26,8 +26,8 @@ pub(crate) struct Pairs<'a> {
     pub(crate) symbols: PairSymbols,
     /// The steps between differences.
     pub(crate) differences: &'a DifferenceMachine,
-    /// The number of the difference at which pairs are accepted, and 0 where none are.
-    pub(crate) target: u32,
+    /// The numbers of the differences at which pairs are accepted.
+    pub(crate) targets: &'a [u32],
     pub(crate) ghost plain: { IsAutomaton (record {
       alphabet = Plain symbols.n;
       table = acceptor.now.table;
@@ -38,7 +38,7 @@ impl<'a> Machine for Pairs<'a> {
     type State = Place;
 
     ghost machine = { λ it.
-        pairs it.acceptor.now.table it.symbols.n (step_in it.differences.now) it.target };
+        pairs it.acceptor.now.table it.symbols.n (step_in it.differences.now) it.targets.now };
 
     ghost symbols = { λ it. pair_symbols it.symbols.n };
 
@@ -68,7 +68,7 @@ impl<'a> Machine for Pairs<'a> {
     }
 
     fn accepts(&self, place: &Place) -> bool {
-        self.may_end(place.first) && self.may_end(place.second) && place.difference == self.target
+        self.may_end(place.first) && self.may_end(place.second) && self.is_target(place.difference)
     }
 }
 
@@ -78,6 +78,13 @@ impl<'a> Pairs<'a> {
         ensures { result ≡ may_end self.now.acceptor.now.table track }
     {
         track == 0 || self.acceptor.is_accepting(track)
+    }
+
+    /// Whether pairs are accepted at the difference of this number.
+    fn is_target(&self, difference: u32) -> bool
+        ensures { result ≡ list_any (λ target. nat_eq target difference) self.now.targets.now }
+    {
+        self.targets.iter().any(|target| *target == difference)
     }
 
     /// Adds the moves by one first letter, given with where it leads the first track, and each second one.

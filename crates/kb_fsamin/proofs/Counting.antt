@@ -1,8 +1,8 @@
 -- A counting sort, and the items of a part as they stand.
-use Rattle.std.proofs.Common.{◌≡◌, ◌≢◌, ◌⊎◌, ℕ, cond, suc, ◌+◌, ◌-◌, ◌<◌, ◌≤◌, nat_eq, List, [], ◌∷◌, ◌++◌, length, get_or, set, take, drop, sum, All, Contains, refl, sym, ap, ◌∙◌, subst, inl, inr, arith, length-set, get_or-set_same, get_or-set_other, length-take, length-drop, get_or-take, get_or-drop}
+use Rattle.std.proofs.Common.{◌≡◌, ◌≢◌, ◌⊎◌, ℕ, cond, ◌+◌, ◌-◌, ◌<◌, ◌≤◌, nat_eq, List, [], ◌∷◌, ◌++◌, length, get_or, set, take, drop, sum, refl, sym, ap, ◌∙◌, inl, inr, arith, length-set, get_or-set_same, get_or-set_other, length-take, length-drop, get_or-take, get_or-drop}
 use Rattle.std.specs.List.{slice_range}
 use Rattle.std.proofs.lemmas.Bool.{cases_eq, cases_lt, eq-eqb, ne_eqb}
-use Rattle.std.proofs.lemmas.List.{take_more, take_all, take-take, length_push, get_or_push, get_or_append_left, get_or_default, get_or_past}
+use Rattle.std.proofs.lemmas.List.{take_all, take-take, length_push, get_or_push, get_or_append_left, get_or_default}
 use Rattle.std.proofs.lemmas.List.Sums.{sum_by_more, sum_by-take-le, sum_by-set, count_by_more_yes, count_by_more_no}
 use Rattle.kb_fsamin.specs.declared.partition.Part.{Part}
 use Rattle.kb_fsamin.specs.Partitions.{part_of, range_of, occurrences, AreCounts, AreFilled, AreMembers, AreRanges, IsMember, IsPlaced, Stand}

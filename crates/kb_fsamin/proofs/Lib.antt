@@ -8,11 +8,13 @@ pub mod Signatures
 pub mod ClassRows
 pub mod Classings
 pub mod RisingSums
-pub mod AcceptanceClasses
+pub mod FirstClasses
 pub mod Marking
 pub mod Dividing
 pub mod Counting
 pub mod SplitSteps
 pub mod Numberings
+pub mod Unlabelled
+pub mod KeptLabels
 pub mod Splittings
 pub mod NoMoves

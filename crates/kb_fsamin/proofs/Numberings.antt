@@ -1,5 +1,5 @@
--- Numbers of symbols, one after another.
-use Rattle.std.proofs.Common.{◌≡◌, ℕ, ◌+◌, ◌<◌, nat_eq, List, [], ◌∷◌, ◌++◌, length, get_or, map, sym, ap, ◌∙◌, subst, inl, inr, arith, if◌then◌else◌}
+-- Numbers of things, one after another.
+use Rattle.std.proofs.Common.{◌≡◌, ℕ, ◌+◌, ◌<◌, nat_eq, List, [], ◌∷◌, ◌++◌, length, get_or, map, refl, sym, ap, ◌∙◌, subst, inl, inr, arith, if◌then◌else◌}
 use Rattle.std.specs.List.{list_any, position_or_len}
 use Rattle.std.proofs.lemmas.Bool.{cases_eq, cases_lt}
 use Rattle.std.proofs.lemmas.Bool.Decides.{Decides-eqb}
@@ -15,12 +15,12 @@ inserted_number keys keys' key number after place =
     let all = Inserted-map nat_eq (λ (x : ℕ). x) Decides-eqb keys keys' key number after place in
     subst (λ ks. Inserted ks keys' key number) (map-id keys) (subst (λ ks. Inserted (map (λ (x : ℕ). x) keys) ks key number) (map-id keys') all)
 
-pub numbered_more : (symbols : List ℕ) (done : ℕ) (seen seen' numbers : List ℕ) (number : ℕ)
-    → seen' ≡ (if list_any (nat_eq (get_or symbols done 0)) seen then seen else seen ++ get_or symbols done 0 ∷ [])
-    → number ≡ position_or_len (nat_eq (get_or symbols done 0)) seen
-    → AreNumbered symbols done seen numbers → AreNumbered symbols (done + 1) seen' (numbers ++ number ∷ [])
-numbered_more symbols done seen seen' numbers number after at all =
-    let inserted = inserted_number seen seen' (get_or symbols done 0) number after at in
+pub numbered_more : (thing : ℕ → ℕ) (done : ℕ) (seen seen' numbers : List ℕ) (number : ℕ)
+    → seen' ≡ (if list_any (nat_eq (thing done)) seen then seen else seen ++ thing done ∷ [])
+    → number ≡ position_or_len (nat_eq (thing done)) seen
+    → AreNumbered thing done seen numbers → AreNumbered thing (done + 1) seen' (numbers ++ number ∷ [])
+numbered_more thing done seen seen' numbers number after at all =
+    let inserted = inserted_number seen seen' (thing done) number after at in
     record {
       one_each = length_push numbers number ∙ ap (λ n. n + 1) all.one_each;
       few = omega (arith, all.few, inserted.few);
@@ -28,7 +28,7 @@ numbered_more symbols done seen seen' numbers number after at all =
         | inl last ↦
             let here : part_of (numbers ++ number ∷ []) k ≡ number =
             ap (part_of (numbers ++ number ∷ [])) last ∙ get_or_push numbers number 0 done all.one_each in
-            (omega (arith, inserted.within), ap (λ n. get_or seen' n 0) here ∙ inserted.here 0 ∙ ap (λ n. get_or symbols n 0) (sym last))
+            (omega (arith, inserted.within), ap (λ n. get_or seen' n 0) here ∙ inserted.here 0 ∙ ap thing (sym last))
         | inr before ↦
             let low : k < done = omega arith in
             let here : part_of (numbers ++ number ∷ []) k ≡ part_of numbers k = get_or_append_left numbers (number ∷ []) 0 k (omega (arith, all.one_each)) in
@@ -53,9 +53,23 @@ numbered_more symbols done seen seen' numbers number after at all =
       ];
     }
 
-pub numbered_same : (symbols : List ℕ) (done : ℕ) (seen numbers : List ℕ) → AreNumbered symbols done seen numbers
-    → (k other : ℕ) → k < done → other < done → get_or symbols k 0 ≡ get_or symbols other 0 → part_of numbers k ≡ part_of numbers other
-numbered_same symbols done seen numbers all k other h i same =
+pub numbered_same : (thing : ℕ → ℕ) (done : ℕ) (seen numbers : List ℕ) → AreNumbered thing done seen numbers
+    → (k other : ℕ) → k < done → other < done → thing k ≡ thing other → part_of numbers k ≡ part_of numbers other
+numbered_same thing done seen numbers all k other h i same =
     let one = all.place k h in
     let two = all.place other i in
     all.distinct (part_of numbers k) (part_of numbers other) one.0 two.0 (one.1 ∙ same ∙ sym two.1)
+
+-- and things of one number are equal
+pub numbered_apart : (thing : ℕ → ℕ) (done : ℕ) (seen numbers : List ℕ) → AreNumbered thing done seen numbers
+    → (k other : ℕ) → k < done → other < done → part_of numbers k ≡ part_of numbers other → thing k ≡ thing other
+numbered_apart thing done seen numbers all k other h i same =
+    sym (all.place k h).1 ∙ ap (λ n. get_or seen n 0) same ∙ (all.place other i).1
+
+pub none_numbered : (thing : ℕ → ℕ) → AreNumbered thing 0 [] []
+none_numbered thing = record {
+  one_each = refl;
+  few = omega arith;
+  place = λ k h. absurd (let no : ⊥ = omega arith in no);
+  distinct = λ j k one two same. absurd (let no : ⊥ = omega arith in no);
+}

@@ -7,6 +7,7 @@ use Rattle.kb_fsa.specs.declared.alphabet.Alphabet.{Alphabet}
 use Rattle.kb_fsa.specs.Language.{IsAutomaton, symbols}
 use Rattle.kb_fsa.specs.Canonical.{IsState, IsCanonical}
 use Rattle.kb_fsa.proofs.Lookups.{after_within, after_none}
+use Rattle.kb_labelled.specs.Labels.{AreAlike}
 use Rattle.kb_explore.specs.Exploration.{IsExploration}
 use Rattle.kb_explore.proofs.ExplorationLemmas.{same_states, leads_nowhere, accepts_same, are_reached, is_breadth_first}
 use Rattle.kb_fsamin.specs.Classes.{representative, AreRepresentatives}
@@ -24,17 +25,18 @@ nothing_less text (shorter h) = omega arith
 nothing_less text (earlier e h) = not_earlier text h
 
 -- by the representatives of a table's states its quotient has been explored
-pub record IsReduction (given table : Table) (listed states : List ℕ) (origins : List (ℕ × ℕ)) : Type 0 where
+pub record IsReduction (given table : Table) (labels listed states : List ℕ) (origins : List (ℕ × ℕ)) : Type 0 where
   pub is_given : IsTable given
-  pub represented : AreRepresentatives given listed
+  pub represented : AreRepresentatives given labels listed
   pub explored : IsExploration (quotient_of given listed) table states origins
 
-module _ {given table : Table} {listed states : List ℕ} {origins : List (ℕ × ℕ)} (r : IsReduction given table listed states origins) where
+module _ {given table : Table} {labels listed states : List ℕ} {origins : List (ℕ × ℕ)}
+    (r : IsReduction given table labels listed states origins) where
   -- the table has the language of the given one
   pub language_kept : (text : List ℕ) → AcceptsFrom given given.initial text ↔ AcceptsFrom table table.initial text
   language_kept text =
       let explored = accepts_same r.explored text in
-      let quotient = quotient_accepts given listed r.is_given r.represented text in
+      let quotient = quotient_accepts given labels listed r.is_given r.represented text in
       (λ accepts. explored.1 (quotient.1 accepts), λ accepts. quotient.0 (explored.0 accepts))
 
   rest_kept : (text more : List ℕ) → AcceptsFrom table (state_after table text) more → AcceptsFrom given (state_after given text) more
@@ -51,7 +53,7 @@ module _ {given table : Table} {listed states : List ℕ} {origins : List (ℕ �
   -- a text that leads to a state leads to one that has a representative in the given table
   pub represented_kept : (text : List ℕ) → state_after table text ≢ 0 → representative listed (state_after given text) ≢ 0
   represented_kept text some none =
-      some ((leads_nowhere r.explored text).1 (leads_quotient given listed r.is_given r.represented text ∙ ap some_state none))
+      some ((leads_nowhere r.explored text).1 (leads_quotient given labels listed r.is_given r.represented text ∙ ap some_state none))
 
   -- and so to a state there
   pub state_kept : (text : List ℕ) → state_after table text ≢ 0 → state_after given text ≢ 0
@@ -69,30 +71,6 @@ module _ {given table : Table} {listed states : List ℕ} {origins : List (ℕ �
       }) (represented_kept text some) in
       (there.0, rest_same text there.0 there.1)
 
-  -- texts that lead to states of one right language lead to one state
-  alike_same : (text other : List ℕ) → AreEquivalent table (state_after table text) (state_after table other)
-      → state_after table text ≡ state_after table other
-  alike_same text other same =
-      let equivalent : AreEquivalent given (state_after given text) (state_after given other) = λ more. (
-        λ accepts. rest_kept other more ((same more).0 (rest_same text more accepts)),
-        λ accepts. rest_kept text more ((same more).1 (rest_same other more accepts)),
-      ) in
-      let class = representatives_same given listed r.is_given r.represented (state_after given text) (state_after given other)
-      (given_within text) (given_within other) equivalent in
-      (same_states r.explored text other).1
-      (leads_quotient given listed r.is_given r.represented text ∙ ap some_state class
-      ∙ sym (leads_quotient given listed r.is_given r.represented other))
-
-  is_reduced : (p q : ℕ) → IsState table p → IsState table q → AreEquivalent table p q → p ≡ q
-  is_reduced p q one two same =
-      let here = are_reached r.explored p one in
-      let there = are_reached r.explored q two in
-      let P : ℕ → Type 0 = λ s. AreEquivalent table s q in
-      let Q : ℕ → Type 0 = λ s. AreEquivalent table (state_after table here.0) s in
-      sym here.1.leads
-      ∙ alike_same here.0 there.0 (subst Q (sym there.1.leads) (subst P (sym here.1.leads) same))
-      ∙ there.1.leads
-
   -- the first state is the initial one, since no text is less than the empty one
   first_initial : 0 < length table.rows → table.initial ≡ 1
   first_initial some =
@@ -109,19 +87,46 @@ module _ {given table : Table} {listed states : List ℕ} {origins : List (ℕ �
             absurd (omega arith)
       ]
 
-  pub is_canonical : 0 < length table.rows → IsCanonical table
-  is_canonical some = record {
-    initial = first_initial some;
-    reached = are_reached r.explored;
-    trim = inl (λ state is.
-        let here = are_reached r.explored state is in
-        let positive = is.positive in
-        let leads_here = here.1.leads in
-        let P : ℕ → Type 0 = λ s. IsLive table s in
-        subst P here.1.leads (live_kept here.0 (λ none. omega arith)));
-    reduced = is_reduced;
-    numbered = is_breadth_first r.explored;
-  }
+  -- where states of one right language are alike
+  module _ (plain : (p q : ℕ) → AreEquivalent given p q → AreAlike given labels p q) where
+    -- texts that lead to states of one right language lead to one state
+    alike_same : (text other : List ℕ) → AreEquivalent table (state_after table text) (state_after table other)
+        → state_after table text ≡ state_after table other
+    alike_same text other same =
+        let equivalent : AreEquivalent given (state_after given text) (state_after given other) = λ more. (
+          λ accepts. rest_kept other more ((same more).0 (rest_same text more accepts)),
+          λ accepts. rest_kept text more ((same more).1 (rest_same other more accepts)),
+        ) in
+        let class = representatives_same given labels listed r.is_given r.represented (state_after given text) (state_after given other)
+        (given_within text) (given_within other)
+        (plain (state_after given text) (state_after given other) equivalent) in
+        (same_states r.explored text other).1
+        (leads_quotient given labels listed r.is_given r.represented text ∙ ap some_state class
+        ∙ sym (leads_quotient given labels listed r.is_given r.represented other))
+
+    is_reduced : (p q : ℕ) → IsState table p → IsState table q → AreEquivalent table p q → p ≡ q
+    is_reduced p q one two same =
+        let here = are_reached r.explored p one in
+        let there = are_reached r.explored q two in
+        let P : ℕ → Type 0 = λ s. AreEquivalent table s q in
+        let Q : ℕ → Type 0 = λ s. AreEquivalent table (state_after table here.0) s in
+        sym here.1.leads
+        ∙ alike_same here.0 there.0 (subst Q (sym there.1.leads) (subst P (sym here.1.leads) same))
+        ∙ there.1.leads
+
+    pub is_canonical : 0 < length table.rows → IsCanonical table
+    is_canonical some = record {
+      initial = first_initial some;
+      reached = are_reached r.explored;
+      trim = inl (λ state is.
+          let here = are_reached r.explored state is in
+          let positive = is.positive in
+          let leads_here = here.1.leads in
+          let P : ℕ → Type 0 = λ s. IsLive table s in
+          subst P here.1.leads (live_kept here.0 (λ none. omega arith)));
+      reduced = is_reduced;
+      numbered = is_breadth_first r.explored;
+    }
 
   -- where there is no state the given table accepts nothing
   pub nothing_accepted : length table.rows ≡ 0 → (text : List ℕ) → ¬ AcceptsFrom given given.initial text
@@ -143,18 +148,19 @@ module _ {given table : Table} {listed states : List ℕ} {origins : List (ℕ �
       })
 
 -- what is known of a copy of the table and of the list
-pub represented_from : {given there : Table} {listed items : List ℕ} → there ≡ given → listed ≡ items → AreRepresentatives there items
-    → AreRepresentatives given listed
-represented_from {given = given} {items = items} same_table same_list represented =
-    let P : Table → Type 0 = λ t. AreRepresentatives t items in
-    let Q : List ℕ → Type 0 = λ l. AreRepresentatives given l in
-    subst Q (sym same_list) (subst P same_table represented)
+pub represented_from : {given there : Table} {labels here listed items : List ℕ} → there ≡ given → here ≡ labels → listed ≡ items
+    → AreRepresentatives there here items → AreRepresentatives given labels listed
+represented_from {given = given} {labels = labels} {here = here} {items = items} same_table same_labels same_list represented =
+    let P : Table → Type 0 = λ t. AreRepresentatives t here items in
+    let L : List ℕ → Type 0 = λ l. AreRepresentatives given l items in
+    let Q : List ℕ → Type 0 = λ l. AreRepresentatives given labels l in
+    subst Q (sym same_list) (subst L same_labels (subst P same_table represented))
 
-pub reduction_from : {given there table : Table} {listed items states : List ℕ} {origins : List (ℕ × ℕ)} → IsTable given → there ≡ given
-    → listed ≡ items → AreRepresentatives there items → IsExploration (quotient_of given listed) table states origins
-    → IsReduction given table listed states origins
-reduction_from is same_table same_list represented explored =
-    record { is_given = is; represented = represented_from same_table same_list represented; explored = explored }
+pub reduction_from : {given there table : Table} {labels here listed items states : List ℕ} {origins : List (ℕ × ℕ)} → IsTable given
+    → there ≡ given → here ≡ labels → listed ≡ items → AreRepresentatives there here items
+    → IsExploration (quotient_of given listed) table states origins → IsReduction given table labels listed states origins
+reduction_from is same_table same_labels same_list represented explored =
+    record { is_given = is; represented = represented_from same_table same_labels same_list represented; explored = explored }
 
 -- whether the table has states
 pub rows_none : (test : Bool) (rows : List Moves) → IsTrue test ↔ (rows ≡ []) → test ≡ true → length rows ≡ 0

@@ -3,8 +3,10 @@ use Rattle.std.proofs.Common.{◌≡◌, ◌≢◌, ◌↔◌, ℕ, zero, suc, �
 use Rattle.std.proofs.lemmas.Bool.{cases_eq, cases_lt}
 use Rattle.std.proofs.lemmas.List.{get_or_past}
 use Rattle.std.proofs.lemmas.Option.{none-some, same_Some, slice_get-get_or}
-use Rattle.kb_fsa.specs.Table.{Table, IsTable, is_accepting, step, after, AcceptsFrom, state_after, IsLive, AreEquivalent}
+use Rattle.kb_fsa.specs.Table.{Table, IsTable, is_accepting, step, after, AcceptsFrom, state_after, IsLive}
 use Rattle.kb_fsa.proofs.Lookups.{step_within, after_within, after-append}
+use Rattle.kb_labelled.specs.Labels.{AreAlike, label_of}
+use Rattle.kb_labelled.proofs.Likeness.{accepts_alike}
 use Rattle.kb_explore.specs.Machine.{Machine, MachineAccepts, lead, leads, HasMoreStates}
 use Rattle.kb_explore.proofs.CountingLemmas.{no_more_states}
 use Rattle.kb_fsamin.specs.Classes.{representative, AreRepresentatives}
@@ -25,25 +27,25 @@ lead_none : {S : Type 0} (machine : Machine S) (start : Option S) → lead machi
 lead_none machine None = refl
 lead_none machine (Some state) = refl
 
--- ---- right languages along texts
+-- ---- labels along texts
 
--- after a text the right language is what follows the text in that before it
+-- after a text those texts are accepted that are accepted before it behind the text
 accepted_after : (table : Table) (state : ℕ) (text more : List ℕ) → AcceptsFrom table state (text ++ more) ↔ AcceptsFrom table (after table state text) more
 accepted_after table state text more =
     let P : ℕ → Type 0 = λ s. IsTrue (is_accepting table s) in
     let same = after-append table state text more in
     (λ accepts. subst P same accepts, λ accepts. subst P (sym same) accepts)
 
-equivalent_after : (table : Table) (p q : ℕ) (text : List ℕ) → AreEquivalent table p q → AreEquivalent table (after table p text) (after table q text)
-equivalent_after table p q text same more = (
-  λ accepts. (accepted_after table q text more).0 ((same (text ++ more)).0 ((accepted_after table p text more).1 accepts)),
-  λ accepts. (accepted_after table p text more).0 ((same (text ++ more)).1 ((accepted_after table q text more).1 accepts)),
-)
+alike_after : (table : Table) (labels : List ℕ) (p q : ℕ) (text : List ℕ) → AreAlike table labels p q
+    → AreAlike table labels (after table p text) (after table q text)
+alike_after table labels p q text same more =
+    sym (ap (label_of table labels) (after-append table p text more)) ∙ same (text ++ more)
+    ∙ ap (label_of table labels) (after-append table q text more)
 
 live_before : (table : Table) (state : ℕ) (text : List ℕ) → IsLive table (after table state text) → IsLive table state
 live_before table state text live = (text ++ live.0, (accepted_after table state text live.0).1 live.1)
 
-module _ (table : Table) (listed : List ℕ) (is : IsTable table) (represented : AreRepresentatives table listed) where
+module _ (table : Table) (labels listed : List ℕ) (is : IsTable table) (represented : AreRepresentatives table labels listed) where
   -- what has no representative leads to no acceptance
   pub dead_state : (state : ℕ) → state ≤ length table.rows → representative listed state ≡ 0 → ¬ IsLive table state
   dead_state zero within none = λ live. let some = accepted_positive table 0 live.0 live.1 in omega arith
@@ -58,15 +60,15 @@ module _ (table : Table) (listed : List ℕ) (is : IsTable table) (represented :
         | inr some ↦ absurd (dead (represented.live (suc place) (record { positive = omega arith; within = within }) some))
       ]
 
-  none_alike : (q : ℕ) → q ≤ length table.rows → AreEquivalent table 0 q → representative listed q ≡ 0
+  none_alike : (q : ℕ) → q ≤ length table.rows → AreAlike table labels 0 q → representative listed q ≡ 0
   none_alike q within same =
       no_representative q within (λ live.
-      let some = accepted_positive table 0 live.0 ((same live.0).1 live.1) in absurd (let no : ⊥ = omega arith in no))
+      let some = accepted_positive table 0 live.0 (accepts_alike table labels q 0 live.0 (sym (same live.0)) live.1) in absurd (let no : ⊥ = omega arith in no))
 
-  pub representatives_same : (p q : ℕ) → p ≤ length table.rows → q ≤ length table.rows → AreEquivalent table p q
+  pub representatives_same : (p q : ℕ) → p ≤ length table.rows → q ≤ length table.rows → AreAlike table labels p q
       → representative listed p ≡ representative listed q
   representatives_same zero q low high same = sym (none_alike q high same)
-  representatives_same (suc p) zero low high same = none_alike (suc p) low (λ text. ((same text).1, (same text).0))
+  representatives_same (suc p) zero low high same = none_alike (suc p) low (λ text. sym (same text))
   representatives_same (suc p) (suc q) low high same =
       represented.same (suc p) (suc q) (record { positive = omega arith; within = low }) (record { positive = omega arith; within = high }) same
 
@@ -86,8 +88,7 @@ module _ (table : Table) (listed : List ℕ) (is : IsTable table) (represented :
             let later = leads_on (step table class symbol) (step_within table class symbol is) text in
             let same = representatives_same (after table class (symbol ∷ text)) (after table state (symbol ∷ text))
             (after_within table class (symbol ∷ text) is there.within) (after_within table state (symbol ∷ text) is within)
-            (equivalent_after table class state (symbol ∷ text)
-            (λ more. ((represented.equivalent state some more).1, (represented.equivalent state some more).0))) in
+            (alike_after table labels class state (symbol ∷ text) (λ more. sym (represented.alike state some more))) in
             ap (λ start. lead machine start (symbol ∷ text)) (some_state_is class some) ∙ later ∙ ap some_state same
       ]
 
@@ -95,7 +96,7 @@ module _ (table : Table) (listed : List ℕ) (is : IsTable table) (represented :
   pub leads_quotient : (text : List ℕ) → leads (quotient_of table listed) text ≡ some_state (representative listed (state_after table text))
   leads_quotient text = leads_on table.initial is.initial text
 
-  state_within : (text : List ℕ) → state_after table text ≤ length table.rows
+  pub state_within : (text : List ℕ) → state_after table text ≤ length table.rows
   state_within text = after_within table table.initial text is is.initial
 
   -- the quotient accepts what the table does
@@ -104,7 +105,8 @@ module _ (table : Table) (listed : List ℕ) (is : IsTable table) (represented :
     λ accepts.
         let class = state_from_some (representative listed (state_after table text)) accepts.state
         (sym (leads_quotient text) ∙ accepts.leads_there) in
-        (represented.equivalent (state_after table text) class.1 []).1
+        accepts_alike table labels (representative listed (state_after table text)) (state_after table text) []
+        (sym (represented.alike (state_after table text) class.1 []))
         (let P : ℕ → Type 0 = λ s. IsTrue (is_accepting table s) in subst P (sym class.0) accepts.accepts),
     λ accepts.
         let some : representative listed (state_after table text) ≢ 0 = λ none.
@@ -112,7 +114,9 @@ module _ (table : Table) (listed : List ℕ) (is : IsTable table) (represented :
         record {
           state = representative listed (state_after table text);
           leads_there = leads_quotient text ∙ some_state_is (representative listed (state_after table text)) some;
-          accepts = (represented.equivalent (state_after table text) some []).0 accepts;
+          accepts =
+              accepts_alike table labels (state_after table text) (representative listed (state_after table text)) []
+              (represented.alike (state_after table text) some []) accepts;
         },
   )
 

@@ -1,13 +1,15 @@
--- Splitters keep states of one right language together.
+-- Splitters keep alike states together.
 use Rattle.std.proofs.Common.{◌≡◌, ◌≢◌, ℕ, suc, ◌+◌, ◌<◌, List, [], ◌∷◌, ◌++◌, length, get_or, Contains, sym, ap, ◌∙◌, subst, inl, inr, arith}
 use Rattle.std.proofs.lemmas.Bool.{cases_eq}
 use Rattle.std.proofs.lemmas.List.{length_push, get_or_push, get_or_append_left, get_or-map, length-map}
 use Rattle.std.proofs.lemmas.List.Elements.{All-contains, Contains-get_or}
-use Rattle.kb_fsa.specs.Table.{Table, step, AcceptsFrom, AreEquivalent}
+use Rattle.kb_fsa.specs.Table.{Table, step, AcceptsFrom}
 use Rattle.kb_fsa.specs.Canonical.{IsState}
 use Rattle.kb_fsa.proofs.Lookups.{step_within}
 use Rattle.kb_fsa.specs.Graphs.{source}
 use Rattle.kb_fsa.specs.Moves.{AreBackward}
+use Rattle.kb_labelled.specs.Labels.{AreAlike, label_from}
+use Rattle.kb_labelled.proofs.Likeness.{accepts_alike}
 use Rattle.kb_fsamin.specs.Rounds.{class_of, IsClassing}
 use Rattle.kb_fsamin.specs.Partitions.{part_of, first_of, AreGathered, AreGroups, AreMembers, IsPartition, IsSplitBy}
 use Rattle.kb_fsamin.specs.declared.partition.Groups.{Groups}
@@ -17,17 +19,17 @@ use Rattle.kb_fsamin.proofs.SplitSteps.{first_there}
 use Rattle.kb_fsa.proofs.MoveLemmas.{edge_from_step}
 use Rattle.kb_fsamin.proofs.Classings.{rejects_none}
 
-module _ (table : Table) (edges : List (ℕ × ℕ)) (symbols start blocks cords : List ℕ)
-    (backward : AreBackward table (suc (length table.rows)) 0 edges symbols) (classing : IsClassing table start)
-    (splitting : IsSplitting table edges symbols start blocks cords) where
+module _ (table : Table) (labels : List ℕ) (edges : List (ℕ × ℕ)) (symbols start blocks cords : List ℕ)
+    (backward : AreBackward table (suc (length table.rows)) 0 edges symbols) (classing : IsClassing table labels start)
+    (splitting : IsSplitting table labels edges symbols start blocks cords) where
   known : (move : ℕ) → move < length edges → source edges move < length start
   known move h = omega (arith, (backward.sound move h).from_state.within, classing.one_each)
 
   -- a block splits cords
   pub cords_split : (block : ℕ) (listed cords' : List ℕ) → length cords ≡ length edges → AreEntering edges blocks block listed → IsSplitBy listed cords cords'
-      → IsSplitting table edges symbols start blocks cords'
+      → IsSplitting table labels edges symbols start blocks cords'
   cords_split block listed cords' size entering split =
-      let enters : (move other : ℕ) → move < length edges → other < length edges → AreEquivalent table (source edges move) (source edges other)
+      let enters : (move other : ℕ) → move < length edges → other < length edges → AreAlike table labels (source edges move) (source edges other)
       → Contains listed move → Contains listed other =
       λ move other h i same found.
       let in_block = (All-contains (λ m. (m < length edges) × (part_of blocks (source edges m) ≡ block)) listed move entering.sound found).1 in
@@ -36,12 +38,12 @@ module _ (table : Table) (edges : List (ℕ × ℕ)) (symbols start blocks cords
         one_block = splitting.one_block;
         one_cord = λ move other h i symbol same.
             split.keeps move other (omega arith) (omega arith) (splitting.one_cord move other h i symbol same)
-            (enters move other h i same, enters other move i h (λ text. ((same text).1, (same text).0)));
+            (enters move other h i same, enters other move i h (λ text. sym (same text)));
         refines = splitting.refines;
       }
 
-  -- what is left by a cord is left from all states of one right language
-  leaves : (cord p q : ℕ) → AreEquivalent table p q → IsLeaving edges start cords cord p → IsLeaving edges start cords cord q
+  -- what is left by a cord is left from all alike states
+  leaves : (cord p q : ℕ) → AreAlike table labels p q → IsLeaving edges start cords cord p → IsLeaving edges start cords cord q
   leaves cord p q same leaving =
       let m = leaving.move in
       let symbol = get_or symbols m 0 in
@@ -49,12 +51,9 @@ module _ (table : Table) (edges : List (ℕ × ℕ)) (symbols start blocks cords
       let u = step table q symbol in
       let back = backward.sound m leaving.within in
       let moved : step table p symbol ≡ t = ap (λ s. step table s symbol) (sym leaving.state_is) ∙ back.step in
-      let alike : AreEquivalent table t u = λ text. (
-        λ accepts. (same (symbol ∷ text)).0 (subst (λ s. AcceptsFrom table s text) (sym moved) accepts),
-        λ accepts. subst (λ s. AcceptsFrom table s text) moved ((same (symbol ∷ text)).1 accepts),
-      ) in
+      let alike : AreAlike table labels t u = λ text. sym (ap (λ s. label_from table labels s text) moved) ∙ same (symbol ∷ text) in
       let live = (classing.live t back.from_state).0 leaving.live in
-      let accepts = (alike live.0).0 live.1 in
+      let accepts = accepts_alike table labels t u live.0 (alike live.0) live.1 in
       let some : u ≢ 0 = λ none. rejects_none table live.0 (subst (λ s. AcceptsFrom table s live.0) none accepts) in
       let edge = edge_from_step table edges symbols classing.is_table backward q symbol some in
       let to : source edges edge.0 ≡ u = ap (λ (e : ℕ × ℕ). e.0) edge.2 in
@@ -64,29 +63,29 @@ module _ (table : Table) (edges : List (ℕ × ℕ)) (symbols start blocks cords
         move = edge.0;
         within = edge.1;
         of_cord =
-            sym (splitting.one_cord m edge.0 leaving.within edge.1 (sym edge.3) (subst (AreEquivalent table t) (sym to) alike)) ∙ leaving.of_cord;
+            sym (splitting.one_cord m edge.0 leaving.within edge.1 (sym edge.3) (subst (AreAlike table labels t) (sym to) alike)) ∙ leaving.of_cord;
         live = λ none. leaving.live (class ∙ ap (class_of start) (sym to) ∙ none);
         state_is = ap (λ (e : ℕ × ℕ). e.1) edge.2;
       }
 
   -- a cord splits blocks
   pub blocks_split : (cord : ℕ) (listed blocks' : List ℕ) → length blocks ≡ length start → AreLeaving edges start cords cord listed
-      → IsSplitBy listed blocks blocks' → IsSplitting table edges symbols start blocks' cords
+      → IsSplitBy listed blocks blocks' → IsSplitting table labels edges symbols start blocks' cords
   blocks_split cord listed blocks' size leaving split = record {
     one_block = λ p q h i same.
         split.keeps p q (omega arith) (omega arith) (splitting.one_block p q h i same) (
           λ found. leaving.complete q (leaves cord p q same (leaving.sound p found)),
-          λ found. leaving.complete p (leaves cord q p (λ text. ((same text).1, (same text).0)) (leaving.sound q found)),
+          λ found. leaving.complete p (leaves cord q p (λ text. sym (same text)) (leaving.sound q found)),
         );
     one_cord = splitting.one_cord;
     refines = λ p q h i same. splitting.refines p q h i (split.splits p q (omega arith) (omega arith) same);
   }
 
 -- blocks serve as classes
-pub classing_from_blocks : (table : Table) (edges : List (ℕ × ℕ)) (symbols start cords : List ℕ) (blocks : Partition) (classes : List ℕ)
-    → IsPartition blocks → length blocks.of.items ≡ length start → IsClassing table start
-    → IsSplitting table edges symbols start blocks.of.items cords → AreClassesOfBlocks start blocks (length start) classes → IsClassing table classes
-classing_from_blocks table edges symbols start cords blocks classes is size classing splitting joined = record {
+pub classing_from_blocks : (table : Table) (labels : List ℕ) (edges : List (ℕ × ℕ)) (symbols start cords : List ℕ) (blocks : Partition) (classes : List ℕ)
+    → IsPartition blocks → length blocks.of.items ≡ length start → IsClassing table labels start
+    → IsSplitting table labels edges symbols start blocks.of.items cords → AreClassesOfBlocks start blocks (length start) classes → IsClassing table labels classes
+classing_from_blocks table labels edges symbols start cords blocks classes is size classing splitting joined = record {
   is_table = classing.is_table;
   one_each = joined.one_each ∙ classing.one_each;
   none = joined.dead 0 (omega (arith, classing.one_each)) classing.none;
@@ -98,11 +97,11 @@ classing_from_blocks table edges symbols start cords blocks classes is size clas
         let there = first state is_state in
         live (sym (splitting.refines _ state there.0 (low state is_state) there.1) ∙ ap (class_of start) number ∙ classing.none),
   );
-  accepting = λ p q one two some same.
+  labelled = λ p q one two some same.
       let live : class_of start p ≢ 0 = λ none. some (joined.dead p (low p one) none) in
       let lives : class_of start q ≢ 0 = λ none. some (same ∙ joined.dead q (low q two) none) in
       let number = sym (joined.live p (low p one) live) ∙ same ∙ joined.live q (low q two) lives in
-      classing.accepting p q one two live
+      classing.labelled p q one two live
       (splitting.refines p q (low p one) (low q two)
       (sym (first p one).1 ∙ ap (part_of blocks.of.items) number ∙ (first q two).1));
   respects = λ p q one two same. elim (cases_eq (class_of start p) 0) [
@@ -125,11 +124,11 @@ classing_from_blocks table edges symbols start cords blocks classes is size clas
         (omega (arith, there.0, size), there.1)
 
 -- the classes and the symbols begin a splitting
-pub splitting_start : (table : Table) (edges : List (ℕ × ℕ)) (symbols start cords : List ℕ) → IsClassing table start
-    → ((p q : ℕ) → p < length start → q < length start → AreEquivalent table p q → class_of start p ≡ class_of start q)
+pub splitting_start : (table : Table) (labels : List ℕ) (edges : List (ℕ × ℕ)) (symbols start cords : List ℕ) → IsClassing table labels start
+    → ((p q : ℕ) → p < length start → q < length start → AreAlike table labels p q → class_of start p ≡ class_of start q)
     → ((move other : ℕ) → move < length edges → other < length edges → get_or symbols move 0 ≡ get_or symbols other 0 → part_of cords move ≡ part_of cords other)
-    → IsSplitting table edges symbols start start cords
-splitting_start table edges symbols start cords classing one_class same = record {
+    → IsSplitting table labels edges symbols start start cords
+splitting_start table labels edges symbols start cords classing one_class same = record {
   one_block = one_class;
   one_cord = λ move other h i symbol _. same move other h i symbol;
   refines = λ p q h i alike. alike;

@@ -1,7 +1,8 @@
 -- Classes of states, and the rounds that refine them.
 use Rattle.std.specs.Prelude.{◌≡◌, ◌≢◌, ◌↔◌, ℕ, suc, ◌-◌, ◌<◌, ◌≤◌, nat_eq, List, [], length, get_or, filter_map, Option, Some, None, if◌then◌else◌}
-use Rattle.kb_fsa.specs.Table.{Moves, Table, IsTable, moves_of, is_accepting, IsLive, AreEquivalent}
+use Rattle.kb_fsa.specs.Table.{Moves, Table, IsTable, moves_of, IsLive}
 use Rattle.kb_fsa.specs.Canonical.{IsState}
+use Rattle.kb_labelled.specs.Labels.{AreAlike, label_of}
 use Rattle.kb_fsamin.specs.declared.rounds.Signature.{Signature}
 
 -- The list has the classes of state 0, that is no state, and of the states from 1 on. Class 0 is
@@ -67,17 +68,17 @@ pub record IsRefined (table : Table) (old new : List ℕ) : Type 0 where
   pub grows : IsFirstSeen old (suc (length table.rows)) → (state : ℕ)
       → class_of old state ≤ class_of new state
 
--- States of one right language have one class, states of one class are alike as to acceptance, and only what leads to
--- no acceptance has class 0.
-pub record IsClassing (table : Table) (classes : List ℕ) : Type 0 where
+-- Alike states, from which each text leads to one label, have one class. States of one class have one label, or all
+-- of them none, and only what leads to no acceptance has class 0.
+pub record IsClassing (table : Table) (labels classes : List ℕ) : Type 0 where
   pub is_table : IsTable table
   pub one_each : length classes ≡ suc (length table.rows)
   pub none : class_of classes 0 ≡ 0
   pub live : (state : ℕ) → IsState table state → class_of classes state ≢ 0 ↔ IsLive table state
-  pub accepting : (p q : ℕ) → IsState table p → IsState table q → class_of classes p ≢ 0
+  pub labelled : (p q : ℕ) → IsState table p → IsState table q → class_of classes p ≢ 0
       → class_of classes p ≡ class_of classes q
-      → is_accepting table p ≡ is_accepting table q
-  pub respects : (p q : ℕ) → IsState table p → IsState table q → AreEquivalent table p q
+      → label_of table labels p ≡ label_of table labels q
+  pub respects : (p q : ℕ) → IsState table p → IsState table q → AreAlike table labels p q
       → class_of classes p ≡ class_of classes q
 
 -- What is seen is put at the end of the list, where it isn't there yet; the number is its place.
@@ -94,12 +95,12 @@ pub record Inserted {X : Type 0} (seen seen' : List X) (x : X) (number : ℕ) : 
 abbrev pub sight_of : Signature → Sight
 sight_of signature = (signature.class, signature.moves.items)
 
--- states of one class have one right language
-abbrev pub IsStable : Table → List ℕ → Type 0
-IsStable table classes =
+-- states of one class are alike
+abbrev pub IsStable : Table → List ℕ → List ℕ → Type 0
+IsStable table labels classes =
     (p q : ℕ) → IsState table p → IsState table q → class_of classes p ≢ 0
     → class_of classes p ≡ class_of classes q
-    → AreEquivalent table p q
+    → AreAlike table labels p q
 
 -- A state has its own number for class, and the row of another state has the same class row as its own.
 pub record StandsFor (rows : List Moves) (classes : List ℕ) (state : ℕ) (row : Moves) : Type 0 where

@@ -1,18 +1,20 @@
 -- Blocks of states and cords of moves, which split each other.
 use Rattle.std.specs.Prelude.{◌≡◌, ◌≢◌, ℕ, suc, ◌<◌, ◌≤◌, List, length, get_or, map, All, Contains}
-use Rattle.kb_fsa.specs.Table.{Table, AreEquivalent}
+use Rattle.kb_fsa.specs.Table.{Table}
 use Rattle.kb_fsa.specs.Graphs.{source, end}
 use Rattle.kb_fsa.specs.Moves.{AreBackward}
+use Rattle.kb_labelled.specs.Labels.{AreAlike}
 use Rattle.kb_fsamin.specs.Rounds.{class_of, IsClassing}
 use Rattle.kb_fsamin.specs.Partitions.{part_of, first_of, IsPartition}
 use Rattle.kb_fsamin.specs.declared.partition.Partition.{Partition}
 
--- The list numbers the first symbols, as many as are done; equal symbols have one number, their place among the seen.
-pub record AreNumbered (symbols : List ℕ) (done : ℕ) (seen numbers : List ℕ) : Type 0 where
+-- The list numbers the first things, as many as are done, by what each is; equal ones have one number, their place
+-- among the seen.
+pub record AreNumbered (thing : ℕ → ℕ) (done : ℕ) (seen numbers : List ℕ) : Type 0 where
   pub one_each : length numbers ≡ done
   pub few : length seen ≤ done
   pub place : (k : ℕ) → k < done → (part_of numbers k < length seen)
-      × (get_or seen (part_of numbers k) 0 ≡ get_or symbols k 0)
+      × (get_or seen (part_of numbers k) 0 ≡ thing k)
   pub distinct : (j k : ℕ) → j < length seen → k < length seen → get_or seen j 0 ≡ get_or seen k 0
       → j ≡ k
 
@@ -46,27 +48,27 @@ pub record ArePaired (edges : List (ℕ × ℕ)) (start : List ℕ)
   pub block_each : length blocks.of.items ≡ length start
   pub cord_each : length cords.of.items ≡ length edges
 
--- States of one right language are in one block, and moves by one symbol to such states in one cord. Blocks are within
--- the classes that they came from.
-pub record IsSplitting (table : Table) (edges : List (ℕ × ℕ))
+-- Alike states are in one block, and moves by one symbol to such states in one cord. Blocks are within the classes
+-- that they came from.
+pub record IsSplitting (table : Table) (labels : List ℕ) (edges : List (ℕ × ℕ))
     (symbols start blocks cords : List ℕ) : Type 0 where
-  pub one_block : (p q : ℕ) → p < length start → q < length start → AreEquivalent table p q
+  pub one_block : (p q : ℕ) → p < length start → q < length start → AreAlike table labels p q
       → part_of blocks p ≡ part_of blocks q
   pub one_cord : (move other : ℕ) → move < length edges → other < length edges
       → get_or symbols move 0 ≡ get_or symbols other 0
-      → AreEquivalent table (source edges move) (source edges other)
+      → AreAlike table labels (source edges move) (source edges other)
       → part_of cords move ≡ part_of cords other
   pub refines : (p q : ℕ) → p < length start → q < length start
       → part_of blocks p ≡ part_of blocks q
       → class_of start p ≡ class_of start q
 
--- for whatever table has these moves and classes, the splitting goes on
+-- for whatever table with labels has these moves and classes, the splitting goes on
 abbrev pub KeepsSplitting : List (ℕ × ℕ) → List ℕ → List ℕ → Partition → Partition → Partition
     → Partition → Type 0
-KeepsSplitting edges symbols start blocks cords blocks' cords' = (table : Table)
-    → AreBackward table (suc (length table.rows)) 0 edges symbols → IsClassing table start
-    → IsSplitting table edges symbols start blocks.of.items cords.of.items
-    → IsSplitting table edges symbols start blocks'.of.items cords'.of.items
+KeepsSplitting edges symbols start blocks cords blocks' cords' = (table : Table) (labels : List ℕ)
+    → AreBackward table (suc (length table.rows)) 0 edges symbols → IsClassing table labels start
+    → IsSplitting table labels edges symbols start blocks.of.items cords.of.items
+    → IsSplitting table labels edges symbols start blocks'.of.items cords'.of.items
 
 -- the first states, as many as are done, have the first states of their blocks for classes, but for those of class 0
 pub record AreClassesOfBlocks (start : List ℕ) (blocks : Partition) (done : ℕ)

@@ -19,7 +19,8 @@ pub fn canonical(alloc: Global, fsa: &Fsa) -> Result<Fsa, Memory>
     ensures language { IfOk result (λ c. SameLanguage fsa.now c) }
     ensures alphabet { IfOk result (λ c. c.alphabet ≡ fsa.now.alphabet) }
 {
-    let listed = representatives(alloc, fsa.table())?;
+    let labels = vec![in alloc; 0; fsa.table().rows().len()]?;
+    let listed = representatives(alloc, fsa.table(), labels.as_slice())?;
     let quotient = Quotient {
         fsa,
         representatives: listed.as_slice(),

@@ -15,15 +15,16 @@ struct Signature {
     moves: Vec<(u32, u32)>,
 }
 
-/// Refines the classes until states of one class have one right language.
+/// Refines the classes until states of one class are alike.
 pub(crate) fn refine_until_stable(
     alloc: Global,
     table: &Table,
+    labels: &[u32],
     start: &[u32],
 ) -> Result<Vec<u32>, Memory>
-    requires { IsClassing table.now start.now }
-    ensures classing { IfOk result (λ classes. IsClassing table.now classes.items) }
-    ensures stable { IfOk result (λ classes. IsStable table.now classes.items) }
+    requires { IsClassing table.now labels.now start.now }
+    ensures classing { IfOk result (λ classes. IsClassing table.now labels.now classes.items) }
+    ensures stable { IfOk result (λ classes. IsStable table.now labels.now classes.items) }
     ensures small { IfOk result (λ classes. (state : ℕ)
         → class_of classes.items state ≤ length table.now.rows) }
 {

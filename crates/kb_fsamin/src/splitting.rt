@@ -3,7 +3,7 @@
 //! States are in blocks, and moves in cords: those of a cord have one symbol, and lead into one
 //! block as the blocks were once. A block that waits splits the cords into the moves that lead into
 //! it and the others; a cord splits the blocks into the states that have a move of the cord and the
-//! others. States of one right language are never split.
+//! others. Alike states, from which each text leads to one label, are never split.
 
 ghost use Rattle.std.specs.Prelude.{◌≡◌, ◌<◌, ◌≤◌, ◌^◌, ℕ, suc, ◌+◌, List, length, get_or, All, IfOk, OnOk};
 ghost use Rattle.kb_fsa.specs.Table.{Table};
@@ -18,27 +18,28 @@ use kb_fsa::Backward;
 use kb_word::Memory;
 use std::alloc::Global;
 
-/// Splits the classes, of which there are at most three, as far as splitters do. A class is numbered by a state of it.
+/// Splits the classes, numbered below the count, as far as splitters do. A class is then numbered by a state of it.
 pub(crate) fn split_by_splitters(
     alloc: Global,
     moves: Backward,
     start: &[u32],
+    count: usize,
 ) -> Result<Vec<u32>, Memory>
-    requires classes { All (λ class. class < 3) start.now }
+    requires classes { All (λ class. class < count) start.now }
     requires symbols { length moves.symbols.items ≡ length moves.edges.items }
     requires known { All (λ edge. edge.0 < length start.now) moves.edges.items }
     requires states { All (λ edge. edge.1 < length start.now) moves.edges.items }
-    ensures { IfOk result (λ classes. (table : Table) → IsBackwardOf table moves
-        → IsClassing table start.now → IsClassing table classes.items) }
+    ensures { IfOk result (λ classes. (table : Table) (labels : List ℕ) → IsBackwardOf table moves
+        → IsClassing table labels start.now → IsClassing table labels classes.items) }
 {
     let of = Vec::from_slice(alloc, start)?;
-    if start.len().max(moves.edges.len()) >= u32::MAX as usize {
+    if start.len().max(moves.edges.len()).max(count) >= u32::MAX as usize {
         return Ok(of);
     }
     let Backward { edges, symbols } = moves;
     let mut cords = by_symbol(alloc, symbols.as_slice())?;
     drop(symbols);
-    let mut blocks = Partition::new(alloc, of, 3)?;
+    let mut blocks = Partition::new(alloc, of, count)?;
     let edges = edges.as_slice();
     let incoming = incoming(alloc, edges, start.len())?;
     refine(alloc, edges, &incoming, start, &mut blocks, &mut cords)?;

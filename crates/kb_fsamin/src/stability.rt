@@ -1,4 +1,4 @@
-//! Whether the states of a class have one right language.
+//! Whether the states of a class are alike.
 
 ghost use Rattle.std.specs.Prelude.{◌≡◌, ◌≢◌, ◌+◌, ◌<◌, ◌≤◌, ◌∷◌, [], ℕ, length, All, IfSome, IsTrue, MatchOption};
 ghost use Rattle.kb_fsamin.specs.Rounds.{IsClassing, IsStable, StandsFor, class_of, class_row};
@@ -7,9 +7,9 @@ use kb_fsa::{Row, Table};
 
 /// Whether each class is numbered by a state of it, and the states of a class have moves by the
 /// same symbols to the same classes.
-pub(crate) fn is_stable(table: &Table, classes: &[u32]) -> bool
-    requires { IsClassing table.now classes.now }
-    ensures stable { IsTrue result → IsStable table.now classes.now }
+pub(crate) fn is_stable(table: &Table, labels: &[u32], classes: &[u32]) -> bool
+    requires { IsClassing table.now labels.now classes.now }
+    ensures stable { IsTrue result → IsStable table.now labels.now classes.now }
     ensures small { IsTrue result → (state : ℕ)
         → class_of classes.now state ≤ length table.now.rows }
 {

@@ -21,14 +21,14 @@
 //!
 //! # Where things are
 //!
-//! In `specs/`, `Rounds` has what each answer says, `Reduced` what canonical forms of a list of automata are, and `Shown`
+//! In `specs/`, `Rounds` has what each answer says, `Reduced` what canonical automata of the texts with labels are, and `Shown`
 //! which certificates have an equality. In `proofs/`, `LedWords` shows that words which lead from one difference to another are
 //! the same element but for the two, and `DifferenceStructures` what is always so of these automata: that they are true to
-//! the group, and that there is no certificate N1 or N2 against them. `CanonicalForms` has that canonical forms of
-//! multipliers are multipliers too.
+//! the group, and that there is no certificate N1 or N2 against them. `CanonicalForms` has that those of multipliers with labels
+//! are multipliers.
 //!
-//! Below are `kb_diffwa`, which makes the automata, `kb_fsamin`, which makes them canonical, and `kb_axioms` with the
-//! check.
+//! Below are `kb_diffwa`, which makes the automata, all multipliers as one with labels (`kb_labelled`), `kb_fsamin`, which
+//! makes that one small and each multiplier canonical, and `kb_axioms` with the check.
 #![tactic(auto)]
 
 mod answers;

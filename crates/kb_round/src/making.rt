@@ -1,6 +1,6 @@
 //! The automata of word differences.
 
-ghost use Rattle.std.specs.Prelude.{◌≡◌, All, Ok, None, IfOk, IfSome};
+ghost use Rattle.std.specs.Prelude.{◌≡◌, All, Ok, None, length, IfOk, IfSome};
 ghost use Rattle.kb_word.specs.declared.word_order.WordOrder.TheVariants.{ShortLex};
 ghost use Rattle.kb_fsa.specs.Canonical.{IsCanonical};
 ghost use Rattle.kb_fsa.specs.declared.alphabet.Alphabet.TheVariants.{Plain};
@@ -8,14 +8,15 @@ ghost use Rattle.kb_diff.specs.Steps.{AreSteps};
 ghost use Rattle.kb_diff.specs.Tables.{step_in};
 ghost use Rattle.kb_diffwa.specs.Multipliers.{AreMultipliers, CountedPlaces};
 ghost use Rattle.kb_diffwa.specs.Rivals.{CountedRivals};
-ghost use Rattle.kb_round.specs.Reduced.{AreCanonicalForms};
+ghost use Rattle.kb_round.specs.Reduced.{AreCanonicalForms, IsCanonicalForm};
 ghost use Rattle.kb_round.specs.Rounds.{IsAcceptorOf};
 
 use kb_diff::{Differences, Machine};
-use kb_diffwa::{acceptor, multipliers};
+use kb_diffwa::{AllMultipliers, acceptor, multipliers};
 use kb_explore::Det;
 use kb_fsa::Fsa;
-use kb_fsamin::canonical;
+use kb_fsamin::{canonical, reduced_by_labels};
+use kb_labelled::Labelled;
 use kb_rules::Reducer;
 use kb_word::Memory;
 use std::alloc::Global;
@@ -60,21 +61,43 @@ pub(crate) fn canonical_multipliers<R: Reducer>(
         → CountedPlaces differences.now.group differences.now.words acceptor.now.table limit }
 {
     match multipliers(alloc, differences, machine, acceptor, limit) {
-        Ok(explored) => Ok(Some(canonical_each(alloc, explored)?)),
+        Ok(explored) => Ok(Some(canonical_forms(alloc, explored)?)),
         Err(Det::TooManyStates { .. }) => Ok(None),
         Err(Det::Memory) => Err(Memory),
     }
 }
 
-/// The canonical automata of the same languages. Each automaton is let go as soon as its canonical form stands.
-fn canonical_each(alloc: Global, explored: Vec<Fsa>) -> Result<Vec<Fsa>, Memory>
-    ensures { IfOk result (λ reduced. AreCanonicalForms explored.items reduced.items) }
+/// The canonical multipliers. What was explored is made small once for all of them, and is let go before the first of them is
+/// made canonical.
+fn canonical_forms(alloc: Global, explored: AllMultipliers) -> Result<Vec<Fsa>, Memory>
+    ensures { IfOk result (λ forms. AreCanonicalForms explored.labelled explored.targets.items
+        (length explored.targets.items) forms.items) }
 {
-    let mut reduced = Vec::with_capacity(alloc, explored.len())?;
-    for fsa in explored {
-        reduced.push(canonical(alloc, &fsa)?)?;
+    let AllMultipliers { labelled, targets } = explored;
+    let reduced = reduced_by_labels(alloc, &labelled)?;
+    drop(labelled);
+    canonical_each(alloc, &reduced, targets.as_slice())
+}
+
+/// For each of the labels in order, the canonical automaton of the texts that have it.
+fn canonical_each(alloc: Global, labelled: &Labelled, labels: &[u32]) -> Result<Vec<Fsa>, Memory>
+    ensures { IfOk result (λ forms.
+        AreCanonicalForms labelled.now labels.now (length labels.now) forms.items) }
+{
+    let mut forms = Vec::with_capacity(alloc, labels.len())?;
+    for label in labels {
+        forms.push(canonical_form(alloc, labelled, *label)?)?;
     }
-    Ok(reduced)
+    Ok(forms)
+}
+
+/// The canonical automaton of the texts that have the label.
+fn canonical_form(alloc: Global, labelled: &Labelled, label: u32) -> Result<Fsa, Memory>
+    ensures { IfOk result (IsCanonicalForm labelled.now label) }
+{
+    let accepting = labelled.accepting(alloc, label)?;
+    let form = canonical(alloc, &accepting)?;
+    Ok(form)
 }
 
 /// How many states the largest of the automata has.

@@ -10,11 +10,13 @@ use anyhow::ensure;
 use kb_axioms::{
     Automata, Truth, are_multipliers, check_automata, check_truth, fit_together, is_group,
 };
+use kb_diffwa::AllMultipliers;
 use kb_fsa::Fsa;
-use kb_fsamin::canonical;
+use kb_fsamin::{canonical, reduced_by_labels};
 use kb_index::Index;
 use kb_machine::relations_are_over_the_generators;
 use kb_rules::Reducer;
+use kb_word::Memory;
 use std::alloc::Global;
 use std::fmt;
 use std::sync::Wait;
@@ -55,10 +57,7 @@ pub(crate) fn verdict_on<T: Threads + Wait + Sync>(
     requires words { round.now.acceptor.alphabet ≡ Plain system.now.group.n }
     requires workers { (1 ≤ workers) × (workers ≤ 64) }
 {
-    let mut multipliers = Vec::with_capacity(alloc, round.multipliers.len())?;
-    for multiplier in &round.multipliers {
-        multipliers.push(canonical(alloc, multiplier)?)?;
-    }
+    let multipliers = canonical_multipliers(alloc, &round.multipliers)?;
     ensure!(
         fit_together(&round.acceptor, &multipliers),
         "the automata don't fit together"
@@ -68,6 +67,17 @@ pub(crate) fn verdict_on<T: Threads + Wait + Sync>(
         Automata::No(_) => Ok(Verdict::Refuted),
         Automata::TooManyStates { .. } => Ok(Verdict::TooLarge),
     }
+}
+
+/// The multipliers in their canonical form.
+fn canonical_multipliers(alloc: Global, explored: &AllMultipliers) -> Result<Vec<Fsa>, Memory> {
+    let reduced = reduced_by_labels(alloc, &explored.labelled)?;
+    let mut multipliers = Vec::with_capacity(alloc, explored.targets.len())?;
+    for target in &explored.targets {
+        let multiplier = reduced.accepting(alloc, *target)?;
+        multipliers.push(canonical(alloc, &multiplier)?)?;
+    }
+    Ok(multipliers)
 }
 
 /// What the automata show, whatever the rules are.

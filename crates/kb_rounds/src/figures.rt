@@ -2,7 +2,6 @@
 
 use crate::round::Round;
 use crate::system::System;
-use kb_fsa::Fsa;
 use std::fmt;
 
 /// How large the automata of a system are, and what they are made of.
@@ -32,7 +31,7 @@ impl Figures {
             differences: round.differences,
             normal_forms: normal_forms(generators, round.differences),
             states: (round.acceptor.len(), round.explored.len()),
-            places: places(&round.multipliers),
+            places: round.multipliers.labelled.automaton().len(),
         }
     }
 }
@@ -44,14 +43,6 @@ fn normal_forms(generators: u16, differences: usize) -> u64 {
     letters
         .saturating_mul(letters)
         .saturating_mul(differences as u64)
-}
-
-/// How many places were explored for multipliers, which have the same ones.
-fn places(multipliers: &[Fsa]) -> u32 {
-    match multipliers.first() {
-        Some(multiplier) => multiplier.len(),
-        None => 0,
-    }
 }
 
 impl fmt::Display for Figures {

@@ -1,6 +1,6 @@
 //! The automata that are made of word differences.
 
-ghost use Rattle.std.specs.Prelude.{◌≡◌, All, IfOk};
+ghost use Rattle.std.specs.Prelude.{◌≡◌, IfOk};
 ghost use Rattle.kb_word.specs.declared.word_order.WordOrder.TheVariants.{ShortLex};
 ghost use Rattle.kb_fsa.specs.declared.alphabet.Alphabet.TheVariants.{Pair, Plain};
 ghost use Rattle.kb_diff.specs.Groups.{group_of};
@@ -8,7 +8,7 @@ ghost use Rattle.kb_diff.specs.Groups.{group_of};
 use crate::system::System;
 use anyhow::ensure;
 use kb_diff::Differences;
-use kb_diffwa::{Det, acceptor, multipliers};
+use kb_diffwa::{AllMultipliers, Det, acceptor, multipliers};
 use kb_fsa::Fsa;
 use kb_fsamin::canonical;
 use kb_index::Index;
@@ -30,14 +30,14 @@ pub(crate) struct Round {
     /// The canonical word acceptor.
     pub(crate) acceptor: Fsa,
     /// The multipliers of the generators over it, as they were explored.
-    pub(crate) multipliers: Vec<Fsa>,
+    pub(crate) multipliers: AllMultipliers,
 }
 
 /// The automata of a system.
 pub(crate) fn made(alloc: Global, system: &System) -> anyhow::Result<Round>
     ensures acceptor { IfOk result (λ round. round.acceptor.alphabet ≡ Plain system.now.group.n) }
     ensures multipliers { IfOk result (λ round.
-        All (λ fsa. fsa.alphabet ≡ Pair system.now.group.n) round.multipliers.items) }
+        round.multipliers.labelled.automaton.alphabet ≡ Pair system.now.group.n) }
 {
     let differences = differences_of(alloc, system)?;
     Ok(round_of(alloc, &differences)?)
@@ -67,7 +67,7 @@ fn round_of(alloc: Global, differences: &Differences<Index>) -> Result<Round, De
     ensures acceptor { IfOk result (λ round.
         round.acceptor.alphabet ≡ Plain differences.now.group.n) }
     ensures multipliers { IfOk result (λ round.
-        All (λ fsa. fsa.alphabet ≡ Pair differences.now.group.n) round.multipliers.items) }
+        round.multipliers.labelled.automaton.alphabet ≡ Pair differences.now.group.n) }
 {
     let machine = differences.machine(alloc)?;
     let explored = acceptor(alloc, differences, &machine, MOST_STATES)?;

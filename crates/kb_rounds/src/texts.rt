@@ -1,11 +1,12 @@
 //! Automata as they are printed.
 
-ghost use Rattle.std.specs.Prelude.{◌≡◌, All, length};
+ghost use Rattle.std.specs.Prelude.{◌≡◌, length};
 ghost use Rattle.kb_fsa.specs.Language.{generators};
 ghost use Rattle.kb_fsa.specs.declared.alphabet.Alphabet.TheVariants.{Pair, Plain};
 
 use crate::round::Round;
 use crate::system::System;
+use kb_diffwa::AllMultipliers;
 use kb_fsa::Fsa;
 use kb_fsamin::canonical;
 use kb_word::Names;
@@ -18,14 +19,16 @@ pub(crate) fn print_automata<R: AllocGlobal + Print>(
     round: &Round,
 ) -> anyhow::Result<()>
     requires acceptor { round.now.acceptor.alphabet ≡ Plain system.now.group.n }
-    requires multipliers { All (λ fsa. fsa.alphabet ≡ Pair system.now.group.n)
-        round.now.multipliers.items }
+    requires multipliers { round.now.multipliers.labelled.automaton.alphabet
+        ≡ Pair system.now.group.n }
 {
     let names = &system.group.names;
     let text = text_of_automaton(rt.alloc(), names, &round.acceptor)?;
     print!(rt; "{text}")?;
-    for multiplier in &round.multipliers {
-        let text = text_of_automaton(rt.alloc(), names, multiplier)?;
+    let AllMultipliers { labelled, targets } = &round.multipliers;
+    for target in targets {
+        let multiplier = labelled.accepting(rt.alloc(), *target)?;
+        let text = text_of_automaton(rt.alloc(), names, &multiplier)?;
         print!(rt; "{text}")?;
     }
     Ok(())

@@ -2,7 +2,7 @@ use Rattle.std.proofs.Common.{◌≡◌, ◌≢◌, ◌<◌, ℕ, suc, List, [],
 use Rattle.std.proofs.lemmas.List.{get_or_read}
 use Rattle.kb_fsa.specs.Canonical.{IsState}
 use Rattle.kb_fsamin.specs.Rounds.{class_of}
-use Rattle.kb_fsamin.proofs.AcceptanceClasses.{firsts_none, firsts_kept, firsts_set, firsts_same, firsts_represent}
+use Rattle.kb_fsamin.proofs.FirstClasses.{firsts_none, firsts_kept, firsts_set, firsts_same, firsts_represent}
 use Rattle.kb_fsamin.proofs.classes.first_of_each.Goals as goal
 use Rattle.kb_fsamin.proofs.classes.first_of_each.Goals.{then-class-ne0+then-index-eq0, else-class-ne0, else-class-ne0-via-then-class-ne0+else-index-eq0, else-class-ne0-via-else-class-ne0}
 
@@ -51,5 +51,5 @@ loop-state-preserved c =
 
 pub returns : goal.returns
 returns c =
-    firsts_represent c.args.table.now c.args.classes.now c.loop-state.firsts.items c.loop-state.listed.items c.requires.classing c.requires.stable
+    firsts_represent c.args.table.now c.args.labels.now c.args.classes.now c.loop-state.firsts.items c.loop-state.listed.items c.requires.classing c.requires.stable
     (firsts_same c.args.table.now c.args.classes.now _ _ _ _ _ _ (omega (arith, c.requires.classing.one_each, c.loop-state.auto.state-end)) refl refl c.loop-state.invariant)

@@ -10,7 +10,7 @@ pub loop-classes-init : goal.loop-classes-init
 loop-classes-init c =
     let refined = c.in_ok-classes.ensures in
     record {
-      classing = round_keeps c.args.table.now c.args.start.now c.requires c.in_ok-classes.classes.items refined;
+      classing = round_keeps c.args.table.now c.args.labels.now c.args.start.now c.requires c.in_ok-classes.classes.items refined;
       first_seen = refined.first_seen;
       small = refined.small;
     }
@@ -21,7 +21,7 @@ loop-classes-preserved c =
     let refined : IsRefined c.args.table.now before c.in_ok-next.next.items =
     subst (λ old. IsRefined c.args.table.now old c.in_ok-next.next.items) c.as_slice.ensures.value c.in_ok-next.ensures in
     record {
-      classing = round_keeps c.args.table.now before c.loop-classes.invariant.classing c.in_ok-next.next.items refined;
+      classing = round_keeps c.args.table.now c.args.labels.now before c.loop-classes.invariant.classing c.in_ok-next.next.items refined;
       first_seen = refined.first_seen;
       small = refined.small;
     }
@@ -42,7 +42,7 @@ returns-then-eq-clause-classing c =
     let next = c.in_ok-next.next.items in
     let refined : IsRefined c.args.table.now before next =
     subst (λ old. IsRefined c.args.table.now old next) c.as_slice.ensures.value c.in_ok-next.ensures in
-    round_keeps c.args.table.now before c.loop-classes.invariant.classing next refined
+    round_keeps c.args.table.now c.args.labels.now before c.loop-classes.invariant.classing next refined
 
 pub returns-then-eq-clause-stable : goal.returns-then-eq-clause-stable
 returns-then-eq-clause-stable c =
@@ -53,4 +53,4 @@ returns-then-eq-clause-stable c =
     subst (λ old. IsRefined table old next) c.as_slice.ensures.value c.in_ok-next.ensures in
     let same : next ≡ before = (slice_eq-Decides Decides-eqb next before c.eq.result c.eq.ensures).0 c.if-eq.true in
     let again : IsRefined table next next = let P : List ℕ → Type 0 = λ old. IsRefined table old next in subst P (sym same) refined in
-    stable_from_refined table next (round_keeps table before c.loop-classes.invariant.classing next refined) again
+    stable_from_refined table c.args.labels.now next (round_keeps table c.args.labels.now before c.loop-classes.invariant.classing next refined) again

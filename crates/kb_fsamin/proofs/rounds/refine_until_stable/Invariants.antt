@@ -4,7 +4,7 @@ use Rattle.kb_fsamin.proofs.rounds.refine_until_stable.Given as goal
 
 abbrev pub invariant-loop-classes : goal.invariant-loop-classes
 invariant-loop-classes l = record {
-  classing : IsClassing l.table l.classes.items;
+  classing : IsClassing l.table l.labels l.classes.items;
   first_seen : IsFirstSeen l.classes.items (suc (length l.table.rows));
   small : (state : ℕ) → class_of l.classes.items state ≤ length l.table.rows;
 }

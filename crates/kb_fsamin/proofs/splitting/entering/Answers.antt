@@ -1,6 +1,6 @@
 use Rattle.std.proofs.Common.{◌+◌, ◌++◌, take, sym, ◌∙◌, ap, subst, arith}
 use Rattle.std.proofs.lemmas.List.{take_all}
-use Rattle.kb_fsamin.specs.Partitions.{AreGathered, group_of}
+use Rattle.kb_fsamin.specs.Partitions.{AreGathered}
 use Rattle.kb_fsamin.proofs.SplitSteps.{gathered_more}
 use Rattle.kb_fsamin.proofs.Splittings.{entering_from}
 use Rattle.kb_fsamin.proofs.splitting.entering.Goals as goal

@@ -1,4 +1,4 @@
-use Rattle.std.proofs.Common.{◌≡◌, ◌<◌, ℕ, length, get_or, sym, ap, ◌∙◌, subst, arith}
+use Rattle.std.proofs.Common.{get_or, sym, ◌∙◌, subst, arith}
 use Rattle.std.proofs.lemmas.List.Elements.{Contains-get_or}
 use Rattle.kb_fsamin.specs.Partitions.{IsSplitBy}
 use Rattle.kb_fsamin.specs.Splitting.{AreEntering, AreLeaving}
@@ -32,9 +32,9 @@ loop-block-preserved-then-block-len c =
         block_each = paired.block_each;
         cord_each = split.one_each ∙ paired.cord_each;
       };
-      keeps = λ symbols table backward classing splitting.
-          cords_split table edges symbols start blocks cords backward classing
-          (c.loop-block.invariant.keeps symbols table backward classing splitting) c.loop-block.block c.in_ok-moves.moves.items c.split.new.self.of.items
+      keeps = λ symbols table labels backward classing splitting.
+          cords_split table labels edges symbols start blocks cords backward classing
+          (c.loop-block.invariant.keeps symbols table labels backward classing splitting) c.loop-block.block c.in_ok-moves.moves.items c.split.new.self.of.items
           paired.cord_each
           (c.in_ok-moves.ensures edges c.requires.incoming (λ move e i. omega (arith, c.requires.known move e i, paired.block_each)))
           split;
@@ -68,8 +68,8 @@ loop-block-preserved c =
         block_each = split.one_each ∙ paired.block_each;
         cord_each = paired.cord_each;
       };
-      keeps = λ symbols table backward classing splitting.
-          blocks_split table edges symbols start blocks cords backward classing
-          (c.loop-block.invariant.keeps symbols table backward classing splitting) c.loop-block.cord c.in_ok-states.states.items blocks'
+      keeps = λ symbols table labels backward classing splitting.
+          blocks_split table labels edges symbols start blocks cords backward classing
+          (c.loop-block.invariant.keeps symbols table labels backward classing splitting) c.loop-block.cord c.in_ok-states.states.items blocks'
           paired.block_each c.in_ok-states.ensures split;
     }

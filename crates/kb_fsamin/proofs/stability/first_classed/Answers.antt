@@ -1,4 +1,4 @@
-use Rattle.std.proofs.Common.{◌<◌, ◌∙◌, ℕ, length, sym, ap, subst, All}
+use Rattle.std.proofs.Common.{◌<◌, ◌∙◌, ℕ, length, sym, ap}
 use Rattle.std.proofs.lemmas.List.Elements.{All-rest}
 use Rattle.kb_fsamin.specs.Rounds.{class_row}
 use Rattle.kb_fsamin.proofs.ClassRows.{class_row-dead}

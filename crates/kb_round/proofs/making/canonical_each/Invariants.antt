@@ -1,6 +1,6 @@
 use Rattle.kb_round.specs.Reduced.{AreCanonicalForms}
 use Rattle.kb_round.proofs.making.canonical_each.Given as goal
 
--- the canonical forms of the automata so far
-abbrev pub invariant-loop-fsa : goal.invariant-loop-fsa
-invariant-loop-fsa l = AreCanonicalForms l.yielded l.reduced.items
+-- those of the labels that are passed
+abbrev pub invariant-loop-label : goal.invariant-loop-label
+invariant-loop-label l = AreCanonicalForms l.labelled l.labels l.label-index l.forms.items

@@ -41,8 +41,8 @@ returns c =
     let step = step_in it.differences.now in
     let items = c.as_slice-first-items.result.now in
     let are = c.as_slice-first-items.ensures.value ∙ c.moves.ensures.moves in
-    let P : List (ℕ × Place) → Type 0 = λ moves. AreMovesOf (pairs table n step it.target) (pair_symbols n) place moves in
-    let all = place_moves table n step it.target it.plain.symbols place
+    let P : List (ℕ × Place) → Type 0 = λ moves. AreMovesOf (pairs table n step it.targets.now) (pair_symbols n) place moves in
+    let all = place_moves table n step it.targets.now it.plain.symbols place
     (IsRow-moves_of table place.first it.plain.table) (IsRow-moves_of table place.second it.plain.table) in
     elim c.if-may_end.branch [
       | then-may_end+in_ok-add_moves-2 w ↦

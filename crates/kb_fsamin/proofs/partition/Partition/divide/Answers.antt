@@ -1,7 +1,7 @@
 use Rattle.std.proofs.Common.{◌≡◌, ◌↔◌, ◌<◌, ◌≤◌, ℕ, List, [], ◌∷◌, ◌++◌, length, get_or, set, sym, ap, ◌∙◌, subst, arith, length-set}
 use Rattle.std.proofs.lemmas.List.{get_or_read, length_push}
 use Rattle.kb_fsamin.specs.declared.partition.Part.{Part}
-use Rattle.kb_fsamin.specs.Partitions.{part_of, range_of, IsArranged, IsDivided, IsMarked, Stand, AreHalves, AreRelabelled}
+use Rattle.kb_fsamin.specs.Partitions.{range_of, IsArranged, IsDivided, IsMarked, Stand, AreHalves, AreRelabelled}
 use Rattle.kb_fsamin.proofs.Dividing.{sides, Sides, stand_divided, keeps, splits, cleared, kept}
 use Rattle.kb_fsamin.proofs.partition.Partition.divide.Goals as goal
 

@@ -1,4 +1,4 @@
-use Rattle.std.proofs.Common.{◌≡◌, ◌<◌, ◌+◌, ℕ, length, get_or, set, refl, sym, ap, ◌∙◌, arith, length-set}
+use Rattle.std.proofs.Common.{◌≡◌, ◌<◌, ◌+◌, length, get_or, set, refl, arith, length-set}
 use Rattle.std.proofs.lemmas.List.{get_or_read}
 use Rattle.kb_fsamin.specs.Partitions.{part_of, range_of}
 use Rattle.kb_fsamin.proofs.Marking.{stand_marked, marks_marked}

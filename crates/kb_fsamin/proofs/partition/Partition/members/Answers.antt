@@ -1,4 +1,4 @@
-use Rattle.std.proofs.Common.{◌≡◌, ◌-◌, ℕ, List, length, drop, take, sym, ap, subst}
+use Rattle.std.proofs.Common.{◌≡◌, ◌-◌, ℕ, List, drop, take, sym, subst}
 use Rattle.std.proofs.lemmas.List.{get_or_read}
 use Rattle.kb_fsamin.specs.declared.partition.Part.{Part}
 use Rattle.kb_fsamin.specs.Partitions.{AreMembers, range_of}

@@ -1,6 +1,6 @@
-use Rattle.std.proofs.Common.{[], length, take, sym, ◌∙◌, ap, subst, arith}
+use Rattle.std.proofs.Common.{subst, arith}
 use Rattle.std.proofs.lemmas.List.{get_or_read, take_all}
-use Rattle.kb_fsamin.specs.Partitions.{AreMarked, AreDivided, part_of}
+use Rattle.kb_fsamin.specs.Partitions.{AreMarked, AreDivided}
 use Rattle.kb_fsamin.proofs.SplitSteps.{marked_step, divided_none, divided_step, divided_all}
 use Rattle.kb_fsamin.proofs.partition.Partition.split.Goals as goal
 
