@@ -1,9 +1,10 @@
 //! Calls on books and of completions that no command makes.
 
 use crate::books::published;
-use kb_book::{EnterFault, Limits};
+use kb_book::{Book, EnterFault, Limits, Make};
 use kb_complete::{Outcome, complete};
 use kb_io::OpenGate;
+use kb_machine::Halt;
 use kb_overlap::{meets, pair_at};
 use kb_presfile::read;
 use kb_rules::Scan;
@@ -38,6 +39,36 @@ fn is_entered(alloc: Global, place: u64) -> Result<bool, Memory> {
 fn an_overlap_is_entered_where_there_is_room(rt: HostRuntime) -> Result<(), Fail> {
     assert!(rt; is_entered(rt.alloc(), 2)?);
     assert!(rt; !is_entered(rt.alloc(), 0)?);
+    Ok(())
+}
+
+/// Whether the first pair that waits is that of `a*A` and the empty word, and the book is full.
+fn is_full(alloc: Global, book: &mut Book<Scan>) -> Result<bool, Memory> {
+    match book.make(alloc)? {
+        Make::Halted(Halt::Rules { u, v, .. }) => {
+            Ok(u.letters() == word(alloc, &[1, 2])?.letters() && v.letters().is_empty())
+        }
+        _ => Ok(false),
+    }
+}
+
+/// Whether a book that may have one line halts at the second, and says the same three times more.
+fn halts_again(alloc: Global) -> Result<bool, Memory> {
+    let Ok(presentation) = read(alloc, RANK_2.as_bytes()) else {
+        return Err(Memory);
+    };
+    let mut book = Book::<Scan>::new(alloc, &presentation, &Limits::new(1, 100, 100, 100))?;
+    book.make(alloc)?;
+    let mut halts = book.lines().len() == 1;
+    for _ in 0..4 {
+        halts = is_full(alloc, &mut book)? && halts;
+    }
+    Ok(halts)
+}
+
+#[test]
+fn a_full_book_halts_again(rt: HostRuntime) -> Result<(), Fail> {
+    assert!(rt; halts_again(rt.alloc())?);
     Ok(())
 }
 
