@@ -3,9 +3,22 @@
 Like `readers`, it is written from that page alone.
 """
 
+import collections
+
 from readers import MOST_BYTES, Range, Record, Refused, bare_name, is_plain_list, names_in, needed, require, text_tree
 
 MOST_DENSE = 126
+
+
+def split(blocks, of_class, waiting, number, part):
+    """Makes a part of a block a block of its own. Of the two the smaller waits, or both where the block did."""
+    blocks[number] -= part
+    other = len(blocks)
+    blocks.append(part)
+    for state in part:
+        of_class[state] = other
+    smaller = other if len(part) <= len(blocks[number]) else number
+    waiting.add(other if number in waiting else smaller)
 
 
 class Automaton:
@@ -180,17 +193,26 @@ class Automaton:
         return order
 
     def classes(self, states, live):
-        """For each state the number of its class: those from which the same texts are accepted."""
-        of_class, count = {it: it in self.accepting for it in states}, 0
-        while True:
-            numbers, finer = {}, {}
-            for state in states:
-                moves = [(symbol, of_class[to]) for symbol, to in self.rows[state].items() if to in live]
-                key = of_class[state], tuple(sorted(moves))
-                finer[state] = numbers.setdefault(key, len(numbers))
-            if len(numbers) == count:
-                return finer
-            of_class, count = finer, len(numbers)
+        """For each state the number of its class: those from which the same texts are accepted (Hopcroft, 1971)."""
+        sources = collections.defaultdict(lambda: collections.defaultdict(list))
+        for state in states:
+            for symbol, target in self.rows[state].items():
+                if target in live:
+                    sources[symbol][target].append(state)
+        blocks = [part for part in ({it for it in states if (it in self.accepting) == side} for side in (True, False)) if part]
+        of_class = {state: number for number, part in enumerate(blocks) for state in part}
+        waiting = set(range(len(blocks)))
+        while waiting:
+            splitter = list(blocks[waiting.pop()])
+            for of_symbol in sources.values():
+                hit = collections.defaultdict(set)
+                for target in splitter:
+                    for state in of_symbol.get(target, ()):
+                        hit[of_class[state]].add(state)
+                for number, part in hit.items():
+                    if len(part) < len(blocks[number]):
+                        split(blocks, of_class, waiting, number, part)
+        return of_class
 
     def text(self, rows, accepting):
         count, size = len(self.names), len(rows)
