@@ -16,3 +16,4 @@ pub mod AllCompared
 pub mod Rows
 pub mod LetterMoves
 pub mod StepPairs
+pub mod EarlyShown

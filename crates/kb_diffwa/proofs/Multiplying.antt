@@ -1,6 +1,6 @@
 -- The pairs of words that the machine accepts, and how many places texts lead to.
-use Rattle.std.proofs.Common.{◌≡◌, ◌≢◌, ◌↔◌, ℕ, zero, suc, ◌+◌, ◌<◌, ◌≤◌, Bool, true, if◌then◌else◌, nat_eq, ◌&&◌, IsSome, IsTrue, is_some, List, [], ◌∷◌, ◌++◌, length, slice_get, Option, Some, None, refl, sym, ap, ◌∙◌, subst, inl, inr, arith}
-use Rattle.std.proofs.lemmas.Bool.{and_from, and_parts, cases_Bool, cases_lt, eq-eqb, eqb-false, eqb-true, false≢true, ne_eqb}
+use Rattle.std.proofs.Common.{◌≡◌, ◌≢◌, ◌↔◌, ℕ, zero, suc, ◌+◌, ◌<◌, ◌≤◌, Bool, true, if◌then◌else◌, nat_eq, IsSome, IsTrue, is_some, List, [], ◌∷◌, ◌++◌, length, slice_get, Option, Some, None, refl, sym, ap, ◌∙◌, subst, inl, inr, arith}
+use Rattle.std.proofs.lemmas.Bool.{cases_Bool, cases_lt, eq-eqb, eqb-false, eqb-true, false≢true, ne_eqb}
 use Rattle.std.proofs.lemmas.Option.{none-some, same_Some}
 use Rattle.kb_word.specs.Names.{AreApart}
 use Rattle.kb_word.specs.Relations.{IsOver, inverse_word}
@@ -13,10 +13,10 @@ use Rattle.kb_fsa.specs.declared.alphabet.Alphabet.{Alphabet}
 use Rattle.kb_fsa.specs.declared.alphabet.Alphabet.TheVariants.{Pair, Plain}
 use Rattle.kb_fsa.proofs.Lookups.{accepting_positive}
 use Rattle.kb_fsa.proofs.Paddings.{IsPadded-from_pair, padded-injective}
-use Rattle.kb_explore.specs.Machine.{HasMoreStates, Machine, MachineAccepts, lead, leads}
+use Rattle.kb_explore.specs.Machine.{HasMoreStates, Machine, lead, leads}
 use Rattle.kb_explore.specs.Exploration.{IsExploration}
 use Rattle.kb_explore.proofs.CountingLemmas.{MoreThan-kept}
-use Rattle.kb_explore.proofs.ExplorationLemmas.{accepts_same, leads_nowhere}
+use Rattle.kb_explore.proofs.ExplorationLemmas.{leads_nowhere}
 use Rattle.kb_diff.specs.Groups.{Group}
 use Rattle.kb_diff.specs.Steps.{AreSteps, HasNumber, Leads, LeadsBy}
 use Rattle.kb_diffwa.specs.declared.place.Place.{Place}

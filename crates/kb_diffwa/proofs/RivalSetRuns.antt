@@ -26,14 +26,14 @@ less_included f Less among less = or_left f.less f.ended among
 less_included f Greater among less = absurd (false≢true less)
 less_included f Ended among less = or_right f.less f.ended among
 
-some_less : (f : Comparisons) → any_less f ≡ true
+pub some_less : (f : Comparisons) → any_less f ≡ true
     → (c : Comparison) × ((includes f c ≡ true) × (compares_less c ≡ true))
 some_less f any = elim (or_cases f.less f.ended any) [
   | inl less ↦ (Less, (less, refl))
   | inr ended ↦ (Ended, (ended, refl))
 ]
 
-shown_in_row : (row : List Comparisons) (rival : Rival) → IsInRow row rival → shows_less rival ≡ true
+pub shown_in_row : (row : List Comparisons) (rival : Rival) → IsInRow row rival → shows_less rival ≡ true
     → shows_any_less row ≡ true
 shown_in_row row rival at shows =
     let parts = and_parts (nat_eq rival.difference 1) (compares_less rival.comparison) shows in
@@ -54,7 +54,7 @@ row_shows row any =
     let rival : Rival = record { difference = 1; comparison = some.0 } in
     record { rival = rival; at = record { index = 0; is = refl; among = some.1.0 }; shows = some.1.1 }
 
-unless_shown : (row : List Comparisons) → shows_any_less row ≡ true → unless_less row ≡ None
+pub unless_shown : (row : List Comparisons) → shows_any_less row ≡ true → unless_less row ≡ None
 unless_shown row shows = rw shows refl
 
 unless_not : (row : List Comparisons) → shows_any_less row ≡ false → unless_less row ≡ Some (members_from 1 row)

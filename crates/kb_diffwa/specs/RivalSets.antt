@@ -2,6 +2,7 @@
 -- set.
 use Rattle.std.specs.Prelude.{◌≡◌, ℕ, zero, suc, ◌+◌, ◌-◌, ◌<◌, ◌≤◌, ◌↔◌, Bool, true, false, not, ◌&&◌, ◌||◌, nat_eq, nat_lt, if◌then◌else◌, List, [], ◌∷◌, ◌++◌, length, get_or, set, replicate, fold, All, Contains, Option, Some, None}
 use Rattle.std.specs.Bool.{beq}
+use Rattle.std.specs.List.{list_any}
 use Rattle.std.specs.Hash.{HashWrites, bool, u32}
 use Rattle.kb_explore.specs.Machine.{Machine}
 use Rattle.kb_diffwa.specs.Comparing.{Comparison, Ended, Equal, Greater, Less}
@@ -162,6 +163,13 @@ led_on n a steps row rivals =
 -- the row of where the letter a leads a set, with the first rival, as a new suffix begins
 abbrev pub row_after : ℕ → ℕ → ℕ → Steps → List Rivals → List Comparisons
 row_after n count a steps rivals = fold (led_on n a steps) (first_row count) rivals
+
+-- whether the letter a leads rivals to the first difference as lesser words
+abbrev pub leads_less : ℕ → ℕ → Steps → Rivals → Bool
+leads_less n a steps rivals =
+    list_any (λ (pair : ℕ × ℕ).
+    nat_eq pair.1 1 && any_less (all_compared n rivals.comparisons a pair.0))
+    (pairs_from steps rivals.difference)
 
 -- ---- the machine
 

@@ -11,7 +11,7 @@ ghost use Rattle.kb_diff.specs.Tables.{step_in};
 ghost use Rattle.kb_diffwa.specs.Rivals.{CountedRivals};
 
 use crate::rival_sets::RivalSets;
-use crate::sparse_steps::all_steps;
+use crate::sparse_steps::{all_marks, all_steps};
 use kb_diff::{Differences, Machine};
 use kb_explore::{Det, explore};
 use kb_fsa::{Alphabet, Fsa};
@@ -46,10 +46,12 @@ pub fn acceptor<R: Reducer>(
     }
     let n = differences.generators();
     let letters = all_steps(alloc, n, count as u32, machine)?;
+    let before_first = all_marks(alloc, letters.as_slice())?;
     let sets = RivalSets {
         n,
         differences: count as u32,
         letters,
+        before_first,
     };
     let exploration = explore(alloc, &sets, limit)?;
     Ok(Fsa::new(Alphabet::Plain(n), exploration.table))

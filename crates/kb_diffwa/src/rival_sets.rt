@@ -1,7 +1,8 @@
 //! The machine that goes from one set of rivals to another.
 
-ghost use Rattle.std.specs.Prelude.{◌≡◌, ◌<◌, ◌≤◌, ◌^◌, All, length, get_or, IfOk};
-ghost use Rattle.kb_diffwa.specs.RivalSets.{AreWithin, first_row, followed, led_on, pairs_from, rival_sets, row_after, unless_less, with_rivals};
+ghost use Rattle.std.specs.Prelude.{◌≡◌, ◌<◌, ◌≤◌, ◌-◌, ◌^◌, true, All, [], length, get_or, IfOk};
+ghost use Rattle.std.specs.List.{list_any};
+ghost use Rattle.kb_diffwa.specs.RivalSets.{AreWithin, first_row, followed, leads_less, led_on, pairs_from, rival_sets, row_after, unless_less, with_rivals};
 ghost use Rattle.kb_diffwa.specs.SameSets.{same_from_members};
 
 use crate::comparisons::{Comparisons, outcome_place};
@@ -21,6 +22,9 @@ pub(crate) struct RivalSets {
     pub(crate) differences: u32,
     /// The steps by each letter.
     pub(crate) letters: Vec<Steps>,
+    /// For each letter whether from difference 1, from difference 2, and so on, it may lead to the first difference.
+    /// Where a letter has none here, it isn't looked for early.
+    pub(crate) before_first: Vec<Vec<bool>>,
     pub(crate) ghost generators: { n ≤ 65534 },
     pub(crate) ghost some: { 0 < differences },
     pub(crate) ghost one_each: { length letters.items ≡ n },
@@ -64,8 +68,11 @@ impl RivalSets {
         ensures { IfOk result (λ next. next
             ≡ followed self.now.n self.now.differences self.now.letters.items set.now letter) }
     {
-        let mut row = self.first_row(alloc)?;
         let steps = &self.letters[usize::from(letter) - 1];
+        if self.shows_less_early(set, letter) {
+            return Ok(None);
+        }
+        let mut row = self.first_row(alloc)?;
         for rivals in set.as_slice() {
             lead_on(self.n, letter, steps, *rivals, row.as_mut_slice());
         }
@@ -73,6 +80,26 @@ impl RivalSets {
             return Ok(None);
         }
         Ok(Some(RivalSet::of_row(alloc, row.as_slice())?))
+    }
+
+    /// Whether a rival is seen early that shows, once the letter is read, that the word isn't least.
+    fn shows_less_early(&self, set: &RivalSet, letter: u16) -> bool
+        requires positive { 0 < letter }
+        requires letter { letter ≤ self.now.n }
+        ensures { result ≡ true → list_any (leads_less self.now.n letter
+            (get_or self.now.letters.items (letter - 1) [])) set.now ≡ true }
+    {
+        let place = usize::from(letter) - 1;
+        match self.before_first.get(place) {
+            Some(marks) => any_leads_less(
+                self.n,
+                letter,
+                &self.letters[place],
+                marks.as_slice(),
+                set.as_slice(),
+            ),
+            None => false,
+        }
     }
 
     /// The row of the first rival alone.
@@ -84,6 +111,39 @@ impl RivalSets {
         row[0] = Comparisons::FIRST;
         Ok(row)
     }
+}
+
+/// Whether the letter a leads some rivals to the first difference as lesser words; looked for among those of the
+/// differences that have a mark. Few lead there, so that this is seen long before the whole row is made.
+fn any_leads_less(n: u16, a: u16, steps: &Steps, marks: &[bool], set: &[Rivals]) -> bool
+    requires generators { n ≤ 65534 }
+    ensures { result ≡ true → list_any (leads_less n a steps.now) set.now ≡ true }
+{
+    for rivals in set {
+        if has_mark(marks, rivals.difference) && leads_less(n, a, steps, *rivals) {
+            return true;
+        }
+    }
+    false
+}
+
+/// Whether the difference of a number has a mark.
+fn has_mark(marks: &[bool], difference: u32) -> bool {
+    difference != 0 && marks.get(difference as usize - 1) == Some(&true)
+}
+
+/// Whether the letter a leads rivals of one difference to the first difference as lesser words.
+fn leads_less(n: u16, a: u16, steps: &Steps, rivals: Rivals) -> bool
+    requires generators { n ≤ 65534 }
+    ensures { result ≡ leads_less n a steps.now rivals }
+{
+    let outcomes = rivals.comparisons.outcomes();
+    for (b, target) in pairs_from(steps, rivals.difference) {
+        if *target == 1 && outcomes[outcome_place(n, a, *b)].any_less() {
+            return true;
+        }
+    }
+    false
 }
 
 /// Adds to the row where the letter a leads rivals of one difference.

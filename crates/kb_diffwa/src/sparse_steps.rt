@@ -71,3 +71,25 @@ fn pairs_of(
     }
     Ok(pairs)
 }
+
+/// For each letter whether from difference 1, from difference 2, and so on, its steps lead to the first difference.
+pub(crate) fn all_marks(alloc: Global, letters: &[Steps]) -> Result<Vec<Vec<bool>>, Memory> {
+    let mut all = Vec::with_capacity(alloc, letters.len())?;
+    for steps in letters {
+        all.push(marks(alloc, steps)?)?;
+    }
+    Ok(all)
+}
+
+/// Whether from difference 1, from difference 2, and so on, the steps lead to the first difference.
+fn marks(alloc: Global, steps: &Steps) -> Result<Vec<bool>, Memory> {
+    let mut marks = Vec::with_capacity(alloc, steps.len())?;
+    for index in 0..steps.len() {
+        let leads = match steps.get(index) {
+            Some(pairs) => pairs.iter().any(|pair| pair.1 == 1),
+            None => false,
+        };
+        marks.push(leads)?;
+    }
+    Ok(marks)
+}

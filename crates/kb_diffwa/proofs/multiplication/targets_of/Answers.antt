@@ -1,4 +1,4 @@
-use Rattle.std.proofs.Common.{◌≡◌, ◌+◌, ℕ, suc, List, [], ◌++◌, ◌∷◌, sym, ap, ◌∙◌, subst, arith}
+use Rattle.std.proofs.Common.{◌+◌, ℕ, List, sym, subst}
 use Rattle.kb_diff.specs.Tables.{step_in}
 use Rattle.kb_diffwa.specs.Multipliers.{AreTargets}
 use Rattle.kb_diffwa.proofs.AllGenerators.{no_targets, targets_more}
