@@ -10,3 +10,15 @@ pub mod FaultLemmas
 mod OneFault
 mod TextLengths
 pub mod Completions
+pub mod Listed
+pub mod Replays
+pub mod Standing
+pub mod FirstFaults
+pub mod OneAnswer
+pub mod Marking
+pub mod Naming
+pub mod Leaving
+pub mod Factors
+pub mod FirstReasons
+pub mod Sides
+mod Keeping

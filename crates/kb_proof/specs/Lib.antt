@@ -4,3 +4,5 @@ pub mod Faults
 pub mod Reading
 pub mod Same
 pub mod Completions
+pub mod Verifying
+pub mod Checking

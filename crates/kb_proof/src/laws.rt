@@ -1,8 +1,11 @@
-//! What printing and reading have to do with each other.
+//! What printing and reading have to do with each other, and that a log has one answer.
 
 ghost use Rattle.std.specs.Prelude.{◌≡◌, ◌≢◌, ℕ, ◌<◌, ◌≤◌, ◌^◌, List, length};
 ghost use Rattle.kb_word.specs.Names.{AreApart};
 ghost use Rattle.kb_word.specs.Presentations.{PresentationParts};
+ghost use Rattle.kb_word.specs.WordOrders.{Below};
+ghost use Rattle.kb_word.specs.Words.{Pair};
+ghost use Rattle.kb_word.specs.declared.word_order.WordOrder.{WordOrder as SomeOrder};
 ghost use Rattle.kb_proof.specs.Completions.{AreShortParts, IsOfCompletion, IsReadAgain};
 ghost use Rattle.kb_proof.specs.Faults.{HasLogFault};
 ghost use Rattle.kb_proof.specs.Printable.{AreReadableNames, IsPrintable};
@@ -10,7 +13,9 @@ ghost use Rattle.kb_proof.specs.Printed.{text_of_log};
 ghost use Rattle.kb_proof.specs.Same.{AreSameLogs};
 ghost use Rattle.kb_proof.specs.declared.error.LogError.{LogError as SomeError};
 ghost use Rattle.kb_proof.specs.declared.error.LogError.TheVariants as errors;
+ghost use Rattle.kb_proof.specs.Verifying.{VerifiedSays};
 ghost use Rattle.kb_proof.specs.declared.log.Log.{Log as SomeLog};
+ghost use Rattle.kb_proof.specs.declared.verified.Verified.{Verified as Answer};
 
 /// Over names that differ two logs with one text are the same, if they can be read again. So what
 /// [`read_log`](crate::read_log) returns of a printed log is that log.
@@ -43,4 +48,12 @@ pub fn logs_of_completions_are_read_again()
     ensures { (parts : PresentationParts) (log : SomeLog) → AreReadableNames parts.names
         → AreApart parts.names → AreShortParts parts → IsOfCompletion parts log
         → length (text_of_log parts.names log) ≤ 2 ^ 24 → IsReadAgain parts.names log }
+{}
+
+/// A log has one answer: what `Yes` says of it excludes what any `No` says, and what is said by two different answers `No`
+/// isn't both true. So [`verify`](crate::verify) answers `Yes` of each log of which what `Yes` says is true.
+pub fn a_log_is_verified_in_one_way()
+    ensures { (order : SomeOrder) (relations : List Pair) (log : SomeLog) (one other : Answer)
+        → VerifiedSays (Below order) relations log one
+        → VerifiedSays (Below order) relations log other → one ≡ other }
 {}

@@ -1,4 +1,4 @@
-//! Logs as text: printing and reading them.
+//! Logs as text: printing and reading them. And whether a log is justified, line by line.
 //!
 //! # The text
 //!
@@ -21,13 +21,19 @@
 //! [`print_log`] returns the text of a log (`text_of_log` of `specs/Printed.antt`). [`read_log`] is exact: it returns a
 //! log where the bytes are the text of a log that can be read again (`IsPrintable` of `specs/Printable.antt`), and
 //! refuses them else, with the first line that is not as it would be printed, or with the version that there isn't
-//! (`specs/Faults.antt`). Whether lines and relations that a log names are there is not asked here.
+//! (`specs/Faults.antt`). Whether lines and relations that a log names are there is asked by [`verify`].
 //!
 //! The laws complete that: by [`a_printed_log_has_no_fault`] no bytes are both read and refused, and by
 //! [`a_text_is_of_one_log`] what is read of a printed log is that log; by [`bytes_have_one_log_fault`] a refusal names the
 //! one fault that there is. They ask, as [`read_log`] does, that the names are Names and none is `IdWord`
 //! (`AreReadableNames`), as the names of presentation files are. By [`logs_of_completions_are_read_again`] the log of a
 //! completion is one that can be read again, up to the length that a file may have (`specs/Completions.antt`).
+//!
+//! [`verify`] checks a log over a presentation (`specs/Verifying.antt`). It answers `Yes` exactly where each line follows
+//! from the relations and the lines before it (`IsJustified` of `kb_machine`), and so does that of the pair that waits,
+//! neither of whose words an earlier line reduces. Else it answers `No`, with the number of the first line for which
+//! there is a reason, and the first reason ([`Why`]). By [`a_log_is_verified_in_one_way`] one answer at most may be
+//! given of a log.
 //!
 //! # How it is made
 //!
@@ -39,7 +45,11 @@
 //! - `numbers`, `words`, `origin` and `steps` read and `printing` prints the parts.
 //! - `fields` cuts a line into its parts, and `line` reads them.
 //! - `header` reads the first line, and `reader` the whole.
-//! - `laws` says what printing and reading have to do with each other.
+//! - `verifying` checks the lines of a log one after another: `checker` has what is kept of the lines before. `origins`
+//!   finds the pair that an origin names, and `marks` whether what it uses up was used up before; `derivations` and
+//!   `replay` take the steps; `earlier` has the index of the rules of the lines before, by which a word is irreducible
+//!   exactly where it is its own normal form.
+//! - `laws` says what printing and reading have to do with each other, and that a log has one answer.
 //!
 //! # Where the proofs are
 //!
@@ -49,9 +59,12 @@
 //! - `proofs/HeaderLemmas.antt`: the first line. `proofs/PrintLemmas.antt`: what is printed piece by piece.
 //! - `proofs/SameLemmas.antt`, `proofs/FaultLemmas.antt`, `proofs/OneFault.antt`: the laws of texts.
 //! - `proofs/TextLengths.antt`, `proofs/Completions.antt`: what a short text bounds, and the law of completions.
+//! - `proofs/Standing.antt`: a line without a fault follows, and a justified log has no fault. `proofs/FirstFaults.antt`,
+//!   `proofs/OneAnswer.antt`: the answers. `proofs/Replays.antt`: steps. `proofs/Naming.antt`, `proofs/Factors.antt`,
+//!   `proofs/Marking.antt`: origins. `proofs/Leaving.antt`: normal forms. `proofs/Listed.antt`: lines by their numbers.
 //!
-//! Below are `kb_machine`, which has lines, `kb_word`, whose presentations name letters, and `kb_lexing`, whose
-//! numbers versions are.
+//! Below are `kb_machine`, which has lines, `kb_word`, whose presentations name letters, `kb_lexing`, whose numbers
+//! versions are, `kb_overlap`, which has critical pairs, and `kb_rules` and `kb_index`, which reduce words.
 #![tactic(auto)]
 
 mod cut;
@@ -66,13 +79,17 @@ mod origin;
 mod printing;
 mod reader;
 mod steps;
+mod verified;
+mod verifying;
 mod words;
 
 pub use error::LogError;
 pub use laws::{
-    a_printed_log_has_no_fault, a_text_is_of_one_log, bytes_have_one_log_fault,
-    logs_of_completions_are_read_again,
+    a_log_is_verified_in_one_way, a_printed_log_has_no_fault, a_text_is_of_one_log,
+    bytes_have_one_log_fault, logs_of_completions_are_read_again,
 };
 pub use log::{Log, Version};
 pub use printing::{print_log, print_origin};
 pub use reader::read_log;
+pub use verified::{Verified, Why};
+pub use verifying::verify;

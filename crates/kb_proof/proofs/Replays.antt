@@ -1,0 +1,112 @@
+-- Steps by rules, which lead to one word at most.
+use Rattle.std.proofs.Common.{◌≡◌, ℕ, ◌+◌, List, [], ◌∷◌, ◌++◌, length, take, drop, Some, sym, ap, ◌∙◌, subst, arith, append_assoc, length-append}
+use Rattle.std.proofs.Math.Seq.{drop-append_seam}
+use Rattle.std.proofs.lemmas.List.{take_at}
+use Rattle.kb_word.specs.Words.{Pair, StandsAt}
+use Rattle.kb_machine.specs.Lines.{numbered}
+use Rattle.kb_machine.specs.Derivations.{Any, Derives, IsStepBy}
+use Rattle.kb_machine.specs.declared.line.LogStep.{LogStep}
+use Rattle.kb_machine.proofs.Numbers.{numbered_same}
+use Rattle.kb_rules.proofs.Lists.{append_cancel_long}
+
+-- a step leads to one word
+pub step_same : {rules : List Pair} {u v w : List ℕ} {step : LogStep} → IsStepBy Any rules u step v
+    → IsStepBy Any rules u step w
+    → v ≡ w
+step_same {rules = rules} {step = step} one two =
+    let rule : one.rule ≡ two.rule = numbered_same rules step.line one.rule two.rule one.is_rule two.is_rule in
+    let left : one.rule.0 ≡ two.rule.0 = ap (λ (pair : Pair). pair.0) rule in
+    let right : one.rule.1 ≡ two.rule.1 = ap (λ (pair : Pair). pair.1) rule in
+    let front = one.before ++ one.rule.0 in
+    let other = two.before ++ two.rule.0 in
+    let place : length one.before ≡ length two.before = one.at ∙ sym two.at in
+    let long : length front ≡ length other = omega (arith, length-append one.before one.rule.0, length-append two.before two.rule.0, ap length left, place) in
+    let parts = append_cancel_long front one.after other two.after (sym one.from ∙ two.from) long in
+    let starts = append_cancel_long one.before one.rule.0 two.before two.rule.0 parts.0 place in
+    let before : one.before ≡ two.before = starts.0 in
+    let after : one.after ≡ two.after = parts.1 in
+    let e : one.before ++ one.rule.1 ++ one.after ≡ two.before ++ two.rule.1 ++ two.after = cc (before, right, after) in
+    one.to ∙ e ∙ sym two.to
+
+-- so do several
+pub derives_same : (rules : List Pair) (steps : List LogStep) (u v w : List ℕ) → Derives Any rules u steps v
+    → Derives Any rules u steps w
+    → v ≡ w
+derives_same rules [] u v w one two = sym one ∙ two
+derives_same rules (step ∷ rest) u v w one two =
+    let same : one.0 ≡ two.0 = step_same one.1 two.1 in
+    let P : List ℕ → Type 0 = λ next. Derives Any rules next rest v in
+    derives_same rules rest two.0 v w (subst P same one.2) two.2
+
+-- What is left of the steps leads from the word so far to where all of them lead from the first word.
+pub record IsReplayed (rules : List Pair) (from : List ℕ) (steps rest : List LogStep) (word : List ℕ) : Type 0 where
+  pub leads : (v : List ℕ) → Derives Any rules word rest v → Derives Any rules from steps v
+  pub only : (v : List ℕ) → Derives Any rules from steps v → Derives Any rules word rest v
+
+-- with one step more
+pub replayed_more : {rules : List Pair} {from : List ℕ} {steps rest more : List LogStep} {step : LogStep}
+    {word next : List ℕ}
+    → IsReplayed rules from steps rest word → rest ≡ step ∷ more → IsStepBy Any rules word step next
+    → IsReplayed rules from steps more next
+replayed_more {rules = rules} {from = from} {steps = steps} {rest = rest} {more = more} {word = word} {next = next} is e taken =
+    record {
+      leads = λ v led.
+          let P : List LogStep → Type 0 = λ list. Derives Any rules word list v in
+          is.leads v (subst P (sym e) (next, taken, led));
+      only = λ v led.
+          let P : List LogStep → Type 0 = λ list. Derives Any rules word list v in
+          let all = subst P e (is.only v led) in
+          let Q : List ℕ → Type 0 = λ u. Derives Any rules u more v in
+          subst Q (step_same all.1 taken) all.2;
+    }
+
+-- where a step can't be taken, the steps lead nowhere
+pub replay_fails : {rules : List Pair} {from : List ℕ} {steps rest more : List LogStep} {step : LogStep} {word : List ℕ}
+    → IsReplayed rules from steps rest word → rest ≡ step ∷ more
+    → ((v : List ℕ) → IsStepBy Any rules word step v → ⊥)
+    → (v : List ℕ) → Derives Any rules from steps v → ⊥
+replay_fails {rules = rules} {word = word} is e none v led =
+    let P : List LogStep → Type 0 = λ list. Derives Any rules word list v in
+    let all = subst P e (is.only v led) in
+    none all.0 all.1
+
+-- the letters before and behind a factor
+pub around : (w v : List ℕ) (place : ℕ) (at : StandsAt w v place)
+    → (take place w ≡ at.before) × (drop (place + length v) w ≡ at.after)
+around w v place at =
+    let start : length at.before ≡ place = at.at in
+    let whole : w ≡ at.before ++ (v ++ at.after) = at.whole ∙ append_assoc at.before v at.after in
+    let front : take place w ≡ at.before = ap (take place) whole ∙ take_at at.before (v ++ at.after) place start in
+    let end : length (at.before ++ v) ≡ place + length v = omega (arith, length-append at.before v) in
+    let behind : drop (place + length v) w ≡ at.after =
+    ap (λ n. drop n w) (sym end) ∙ ap (drop (length (at.before ++ v))) at.whole ∙ drop-append_seam (at.before ++ v) at.after in
+    (front, behind)
+
+-- the rule's right side in place of its left side, which stands there: that is the step
+pub step_taken : (rules : List Pair) (u v : List ℕ) (step : LogStep) (rule : Pair) → numbered rules step.line ≡ Some rule
+    → StandsAt u rule.0 step.place
+    → v ≡ take step.place u ++ rule.1 ++ drop (step.place + length rule.0) u
+    → IsStepBy Any rules u step v
+step_taken rules u v step rule is at e =
+    let parts = around u rule.0 step.place at in
+    let same : take step.place u ++ rule.1 ++ drop (step.place + length rule.0) u ≡ at.before ++ rule.1 ++ at.after = cc (parts.0, parts.1) in
+    record {
+      before = at.before;
+      rule = rule;
+      after = at.after;
+      is_allowed = tt;
+      is_rule = is;
+      at = at.at;
+      from = at.whole;
+      to = e ∙ same;
+    }
+
+-- a step that is taken is by the rule of its line, whose left side stands at its place
+pub step_stands : {rules : List Pair} {u v : List ℕ} {step : LogStep} (rule : Pair) → IsStepBy Any rules u step v
+    → numbered rules step.line ≡ Some rule
+    → StandsAt u rule.0 step.place
+step_stands {rules = rules} {u = u} {step = step} rule taken is =
+    let same : taken.rule ≡ rule = numbered_same rules step.line taken.rule rule taken.is_rule is in
+    let P : Pair → Type 0 = λ pair. StandsAt u pair.0 step.place in
+    let at : StandsAt u taken.rule.0 step.place = record { before = taken.before; after = taken.after; whole = taken.from; at = taken.at } in
+    subst P same at
