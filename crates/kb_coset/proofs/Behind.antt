@@ -1,18 +1,15 @@
 -- What stands behind the marker stays in one right coset: a word that is congruent to a marked one, by the marked
 -- presentation, has the marker once, and behind it a word of the coset.
-use Rattle.std.proofs.Common.{◌≡◌, ℕ, ◌+◌, ◌<◌, ◌≤◌, List, [], ◌∷◌, ◌++◌, refl, sym, ap, ◌∙◌, subst, inl, inr, arith, append_assoc}
+use Rattle.std.proofs.Common.{◌≡◌, ℕ, ◌+◌, List, [], ◌∷◌, ◌++◌, refl, sym, ap, ◌∙◌, subst, inl, inr, arith, append_assoc}
 use Rattle.std.specs.List.{All}
 use Rattle.kb_word.specs.Words.{Pair, OneOf}
-use Rattle.kb_word.specs.Path.{Path}
 use Rattle.kb_word.specs.Congruence.{Replaces, Touches, Congruent}
 use Rattle.kb_word.specs.Relations.{IsOver}
-use Rattle.kb_word.specs.Presentations.{PresentationParts}
-use Rattle.kb_word.proofs.PathLemmas.{path_none, path_one, path_then, path_keeps, path_joined}
-use Rattle.kb_coset.specs.Subgroups.{IsGenerator}
+use Rattle.kb_word.proofs.PathLemmas.{path_none, path_then, path_keeps}
 use Rattle.kb_coset.specs.Cosets.{CosetStep, by_relation, comes, goes, SameCoset}
-use Rattle.kb_coset.specs.Marked.{AreCongruent, ArePresentation, relations, marked_parts, marked_word, marker_equation}
-use Rattle.kb_coset.proofs.Letters.{over_none, over_append, over_front, over_rest, over_replaced, generator_over, nothing_in_front, one_place, Side, ahead, behind, side}
-use Rattle.kb_coset.proofs.Relations.{relations_over, IsMarkedRelation, was_given, marks, marked_relation, given_is_marked, marks_is_marked}
+use Rattle.kb_coset.specs.Marked.{marked_word}
+use Rattle.kb_coset.proofs.Letters.{over_none, over_append, over_rest, over_replaced, generator_over, one_place, ahead, behind, side}
+use Rattle.kb_coset.proofs.Relations.{IsMarkedRelation, was_given, marks}
 
 -- The word has the marker once, in front of a word that is in the right coset of u.
 pub record HasBehind (n : ℕ) (given : List Pair) (generators : List (List ℕ)) (u w : List ℕ) : Type 0 where
@@ -88,13 +85,13 @@ module _ (n : ℕ) (given : List Pair) (generators : List (List ℕ))
       → CosetStep given generators (front ++ pair.0 ++ rest) (front ++ pair.1 ++ rest)
   relation_forth pair one front rest =
       by_relation
-          (inl (record { before = front; pair = pair; after = rest; is_allowed = one; from = refl; to = refl }))
+      (inl (record { before = front; pair = pair; after = rest; is_allowed = one; from = refl; to = refl }))
 
   relation_back : (pair : Pair) → OneOf given pair → (front rest : List ℕ)
       → CosetStep given generators (front ++ pair.1 ++ rest) (front ++ pair.0 ++ rest)
   relation_back pair one front rest =
       by_relation
-          (inr (record { before = front; pair = pair; after = rest; is_allowed = one; from = refl; to = refl }))
+      (inr (record { before = front; pair = pair; after = rest; is_allowed = one; from = refl; to = refl }))
 
   forth : (u w other : List ℕ) (r : Replaces (IsMarkedRelation n generators given) w other)
       → IsMarkedRelation n generators given r.pair → IsBehind u w → IsBehind u other

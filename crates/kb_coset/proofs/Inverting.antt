@@ -1,14 +1,14 @@
 -- A word of a group and its inverse cancel.
-use Rattle.std.proofs.Common.{◌≡◌, ℕ, ◌<◌, ◌≤◌, List, [], ◌∷◌, ◌++◌, Option, Some, None, refl, sym, ap, ◌∙◌, subst, append_assoc}
+use Rattle.std.proofs.Common.{◌≡◌, ℕ, List, [], ◌∷◌, ◌++◌, Option, Some, None, refl, sym, ap, ◌∙◌, subst, append_assoc}
 use Rattle.std.specs.Option.{option_map, option_and_then}
 use Rattle.std.proofs.lemmas.List.{append-nil}
-use Rattle.kb_word.specs.Words.{Pair, OneOf}
+use Rattle.kb_word.specs.Words.{Pair}
 use Rattle.kb_word.specs.Congruence.{Congruent}
 use Rattle.kb_word.specs.Relations.{IsOver, inverse_letter, inverse_word}
 use Rattle.kb_word.specs.Presentations.{PresentationParts}
 use Rattle.kb_word.proofs.PathLemmas.{congruent_reflexive, congruent_transitive, congruent_between, congruent_sides}
 use Rattle.kb_coset.specs.Subgroups.{EachInverts}
-use Rattle.kb_coset.specs.Marked.{AreCongruent, ArePresentation, relations}
+use Rattle.kb_coset.specs.Marked.{AreCongruent, ArePresentation}
 use Rattle.kb_coset.proofs.Letters.{over_first, over_later}
 use Rattle.kb_coset.proofs.Relations.{inverse_relation}
 

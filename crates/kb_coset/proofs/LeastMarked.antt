@@ -1,12 +1,10 @@
 -- The least word that is congruent to a marked word is the marker with the least word of the coset behind it.
-use Rattle.std.proofs.Common.{◌≡◌, ℕ, zero, suc, pred, ◌+◌, ◌<◌, ◌≤◌, List, [], ◌∷◌, ◌++◌, length, sum_by, unwrap_or, slice_get, refl, sym, ap, ◌∙◌, subst, inl, inr, arith, length-append}
+use Rattle.std.proofs.Common.{◌≡◌, ℕ, zero, suc, ◌+◌, List, [], ◌∷◌, ◌++◌, unwrap_or, slice_get, refl, sym, ap, ◌∙◌, subst, arith}
 use Rattle.std.specs.List.{All}
-use Rattle.std.proofs.lemmas.List.Sums.{sum_by-append}
-use Rattle.kb_word.specs.Words.{Pair, OneOf, Less, shorter, earlier, IsEarlier}
-use Rattle.kb_word.specs.Congruence.{Congruent, IsLeast}
+use Rattle.kb_word.specs.Words.{shorter}
+use Rattle.kb_word.specs.Congruence.{IsLeast}
 use Rattle.kb_word.specs.Relations.{IsOver}
-use Rattle.kb_word.specs.Order.{IsReductionOrder}
-use Rattle.kb_word.specs.Weights.{LessByWeight, lighter, as_heavy, at_least_one, letter_weight, word_weight}
+use Rattle.kb_word.specs.Weights.{lighter, as_heavy, at_least_one, letter_weight, word_weight}
 use Rattle.kb_word.specs.WeightLaws.{letter_weighs, weight-cons}
 use Rattle.kb_word.specs.WordOrders.{Below}
 use Rattle.kb_word.specs.WordOrderLaws.{word_orders}
@@ -15,8 +13,7 @@ use Rattle.kb_word.specs.declared.word_order.WordOrder.{WordOrder}
 use Rattle.kb_word.specs.declared.word_order.WordOrder.TheVariants.{ShortLex, WtLex}
 use Rattle.std.proofs.lemmas.List.{append-nil}
 use Rattle.kb_coset.specs.Cosets.{SameCoset, IsLeastInCoset}
-use Rattle.kb_coset.specs.Marked.{AreCongruent, ArePresentation, relations, marked_order, marked_parts, marked_word}
-use Rattle.kb_coset.proofs.Behind.{HasBehind}
+use Rattle.kb_coset.specs.Marked.{ArePresentation, relations, marked_order, marked_parts, marked_word}
 use Rattle.kb_coset.proofs.Marks.{congruent_of_coset, behind_marker}
 
 -- ---- the marker's weight is that of a letter without one

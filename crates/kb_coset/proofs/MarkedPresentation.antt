@@ -9,7 +9,6 @@ use Rattle.kb_word.specs.WordOrders.{WeighsEach}
 use Rattle.kb_word.specs.Presentations.{PresentationParts}
 use Rattle.kb_word.specs.declared.word_order.WordOrder.{WordOrder}
 use Rattle.kb_word.specs.declared.word_order.WordOrder.TheVariants.{ShortLex, WtLex}
-use Rattle.kb_coset.specs.Subgroups.{EachInverts}
 use Rattle.kb_coset.specs.Marked.{ArePresentation, MarksCosets, marked_order, marked_parts, marked_word, marker_equation, marker_name}
 use Rattle.kb_coset.proofs.Letters.{generator_over}
 use Rattle.kb_coset.proofs.Relations.{one_of_append, from_generator}
@@ -94,3 +93,30 @@ module _ (n : ℕ) (generators : List (List ℕ)) (parts : PresentationParts) (i
         (λ equal. products.0 (marks.0 equal), λ inside. marks.1 (products.1 inside));
     least = least_marked n generators parts is generators_over;
   }
+
+  -- ---- the same, of parts that are equal to these
+
+  module _ (order : WordOrder) (names : List (List ℕ)) (inverses : List (Option ℕ)) (equations : List Pair)
+      (order_is : order ≡ marked_order parts.order) (names_are : names ≡ parts.names ++ marker_name ∷ [])
+      (inverses_are : inverses ≡ parts.inverses ++ None ∷ [])
+      (equations_are : equations ≡ parts.equations ++ map (marker_equation n) generators) where
+    made : PresentationParts
+    made = record { order = order; names = names; inverses = inverses; equations = equations }
+
+    made_is : made ≡ marked_parts n generators parts
+    unfolding made
+    made_is =
+        let old = marked_parts n generators parts in
+        ap (λ o. record { order = o; names = names; inverses = inverses; equations = equations }) order_is
+        ∙ ap (λ l. record { order = old.order; names = l; inverses = inverses; equations = equations }) names_are
+        ∙ ap (λ l. record { order = old.order; names = old.names; inverses = l; equations = equations }) inverses_are
+        ∙ ap (λ l. record { order = old.order; names = old.names; inverses = old.inverses; equations = l }) equations_are
+
+    pub made_presentation : IsPresentation (n + 1) order names inverses equations
+    unfolding made
+    made_presentation =
+        let P : PresentationParts → Type 0 = λ m. ArePresentation (n + 1) m in subst P (sym made_is) marked_is_presentation
+
+    pub made_marks : MarksCosets n generators parts (record { order = order; names = names; inverses = inverses; equations = equations })
+    unfolding made
+    made_marks = let P : PresentationParts → Type 0 = λ m. MarksCosets n generators parts m in subst P (sym made_is) marks_cosets

@@ -1,16 +1,14 @@
 -- Marked words are congruent exactly where the words are in one right coset.
-use Rattle.std.proofs.Common.{◌≡◌, ◌↔◌, ℕ, ◌+◌, List, [], ◌∷◌, ◌++◌, refl, sym, ap, ◌∙◌, subst, inl, inr, arith}
+use Rattle.std.proofs.Common.{◌≡◌, ◌↔◌, ℕ, ◌+◌, List, [], ◌∷◌, ◌++◌, refl, sym, ap, subst, inl, inr, arith}
 use Rattle.std.specs.List.{All}
 use Rattle.kb_word.specs.Words.{Pair, OneOf}
-use Rattle.kb_word.specs.Path.{Path}
-use Rattle.kb_word.specs.Congruence.{Replaces, Touches, Congruent}
+use Rattle.kb_word.specs.Congruence.{Replaces, Touches}
 use Rattle.kb_word.specs.Relations.{IsOver}
 use Rattle.kb_word.specs.Presentations.{PresentationParts}
-use Rattle.kb_word.proofs.PathLemmas.{path_mapped, path_keeps, Replaces-implied, congruent_implied}
-use Rattle.kb_coset.specs.Subgroups.{IsGenerator}
+use Rattle.kb_word.proofs.PathLemmas.{path_mapped, congruent_implied}
 use Rattle.kb_coset.specs.Cosets.{CosetStep, by_relation, comes, goes, SameCoset}
 use Rattle.kb_coset.specs.Marked.{AreCongruent, ArePresentation, relations, marked_parts, marked_word, marker_equation}
-use Rattle.kb_coset.proofs.Letters.{nothing_in_front, over_replaced, over_append, over_rest, generator_over}
+use Rattle.kb_coset.proofs.Letters.{nothing_in_front}
 use Rattle.kb_coset.proofs.Relations.{relations_over, marked_relation, given_is_marked, marks_is_marked}
 use Rattle.kb_coset.proofs.Behind.{HasBehind, stays_behind}
 

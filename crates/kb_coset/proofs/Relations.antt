@@ -4,10 +4,10 @@ use Rattle.std.specs.Prelude.{slice_get, option_and_then}
 use Rattle.std.proofs.lemmas.Option.{slice_get_within}
 use Rattle.std.proofs.lemmas.List.Elements.{All-nil, All-cons}
 use Rattle.kb_word.specs.Words.{Pair, OneOf}
-use Rattle.kb_word.specs.Relations.{inverse_letter, inverse_relations, relations_of, IsOver, IsPresentation}
+use Rattle.kb_word.specs.Relations.{inverse_letter, inverse_relations, IsOver}
 use Rattle.kb_word.specs.Presentations.{PresentationParts}
 use Rattle.kb_coset.specs.Subgroups.{IsGenerator}
-use Rattle.kb_coset.specs.Marked.{ArePresentation, relations, marked_word, marker_equation, marked_parts}
+use Rattle.kb_coset.specs.Marked.{ArePresentation, relations, marker_equation, marked_parts}
 
 -- ---- lists put together
 

@@ -1,11 +1,10 @@
 -- In a group two words are in one right coset exactly where the first, followed by the inverse of the second, is in the
 -- subgroup.
-use Rattle.std.proofs.Common.{◌≡◌, ◌↔◌, ℕ, List, [], ◌∷◌, ◌++◌, Option, Some, refl, sym, ap, ◌∙◌, subst, inl, inr, append_assoc}
+use Rattle.std.proofs.Common.{◌≡◌, ◌↔◌, ℕ, List, [], ◌++◌, Option, Some, refl, sym, ap, ◌∙◌, subst, append_assoc}
 use Rattle.std.specs.List.{All}
 use Rattle.std.proofs.lemmas.List.{append-nil}
 use Rattle.kb_word.specs.Words.{Pair, OneOf}
-use Rattle.kb_word.specs.Path.{Path}
-use Rattle.kb_word.specs.Congruence.{Touches, Congruent}
+use Rattle.kb_word.specs.Congruence.{Congruent}
 use Rattle.kb_word.specs.Relations.{IsOver, inverse_word}
 use Rattle.kb_word.specs.Presentations.{PresentationParts}
 use Rattle.kb_word.proofs.PathLemmas.{path_none, path_append, path_step, path_one, path_keeps, path_implied, congruent_reflexive, congruent_symmetric, congruent_transitive}

@@ -1,6 +1,6 @@
 -- The presentation with a marker, by which words of one right coset become congruent.
 -- Sims, Computation with Finitely Presented Groups, has such markers where cosets are rewritten.
-use Rattle.std.specs.Prelude.{◌≡◌, ◌↔◌, ℕ, ◌+◌, List, [], ◌∷◌, ◌++◌, map, Option, None, Some, codes}
+use Rattle.std.specs.Prelude.{◌≡◌, ◌↔◌, ℕ, ◌+◌, List, [], ◌∷◌, ◌++◌, map, None, Some, codes}
 use Rattle.kb_word.specs.Words.{Pair, OneOf}
 use Rattle.kb_word.specs.Congruence.{Congruent, IsLeast}
 use Rattle.kb_word.specs.Relations.{IsOver, IsPresentation, inverse_word, relations_of}
@@ -66,4 +66,4 @@ pub record MarksCosets (n : ℕ) (generators : List (List ℕ))
   pub least : (u least : List ℕ) → IsOver n u
       → IsLeast (Below marked.order) (relations marked) (marked_word n u) least
       → (m : List ℕ) × (least ≡ marked_word n m)
-          × IsLeastInCoset (Below parts.order) (relations parts) generators u m
+      × IsLeastInCoset (Below parts.order) (relations parts) generators u m

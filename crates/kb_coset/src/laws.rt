@@ -46,7 +46,7 @@ pub fn least_marked_words_are_least_in_cosets()
     ensures { (n : ℕ) (generators : List Letters) (parts : PresentationParts) (u least : Letters)
         → ArePresentation n parts → All (IsOver n) generators → IsOver n u
         → IsLeast (Below (marked_order parts.order)) (relations (marked_parts n generators parts))
-            (marked_word n u) least
+        (marked_word n u) least
         → (m : Letters) × (least ≡ marked_word n m)
-            × IsLeastInCoset (Below parts.order) (relations parts) generators u m }
+        × IsLeastInCoset (Below parts.order) (relations parts) generators u m }
 {}

@@ -5,8 +5,9 @@ ghost use Rattle.kb_word.specs.Relations.{IsOver};
 ghost use Rattle.kb_word.specs.Presentations.{parts_of};
 ghost use Rattle.kb_coset.specs.Marked.{MarksCosets, marked_order, marked_parts, marked_word as marked_letters, marker_equation, marker_name};
 
-use kb_word::{Equations, Inverses, Letter, Memory, Names, Presentation, Word, WordOrder, WtLex};
-use kb_word::copy_pairs;
+use kb_word::{
+    Equations, Inverses, Letter, Memory, Names, Presentation, Word, WordOrder, WtLex, copy_pairs,
+};
 use std::alloc::Global;
 
 /// The presentation with the marker `_H` of the cosets of a subgroup, which these words generate: `_H` is its last
