@@ -5,4 +5,5 @@ pub mod Marks
 pub mod Inverting
 pub mod SubgroupCosets
 pub mod LeastMarked
+pub mod LeastWords
 pub mod MarkedPresentation

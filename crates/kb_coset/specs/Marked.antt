@@ -1,5 +1,4 @@
 -- The presentation with a marker, by which words of one right coset become congruent.
--- Sims, Computation with Finitely Presented Groups, has such markers where cosets are rewritten.
 use Rattle.std.specs.Prelude.{◌≡◌, ◌↔◌, ℕ, ◌+◌, List, [], ◌∷◌, ◌++◌, map, None, Some, codes}
 use Rattle.kb_word.specs.Words.{Pair, OneOf}
 use Rattle.kb_word.specs.Congruence.{Congruent, IsLeast}
@@ -31,7 +30,7 @@ marker_name = codes "_H"
 abbrev pub marked_word : ℕ → List ℕ → List ℕ
 marked_word n w = (n + 1) ∷ w
 
--- a generator of the subgroup goes behind the marker: _H*h = _H
+-- the marker absorbs a generator of the subgroup: _H*h = _H
 abbrev pub marker_equation : ℕ → List ℕ → Pair
 marker_equation n h = (marked_word n h, marked_word n [])
 
@@ -41,7 +40,7 @@ marked_order ShortLex = ShortLex
 marked_order (WtLex weights) = WtLex (weights ++ 1 ∷ [])
 
 -- The marked presentation: the marker is its last generator, without an inverse, and after the equations come those by
--- which the subgroup's generators go behind the marker.
+-- which it absorbs the subgroup's generators.
 abbrev pub marked_parts : ℕ → List (List ℕ) → PresentationParts → PresentationParts
 marked_parts n generators parts = record {
   order = marked_order parts.order;

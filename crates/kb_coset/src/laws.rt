@@ -1,11 +1,12 @@
 //! The laws of marked words and cosets. None of them does anything when it runs.
 
 ghost use Rattle.std.specs.Prelude.{◌≡◌, ◌↔◌, ◌++◌, ℕ, List, Some, All};
-ghost use Rattle.kb_word.specs.Words.{Letters};
+ghost use Rattle.kb_word.specs.Words.{Letters, Pair};
 ghost use Rattle.kb_word.specs.Congruence.{IsLeast};
 ghost use Rattle.kb_word.specs.Relations.{IsOver, inverse_word};
 ghost use Rattle.kb_word.specs.WordOrders.{Below};
 ghost use Rattle.kb_word.specs.Presentations.{PresentationParts};
+ghost use Rattle.kb_word.specs.declared.word_order.WordOrder.{WordOrder};
 ghost use Rattle.kb_coset.specs.Subgroups.{EachInverts, IsInSubgroup};
 ghost use Rattle.kb_coset.specs.Cosets.{IsLeastInCoset, SameCoset};
 ghost use Rattle.kb_coset.specs.Marked.{AreCongruent, ArePresentation, marked_order, marked_parts, marked_word, relations};
@@ -49,4 +50,13 @@ pub fn least_marked_words_are_least_in_cosets()
         (marked_word n u) least
         → (m : Letters) × (least ≡ marked_word n m)
         × IsLeastInCoset (Below parts.order) (relations parts) generators u m }
+{}
+
+/// Two words are in one right coset exactly where the least words of their cosets are equal. So a coset has one least word.
+pub fn cosets_are_told_by_their_least_words()
+    ensures { (order : WordOrder) (given : List Pair) (generators : List Letters)
+        (u v m k : Letters)
+        → IsLeastInCoset (Below order) given generators u m
+        → IsLeastInCoset (Below order) given generators v k
+        → SameCoset given generators u v ↔ (m ≡ k) }
 {}

@@ -9,8 +9,8 @@
 //! The public contract: [`marked`] makes the marked presentation (`marked_parts` of `specs/Marked.antt`) and says what
 //! it is for (`MarksCosets`), and [`marked_word`] puts the marker in front of a word. The laws speak of definitions
 //! alone, `SameCoset` of `specs/Cosets.antt` and `IsInSubgroup` of `specs/Subgroups.antt`:
-//! [`marked_words_are_congruent_within_cosets`], [`cosets_are_those_of_the_subgroup`] and
-//! [`least_marked_words_are_least_in_cosets`].
+//! [`marked_words_are_congruent_within_cosets`], [`cosets_are_those_of_the_subgroup`],
+//! [`least_marked_words_are_least_in_cosets`] and [`cosets_are_told_by_their_least_words`].
 //!
 //! A right coset is taken for any presentation by steps: a relation is applied, or a generator of the subgroup comes
 //! or goes in front. No inverse is needed for that. Where each generator has one, the words of a coset are those that
@@ -27,7 +27,8 @@ mod laws;
 mod marking;
 
 pub use laws::{
-    cosets_are_those_of_the_subgroup, least_marked_words_are_least_in_cosets,
-    marked_words_are_congruent_by_the_subgroup, marked_words_are_congruent_within_cosets,
+    cosets_are_those_of_the_subgroup, cosets_are_told_by_their_least_words,
+    least_marked_words_are_least_in_cosets, marked_words_are_congruent_by_the_subgroup,
+    marked_words_are_congruent_within_cosets,
 };
 pub use marking::{marked, marked_word};

@@ -98,13 +98,13 @@ fn with_marker_equations(
 {
     let mut longer = copy_pairs(alloc, equations.as_slice())?;
     for generator in generators {
-        longer.push(goes_behind_marker(alloc, n, generator)?)?;
+        longer.push(absorbs(alloc, n, generator)?)?;
     }
     Ok(Equations::from_vec(longer))
 }
 
-/// The equation by which a word goes behind the marker.
-fn goes_behind_marker(alloc: Global, n: u16, word: &Word) -> Result<(Word, Word), Memory>
+/// The equation by which the marker absorbs a word.
+fn absorbs(alloc: Global, n: u16, word: &Word) -> Result<(Word, Word), Memory>
     requires { n < 65534 }
     ensures { IfOk result (λ equation. equation ≡ marker_equation n word.now) }
 {
