@@ -5,7 +5,6 @@ ghost use Rattle.kb_word.specs.Presentations.{parts_of};
 ghost use Rattle.kb_cosetwords.specs.Cosets.{AreCosetRules};
 
 use crate::marker::{add_marker, remove_marker};
-use kb_coset::least_marked_words_are_least_in_cosets;
 use kb_index::Index;
 use kb_lines::Answerer;
 use kb_reduced::reduced_complete_systems_are_complete;
@@ -85,7 +84,6 @@ impl Answerer for CosetWords {
 
     fn answer(&self, word: &mut Word, workspace: &mut Workspace) -> Result<(), Memory> {
         reduced_complete_systems_are_complete();
-        least_marked_words_are_least_in_cosets();
         let Workspace { marked, reducing } = workspace;
         add_marker(self.reader.presentation.n, word, marked)?;
         self.index.reduce(marked, reducing)?;
