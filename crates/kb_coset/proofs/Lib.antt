@@ -1,0 +1,9 @@
+pub mod Relations
+pub mod Letters
+pub mod Behind
+pub mod Marks
+pub mod Inverting
+pub mod SubgroupCosets
+pub mod LeastMarked
+pub mod LeastWords
+pub mod MarkedPresentation

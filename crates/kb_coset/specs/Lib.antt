@@ -1,0 +1,3 @@
+pub mod Subgroups
+pub mod Cosets
+pub mod Marked
