@@ -6,4 +6,4 @@ mod Complete
 mod Covering
 mod Found
 mod SortedOnce
-mod ForeignLetters
+pub mod ForeignLetters

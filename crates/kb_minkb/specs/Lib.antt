@@ -1,0 +1,6 @@
+pub mod LeftSides
+pub mod Rules
+pub mod LeftMachine
+pub mod RuleMachine
+pub mod Progress
+pub mod OwnSystem
