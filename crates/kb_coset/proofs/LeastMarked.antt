@@ -68,9 +68,6 @@ below_behind order x (y ∷ front) w =
 
 module _ (n : ℕ) (generators : List (List ℕ)) (parts : PresentationParts) (is : ArePresentation n parts)
     (generators_over : All (IsOver n) generators) where
-  marked : PresentationParts
-  marked = marked_parts n generators parts
-
   IsMarkedLeast : List ℕ → List ℕ → Type 0
   IsMarkedLeast u least = IsLeast (Below (marked_order parts.order)) (relations (marked_parts n generators parts)) (marked_word n u) least
 
@@ -84,6 +81,20 @@ module _ (n : ℕ) (generators : List (List ℕ)) (parts : PresentationParts) (i
       let P : List ℕ → Type 0 = λ w. Below (marked_order parts.order) (marked_word n back) w in
       absurd (minimal.least (marked_word n back) (congruent_of_coset n generators parts u back same) (subst P (sym whole) lower))
 
+  -- no word of the coset is below what stands behind the marker of a least word
+  none_below : (u least back v : List ℕ) → IsMarkedLeast u least → least ≡ marked_word n back
+      → SameCoset (relations parts) generators u v → ¬ Below parts.order v back
+  unfolding IsMarkedLeast
+  none_below u least back v minimal whole same below =
+      let order = marked_order parts.order in
+      let laws = word_orders order in
+      let longer = laws.kept ((n + 1) ∷ []) [] v back (below_marked parts.order v back below) in
+      let P : List ℕ → Type 0 = λ w. Below order (marked_word n w) (marked_word n (back ++ [])) in
+      let Q : List ℕ → Type 0 = λ w. Below order (marked_word n v) (marked_word n w) in
+      let R : List ℕ → Type 0 = λ w. Below order (marked_word n v) w in
+      let lower = subst Q (append-nil back) (subst P (append-nil v) longer) in
+      minimal.least (marked_word n v) (congruent_of_coset n generators parts u v same) (subst R (sym whole) lower)
+
   pub least_marked : (u least : List ℕ) → IsOver n u
       → IsLeast (Below (marked_order parts.order)) (relations (marked_parts n generators parts)) (marked_word n u) least
       → (m : List ℕ) × (least ≡ marked_word n m) × IsLeastInCoset (Below parts.order) (relations parts) generators u m
@@ -92,14 +103,4 @@ module _ (n : ℕ) (generators : List (List ℕ)) (parts : PresentationParts) (i
       let has = behind_marker n generators parts is generators_over u least over minimal.congruent in
       let alone = nothing_before u least has.front has.back minimal has.whole has.same_coset in
       let whole : least ≡ marked_word n has.back = has.whole ∙ ap (λ w. w ++ marked_word n has.back) alone in
-      let order = marked_order parts.order in
-      let laws = word_orders order in
-      let none_below : (v : List ℕ) → SameCoset (relations parts) generators u v → ¬ Below parts.order v has.back = λ v same below.
-      let P : List ℕ → Type 0 = λ w. Below order (marked_word n v) w in
-      let Q : List ℕ → Type 0 = λ w. Below order (marked_word n v) (marked_word n w) in
-      let R : List ℕ → Type 0 = λ w. Below order (marked_word n w) (marked_word n (has.back ++ [])) in
-      let lower : Below order (marked_word n v) (marked_word n has.back) =
-      subst Q (append-nil has.back)
-      (subst R (append-nil v) (laws.kept ((n + 1) ∷ []) [] v has.back (below_marked parts.order v has.back below))) in
-      minimal.least (marked_word n v) (congruent_of_coset n generators parts u v same) (subst P (sym whole) lower) in
-      (has.back, whole, record { same_coset = has.same_coset; least = none_below })
+      (has.back, whole, record { same_coset = has.same_coset; least = λ v. none_below u least has.back v minimal whole })

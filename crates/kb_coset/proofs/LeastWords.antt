@@ -1,7 +1,6 @@
 -- Two words are in one right coset exactly where the least words of their cosets are equal.
-use Rattle.std.proofs.Common.{◌≡◌, ◌↔◌, ℕ, List, sym, subst, inl, inr}
-use Rattle.kb_word.specs.Words.{Pair, OneOf}
-use Rattle.kb_word.specs.Congruence.{Touches}
+use Rattle.std.proofs.Common.{◌≡◌, ◌↔◌, ℕ, List, subst, inl, inr}
+use Rattle.kb_word.specs.Words.{Pair}
 use Rattle.kb_word.specs.Order.{IsReductionOrder}
 use Rattle.kb_word.proofs.PathLemmas.{path_append, path_reversed}
 use Rattle.kb_coset.specs.Cosets.{CosetStep, by_relation, comes, goes, SameCoset, IsLeastInCoset}

@@ -1,5 +1,5 @@
 -- The normal form of a marked word has the least word of the coset behind its marker.
-use Rattle.std.proofs.Common.{◌≡◌, ℕ, List, length, drop, sym, ap, subst}
+use Rattle.std.proofs.Common.{ℕ, List, length, drop, sym, ap, subst}
 use Rattle.kb_word.specs.Congruence.{IsLeast}
 use Rattle.kb_word.specs.Relations.{IsOver}
 use Rattle.kb_word.specs.WordOrders.{Below}
