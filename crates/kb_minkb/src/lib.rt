@@ -46,7 +46,9 @@
 //! - `Places`: the places of words, letter by letter; `LeftLanguages`: which words have that of a left side.
 //! - `LastSymbols` and `Going`: texts of pairs with a symbol more at the end.
 //! - `States` and `Multiplied`: the multipliers' states after a text, and what they accept.
-//! - `PairPlaces` and `RuleFollowing`: the places of pairs, symbol by symbol; `RuleLanguages`: which pairs are rules.
+//! - `Gathered`: these states, gathered one by one.
+//! - `PairPlaces`, `RuleFollowing` and `RuleSteps`: the places of pairs, symbol by symbol; `RuleLanguages`: which pairs are
+//!   rules.
 //! - `OwnRules`: the group's own structure.
 //!
 //! Below are `kb_explore`, `kb_fsamin`, and for the definitions `kb_structure` and `kb_reduced`.

@@ -2,7 +2,7 @@
 
 use crate::files::{ACCEPTOR, FIRST, SECOND, States, acceptor, multiplier, multipliers};
 use kb_axioms::fit_together;
-use kb_fsa::Fsa;
+use kb_fsa::{Alphabet, Fsa};
 use kb_minkb::{Det, minkb, minred};
 use std::process::Abort;
 use std::test::Fail;
@@ -48,11 +48,7 @@ fn made(rt: &impl Abort, automaton: Result<Fsa, Det>) -> Fsa {
 fn generators_are_left_sides_beside_their_inverses(rt: HostRuntime) -> Result<(), Fail> {
     let alloc = rt.alloc();
     let words = acceptor(&rt, alloc, ACCEPTOR)?;
-    let multipliers = multipliers(&rt, alloc, FIRST, SECOND)?;
-    assert!(rt;
-        fit_together(&words, multipliers.as_slice()),
-        "the automata don't fit"
-    );
+    assert!(rt; words.alphabet() == Alphabet::Plain(2));
     let left_sides = made(&rt, minred(alloc, &words, 6));
     assert!(rt; are_same(&left_sides, &acceptor(&rt, alloc, LEFT_SIDES)?, 2));
     assert!(rt;
