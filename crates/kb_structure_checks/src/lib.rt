@@ -10,7 +10,6 @@
 //! - `truth`: label words that agree, and others.
 //! - `answered`: what the whole check answers by too few rules.
 //! - `products`: a word and where its letters lead.
-//! - `reduced`: left sides and rules of the reduced complete system.
 //!
 //! Below are the libraries that are tested.
 #![tactic(auto)]
@@ -23,7 +22,5 @@ mod certificates;
 mod files;
 #[cfg(test)]
 mod products;
-#[cfg(test)]
-mod reduced;
 #[cfg(test)]
 mod truth;
