@@ -16,33 +16,6 @@ use Rattle.kb_proof.proofs.Listed.{rule_at}
 abbrev pub NoneFrom : List Pair → ℕ → List ℕ → ℕ → Type 0
 NoneFrom rules k w start = (index : ℕ) → start ≤ index → ¬ IsAnotherAt rules k w index
 
--- none past the end
-pub none_past : (rules : List Pair) (k : ℕ) (w : List ℕ) (end : ℕ) → length rules ≤ end → NoneFrom rules k w end
-none_past rules k w end past index after is =
-    let within = slice_get_within rules index is.rule is.is_rule in absurd (omega arith)
-
--- one more
-pub none_more : (rules : List Pair) (k : ℕ) (w : List ℕ) (start end : ℕ) → end ≡ start + 1 → NoneFrom rules k w end
-    → (IsAnotherAt rules k w start → ⊥)
-    → NoneFrom rules k w start
-none_more rules k w start end next none here index after = elim (cases_eq index start) [
-  | inl same ↦ let P : ℕ → Type 0 = λ i. ¬ IsAnotherAt rules k w i in subst P (sym same) here
-  | inr apart ↦ none index (omega arith)
-]
-
-pub another_found : (rules : List Pair) (k : ℕ) (own : Pair) (index : ℕ) → numbered rules k ≡ Some own
-    → IsAnotherAt rules k own.0 index
-    → HasAnotherFactor rules k
-another_found rules k own index is found = record {
-  own = own;
-  other = suc index;
-  rule = found.rule;
-  is_own = is;
-  is_rule = found.is_rule;
-  another = found.another;
-  factor = found.factor;
-}
-
 at_number : (rules : List Pair) (k : ℕ) (w : List ℕ) (other : ℕ) (rule : Pair) → NoneFrom rules k w 0
     → numbered rules other ≡ Some rule → other ≢ k → IsFactor w rule.0
     → ⊥
@@ -84,3 +57,4 @@ another_at lines k index w line found answer within is another at none e =
     let there = rule_at lines index (get_or lines index line) (slice_get-get_or lines index line within) in
     let P : Bool → Type 0 = λ b. IsTrue b ↔ IsAnotherAt (rules_of lines) k w index in
     subst P (sym e) (factor_answer (rules_of lines) k index w (rule_of (get_or lines index line)) found there another at none)
+

@@ -133,20 +133,6 @@ waiting_found {below = below} {relations = relations} log lines index line why s
     waiting_is_first log (length lines + 1) line (omega arith) waits (justified_all log lines index same end justified)
     (subst P same first)
 
--- justified lines, behind which no pair waits
-pub verified_lines : {below : List ℕ → List ℕ → Type 0} {relations : List Pair} (log : Log) → log.waiting ≡ None
-    → IsJustified below relations log.lines.items
-    → IsVerified below relations log
-verified_lines {below = below} {relations = relations} log none justified =
-    let lines = log.lines.items in
-    let P : List Line → Type 0 = λ all. IsJustified below relations all in
-    let same : all_lines log ≡ lines = ap (λ waiting. lines ++ option_to_list waiting) none ∙ append-nil lines in
-    record {
-      justified = subst P (sym same) justified;
-      not_shortened = λ line waits. absurd (cc (none, waits));
-      irreducible = λ line waits. absurd (cc (none, waits));
-    }
-
 -- justified lines, behind which a pair may wait
 pub verified_waiting : {below : List ℕ → List ℕ → Type 0} {relations : List Pair} (log : Log) (line : Line)
     → log.waiting ≡ Some line → IsJustified below relations log.lines.items
@@ -171,3 +157,4 @@ pub waiting_verified : {below : List ℕ → List ℕ → Type 0} {relations : L
 waiting_verified {below = below} {relations = relations} log lines index line same end waits justified may =
     let P : List Line → Type 0 = λ all. MayWait below relations all line in
     verified_waiting log line waits (justified_all log lines index same end justified) (subst P same may)
+

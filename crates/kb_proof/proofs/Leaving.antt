@@ -19,6 +19,3 @@ moved rules w m (next ∷ rest) linked apart = left_side_of linked.0
 pub leaves_not : {rules : List Pair} {w m : List ℕ} → NormalForm rules w m → (m ≡ w → ⊥) → HasLeftSide rules w
 leaves_not {rules = rules} {w = w} {m = m} normal apart = moved rules w m normal.path.steps normal.path.linked apart
 
--- one that is has none
-pub leaves : {rules : List Pair} {w m : List ℕ} → NormalForm rules w m → m ≡ w → IsIrreducible (OneOf rules) w
-leaves {rules = rules} normal same = let P : List ℕ → Type 0 = λ v. IsIrreducible (OneOf rules) v in subst P same normal.irreducible

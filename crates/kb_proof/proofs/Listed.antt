@@ -35,11 +35,6 @@ take_with xs k x within e =
 pub rules_take : (lines : List Line) (n : ℕ) → take n (rules_of lines) ≡ rules_of (take n lines)
 rules_take lines n = take-map rule_of n lines
 
--- there is nothing with number 0
-pub numbered_none : {X : Type 0} (xs : List X) (k : ℕ) → k ≡ 0 → numbered xs k ≡ None
-numbered_none xs zero e = refl
-numbered_none xs (suc k) e = absurd (omega arith)
-
 -- what has a number stands at the index before
 pub numbered_at : {X : Type 0} (xs : List X) (k index : ℕ) → k ≡ index + 1 → numbered xs k ≡ slice_get xs index
 numbered_at xs zero index e = absurd (omega arith)
@@ -49,9 +44,6 @@ numbered_at xs (suc k) index e = let same : k ≡ index = omega arith in ap (sli
 pub rule_at : (lines : List Line) (index : ℕ) (line : Line) → slice_get lines index ≡ Some line
     → slice_get (rules_of lines) index ≡ Some (rule_of line)
 rule_at lines index line e = slice_get-map rule_of lines index ∙ ap (option_map rule_of) e
-
-pub no_rule_at : (lines : List Line) (index : ℕ) → slice_get lines index ≡ None → slice_get (rules_of lines) index ≡ None
-no_rule_at lines index e = slice_get-map rule_of lines index ∙ ap (option_map rule_of) e
 
 -- what `get` answers of the index before a number
 pub got_some : {X : Type 0} (xs : List X) (k index : ℕ) (found : Option (Bor X)) → k ≡ index + 1
@@ -81,10 +73,3 @@ pub rule_none : (lines : List Line) (k : ℕ) (found : Option (Bor Line)) → If
 rule_none lines k (Some line) is = tt
 rule_none lines k None is = numbered_rules lines k ∙ ap (option_map rule_of) is
 
--- places without a mark behind the others change none
-pub get_or_padded : (xs : List Bool) (n k : ℕ) → get_or (xs ++ replicate n false) k false ≡ get_or xs k false
-get_or_padded [] zero k = refl
-get_or_padded [] (suc n) zero = refl
-get_or_padded [] (suc n) (suc k) = get_or_padded [] n k
-get_or_padded (x ∷ xs) n zero = refl
-get_or_padded (x ∷ xs) n (suc k) = get_or_padded xs n k

@@ -129,39 +129,6 @@ pub replaced_twice : {lines : List Line} {marks : Marks} {origin : Origin} (rela
     → HasOriginFault relations lines origin
 replaced_twice relations k is marks marked = replaced_again k is ((marks.replaced_lines k).0 marked)
 
-unmarked : {used : Origin → Option ℕ} {lines : List Line} (bits : List Bool) (origin : Origin) (number k : ℕ)
-    → AreAt used lines bits → used origin ≡ Some number → get_or bits number false ≡ false → used origin ≡ Some k
-    → IsUsed used lines k
-    → ⊥
-unmarked bits origin number k at is clear same used =
-    let one : number ≡ k = cc (is, same) in
-    let marked : get_or bits k false ≡ true = (at k).1 used in
-    let other : get_or bits k false ≡ false = ap (λ i. get_or bits i false) (sym one) ∙ clear in
-    absurd (cc (marked, other))
-
-pub fresh_relation : {lines : List Line} {marks : Marks} {origin : Origin} (k : ℕ) → origin ≡ Relation k
-    → AreMarks lines marks → get_or marks.relations.items k false ≡ false
-    → IsFresh lines origin
-fresh_relation {marks = marks} {origin = origin} k is is_marks clear = record {
-  not_used = λ j same used. unmarked marks.relations.items origin k j is_marks.relations (ap relation_used is) clear same used;
-  not_replaced = λ j same used. absurd (cc (ap replaced is, same));
-}
-
-pub fresh_replaced : {lines : List Line} {marks : Marks} {origin : Origin} (k : ℕ) → relation_used origin ≡ None
-    → replaced origin ≡ Some k → AreMarks lines marks → get_or marks.lines.items k false ≡ false
-    → IsFresh lines origin
-fresh_replaced {marks = marks} {origin = origin} k none is is_marks clear = record {
-  not_used = λ j same used. absurd (cc (none, same));
-  not_replaced = λ j same used. unmarked marks.lines.items origin k j is_marks.replaced_lines is clear same used;
-}
-
-pub fresh_neither : {lines : List Line} {origin : Origin} → relation_used origin ≡ None → replaced origin ≡ None
-    → IsFresh lines origin
-fresh_neither one other = record {
-  not_used = λ j same used. absurd (cc (one, same));
-  not_replaced = λ j same used. absurd (cc (other, same));
-}
-
 at_none : (used : Origin → Option ℕ) → AreAt used [] []
 at_none used k = (λ marked. absurd (cc marked), λ is. let at = is.at in absurd (cc at))
 
@@ -171,3 +138,6 @@ no_marks marks one other =
     let P : List Bool → Type 0 = λ bits. AreAt relation_used [] bits in
     let Q : List Bool → Type 0 = λ bits. AreAt replaced [] bits in
     record { relations = subst P (sym one) (at_none relation_used); replaced_lines = subst Q (sym other) (at_none replaced) }
+
+
+

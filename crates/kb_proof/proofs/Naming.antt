@@ -11,17 +11,6 @@ use Rattle.kb_machine.proofs.Numbers.{numbered_same}
 use Rattle.kb_proof.specs.Verifying.{HasOriginFault}
 use Rattle.kb_proof.specs.Verifying.HasOriginFault.{killed_alone}
 
-pub critical : (rules : List Pair) (i j place : ℕ) (first second pair : Pair) → numbered rules i ≡ Some first
-    → numbered rules j ≡ Some second → Overlaps first.0 second.0 place → (i ≡ j → 0 < place)
-    → pair ≡ critical_pair first second place
-    → IsCriticalPair rules i j place pair
-critical rules i j place first second pair one other overlaps proper is = record {
-  first = first;
-  second = second;
-  overlap = record { is_first = one; is_second = other; overlaps = overlaps; proper = proper };
-  is = is;
-}
-
 pub no_first : (rules : List Pair) (i j place : ℕ) (pair : Pair) → numbered rules i ≡ None
     → IsCriticalPair rules i j place pair
     → ⊥
@@ -31,11 +20,6 @@ pub no_second : (rules : List Pair) (i j place : ℕ) (pair : Pair) → numbered
     → IsCriticalPair rules i j place pair
     → ⊥
 no_second rules i j place pair none is = absurd (cc (none, is.overlap.is_second))
-
-pub not_proper : (rules : List Pair) (i j place : ℕ) (pair : Pair) → i ≡ j → place ≡ 0
-    → IsCriticalPair rules i j place pair
-    → ⊥
-not_proper rules i j place pair same zero is = let some = is.overlap.proper same in omega arith
 
 pub no_overlap : (rules : List Pair) (i j place : ℕ) (first second pair : Pair) → numbered rules i ≡ Some first
     → numbered rules j ≡ Some second → (Overlaps first.0 second.0 place → ⊥)
@@ -56,3 +40,4 @@ pub alone_fault : {origin : Origin} (found : Bool) (relations : List Pair) (line
     → (HasAnotherFactor (rules_of lines) k → IsTrue found) → IsTrue (not found)
     → HasOriginFault relations lines origin
 alone_fault found relations lines k is has alone = killed_alone k is (λ other. not_both found alone (has other))
+

@@ -60,53 +60,5 @@ replayed_more {rules = rules} {from = from} {steps = steps} {rest = rest} {more 
           subst Q (step_same all.1 taken) all.2;
     }
 
--- where a step can't be taken, the steps lead nowhere
-pub replay_fails : {rules : List Pair} {from : List ℕ} {steps rest more : List LogStep} {step : LogStep} {word : List ℕ}
-    → IsReplayed rules from steps rest word → rest ≡ step ∷ more
-    → ((v : List ℕ) → IsStepBy Any rules word step v → ⊥)
-    → (v : List ℕ) → Derives Any rules from steps v → ⊥
-replay_fails {rules = rules} {word = word} is e none v led =
-    let P : List LogStep → Type 0 = λ list. Derives Any rules word list v in
-    let all = subst P e (is.only v led) in
-    none all.0 all.1
 
--- the letters before and behind a factor
-pub around : (w v : List ℕ) (place : ℕ) (at : StandsAt w v place)
-    → (take place w ≡ at.before) × (drop (place + length v) w ≡ at.after)
-around w v place at =
-    let start : length at.before ≡ place = at.at in
-    let whole : w ≡ at.before ++ (v ++ at.after) = at.whole ∙ append_assoc at.before v at.after in
-    let front : take place w ≡ at.before = ap (take place) whole ∙ take_at at.before (v ++ at.after) place start in
-    let end : length (at.before ++ v) ≡ place + length v = omega (arith, length-append at.before v) in
-    let behind : drop (place + length v) w ≡ at.after =
-    ap (λ n. drop n w) (sym end) ∙ ap (drop (length (at.before ++ v))) at.whole ∙ drop-append_seam (at.before ++ v) at.after in
-    (front, behind)
 
--- the rule's right side in place of its left side, which stands there: that is the step
-pub step_taken : (rules : List Pair) (u v : List ℕ) (step : LogStep) (rule : Pair) → numbered rules step.line ≡ Some rule
-    → StandsAt u rule.0 step.place
-    → v ≡ take step.place u ++ rule.1 ++ drop (step.place + length rule.0) u
-    → IsStepBy Any rules u step v
-step_taken rules u v step rule is at e =
-    let parts = around u rule.0 step.place at in
-    let same : take step.place u ++ rule.1 ++ drop (step.place + length rule.0) u ≡ at.before ++ rule.1 ++ at.after = cc (parts.0, parts.1) in
-    record {
-      before = at.before;
-      rule = rule;
-      after = at.after;
-      is_allowed = tt;
-      is_rule = is;
-      at = at.at;
-      from = at.whole;
-      to = e ∙ same;
-    }
-
--- a step that is taken is by the rule of its line, whose left side stands at its place
-pub step_stands : {rules : List Pair} {u v : List ℕ} {step : LogStep} (rule : Pair) → IsStepBy Any rules u step v
-    → numbered rules step.line ≡ Some rule
-    → StandsAt u rule.0 step.place
-step_stands {rules = rules} {u = u} {step = step} rule taken is =
-    let same : taken.rule ≡ rule = numbered_same rules step.line taken.rule rule taken.is_rule is in
-    let P : Pair → Type 0 = λ pair. StandsAt u pair.0 step.place in
-    let at : StandsAt u taken.rule.0 step.place = record { before = taken.before; after = taken.after; whole = taken.from; at = taken.at } in
-    subst P same at

@@ -19,12 +19,6 @@ abbrev pub AreSides : List ℕ → List ℕ → Line → Type 0
 AreSides one other line =
     ((one ≡ line.left) × (other ≡ line.right)) ⊎ ((one ≡ line.right) × (other ≡ line.left))
 
-pub pair_comes : {rules : List Pair} {pair : Pair} {line : Line} {one other : List ℕ} → (IsShortening line.origin → ⊥)
-    → LeadTo rules pair line one other → AreSides one other line
-    → ComesFrom rules pair line
-pair_comes {one = one} {other = other} unshortened lead ends =
-    from_both unshortened (record { one = one; other = other; first = lead.first; second = lead.second; ends = ends })
-
 no_steps_fail : {rules : List Pair} {pair : Pair} {line : Line} {one other : List ℕ} → (IsShortening line.origin → ⊥)
     → LeadTo rules pair line one other → HasFailingStep rules pair line
     → ⊥
@@ -60,12 +54,6 @@ no_right_fails reached is led none (second_fails unshortened nowhere) = unshorte
 no_right_fails reached is led none (right_fails shortened nowhere) = nowhere reached led
 no_right_fails reached is led none (second_given shortened some) = some none
 
-unchanged_not : {rules : List Pair} {pair : Pair} {line : Line} → IsShortening line.origin → line.right ≡ pair.1
-    → ComesFrom rules pair line
-    → ⊥
-unchanged_not is same (from_both unshortened both) = unshortened is
-unchanged_not is same (from_right shortened left right changed none) = changed same
-
 right_not : {rules : List Pair} {pair : Pair} {line : Line} (reached : List ℕ) → IsShortening line.origin
     → Derives Any rules pair.1 line.first_steps.items reached → ((pair.0 ≡ line.left) × (reached ≡ line.right) → ⊥)
     → ComesFrom rules pair line
@@ -74,21 +62,11 @@ right_not reached is led apart (from_both unshortened both) = unshortened is
 right_not {rules = rules} {pair = pair} {line = line} reached is led apart (from_right shortened left right changed none) =
     apart (sym left, derives_same rules line.first_steps.items pair.1 reached line.right led right)
 
-pub right_unchanged : {rules : List Pair} {pair : Pair} {line : Line} (reached : List ℕ) → IsShortening line.origin
-    → Derives Any rules pair.1 line.first_steps.items reached → line.second_steps.items ≡ [] → line.right ≡ pair.1
-    → (HasFailingStep rules pair line → ⊥) × (ComesFrom rules pair line → ⊥)
-right_unchanged reached is led none same = (no_right_fails reached is led none, unchanged_not is same)
-
 pub right_elsewhere : {rules : List Pair} {pair : Pair} {line : Line} (reached : List ℕ) → IsShortening line.origin
     → Derives Any rules pair.1 line.first_steps.items reached → line.second_steps.items ≡ []
     → ((pair.0 ≡ line.left) × (reached ≡ line.right) → ⊥)
     → (HasFailingStep rules pair line → ⊥) × (ComesFrom rules pair line → ⊥)
 right_elsewhere reached is led none apart = (no_right_fails reached is led none, right_not reached is led apart)
 
-pub right_comes : {rules : List Pair} {pair : Pair} {line : Line} (reached : List ℕ) → IsShortening line.origin
-    → Derives Any rules pair.1 line.first_steps.items reached → line.second_steps.items ≡ []
-    → pair.0 ≡ line.left → reached ≡ line.right → line.right ≢ pair.1
-    → ComesFrom rules pair line
-right_comes {rules = rules} {pair = pair} {line = line} reached is led none left right changed =
-    let P : List ℕ → Type 0 = λ v. Derives Any rules pair.1 line.first_steps.items v in
-    from_right is (sym left) (subst P right led) changed none
+
+
