@@ -1,9 +1,8 @@
 -- Other left sides in that of a line.
-use Rattle.std.proofs.Common.{◌≡◌, ◌≢◌, ◌↔◌, ℕ, zero, suc, ◌+◌, ◌<◌, ◌≤◌, Bool, IsTrue, List, length, get_or, Option, Some, None, refl, sym, subst, inl, inr, arith}
+use Rattle.std.proofs.Common.{◌≡◌, ◌≢◌, ◌↔◌, ℕ, zero, suc, ◌<◌, ◌≤◌, Bool, IsTrue, List, length, get_or, Option, Some, None, refl, sym, subst, arith}
 use Rattle.std.specs.Prelude.{slice_get, IfSome, IfNone}
 use Rattle.std.specs.Option.{is_some}
-use Rattle.std.proofs.lemmas.Bool.{cases_eq}
-use Rattle.std.proofs.lemmas.Option.{slice_get-get_or, slice_get_within}
+use Rattle.std.proofs.lemmas.Option.{slice_get-get_or}
 use Rattle.kb_word.specs.Words.{Pair, IsFactor, StandsAt}
 use Rattle.kb_machine.specs.Lines.{numbered, rule_of, rules_of}
 use Rattle.kb_machine.specs.declared.line.Line.{Line}
@@ -57,4 +56,3 @@ another_at lines k index w line found answer within is another at none e =
     let there = rule_at lines index (get_or lines index line) (slice_get-get_or lines index line within) in
     let P : Bool → Type 0 = λ b. IsTrue b ↔ IsAnotherAt (rules_of lines) k w index in
     subst P (sym e) (factor_answer (rules_of lines) k index w (rule_of (get_or lines index line)) found there another at none)
-

@@ -1,7 +1,6 @@
 -- The first fault of a log, and logs without any.
-use Rattle.std.proofs.Common.{◌≡◌, ℕ, suc, ◌+◌, ◌<◌, ◌≤◌, List, [], ◌∷◌, ◌++◌, length, get_or, take, None, Some, refl, sym, ap, ◌∙◌, subst, arith}
+use Rattle.std.proofs.Common.{◌≡◌, ℕ, suc, ◌+◌, ◌<◌, ◌≤◌, List, [], ◌∷◌, ◌++◌, length, get_or, take, Some, refl, sym, ap, ◌∙◌, subst, arith}
 use Rattle.std.specs.Prelude.{slice_get, option_to_list}
-use Rattle.std.proofs.lemmas.List.{append-nil}
 use Rattle.std.proofs.lemmas.Option.{slice_get_read, slice_get_within, same_Some}
 use Rattle.std.proofs.Math.Seq.{take-length}
 use Rattle.kb_word.specs.Words.{Pair}
@@ -157,4 +156,3 @@ pub waiting_verified : {below : List ℕ → List ℕ → Type 0} {relations : L
 waiting_verified {below = below} {relations = relations} log lines index line same end waits justified may =
     let P : List Line → Type 0 = λ all. MayWait below relations all line in
     verified_waiting log line waits (justified_all log lines index same end justified) (subst P same may)
-

@@ -1,15 +1,14 @@
 -- The first reason of a line, after what was found before.
-use Rattle.std.proofs.Common.{ℕ, ◌<◌, ◌≤◌, List, Some, inl, inr, arith}
+use Rattle.std.proofs.Common.{ℕ, ◌<◌, ◌≤◌, List, inl, inr, arith}
 use Rattle.kb_word.specs.Words.{Pair, OneOf}
 use Rattle.kb_word.specs.Rewriting.{IsIrreducible}
 use Rattle.kb_machine.specs.Lines.{rules_of}
 use Rattle.kb_machine.specs.declared.line.Line.{Line}
 use Rattle.kb_proof.specs.Printable.{IsShortening}
-use Rattle.kb_proof.specs.Verifying.{ComesFrom, HasFailingStep, HasFault, HasLeftSide, HasOriginFault, HasWaitingFault, IsFirst, OfItsPair, rank}
-use Rattle.kb_proof.specs.Checking.{DerivationsSay, MayName, MayStand, MayWait}
+use Rattle.kb_proof.specs.Verifying.{ComesFrom, HasFault, HasWaitingFault, IsFirst, rank}
+use Rattle.kb_proof.specs.Checking.{MayName, MayStand}
 use Rattle.kb_proof.specs.declared.verified.Why.{Why}
 use Rattle.kb_proof.specs.declared.verified.Why.TheVariants as reasons
-use Rattle.kb_proof.proofs.Standing.{no_origin_fault, no_failing_step, no_fault, of_this_pair}
 
 -- ---- of a line
 
@@ -64,6 +63,3 @@ waiting_first below relations earlier line why unshortened first =
       none_before = λ other less fault.
           first.none_before other less (from_waiting below relations earlier line unshortened other (omega arith) fault);
     }
-
-
-

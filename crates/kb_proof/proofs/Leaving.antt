@@ -1,8 +1,8 @@
 -- What a normal form says of the left sides in a word.
-use Rattle.std.proofs.Common.{◌≡◌, ℕ, List, [], ◌∷◌, length, refl, sym, subst}
-use Rattle.kb_word.specs.Words.{Pair, OneOf, IsFactor}
+use Rattle.std.proofs.Common.{◌≡◌, ℕ, List, [], ◌∷◌, length, refl, sym}
+use Rattle.kb_word.specs.Words.{Pair, IsFactor}
 use Rattle.kb_word.specs.Path.{Linked}
-use Rattle.kb_word.specs.Rewriting.{FirstRewrite, IsIrreducible, NormalForm}
+use Rattle.kb_word.specs.Rewriting.{FirstRewrite, NormalForm}
 use Rattle.kb_proof.specs.Verifying.{HasLeftSide}
 
 left_side_of : {rules : List Pair} {w v : List ℕ} → FirstRewrite rules w v → HasLeftSide rules w
@@ -18,4 +18,3 @@ moved rules w m (next ∷ rest) linked apart = left_side_of linked.0
 -- a word that its normal form isn't has a left side in it
 pub leaves_not : {rules : List Pair} {w m : List ℕ} → NormalForm rules w m → (m ≡ w → ⊥) → HasLeftSide rules w
 leaves_not {rules = rules} {w = w} {m = m} normal apart = moved rules w m normal.path.steps normal.path.linked apart
-

@@ -1,5 +1,5 @@
 -- Lists by index and by number: fronts, and the rules of lines.
-use Rattle.std.proofs.Common.{◌≡◌, ℕ, zero, suc, ◌+◌, ◌<◌, ◌≤◌, Bool, false, Bor, Option, replicate, List, [], ◌∷◌, ◌++◌, length, get_or, take, None, Some, refl, sym, ap, ◌∙◌, arith}
+use Rattle.std.proofs.Common.{◌≡◌, ℕ, zero, suc, ◌+◌, ◌<◌, ◌≤◌, Bor, Option, List, [], ◌∷◌, ◌++◌, length, get_or, take, None, Some, refl, sym, ap, ◌∙◌, arith}
 use Rattle.std.specs.Prelude.{slice_get, IfSome, IfNone}
 use Rattle.std.specs.Option.{option_map, MatchOption}
 use Rattle.std.specs.List.{HoldsAt}
@@ -72,4 +72,3 @@ pub rule_none : (lines : List Line) (k : ℕ) (found : Option (Bor Line)) → If
     → IfNone found (numbered (rules_of lines) k ≡ None)
 rule_none lines k (Some line) is = tt
 rule_none lines k None is = numbered_rules lines k ∙ ap (option_map rule_of) is
-

@@ -1,5 +1,5 @@
 -- Marks at the numbers that lines use up, where a line is added.
-use Rattle.std.proofs.Common.{◌≡◌, ◌≢◌, ◌⊎◌, ℕ, Bool, true, false, IsTrue, List, [], ◌∷◌, ◌++◌, length, get_or, Result, Ok, Err, OnOk, Option, None, Some, sym, ap, ◌∙◌, subst, inl, inr}
+use Rattle.std.proofs.Common.{◌≡◌, ◌≢◌, ◌⊎◌, ℕ, Bool, false, IsTrue, List, [], ◌∷◌, ◌++◌, length, get_or, Result, Ok, Err, OnOk, Option, None, Some, sym, ap, ◌∙◌, subst, inl, inr}
 use Rattle.std.proofs.lemmas.Bool.{cases_eq}
 use Rattle.kb_word.specs.Words.{Pair}
 use Rattle.kb_machine.specs.Lines.{replaced}
@@ -9,7 +9,7 @@ use Rattle.kb_machine.specs.declared.origin.Origin.TheVariants.{Relation}
 use Rattle.kb_machine.proofs.Numbers.{slice_get_front, slice_get_last, slice_get_push_cases}
 use Rattle.kb_proof.specs.Verifying.{relation_used, HasOriginFault, IsUsed}
 use Rattle.kb_proof.specs.Verifying.HasOriginFault.{used_again, replaced_again}
-use Rattle.kb_proof.specs.Checking.{AreAt, AreMarks, IsFresh}
+use Rattle.kb_proof.specs.Checking.{AreAt, AreMarks}
 use Rattle.kb_proof.specs.declared.verifying.marks.Marks.{Marks}
 
 used_before : {used : Origin → Option ℕ} {lines : List Line} {k : ℕ} (line : Line) → IsUsed used lines k
@@ -138,6 +138,3 @@ no_marks marks one other =
     let P : List Bool → Type 0 = λ bits. AreAt relation_used [] bits in
     let Q : List Bool → Type 0 = λ bits. AreAt replaced [] bits in
     record { relations = subst P (sym one) (at_none relation_used); replaced_lines = subst Q (sym other) (at_none replaced) }
-
-
-

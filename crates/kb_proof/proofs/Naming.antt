@@ -1,7 +1,7 @@
 -- Critical pairs by the numbers of their lines, and lines killed without another left side.
-use Rattle.std.proofs.Common.{◌≡◌, ℕ, ◌<◌, Bool, true, false, not, IsTrue, Some, None, subst, List, arith}
+use Rattle.std.proofs.Common.{◌≡◌, ℕ, Bool, true, false, not, IsTrue, Some, None, subst, List}
 use Rattle.kb_word.specs.Words.{Pair}
-use Rattle.kb_word.specs.Overlap.{Overlaps, critical_pair}
+use Rattle.kb_word.specs.Overlap.{Overlaps}
 use Rattle.kb_machine.specs.Lines.{numbered, rules_of, IsCriticalPair}
 use Rattle.kb_machine.specs.Justified.{HasAnotherFactor}
 use Rattle.kb_machine.specs.declared.line.Line.{Line}
@@ -40,4 +40,3 @@ pub alone_fault : {origin : Origin} (found : Bool) (relations : List Pair) (line
     → (HasAnotherFactor (rules_of lines) k → IsTrue found) → IsTrue (not found)
     → HasOriginFault relations lines origin
 alone_fault found relations lines k is has alone = killed_alone k is (λ other. not_both found alone (has other))
-

@@ -1,9 +1,6 @@
 -- Steps by rules, which lead to one word at most.
-use Rattle.std.proofs.Common.{◌≡◌, ℕ, ◌+◌, List, [], ◌∷◌, ◌++◌, length, take, drop, Some, sym, ap, ◌∙◌, subst, arith, append_assoc, length-append}
-use Rattle.std.proofs.Math.Seq.{drop-append_seam}
-use Rattle.std.proofs.lemmas.List.{take_at}
-use Rattle.kb_word.specs.Words.{Pair, StandsAt}
-use Rattle.kb_machine.specs.Lines.{numbered}
+use Rattle.std.proofs.Common.{◌≡◌, ℕ, List, [], ◌∷◌, ◌++◌, length, sym, ap, ◌∙◌, subst, arith, length-append}
+use Rattle.kb_word.specs.Words.{Pair}
 use Rattle.kb_machine.specs.Derivations.{Any, Derives, IsStepBy}
 use Rattle.kb_machine.specs.declared.line.LogStep.{LogStep}
 use Rattle.kb_machine.proofs.Numbers.{numbered_same}
@@ -59,6 +56,3 @@ replayed_more {rules = rules} {from = from} {steps = steps} {rest = rest} {more 
           let Q : List ℕ → Type 0 = λ u. Derives Any rules u more v in
           subst Q (step_same all.1 taken) all.2;
     }
-
-
-

@@ -1,5 +1,5 @@
 -- What the derivations of a line are found to be.
-use Rattle.std.proofs.Common.{◌≡◌, ◌≢◌, ◌⊎◌, ℕ, List, [], sym, subst}
+use Rattle.std.proofs.Common.{◌≡◌, ◌⊎◌, ℕ, List, [], sym, subst}
 use Rattle.kb_word.specs.Words.{Pair}
 use Rattle.kb_machine.specs.Derivations.{Any, Derives}
 use Rattle.kb_machine.specs.declared.line.Line.{Line}
@@ -67,6 +67,3 @@ pub right_elsewhere : {rules : List Pair} {pair : Pair} {line : Line} (reached :
     → ((pair.0 ≡ line.left) × (reached ≡ line.right) → ⊥)
     → (HasFailingStep rules pair line → ⊥) × (ComesFrom rules pair line → ⊥)
 right_elsewhere reached is led none apart = (no_right_fails reached is led none, right_not reached is led apart)
-
-
-
