@@ -15,6 +15,7 @@ pub mod Replays
 pub mod Standing
 pub mod FirstFaults
 pub mod OneAnswer
+pub mod SameAnswers
 pub mod Marking
 pub mod Naming
 pub mod Leaving

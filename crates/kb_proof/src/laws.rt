@@ -57,3 +57,11 @@ pub fn a_log_is_verified_in_one_way()
         → VerifiedSays (Below order) relations log one
         → VerifiedSays (Below order) relations log other → one ≡ other }
 {}
+
+/// Logs that say the same have one answer. So bytes that are read twice as a log are verified in one way.
+pub fn logs_that_say_the_same_have_one_answer()
+    ensures { (order : SomeOrder) (relations : List Pair) (log same : SomeLog) (one other : Answer)
+        → AreSameLogs log same
+        → VerifiedSays (Below order) relations log one
+        → VerifiedSays (Below order) relations same other → one ≡ other }
+{}

@@ -33,7 +33,7 @@
 //! from the relations and the lines before it (`IsJustified` of `kb_machine`), and so does that of the pair that waits,
 //! neither of whose words an earlier line reduces. Else it answers `No`, with the number of the first line for which
 //! there is a reason, and the first reason ([`Why`]). By [`a_log_is_verified_in_one_way`] one answer at most may be
-//! given of a log.
+//! given of a log, and by [`logs_that_say_the_same_have_one_answer`] that answer depends on its text alone.
 //!
 //! # How it is made
 //!
@@ -87,6 +87,7 @@ pub use error::LogError;
 pub use laws::{
     a_log_is_verified_in_one_way, a_printed_log_has_no_fault, a_text_is_of_one_log,
     bytes_have_one_log_fault, logs_of_completions_are_read_again,
+    logs_that_say_the_same_have_one_answer,
 };
 pub use log::{Log, Version};
 pub use printing::{print_log, print_origin};
