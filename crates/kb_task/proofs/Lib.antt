@@ -1,6 +1,7 @@
 pub mod ArgumentLemmas
 pub mod EffectLemmas
 pub mod EquationLemmas
+mod DerivationLemmas
 mod InverseLemmas
 pub mod LoadEnds
 pub mod LoadLemmas

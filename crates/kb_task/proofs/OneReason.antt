@@ -1,5 +1,5 @@
 -- Why a file doesn't hold what is needed: there is one reason at most.
-use Rattle.std.proofs.Common.{◌≡◌, ◌≢◌, ℕ, zero, suc, ◌<◌, ◌≤◌, List, length, Option, None, Some, inl, inr, refl, sym, ap, subst, ◌∙◌, arith}
+use Rattle.std.proofs.Common.{◌≡◌, ◌≢◌, ℕ, zero, suc, ◌^◌, ◌<◌, ◌≤◌, List, length, Option, None, Some, inl, inr, refl, sym, ap, subst, ◌∙◌, arith}
 use Rattle.std.proofs.lemmas.Bool.{cases_lt}
 use Rattle.std.proofs.lemmas.Option.{same_Some, none-some}
 use Rattle.kb_word.specs.Names.{name_of}
@@ -10,6 +10,12 @@ use Rattle.kb_presfile.specs.Holds.{PresentationOf}
 use Rattle.kb_presfile.specs.Faults.{HasPresFault}
 use Rattle.kb_presfile.specs.declared.error.PresError.{PresError}
 use Rattle.kb_presfile.specs.declared.error.PresError.TheVariants as pres_errors
+use Rattle.kb_proof.specs.Faults.{HasLogFault}
+use Rattle.kb_proof.specs.Printable.{AreReadableNames, IsPrintable}
+use Rattle.kb_proof.specs.Printed.{text_of_log}
+use Rattle.kb_proof.specs.declared.error.LogError.{LogError}
+use Rattle.kb_proof.specs.declared.error.LogError.TheVariants as log_errors
+use Rattle.kb_proof.specs.declared.log.Log.{Log}
 use Rattle.kb_fsa.specs.declared.alphabet.Alphabet.{Alphabet}
 use Rattle.kb_fsa.specs.Language.{Automaton}
 use Rattle.kb_fsafile.specs.Holds.{AutomatonOf}
@@ -18,11 +24,12 @@ use Rattle.kb_fsafile.specs.declared.error.FsaError.{FsaError}
 use Rattle.kb_fsafile.specs.declared.error.FsaError.TheVariants as fsa_errors
 use Rattle.kb_task.specs.Automata.{HasKind, IsAutomatonFault, IsSecondFault}
 use Rattle.kb_task.specs.Loads.{Files, most_file, IsHeld}
+use Rattle.kb_task.specs.Logs.{IsDerivationsFault}
 use Rattle.kb_task.specs.Presentations.{IsPresentationFault, IsFirstWithoutInverse, IsGroupFault}
 use Rattle.kb_task.specs.declared.loading.automata.Kind.{Kind}
 use Rattle.kb_task.specs.declared.loading.automata.Kind.TheVariants.{WordsOrPairs, Words, Pairs}
 use Rattle.kb_task.specs.declared.status.FileFault.{FileFault}
-use Rattle.kb_task.specs.declared.status.FileFault.TheVariants.{Missing, TooLong, Presentation, Automaton as NoAutomaton, NotPlain, NotPairs, AlphabetsDiffer, NeedsShortlex, NotGroup}
+use Rattle.kb_task.specs.declared.status.FileFault.TheVariants.{Missing, TooLong, Presentation, Automaton as NoAutomaton, Log as NoLog, NoDerivations, NotPlain, NotPairs, AlphabetsDiffer, NeedsShortlex, NotGroup}
 use Rattle.kb_task.proofs.LoadEnds.{same_bytes}
 
 -- ---- files
@@ -211,3 +218,37 @@ module _ (one_fault : (bytes : List ℕ) (one other : FsaError) → HasFsaFault 
     pub one_second_fault : (files : Files) (name : List ℕ) (one other : FileFault) → IsSecondFault kind names alphabet files name one → IsSecondFault kind names alphabet files name other → one ≡ other
     one_second_fault files name one other a b =
         one_reason files name (IsNoSecond kind names alphabet) one_no_second one other (second_reason kind names alphabet files name one a) (second_reason kind names alphabet files name other b)
+
+-- ---- logs
+
+-- why bytes are no log with derivations
+data IsNoDerivations (names : List (List ℕ)) (bytes : List ℕ) (fault : FileFault) : Type 0 where
+  no_log : (error : LogError) → fault ≡ NoLog error → HasLogFault names bytes error → error ≢ log_errors.Memory → length bytes ≤ most_file → IsNoDerivations names bytes fault
+  without : (log : Log) → fault ≡ NoDerivations → bytes ≡ text_of_log names log → IsPrintable names log → IsNoDerivations names bytes fault
+
+derivations_reason : (names : List (List ℕ)) (files : Files) (name : List ℕ) (fault : FileFault) → IsDerivationsFault names files name fault → IsReason files name (IsNoDerivations names) fault
+derivations_reason names files name Missing h = missing refl h
+derivations_reason names files name TooLong h = too_long h.0 refl h.1 h.2
+derivations_reason names files name (NoLog error) h = refused h.0 h.1 (no_log error refl h.2 h.3 h.1.short)
+derivations_reason names files name NoDerivations h = refused h.holds.bytes h.holds.held (without h.log refl h.holds.says h.holds.printable)
+derivations_reason names files name _ h = absurd h
+
+module _ (one_fault : (names : List (List ℕ)) (bytes : List ℕ) (one other : LogError) → AreReadableNames names → length bytes < 2 ^ 64 → one ≢ log_errors.Memory → other ≢ log_errors.Memory
+    → HasLogFault names bytes one → HasLogFault names bytes other → one ≡ other)
+    (no_fault : (names : List (List ℕ)) (log : Log) (error : LogError) → AreReadableNames names → IsPrintable names log → HasLogFault names (text_of_log names log) error
+    → error ≡ log_errors.Memory) (names : List (List ℕ)) (readable : AreReadableNames names) where
+  printed_none : (bytes : List ℕ) (log : Log) (error : LogError) → bytes ≡ text_of_log names log → IsPrintable names log → HasLogFault names bytes error → error ≢ log_errors.Memory → ⊥
+  printed_none bytes log error says printable has some =
+      let P : List ℕ → Type 0 = λ text. HasLogFault names text error in
+      some (no_fault names log error readable printable (subst P says has))
+
+  one_no_derivations : (bytes : List ℕ) (one other : FileFault) → IsNoDerivations names bytes one → IsNoDerivations names bytes other → one ≡ other
+  one_no_derivations bytes one other (no_log e is has some short) (no_log f again found any small) =
+      is ∙ ap (λ (x : LogError). NoLog x) (one_fault names bytes e f readable (omega (arith, short)) some any has found) ∙ sym again
+  one_no_derivations bytes one other (no_log e is has some short) (without log again says printable) = absurd (printed_none bytes log e says printable has some)
+  one_no_derivations bytes one other (without log is says printable) (no_log e again has some short) = absurd (printed_none bytes log e says printable has some)
+  one_no_derivations bytes one other (without log is says printable) (without found again said printed) = is ∙ sym again
+
+  pub one_derivations_fault : (files : Files) (name : List ℕ) (one other : FileFault) → IsDerivationsFault names files name one → IsDerivationsFault names files name other → one ≡ other
+  one_derivations_fault files name one other a b =
+      one_reason files name (IsNoDerivations names) one_no_derivations one other (derivations_reason names files name one a) (derivations_reason names files name other b)

@@ -3,7 +3,9 @@
 ghost use Rattle.std.specs.Prelude.{◌≡◌, ℕ, List};
 ghost use Rattle.kb_fsa.specs.declared.alphabet.Alphabet.{Alphabet};
 ghost use Rattle.kb_task.specs.Automata.{IsAutomatonFault, IsSecondFault};
+ghost use Rattle.kb_proof.specs.Printable.{AreReadableNames};
 ghost use Rattle.kb_task.specs.Loads.{Files};
+ghost use Rattle.kb_task.specs.Logs.{IsDerivationsFault};
 ghost use Rattle.kb_task.specs.Presentations.{IsGroupFault, IsPresentationFault};
 ghost use Rattle.kb_task.specs.declared.loading.automata.Kind.{Kind};
 ghost use Rattle.kb_task.specs.declared.status.FileFault.{FileFault};
@@ -15,6 +17,7 @@ use kb_presfile::{
     a_presentation_file_has_no_fault, a_presentation_file_has_one_fault,
     a_text_says_one_presentation,
 };
+use kb_proof::{a_printed_log_has_no_fault, bytes_have_one_log_fault};
 
 /// A file is refused for one reason at most where a presentation is needed.
 pub fn a_presentation_is_refused_for_one_reason()
@@ -55,4 +58,15 @@ pub fn a_second_automaton_is_refused_for_one_reason()
     an_automaton_file_has_one_fault();
     an_automaton_file_has_no_fault();
     a_text_says_one_automaton();
+}
+
+/// A file is refused for one reason at most where a log with derivations is needed.
+pub fn a_log_is_refused_for_one_reason()
+    ensures { (names : List (List ℕ)) (files : Files) (name : List ℕ) (one other : FileFault)
+        → AreReadableNames names
+        → IsDerivationsFault names files name one
+        → IsDerivationsFault names files name other → one ≡ other }
+{
+    bytes_have_one_log_fault();
+    a_printed_log_has_no_fault();
 }

@@ -15,7 +15,7 @@
 //!   log of a completion that is stored beside its presentation can be read (`specs/StoredLogs.antt`). By the laws
 //!   (`laws`) a file is refused for one reason at most: [`a_presentation_is_refused_for_one_reason`],
 //!   [`a_group_is_refused_for_one_reason`], [`an_automaton_is_refused_for_one_reason`],
-//!   [`a_second_automaton_is_refused_for_one_reason`]. `storing` stores
+//!   [`a_second_automaton_is_refused_for_one_reason`], [`a_log_is_refused_for_one_reason`]. `storing` stores
 //!   files, and an automaton in its canonical form; `lines` prints the line of an answer, and `stopping` is how a run
 //!   ends where the word lines stop.
 //! - `arguments` is what commands take of the command line in the same way.
@@ -37,14 +37,15 @@ pub use arguments::{
     option_given, text_given,
 };
 pub use laws::{
-    a_group_is_refused_for_one_reason, a_presentation_is_refused_for_one_reason,
-    a_second_automaton_is_refused_for_one_reason, an_automaton_is_refused_for_one_reason,
+    a_group_is_refused_for_one_reason, a_log_is_refused_for_one_reason,
+    a_presentation_is_refused_for_one_reason, a_second_automaton_is_refused_for_one_reason,
+    an_automaton_is_refused_for_one_reason,
 };
 pub use lines::{print_limit, print_line, undecided_line, undecided_words_line};
 pub use loading::automata::{
     Kind, Loaded, load_acceptor, load_automaton, load_multiplier, load_second,
 };
-pub use loading::logs::{load_log, stored_logs_are_read};
+pub use loading::logs::{load_derivations, load_log, stored_logs_are_read};
 pub use loading::presentations::{load_group, load_presentation};
 pub use loading::{LoadStop, load_text};
 pub use status::{Cert, Construction, FileFault, Limit, Refusal, Status, Which};

@@ -4,7 +4,7 @@ use clap::error::ErrorKind;
 use kb_fsa::Symbols;
 use kb_fsafile::FsaError;
 use kb_presfile::PresError;
-use kb_proof::LogError;
+use kb_proof::{LogError, Why};
 use kb_record::WordError;
 use kb_structure::Cert as StructureCert;
 use kb_word::{Letter, OwnedText, Word};
@@ -53,6 +53,8 @@ pub enum FileFault {
     Automaton(FsaError),
     /// It holds no log.
     Log(LogError),
+    /// It holds a log without derivations, where they are needed.
+    NoDerivations,
     /// It holds an automaton of pairs, where a plain one is needed.
     NotPlain,
     /// It holds a plain automaton, where one of pairs is needed.
@@ -108,6 +110,8 @@ pub enum Cert {
     NotEqual { text: Symbols },
     /// Automata aren't a group's own automatic structure.
     Structure(StructureCert),
+    /// A log isn't justified: the line of this number is the first for which there is a reason, and this is its first.
+    NotJustified { line: u64, why: Why },
 }
 
 /// What failed outside.
@@ -161,6 +165,7 @@ impl fmt::Display for FileFault {
             FileFault::Presentation(fault) => write!(f, "{fault}"),
             FileFault::Automaton(fault) => write!(f, "{fault}"),
             FileFault::Log(fault) => write!(f, "{fault}"),
+            FileFault::NoDerivations => write!(f, "E27 NoDerivations"),
             FileFault::NotPlain => write!(f, "E18 AlphabetOther"),
             FileFault::NotPairs => write!(f, "E20 NotPairs"),
             FileFault::AlphabetsDiffer => write!(f, "E22 AlphabetsDiffer"),

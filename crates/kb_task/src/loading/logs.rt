@@ -7,7 +7,7 @@ ghost use Rattle.kb_word.specs.Presentations.{PresentationParts};
 ghost use Rattle.kb_machine.specs.declared.line.Line.{Line};
 ghost use Rattle.kb_proof.specs.Printable.{AreReadableNames};
 ghost use Rattle.kb_task.specs.Loads.{Files, IsHeld, IsCause, EndsAtLoad, OnlyLoads, LoadIsCounted};
-ghost use Rattle.kb_task.specs.Logs.{HoldsLog, IsLogFault};
+ghost use Rattle.kb_task.specs.Logs.{HoldsDerivations, HoldsLog, IsDerivationsFault, IsLogFault};
 ghost use Rattle.kb_task.specs.Runs.{FaultIsCounted};
 ghost use Rattle.kb_task.specs.StoredLogs.{StoresLog, IsReadAsLog};
 
@@ -15,7 +15,7 @@ use super::{LoadStop, load_text};
 use crate::status::{FileFault, Status};
 use kb_io::Shelf;
 use kb_presprint::a_presentation_that_is_read_can_be_written;
-use kb_proof::{Log, LogError, read_log};
+use kb_proof::{Log, LogError, Version, read_log};
 use kb_word::{OwnedText, Presentation};
 use std::alloc::Global;
 
@@ -40,6 +40,71 @@ pub fn load_log<F: Shelf>(
     match log_in(alloc, file.as_str(), presentation, shelf) {
         Ok(log) => Ok(log),
         Err(stop) => Err(stop.status(file)),
+    }
+}
+
+/// The log over the presentation's letters that the file of this name holds, if it has derivations, or the status of a
+/// run that ends there.
+pub fn load_derivations<F: Shelf>(
+    alloc: Global,
+    file: OwnedText,
+    presentation: &Presentation,
+    shelf: &mut F,
+) -> Result<Log, Status>
+    requires { AreReadableNames presentation.now.names }
+    ensures holds { IsTrue (F.state shelf.old).told
+        → IfOk result (λ log.
+        HoldsDerivations (F.state shelf.old).holds file presentation.now.names log) }
+    ensures ends { IsTrue (F.state shelf.old).told
+        → IfErr result (EndsAtLoad
+        (IsDerivationsFault presentation.now.names (F.state shelf.old).holds file) file) }
+    ensures fault { IfErr result (λ status. (input : SourceState) (output : SinkState)
+        → FaultIsCounted (outside (F.state shelf.old) input output)
+        (outside (F.state shelf.new) input output) status) }
+    ensures only_loads { OnlyLoads (F.state shelf.old) (F.state shelf.new) }
+{
+    match derivations_in(alloc, file.as_str(), presentation, shelf) {
+        Ok(log) => Ok(log),
+        Err(stop) => Err(stop.status(file)),
+    }
+}
+
+/// The log that the file of this name holds, if it has derivations.
+fn derivations_in<F: Shelf>(
+    alloc: Global,
+    name: &str,
+    presentation: &Presentation,
+    shelf: &mut F,
+) -> Result<Log, LoadStop>
+    requires { AreReadableNames presentation.now.names }
+    ensures holds { IsTrue (F.state shelf.old).told
+        → IfOk result (λ log.
+        HoldsDerivations (F.state shelf.old).holds name.now presentation.now.names log) }
+    ensures stops { IsTrue (F.state shelf.old).told
+        → IfErr result (IsCause
+        (IsDerivationsFault presentation.now.names (F.state shelf.old).holds name.now)) }
+    ensures counted { IfErr result (LoadIsCounted (F.state shelf.old) (F.state shelf.new)) }
+    ensures only_loads { OnlyLoads (F.state shelf.old) (F.state shelf.new) }
+{
+    match log_in(alloc, name, presentation, shelf) {
+        Ok(log) => with_derivations(log),
+        Err(stop) => Err(stop),
+    }
+}
+
+/// The log, if it has derivations.
+fn with_derivations(log: Log) -> Result<Log, LoadStop>
+    ensures holds { (files : Files) (name : List ℕ) (names : List (List ℕ))
+        → HoldsLog files name names log
+        → IfOk result (λ found. HoldsDerivations files name names found) }
+    ensures stops { (files : Files) (name : List ℕ) (names : List (List ℕ))
+        → HoldsLog files name names log
+        → IfErr result (IsCause (IsDerivationsFault names files name)) }
+    ensures unfailed { (a b : ShelfState) → IfErr result (LoadIsCounted a b) }
+{
+    match log.version {
+        Version::One => Err(LoadStop::Refused(FileFault::NoDerivations)),
+        Version::Two => Ok(log),
     }
 }
 
