@@ -2,6 +2,7 @@ pub mod ArgumentLemmas
 pub mod EffectLemmas
 pub mod EquationLemmas
 mod DerivationLemmas
+pub mod HeldLogs
 mod InverseLemmas
 pub mod LoadEnds
 pub mod LoadLemmas

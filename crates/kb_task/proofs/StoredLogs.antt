@@ -145,7 +145,7 @@ parts_present fields parts holds =
 -- ---- names
 
 -- names that generators can have differ
-names_apart : (names : List (List ℕ)) → AreGeneratorNames names → AreApart names
+pub names_apart : (names : List (List ℕ)) → AreGeneratorNames names → AreApart names
 names_apart names generators place other name at_place at_other = elim (cases_order place other) [
   | inl same ↦ same
   | inr (inl before) ↦ absurd (generators.free name
