@@ -1,0 +1,58 @@
+-- The commands about proofs on the command line, by clap's own definition of what a command takes.
+use Rattle.std.specs.Prelude.{◌≡◌, List, [], ◌∷◌, Option, Some, None, codes}
+use Rattle.clap.specs.Words.{App, Row, Text, new_app, with_rule, with_subcommand}
+use Rattle.kb_task.specs.Arguments.{Entered, IsEntered, GivesText, needed_rule}
+use Rattle.kb_cmd_proofs.specs.Given.{KbverifyGiven}
+use Rattle.kb_cmd_proofs.specs.declared.line.name.Name.{Name}
+use Rattle.kb_cmd_proofs.specs.declared.line.name.Name.TheVariants as names
+use Rattle.kb_cmd_proofs.specs.declared.task.ProofsTask.{ProofsTask}
+use Rattle.kb_cmd_proofs.specs.declared.task.ProofsTask.TheVariants as tasks
+
+-- ---- what the commands are called
+
+abbrev pub name_text : Name → Text
+name_text names.Kbverify = codes "kbverify"
+
+-- the commands, in the order in which the program lists them
+abbrev pub all_names : List Name
+all_names = names.Kbverify ∷ []
+
+-- ---- what the commands take
+
+-- `kbverify FILE`
+abbrev pub command_app : Name → App
+command_app names.Kbverify =
+    with_rule (new_app (name_text names.Kbverify)) (needed_rule (codes "file"))
+
+-- a program with commands added
+abbrev pub with_commands : App → List Name → App
+with_commands app [] = app
+with_commands app (name ∷ others) =
+    with_commands (with_subcommand app (command_app name).top) others
+
+-- a program with all commands about proofs added
+abbrev pub with_proofs : App → App
+with_proofs app = with_commands app all_names
+
+-- ---- what is read of them
+
+-- the argument gives the command
+pub record GivesKbverify (rows : List Row) (given : KbverifyGiven) : Type 0 where
+  pub file : GivesText rows (codes "file") given.file
+
+-- the name of a command, and what its arguments and options give
+abbrev pub name_of_task : ProofsTask → Name
+name_of_task (tasks.Kbverify task) = names.Kbverify
+
+abbrev pub GivesTask : ProofsTask → List Row → Type 0
+GivesTask (tasks.Kbverify task) rows = GivesKbverify rows task
+
+-- the subcommand that clap entered, with its arguments and options, is the command
+abbrev pub IsProofsTask : Entered → ProofsTask → Type 0
+IsProofsTask entered task = IsEntered entered (name_text (name_of_task task)) (GivesTask task)
+
+-- what is read of the arguments and options of the command of a name: the command that they give,
+-- or none where they give none
+abbrev pub IsRead : Name → List Row → Option ProofsTask → Type 0
+IsRead name rows (Some task) = (name_of_task task ≡ name) × GivesTask task rows
+IsRead name rows None = (task : ProofsTask) → name_of_task task ≡ name → ¬ GivesTask task rows

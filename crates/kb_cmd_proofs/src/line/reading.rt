@@ -1,0 +1,39 @@
+//! Commands from their arguments.
+
+ghost use Rattle.std.specs.Prelude.{IfOk};
+ghost use Rattle.clap.specs.Words.{found_of, rows_of};
+ghost use Rattle.kb_cmd_proofs.specs.Line.{IsRead};
+ghost use Rattle.kb_cmd_proofs.specs.declared.line.name.Name.TheVariants as names;
+
+use super::name::Name;
+use crate::kbverify::Kbverify;
+use crate::task::ProofsTask;
+use clap::ArgMatches;
+use kb_task::text_given;
+use kb_word::{Memory, OwnedText};
+use std::alloc::Global;
+
+/// The command of the name that the matches give.
+pub(super) fn task_given(
+    alloc: Global,
+    name: Name,
+    matches: &ArgMatches<'_>,
+) -> Result<Option<ProofsTask>, Memory>
+    ensures { IfOk result (IsRead name (rows_of (found_of matches.now))) }
+{
+    match name {
+        Name::Kbverify => kbverify_given(alloc, matches),
+    }
+}
+
+/// The command that the matches of `kbverify` give.
+fn kbverify_given(alloc: Global, matches: &ArgMatches<'_>) -> Result<Option<ProofsTask>, Memory>
+    ensures { IfOk result (IsRead names.Kbverify (rows_of (found_of matches.now))) }
+{
+    let Some(file) = text_given(matches, "file") else {
+        return Ok(None);
+    };
+    Ok(Some(ProofsTask::Kbverify(Kbverify {
+        file: OwnedText::from_str(alloc, file)?,
+    })))
+}
