@@ -147,7 +147,9 @@ beside (x ∷ xs) [] all index line at = absurd all
 beside (x ∷ xs) (y ∷ ys) all zero line at =
     let P : Line → Type 0 = λ l. AreSameLines l y in
     record { other = y; at = refl; same = subst P (same_Some x line at) all.0 }
-beside (x ∷ xs) (y ∷ ys) all (suc index) line at = beside xs ys all.1 index line at
+beside (x ∷ xs) (y ∷ ys) all (suc index) line at =
+    let there = beside xs ys all.1 index line at in
+    record { other = there.other; at = there.at; same = there.same }
 
 used_kept : (used : LineOrigin → Option ℕ) (xs ys : List Line) → AllZip AreSameLines xs ys → (k : ℕ) → IsUsed used xs k → IsUsed used ys k
 used_kept used xs ys all k is =

@@ -1,0 +1,2 @@
+pub mod KbverifyRuns
+pub mod LineLemmas
