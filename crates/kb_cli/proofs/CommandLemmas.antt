@@ -15,10 +15,13 @@ use Rattle.kb_cmd_completion.proofs.LineLemmas.{one_completion_task}
 use Rattle.kb_cmd_structures.specs.Line.{IsStructuresTask, GivesTask as GivesStructures, name_text as structures_text, name_of_task as structures_name}
 use Rattle.kb_cmd_structures.specs.declared.task.StructuresTask.{StructuresTask}
 use Rattle.kb_cmd_structures.proofs.LineLemmas.{one_structures_task}
-use Rattle.kb_cli.proofs.NameLemmas.{not_wordreduce, not_automata, structures_not_wordreduce, structures_not_automata, structures_not_completion}
+use Rattle.kb_cmd_proofs.specs.Line.{IsProofsTask, GivesTask as GivesProofs, name_text as proofs_text, name_of_task as proofs_name}
+use Rattle.kb_cmd_proofs.specs.declared.task.ProofsTask.{ProofsTask}
+use Rattle.kb_cmd_proofs.proofs.LineLemmas.{one_proofs_task}
+use Rattle.kb_cli.proofs.NameLemmas.{not_wordreduce, not_automata, structures_not_wordreduce, structures_not_automata, structures_not_completion, proofs_not_wordreduce, proofs_not_automata, proofs_not_completion, proofs_not_structures}
 use Rattle.kb_cli.specs.CommandLine.{IsCommand}
 use Rattle.kb_cli.specs.declared.command.Command.{Command}
-use Rattle.kb_cli.specs.declared.command.Command.TheVariants.{WordReduce, Automata, Completion, Structures}
+use Rattle.kb_cli.specs.declared.command.Command.TheVariants.{WordReduce, Automata, Completion, Structures, Proofs}
 
 -- no subcommand is a command of two families
 apart : (entered : Entered) (given : Given) (task : AutomataTask) → IsWordReduce entered given → ¬ IsAutomataTask entered task
@@ -50,6 +53,28 @@ structures_from_completion entered given task one other =
     structures_not_completion given task
     (own_name entered (completion_text (completion_name given)) (structures_text (structures_name task)) one.rows (GivesStructures task) one.is other)
 
+proofs_from_wordreduce : (entered : Entered) (given : Given) (task : ProofsTask) → IsWordReduce entered given → ¬ IsProofsTask entered task
+proofs_from_wordreduce entered given task one other =
+    proofs_not_wordreduce task
+    (own_name entered (codes "wordreduce") (proofs_text (proofs_name task)) one.rows (GivesProofs task) one.is other)
+
+proofs_from_automata : (entered : Entered) (given : AutomataTask) (task : ProofsTask) → IsAutomataTask entered given → ¬ IsProofsTask entered task
+proofs_from_automata entered given task one other =
+    proofs_not_automata given task
+    (own_name entered (name_text (name_of_task given)) (proofs_text (proofs_name task)) one.rows (GivesProofs task) one.is other)
+
+proofs_from_completion : (entered : Entered) (given : CompletionTask) (task : ProofsTask) → IsCompletionTask entered given
+    → ¬ IsProofsTask entered task
+proofs_from_completion entered given task one other =
+    proofs_not_completion given task
+    (own_name entered (completion_text (completion_name given)) (proofs_text (proofs_name task)) one.rows (GivesProofs task) one.is other)
+
+proofs_from_structures : (entered : Entered) (given : StructuresTask) (task : ProofsTask) → IsStructuresTask entered given
+    → ¬ IsProofsTask entered task
+proofs_from_structures entered given task one other =
+    proofs_not_structures given task
+    (own_name entered (structures_text (structures_name given)) (proofs_text (proofs_name task)) one.rows (GivesProofs task) one.is other)
+
 -- one entered subcommand is one command at most
 pub one_command : (entered : Entered) (one other : Command) → IsCommand entered one → IsCommand entered other → one ≡ other
 one_command entered (WordReduce task) (WordReduce other) a b = ap WordReduce (one_wordreduce entered task other a b)
@@ -68,12 +93,22 @@ one_command entered (Structures task) (Automata other) a b = absurd (structures_
 one_command entered (Completion task) (Structures other) a b = absurd (structures_from_completion entered task other a b)
 one_command entered (Structures task) (Completion other) a b = absurd (structures_from_completion entered other task b a)
 one_command entered (Completion task) (Automata other) a b = absurd (apart_from_automata entered other task b a)
+one_command entered (Proofs task) (Proofs other) a b = ap Proofs (one_proofs_task entered task other a b)
+one_command entered (WordReduce task) (Proofs other) a b = absurd (proofs_from_wordreduce entered task other a b)
+one_command entered (Proofs task) (WordReduce other) a b = absurd (proofs_from_wordreduce entered other task b a)
+one_command entered (Automata task) (Proofs other) a b = absurd (proofs_from_automata entered task other a b)
+one_command entered (Proofs task) (Automata other) a b = absurd (proofs_from_automata entered other task b a)
+one_command entered (Completion task) (Proofs other) a b = absurd (proofs_from_completion entered task other a b)
+one_command entered (Proofs task) (Completion other) a b = absurd (proofs_from_completion entered other task b a)
+one_command entered (Structures task) (Proofs other) a b = absurd (proofs_from_structures entered task other a b)
+one_command entered (Proofs task) (Structures other) a b = absurd (proofs_from_structures entered other task b a)
 
 -- where no family's command was entered there is none
 pub no_command : (entered : Entered) → ((given : Given) → ¬ IsWordReduce entered given) → ((task : AutomataTask) → ¬ IsAutomataTask entered task)
     → ((task : CompletionTask) → ¬ IsCompletionTask entered task) → ((task : StructuresTask) → ¬ IsStructuresTask entered task)
-    → (command : Command) → ¬ IsCommand entered command
-no_command entered no_wordreduce no_task no_completion no_structures (WordReduce task) = no_wordreduce task
-no_command entered no_wordreduce no_task no_completion no_structures (Automata task) = no_task task
-no_command entered no_wordreduce no_task no_completion no_structures (Completion task) = no_completion task
-no_command entered no_wordreduce no_task no_completion no_structures (Structures task) = no_structures task
+    → ((task : ProofsTask) → ¬ IsProofsTask entered task) → (command : Command) → ¬ IsCommand entered command
+no_command entered no_wordreduce no_task no_completion no_structures no_proofs (WordReduce task) = no_wordreduce task
+no_command entered no_wordreduce no_task no_completion no_structures no_proofs (Automata task) = no_task task
+no_command entered no_wordreduce no_task no_completion no_structures no_proofs (Completion task) = no_completion task
+no_command entered no_wordreduce no_task no_completion no_structures no_proofs (Structures task) = no_structures task
+no_command entered no_wordreduce no_task no_completion no_structures no_proofs (Proofs task) = no_proofs task

@@ -1,4 +1,5 @@
--- The names of the commands of completion, and of those on automatic structures, are apart from those of other families.
+-- The names of the commands of completion, of those on automatic structures, and of those about proofs are apart from
+-- those of other families.
 use Rattle.std.proofs.Common.{◌≡◌, ◌≢◌, ◌<◌, ◌≤◌, ◌∙◌, ℕ, sym, ap, arith, slice_index, refl, codes}
 use Rattle.clap.specs.Words.{Text}
 use Rattle.kb_cmd_automata.specs.Line.{name_text as automata_text, name_of_task as automata_name}
@@ -10,6 +11,9 @@ use Rattle.kb_cmd_completion.specs.declared.task.CompletionTask.TheVariants.{Kbp
 use Rattle.kb_cmd_structures.specs.Line.{name_text as structures_text, name_of_task as structures_name}
 use Rattle.kb_cmd_structures.specs.declared.task.StructuresTask.{StructuresTask}
 use Rattle.kb_cmd_structures.specs.declared.task.StructuresTask.TheVariants.{Autgroup, Gpaxioms}
+use Rattle.kb_cmd_proofs.specs.Line.{name_text as proofs_text, name_of_task as proofs_name}
+use Rattle.kb_cmd_proofs.specs.declared.task.ProofsTask.{ProofsTask}
+use Rattle.kb_cmd_proofs.specs.declared.task.ProofsTask.TheVariants.{Kbverify}
 
 first_byte : Text → ℕ
 first_byte text = slice_index text 0
@@ -103,3 +107,59 @@ structures_not_completion task other same =
     let own = structures_begins other in
     let apart : begin task ≡ structures_begin other = sym first ∙ (bytes ∙ own) in
     omega (arith, apart, begin_above task, structures_begin_within other)
+
+-- ---- names about proofs
+
+-- the first byte is that of k
+proofs_begin : (task : ProofsTask) → first_byte (proofs_text (proofs_name task)) ≡ 107
+unfolding first_byte
+proofs_begin (Kbverify task) = refl
+
+-- the third byte, which no command of completion has there
+third_byte : Text → ℕ
+third_byte text = slice_index text 2
+
+abbrev completion_third : CompletionTask → ℕ
+completion_third (Kbprog task) = 112
+completion_third (Logread task) = 103
+completion_third (SelfTest task) = 108
+
+completion_has_third : (task : CompletionTask) → third_byte (name_text (name_of_task task)) ≡ completion_third task
+unfolding third_byte
+completion_has_third (Kbprog task) = refl
+completion_has_third (Logread task) = refl
+completion_has_third (SelfTest task) = refl
+
+completion_third_within : (task : CompletionTask) → completion_third task ≤ 112
+completion_third_within (Kbprog task) = omega arith
+completion_third_within (Logread task) = omega arith
+completion_third_within (SelfTest task) = omega arith
+
+proofs_third : (task : ProofsTask) → third_byte (proofs_text (proofs_name task)) ≡ 118
+unfolding third_byte
+proofs_third (Kbverify task) = refl
+
+pub proofs_not_wordreduce : (task : ProofsTask) → codes "wordreduce" ≢ proofs_text (proofs_name task)
+proofs_not_wordreduce task same =
+    let w = begins_with_w in
+    let both : 119 ≡ 107 = sym w ∙ (ap first_byte same ∙ proofs_begin task) in
+    omega (arith, both)
+
+pub proofs_not_automata : (task : AutomataTask) (other : ProofsTask)
+    → automata_text (automata_name task) ≢ proofs_text (proofs_name other)
+proofs_not_automata task other same =
+    let f = begins_with_f task in
+    let both : 102 ≡ 107 = sym f ∙ (ap first_byte same ∙ proofs_begin other) in
+    omega (arith, both)
+
+pub proofs_not_completion : (task : CompletionTask) (other : ProofsTask)
+    → name_text (name_of_task task) ≢ proofs_text (proofs_name other)
+proofs_not_completion task other same =
+    let both : completion_third task ≡ 118 = sym (completion_has_third task) ∙ (ap third_byte same ∙ proofs_third other) in
+    omega (arith, both, completion_third_within task)
+
+pub proofs_not_structures : (task : StructuresTask) (other : ProofsTask)
+    → structures_text (structures_name task) ≢ proofs_text (proofs_name other)
+proofs_not_structures task other same =
+    let both : structures_begin task ≡ 107 = sym (structures_begins task) ∙ (ap first_byte same ∙ proofs_begin other) in
+    omega (arith, both, structures_begin_within task)

@@ -5,6 +5,7 @@ use Rattle.kb_cmd_words.specs.WordReduceLaws.{wordreduce_lawful}
 use Rattle.kb_cmd_automata.specs.TaskLaws.{automata_lawful}
 use Rattle.kb_cmd_completion.specs.TaskLaws.{completion_lawful}
 use Rattle.kb_cmd_structures.specs.TaskLaws.{structures_lawful}
+use Rattle.kb_cmd_proofs.specs.TaskLaws.{proofs_lawful}
 use Rattle.kb_cli.specs.Commands.{command_promise}
 use Rattle.kb_cli.specs.declared.command.Command.{Command}
 use Rattle.kb_cli.specs.declared.command.Command.TheVariants as commands
@@ -18,3 +19,5 @@ commands_lawful (commands.Completion task) =
     in_family-lawful commands.Completion (λ t b a s means. means) (completion_lawful task)
 commands_lawful (commands.Structures task) =
     in_family-lawful commands.Structures (λ t b a s means. means) (structures_lawful task)
+commands_lawful (commands.Proofs task) =
+    in_family-lawful commands.Proofs (λ t b a s means. means) (proofs_lawful task)

@@ -6,8 +6,9 @@
 -- is the canonical one of the stated language; that the words listed are the accepted ones; or that
 -- the rules stored are the reduced complete rewriting system of the presentation, and that the
 -- automaton beside them accepts its least words; or that automata are the word acceptor and the
--- multipliers of the presented group. Status 3 shows why the relations are not confluent, the
--- languages not the same, or the automata not the group's own. Status 2 comes exactly where a
+-- multipliers of the presented group; or that a log is justified line by line. Status 3 shows why
+-- the relations are not confluent, the languages not the same, the automata not the group's own, or
+-- the log not justified. Status 2 comes exactly where a
 -- construction counts more states than the limit; or a completion reached a limit, and then its log
 -- is stored, whose lines are justified one by one.
 use Rattle.std.specs.Prelude.{ℕ, List}

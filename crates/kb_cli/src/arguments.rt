@@ -82,6 +82,9 @@ fn entered_command(alloc: Global, matches: &ArgMatches<'_>) -> Result<Option<Com
     if let Some(task) = kb_cmd_structures::entered_command(alloc, matches)? {
         return Ok(Some(Command::Structures(task)));
     }
+    if let Some(task) = kb_cmd_proofs::entered_command(alloc, matches)? {
+        return Ok(Some(Command::Proofs(task)));
+    }
     Ok(None)
 }
 

@@ -2,6 +2,7 @@
 
 use kb_cmd_automata::AutomataTask;
 use kb_cmd_completion::CompletionTask;
+use kb_cmd_proofs::ProofsTask;
 use kb_cmd_structures::StructuresTask;
 use kb_cmd_words::WordReduce;
 use kb_io::{Gate, Shelf, Sink, Source};
@@ -21,6 +22,8 @@ pub enum Command {
     Completion(CompletionTask),
     /// Check automatic structures.
     Structures(StructuresTask),
+    /// Check logs.
+    Proofs(ProofsTask),
 }
 
 impl Task for Command {
@@ -58,6 +61,7 @@ impl Command {
             Command::Automata(task) => task.run(alloc, shelf, input, out),
             Command::Completion(task) => task.run(rt, alloc, gate, shelf, input, out, err),
             Command::Structures(task) => task.run(rt, alloc, gate, shelf, input, out, err),
+            Command::Proofs(task) => task.run(alloc, shelf, input, out),
         }
     }
 }
