@@ -1,5 +1,5 @@
 -- Logs that say the same have one answer.
-use Rattle.std.proofs.Common.{◌≡◌, ◌∙◌, ℕ, zero, suc, List, [], ◌∷◌, length, take, Option, Some, None, refl, sym, ap, subst, inl, inr}
+use Rattle.std.proofs.Common.{◌≡◌, ◌∙◌, ℕ, zero, suc, List, [], ◌∷◌, take, Option, Some, None, refl, sym, subst, inl, inr}
 use Rattle.std.specs.Prelude.{◌⊎◌, slice_get}
 use Rattle.std.specs.List.{AllZip}
 use Rattle.std.proofs.lemmas.Option.{none-some, same_Some}
@@ -13,7 +13,7 @@ use Rattle.kb_machine.specs.declared.line.LogStep.{LogStep}
 use Rattle.kb_machine.specs.declared.origin.Origin.{Origin as LineOrigin}
 use Rattle.kb_proof.specs.Printable.{IsShortening}
 use Rattle.kb_proof.specs.Same.{AreSameLines, AreSameLogs, WaitSame}
-use Rattle.kb_proof.specs.Verifying.{IsUsed, HasOriginFault, ComesFrom, LeadNowhere, HasFailingStep, OfItsPair, HasLeftSide, HasFault, HasWaitingFault, HasFaultAt, IsFirstFault, VerifiedSays, rank}
+use Rattle.kb_proof.specs.Verifying.{IsUsed, HasOriginFault, ComesFrom, LeadNowhere, HasFailingStep, OfItsPair, HasLeftSide, HasFault, HasWaitingFault, HasFaultAt, IsFirstFault, VerifiedSays}
 use Rattle.kb_proof.specs.Verifying.HasOriginFault.{names_none, used_again, replaced_again, killed_alone}
 use Rattle.kb_proof.specs.Verifying.ComesFrom.{from_both, from_right}
 use Rattle.kb_proof.specs.Verifying.HasFailingStep.{first_fails, second_fails, right_fails, second_given}
