@@ -10,7 +10,7 @@ use Rattle.kb_proof.specs.declared.log.Log.{Log}
 use Rattle.kb_proof.specs.declared.verified.Why.{Why}
 use Rattle.kb_proof.specs.declared.verified.Why.TheVariants as reasons
 use Rattle.kb_proof.specs.declared.verified.Verified.{Verified}
-use Rattle.kb_proof.specs.declared.verified.Verified.TheVariants as answers
+use Rattle.kb_proof.specs.declared.verified.Verified.TheVariants as verdicts
 use Rattle.kb_task.specs.Automata.{IsUnrefused}
 use Rattle.kb_task.specs.Effects.{Writes, WritesFront}
 use Rattle.kb_task.specs.Loads.{EndsAtLoad}
@@ -46,12 +46,12 @@ no_line number why =
 
 -- `yes`, or `no log N WHY`
 abbrev pub answer_line : Verified → List ℕ
-answer_line answers.Yes = codes "yes" ++ newline ∷ []
-answer_line (answers.No number why) = no_line number why
+answer_line verdicts.Yes = codes "yes" ++ newline ∷ []
+answer_line (verdicts.No number why) = no_line number why
 
 abbrev pub answer_status : Verified → Status
-answer_status answers.Yes = Yes
-answer_status (answers.No number why) = No (NotJustified number why)
+answer_status verdicts.Yes = Yes
+answer_status (verdicts.No number why) = No (NotJustified number why)
 
 -- ---- a run
 

@@ -6,7 +6,7 @@ use Rattle.kb_word.specs.Relations.{relations_of}
 use Rattle.kb_word.specs.WordOrders.{Below}
 use Rattle.kb_proof.specs.declared.log.Log.{Log}
 use Rattle.kb_proof.specs.declared.verified.Verified.{Verified}
-use Rattle.kb_proof.specs.declared.verified.Verified.TheVariants as answers
+use Rattle.kb_proof.specs.declared.verified.Verified.TheVariants as verdicts
 use Rattle.kb_proof.proofs.SameAnswers.{same_answer}
 use Rattle.kb_task.specs.Effects.{Writes}
 use Rattle.kb_task.specs.Logs.{HoldsDerivations, IsDerivationsFault}
@@ -29,8 +29,8 @@ use Rattle.kb_cmd_proofs.specs.Kbverify.CheckMeans.{answered, cut_off, no_memory
 -- ---- an answer
 
 answers_one : (answer : Verified) → AnswersYesOrNo (answer_status answer)
-answers_one answers.Yes = tt
-answers_one (answers.No number why) = tt
+answers_one verdicts.Yes = tt
+answers_one (verdicts.No number why) = tt
 
 output_failed : ¬ IsFaultless (Fault Output)
 output_failed faultless = cc
