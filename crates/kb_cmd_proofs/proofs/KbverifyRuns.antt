@@ -1,5 +1,5 @@
 -- What a run of `kbverify` means, from what its parts mean.
-use Rattle.std.proofs.Common.{◌≡◌, inl, inr, ℕ, List, refl, sym, subst, arith}
+use Rattle.std.proofs.Common.{◌≡◌, inl, inr, ℕ, List, refl, subst, arith}
 use Rattle.std.specs.Prelude.{IsTrue}
 use Rattle.kb_io.specs.Outside.{Outside, outside, IsUnchanged}
 use Rattle.kb_io.specs.States.{ShelfState, SourceState, SinkState, SinkGoesOn}

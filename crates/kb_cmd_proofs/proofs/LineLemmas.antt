@@ -1,5 +1,5 @@
 -- The command that is read of a subcommand's arguments.
-use Rattle.std.proofs.Common.{◌≡◌, ◌∙◌, ℕ, Option, Some, None, List, ◌∷◌, sym, ap, refl, subst, codes, suc, ◌+◌, ◌<◌, ◌≤◌, get_or, drop, false, arith}
+use Rattle.std.proofs.Common.{◌≡◌, ◌∙◌, ℕ, Option, Some, None, List, ◌∷◌, sym, ap, refl, codes, suc, ◌+◌, ◌<◌, ◌≤◌, get_or, drop, false, arith}
 use Rattle.std.proofs.Math.Seq.{drop-cons}
 use Rattle.std.proofs.lemmas.List.{drop_all}
 use Rattle.clap.specs.Words.{AddsSubcommand, App, Row, app_of, with_subcommand}
