@@ -5,7 +5,7 @@ use Rattle.kb_word.specs.Printed.{letter_name, text_of_word}
 use Rattle.kb_task.specs.declared.status.Limit.{Limit}
 use Rattle.kb_task.specs.declared.status.Limit.TheVariants.{Rules, Length, Diffs, States}
 use Rattle.kb_task.specs.declared.status.Construction.{Construction}
-use Rattle.kb_task.specs.declared.status.Construction.TheVariants.{And, Or, Not, Exists, Concat, Star, Reverse, Equal, Acceptor, Multiplier, Images, Relation}
+use Rattle.kb_task.specs.declared.status.Construction.TheVariants.{And, Or, Not, Exists, Concat, Star, Reverse, Equal, Acceptor, Multiplier, Images, Relation, Minred, Minkb}
 
 -- what a construction is called, over letters with these names
 abbrev pub construction_name : List (List ℕ) → Construction → List ℕ
@@ -21,6 +21,8 @@ construction_name names Acceptor = codes "acceptor"
 construction_name names (Multiplier generator) = codes "multiplier " ++ letter_name names generator
 construction_name names (Images generator) = codes "axiom N4 " ++ letter_name names generator
 construction_name names (Relation number) = codes "axiom N8 " ++ decimal number
+construction_name names Minred = codes "minred"
+construction_name names Minkb = codes "minkb"
 
 -- what a limit is called
 abbrev pub limit_name : List (List ℕ) → Limit → List ℕ

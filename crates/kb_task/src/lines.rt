@@ -119,6 +119,8 @@ fn append_construction(
         Construction::Multiplier(generator) => append_multiplier(names, *generator, line),
         Construction::Images(generator) => append_images(names, *generator, line),
         Construction::Relation(number) => append_relation(*number, line),
+        Construction::Minred => append(b"minred", line),
+        Construction::Minkb => append(b"minkb", line),
     }
 }
 

@@ -99,6 +99,10 @@ pub enum Construction {
     Images(Letter),
     /// The composites along both sides of the relation with this number, from 1 on.
     Relation(usize),
+    /// The left sides of the reduced complete system.
+    Minred,
+    /// The rules of the reduced complete system.
+    Minkb,
 }
 
 /// What shows that the answer is no.
