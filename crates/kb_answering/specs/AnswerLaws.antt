@@ -65,7 +65,7 @@ answers-complete own shows parts before after (Usage kind) lines short faultless
 -- ---- one function
 
 -- files that were stored are the same under each name, or under it nothing changed
-texts_same : (texts : List Text) (before after other_before other_after : Outside)
+pub texts_same : (texts : List Text) (before after other_before other_after : Outside)
     → HoldsTexts texts before.shelf after.shelf
     → HoldsTexts texts other_before.shelf other_after.shelf
     → (name : List ℕ) → LeavesSame before after other_before other_after name

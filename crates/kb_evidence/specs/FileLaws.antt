@@ -4,7 +4,7 @@ use Rattle.std.specs.List.{AllPairs, Contains}
 use Rattle.std.proofs.lemmas.Fmt.{decimal_injective}
 use Rattle.std.proofs.lemmas.List.{append_cancel_left}
 use Rattle.std.proofs.lemmas.List.Elements.{Contains-append_left, Contains-push, Contains-push_cases}
-use Rattle.kb_evidence.specs.Files.{rules_file, acceptor_file, log_file, difference_file, multiplier_file}
+use Rattle.kb_evidence.specs.Files.{rules_file, acceptor_file, log_file, difference_file, minkb_file, minred_file, multiplier_file}
 
 -- ---- a list of two
 
@@ -73,6 +73,11 @@ module _ (file : List ℕ) where
   rules_beside_differences =
       names_differ file (codes ".kbprog") (codes ".diff")
       (λ same. let seven_five : 7 ≡ 5 = same in omega arith)
+
+  pub left_sides_beside_rules : minred_file file ≢ minkb_file file
+  left_sides_beside_rules =
+      names_differ file (codes ".minred") (codes ".minkb")
+      (λ same. let seven_six : 7 ≡ 6 = same in omega arith)
 
   pub acceptor_beside_multiplier : (x : ℕ) → acceptor_file file ≢ multiplier_file file x
   acceptor_beside_multiplier x =

@@ -30,6 +30,13 @@ difference_file file = file ++ codes ".diff"
 abbrev pub multiplier_file : List ℕ → ℕ → List ℕ
 multiplier_file file generator = file ++ (codes ".m" ++ decimal generator)
 
+-- the files of the left sides and of the rules of the reduced complete system, as automata
+abbrev pub minred_file : List ℕ → List ℕ
+minred_file file = file ++ codes ".minred"
+
+abbrev pub minkb_file : List ℕ → List ℕ
+minkb_file file = file ++ codes ".minkb"
+
 -- a log of version 2 with these lines and the one that waits, as it is printed
 abbrev pub log_text : List (List ℕ) → List Line → Option Line → List ℕ
 log_text names lines waiting = header Two ++ text_of_body Two names lines waiting

@@ -1,7 +1,7 @@
 //! Names of the files that belong to a presentation's file.
 
 ghost use Rattle.std.specs.Prelude.{◌≡◌, ◌++◌, IfOk};
-ghost use Rattle.kb_evidence.specs.Files.{rules_file, acceptor_file, log_file, difference_file, multiplier_file};
+ghost use Rattle.kb_evidence.specs.Files.{rules_file, acceptor_file, log_file, difference_file, minkb_file, minred_file, multiplier_file};
 
 use itoa::Buffer;
 use kb_word::{Letter, Memory, OwnedText};
@@ -33,6 +33,20 @@ pub fn difference_file(alloc: Global, file: &OwnedText) -> Result<OwnedText, Mem
     ensures { IfOk result (λ name. name ≡ difference_file file.now) }
 {
     with_ending(alloc, file, ".diff")
+}
+
+/// The file of the left sides of the reduced complete system, as an automaton.
+pub fn minred_file(alloc: Global, file: &OwnedText) -> Result<OwnedText, Memory>
+    ensures { IfOk result (λ name. name ≡ minred_file file.now) }
+{
+    with_ending(alloc, file, ".minred")
+}
+
+/// The file of the rules of the reduced complete system, as an automaton.
+pub fn minkb_file(alloc: Global, file: &OwnedText) -> Result<OwnedText, Memory>
+    ensures { IfOk result (λ name. name ≡ minkb_file file.now) }
+{
+    with_ending(alloc, file, ".minkb")
 }
 
 /// The file of the multiplier of a generator.

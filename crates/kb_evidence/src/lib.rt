@@ -3,8 +3,9 @@
 //! Commands of two families complete presentations, and store the same where a limit is reached: a log, which is
 //! justified line by line, and rules. The public contract:
 //!
-//! - [`rules_file`], [`acceptor_file`], [`log_file`], [`difference_file`] and [`multiplier_file`] name the files that stand beside the
-//!   presentation's, and `specs/Files.antt` says how; `specs/FileLaws.antt` has that they are different files.
+//! - [`rules_file`], [`acceptor_file`], [`log_file`], [`difference_file`], [`multiplier_file`], [`minred_file`] and
+//!   [`minkb_file`] name the files that stand beside the presentation's, and `specs/Files.antt` says how;
+//!   `specs/FileLaws.antt` has that they are different files.
 //! - [`halted`] is given a completion that halted at a limit of its log, and [`too_large`] one whose word acceptor would be
 //!   too large. Each makes an [`Evidence`]: the limit, the files that are to be stored (`halted_texts` and
 //!   `too_large_texts` of `specs/Files.antt`), and the line that is to be written. What makes them evidence is proved of the
@@ -19,4 +20,6 @@ mod evidence;
 mod file_names;
 
 pub use evidence::{Evidence, both, evidence_files, halted, limit_reached, too_large};
-pub use file_names::{acceptor_file, difference_file, log_file, multiplier_file, rules_file};
+pub use file_names::{
+    acceptor_file, difference_file, log_file, minkb_file, minred_file, multiplier_file, rules_file,
+};
