@@ -10,7 +10,7 @@ use Rattle.kb_cmd_completion.specs.declared.task.CompletionTask.{CompletionTask}
 use Rattle.kb_cmd_completion.specs.declared.task.CompletionTask.TheVariants.{Kbprog, Logread, SelfTest}
 use Rattle.kb_cmd_structures.specs.Line.{name_text as structures_text, name_of_task as structures_name}
 use Rattle.kb_cmd_structures.specs.declared.task.StructuresTask.{StructuresTask}
-use Rattle.kb_cmd_structures.specs.declared.task.StructuresTask.TheVariants.{Autgroup, Gpaxioms}
+use Rattle.kb_cmd_structures.specs.declared.task.StructuresTask.TheVariants.{Autgroup, Gpaxioms, Gpminkb}
 use Rattle.kb_cmd_proofs.specs.Line.{name_text as proofs_text, name_of_task as proofs_name}
 use Rattle.kb_cmd_proofs.specs.declared.task.ProofsTask.{ProofsTask}
 use Rattle.kb_cmd_proofs.specs.declared.task.ProofsTask.TheVariants.{Kbverify}
@@ -64,15 +64,18 @@ not_automata task other same =
 abbrev structures_begin : StructuresTask → ℕ
 structures_begin (Autgroup task) = 97
 structures_begin (Gpaxioms task) = 103
+structures_begin (Gpminkb task) = 103
 
 structures_begins : (task : StructuresTask) → first_byte (structures_text (structures_name task)) ≡ structures_begin task
 unfolding first_byte
 structures_begins (Autgroup task) = refl
 structures_begins (Gpaxioms task) = refl
+structures_begins (Gpminkb task) = refl
 
 structures_begin_other : (task : StructuresTask) → (structures_begin task ≢ 102) × (structures_begin task ≢ 119)
 structures_begin_other (Autgroup task) = (λ same. omega (arith, same), λ same. omega (arith, same))
 structures_begin_other (Gpaxioms task) = (λ same. omega (arith, same), λ same. omega (arith, same))
+structures_begin_other (Gpminkb task) = (λ same. omega (arith, same), λ same. omega (arith, same))
 
 -- the first bytes of completion's are above 103
 begin_above : (task : CompletionTask) → 103 < begin task
@@ -83,6 +86,7 @@ begin_above (SelfTest task) = omega arith
 structures_begin_within : (task : StructuresTask) → structures_begin task ≤ 103
 structures_begin_within (Autgroup task) = omega arith
 structures_begin_within (Gpaxioms task) = omega arith
+structures_begin_within (Gpminkb task) = omega arith
 
 pub structures_not_wordreduce : (task : StructuresTask) → codes "wordreduce" ≢ structures_text (structures_name task)
 structures_not_wordreduce task same =

@@ -70,7 +70,7 @@ Status 0 is a theorem: the answer to each word line is the least word equal to i
 /// What `--help` says after the list of commands.
 const AFTER_HELP: &str = "\
 Words and completion: wordreduce, kbprog, logread
-Automatic structures: autgroup, gpaxioms
+Automatic structures: autgroup, gpaxioms, gpminkb
 Proofs by logs:       kbverify
 Automata:             fsaand to fsaenumerate
 The program itself:   selftest, help

@@ -1,4 +1,5 @@
 pub mod RunLemmas
+pub mod FoundLemmas
 pub mod LineLemmas
 pub mod LoadRuns
 pub mod FindingLemmas
@@ -6,3 +7,5 @@ pub mod AutgroupNames
 pub mod AutgroupRuns
 pub mod MadeStructures
 pub mod AutgroupLimits
+pub mod CanonicalForms
+pub mod SystemLemmas

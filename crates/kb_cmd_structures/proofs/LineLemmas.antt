@@ -23,12 +23,14 @@ use Rattle.kb_cmd_structures.specs.declared.task.StructuresTask.TheVariants as t
 
 -- the command of a name
 named : Text → Name
-named name = if bytes_eq name (codes "autgroup") then names.Autgroup else names.Gpaxioms
+named name = if bytes_eq name (codes "autgroup") then names.Autgroup
+    else if bytes_eq name (codes "gpaxioms") then names.Gpaxioms else names.Gpminkb
 
 named_by_name : (name : Name) → named (name_text name) ≡ name
 unfolding named
 named_by_name names.Autgroup = refl
 named_by_name names.Gpaxioms = refl
+named_by_name names.Gpminkb = refl
 
 -- two commands have two names
 pub one_name : (name other : Name) → name_text name ≡ name_text other → name ≡ other
@@ -58,6 +60,7 @@ same_gpaxioms rows given other a b =
 same_task : (rows : List Row) (task other : StructuresTask) → name_of_task task ≡ name_of_task other → GivesTask task rows → GivesTask other rows → task ≡ other
 same_task rows (tasks.Autgroup task) (tasks.Autgroup other) is a b = ap tasks.Autgroup (same_autgroup rows task other a b)
 same_task rows (tasks.Gpaxioms task) (tasks.Gpaxioms other) is a b = ap tasks.Gpaxioms (same_gpaxioms rows task other a b)
+same_task rows (tasks.Gpminkb task) (tasks.Gpminkb other) is a b = ap tasks.Gpminkb (same_gpaxioms rows task other a b)
 same_task rows _ _ is a b = cc
 
 -- one command at most is entered
@@ -86,11 +89,17 @@ pub no_workers : (rows : List Row) → ((n : ℕ) → ¬ GivesOption rows Worker
     → name_of_task task ≡ name → ¬ GivesTask task rows
 no_workers rows none name (tasks.Autgroup task) is gives = none task.workers gives.workers
 no_workers rows none name (tasks.Gpaxioms task) is gives = none task.workers gives.workers
+no_workers rows none name (tasks.Gpminkb task) is gives = none task.workers gives.workers
 
 pub no_limits : (rows : List Row) → ((limits : Limits) → ¬ GivesLimits rows limits)
     → (task : StructuresTask) → name_of_task task ≡ names.Gpaxioms → ¬ GivesTask task rows
 no_limits rows none (tasks.Gpaxioms task) is gives = none task.limits gives.limits
 no_limits rows none _ is gives = cc
+
+pub no_system_limits : (rows : List Row) → ((limits : Limits) → ¬ GivesLimits rows limits)
+    → (task : StructuresTask) → name_of_task task ≡ names.Gpminkb → ¬ GivesTask task rows
+no_system_limits rows none (tasks.Gpminkb task) is gives = none task.limits gives.limits
+no_system_limits rows none _ is gives = cc
 
 pub no_bounds : (rows : List Row) → ((limits : Limits) (most : ℕ) → ¬ GivesAllLimits rows limits most)
     → (task : StructuresTask) → name_of_task task ≡ names.Autgroup → ¬ GivesTask task rows
@@ -100,7 +109,7 @@ no_bounds rows none _ is gives = cc
 -- ---- commands that are added one after another
 
 -- one more command is added
-pub one_added : (index : ℕ) (program sub next : Command) (whole : App) → index < 2
+pub one_added : (index : ℕ) (program sub next : Command) (whole : App) → index < 3
     → AddsSubcommand program sub next → (out-Command sub).has_globals ≡ false → app_of sub ≡ command_app (get_or all_names index names.Autgroup)
     → with_commands (app_of program) (drop index all_names) ≡ whole → with_commands (app_of next) (drop (index + 1) all_names) ≡ whole
 one_added index program sub next whole within adds local is_app rest =
@@ -113,6 +122,6 @@ one_added index program sub next whole within adds local is_app rest =
     ∙ ap (λ app. with_commands app (drop (suc index) all_names)) (added program sub next (app_of program) (command_app name) adds local is_app refl) ∙ first
 
 -- all commands are added
-pub all_added : (index : ℕ) (program : Command) (whole : App) → 2 ≤ index → with_commands (app_of program) (drop index all_names) ≡ whole
+pub all_added : (index : ℕ) (program : Command) (whole : App) → 3 ≤ index → with_commands (app_of program) (drop index all_names) ≡ whole
     → app_of program ≡ whole
 all_added index program whole past rest = sym (ap (with_commands (app_of program)) (drop_all index all_names past)) ∙ rest

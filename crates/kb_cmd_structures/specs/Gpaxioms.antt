@@ -1,7 +1,6 @@
 -- What a run of `gpaxioms` means by its status.
-use Rattle.std.specs.Prelude.{◌≡◌, ℕ, ◌<◌, ◌≤◌, List, [], ◌++◌, codes}
-use Rattle.kb_io.specs.Bytes.{AppendsPrefix}
-use Rattle.kb_io.specs.Outside.{Outside, IsUnchanged, IsUnread}
+use Rattle.std.specs.Prelude.{◌≡◌, ℕ, ◌<◌, ◌≤◌, List, [], codes}
+use Rattle.kb_io.specs.Outside.{Outside}
 use Rattle.kb_word.specs.Presentations.{parts_of}
 use Rattle.kb_word.specs.declared.presentation.Presentation.{Presentation}
 use Rattle.kb_fsa.specs.Language.{Automaton}
@@ -19,18 +18,18 @@ use Rattle.kb_task.specs.Limits.{undecided_line, undecided_words_line}
 use Rattle.kb_task.specs.Presentations.{IsGroupFault}
 use Rattle.kb_task.specs.Promises.{Promise}
 use Rattle.kb_task.specs.Statuses.{IsAnswer}
-use Rattle.kb_task.specs.Stores.{Text, HoldsTexts, StoresFirst, StopsAtText}
+use Rattle.kb_task.specs.Stores.{Text}
 use Rattle.kb_task.specs.declared.status.Cert.TheVariants.{Structure}
 use Rattle.kb_task.specs.declared.status.Construction.{Construction}
 use Rattle.kb_task.specs.declared.status.Construction.TheVariants.{Images, Relation}
 use Rattle.kb_task.specs.declared.status.Limit.TheVariants.{States}
 use Rattle.kb_task.specs.declared.status.Status.{Status}
-use Rattle.kb_task.specs.declared.status.Status.TheVariants.{Yes, Undecided, No, Memory, Fault}
-use Rattle.kb_task.specs.declared.status.Which.TheVariants.{Store, Output}
+use Rattle.kb_task.specs.declared.status.Status.TheVariants.{Yes, Undecided, No}
 use Rattle.kb_evidence.specs.Files.{acceptor_file, multiplier_file, log_file, rules_file, halted_texts, limit_of}
 use Rattle.kb_cmd_structures.specs.Given.{GpaxiomsGiven}
 use Rattle.kb_cmd_structures.specs.Lines.{certificate_line}
-use Rattle.kb_cmd_structures.specs.Loaded.{HoldStructure, HoldsGroup, EndsAtFile, IsAcceptorFault, IsMultiplierFault}
+use Rattle.kb_cmd_structures.specs.Loaded.{HoldsGroup, IsAcceptorFault, IsMultiplierFault}
+use Rattle.kb_cmd_structures.specs.Shown.{StructureMeans}
 
 -- what is called after the count that was above the limit
 abbrev pub construction_of : Counted → Construction
@@ -74,42 +73,6 @@ pub data Finds (given : GpaxiomsGiven) (presentation : Presentation) (acceptor :
       (undecided_words_line presentation.names (limit_of halted.reached)
       halted.waiting.left halted.waiting.right)
 
--- What each status means once the files have been read: what was found was stored and its line written; or the output
--- failed in the line, or the store of a file; or memory ran out before anything was done, or in the stores.
-pub data AnswerMeans (given : GpaxiomsGiven) (presentation : Presentation) (acceptor : Automaton)
-    (multipliers : List Automaton) (before after : Outside) : Status → Type 0 where
-  shown : {status : Status} {texts : List Text} {line : List ℕ}
-      → Finds given presentation acceptor multipliers status texts line
-      → HoldsTexts texts before.shelf after.shelf → IsUnread before after
-      → after.output.written ≡ before.output.written ++ line
-      → AnswerMeans given presentation acceptor multipliers before after status
-  output_failed : {status : Status} {texts : List Text} {line : List ℕ}
-      → Finds given presentation acceptor multipliers status texts line
-      → HoldsTexts texts before.shelf after.shelf → IsUnread before after
-      → AppendsPrefix before.output.written after.output.written line
-      → AnswerMeans given presentation acceptor multipliers before after (Fault Output)
-  store_failed : {status : Status} {texts : List Text} {line : List ℕ} {name : List ℕ}
-      → Finds given presentation acceptor multipliers status texts line
-      → StopsAtText texts name before after
-      → AnswerMeans given presentation acceptor multipliers before after (Fault (Store name))
-  no_memory_stored : {status : Status} {texts : List Text} {line : List ℕ}
-      → Finds given presentation acceptor multipliers status texts line
-      → StoresFirst texts before after
-      → AnswerMeans given presentation acceptor multipliers before after Memory
-  no_memory : IsUnchanged before after
-      → AnswerMeans given presentation acceptor multipliers before after Memory
-
--- What each status means: the run ended at the load of a file; or the files hold a group, a word acceptor and
--- multipliers, and it is what was found of them.
-pub data GpaxiomsMeans (given : GpaxiomsGiven) (before after : Outside) (status : Status)
-    : Type 0 where
-  at_file : EndsAtFile before.shelf.holds given.file status → IsUnchanged before after
-      → GpaxiomsMeans given before after status
-  loaded : {presentation : Presentation} {acceptor : Automaton} {multipliers : List Automaton}
-      → HoldStructure before.shelf.holds given.file presentation acceptor multipliers
-      → AnswerMeans given presentation acceptor multipliers before after status
-      → GpaxiomsMeans given before after status
-
 -- it may store the log of a completion that halted, and its rules
 pub data GpaxiomsMayStore (given : GpaxiomsGiven) (name : List ℕ) : Type 0 where
   stores_log : name ≡ log_file given.file → GpaxiomsMayStore given name
@@ -141,7 +104,7 @@ GpaxiomsSettles _ = ⊥
 -- its workers and its limits.
 abbrev pub gpaxioms_promise : GpaxiomsGiven → Promise GpaxiomsGiven
 gpaxioms_promise given = record {
-  means = GpaxiomsMeans given;
+  means = StructureMeans (Finds given) given.file;
   may_store = GpaxiomsMayStore given;
   reads = GpaxiomsReads given;
   is_unrefused = IsGpaxiomsUnrefused given;

@@ -9,9 +9,17 @@ pub mod Autgroup
 pub mod Concluded
 pub mod OneStructure
 pub mod AutgroupLaws
+pub mod Shown
 pub mod Gpaxioms
+pub mod ShownLaws
 pub mod GpaxiomsLaws
 pub mod Findings
+pub mod CanonicalForms
+pub mod ReducedSystem
+pub mod Gpminkb
+pub mod OneSystem
+pub mod GpminkbLaws
+pub mod Systems
 pub mod Tasks
 pub mod TaskLaws
 pub mod Line

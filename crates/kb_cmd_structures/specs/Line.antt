@@ -15,19 +15,22 @@ use Rattle.kb_cmd_structures.specs.declared.task.StructuresTask.TheVariants as t
 abbrev pub name_text : Name → Text
 name_text names.Autgroup = codes "autgroup"
 name_text names.Gpaxioms = codes "gpaxioms"
+name_text names.Gpminkb = codes "gpminkb"
 
 -- the commands, in the order in which the program lists them
 abbrev pub all_names : List Name
-all_names = names.Autgroup ∷ names.Gpaxioms ∷ []
+all_names = names.Autgroup ∷ names.Gpaxioms ∷ names.Gpminkb ∷ []
 
 -- ---- what the commands take
 
--- `autgroup FILE`, `gpaxioms FILE`
+-- `autgroup FILE`, `gpaxioms FILE`, `gpminkb FILE`
 abbrev pub command_app : Name → App
 command_app names.Autgroup =
     with_all_limits (with_rule (new_app (name_text names.Autgroup)) (needed_rule (codes "file")))
 command_app names.Gpaxioms =
     with_limits (with_rule (new_app (name_text names.Gpaxioms)) (needed_rule (codes "file")))
+command_app names.Gpminkb =
+    with_limits (with_rule (new_app (name_text names.Gpminkb)) (needed_rule (codes "file")))
 
 -- a program with commands added
 abbrev pub with_commands : App → List Name → App
@@ -47,6 +50,7 @@ pub record GivesAutgroup (rows : List Row) (given : AutgroupGiven) : Type 0 wher
   pub workers : GivesOption rows Workers given.workers
   pub limits : GivesAllLimits rows given.limits given.most
 
+-- `gpminkb` is given what `gpaxioms` is given
 pub record GivesGpaxioms (rows : List Row) (given : GpaxiomsGiven) : Type 0 where
   pub file : GivesText rows (codes "file") given.file
   pub workers : GivesOption rows Workers given.workers
@@ -56,10 +60,12 @@ pub record GivesGpaxioms (rows : List Row) (given : GpaxiomsGiven) : Type 0 wher
 abbrev pub name_of_task : StructuresTask → Name
 name_of_task (tasks.Autgroup task) = names.Autgroup
 name_of_task (tasks.Gpaxioms task) = names.Gpaxioms
+name_of_task (tasks.Gpminkb task) = names.Gpminkb
 
 abbrev pub GivesTask : StructuresTask → List Row → Type 0
 GivesTask (tasks.Autgroup task) rows = GivesAutgroup rows task
 GivesTask (tasks.Gpaxioms task) rows = GivesGpaxioms rows task
+GivesTask (tasks.Gpminkb task) rows = GivesGpaxioms rows task
 
 -- the subcommand that clap entered, with its arguments and options, is the command
 abbrev pub IsStructuresTask : Entered → StructuresTask → Type 0

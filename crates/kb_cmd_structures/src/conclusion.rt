@@ -144,7 +144,7 @@ fn structure_files(
 }
 
 /// An automaton as a file of this name.
-fn automaton_file(
+pub(crate) fn automaton_file(
     alloc: Global,
     name: OwnedText,
     names: &Names,

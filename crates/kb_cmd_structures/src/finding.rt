@@ -1,10 +1,16 @@
 //! What is found of automata, as it is stored and written.
 
-ghost use Rattle.std.specs.Prelude.{◌≡◌, [], IfOk, codes, List};
+ghost use Rattle.std.specs.Prelude.{◌≡◌, ◌≢◌, ℕ, [], IfOk, codes, List};
+ghost use Rattle.std.specs.List.{AllPairs, Contains};
+ghost use Rattle.kb_io.specs.Outside.{outside};
+ghost use Rattle.kb_io.specs.States.{SourceState};
 ghost use Rattle.kb_word.specs.Presentations.{parts_of};
 ghost use Rattle.kb_fsa.specs.Language.{Automaton};
 ghost use Rattle.kb_auto.specs.Deciding.{CheckedSays};
 ghost use Rattle.kb_task.specs.Limits.{undecided_line, undecided_words_line};
+ghost use Rattle.kb_task.specs.Runs.{IsRun};
+ghost use Rattle.kb_task.specs.Statuses.{IsFaultless};
+ghost use Rattle.kb_task.specs.Stores.{names_of, texts_of};
 ghost use Rattle.kb_task.specs.declared.status.Cert.TheVariants as certs;
 ghost use Rattle.kb_task.specs.declared.status.Limit.TheVariants.{States};
 ghost use Rattle.kb_task.specs.declared.status.Status.TheVariants.{Yes, No, Undecided};
@@ -12,15 +18,20 @@ ghost use Rattle.kb_evidence.specs.Files.{halted_texts, limit_of};
 ghost use Rattle.kb_cmd_structures.specs.Findings.{HasParts, IsFound};
 ghost use Rattle.kb_cmd_structures.specs.Gpaxioms.{construction_of};
 ghost use Rattle.kb_cmd_structures.specs.Lines.{certificate_line};
+ghost use Rattle.kb_cmd_structures.specs.Shown.{ShowMeans};
 
 use crate::certificates::certificate_line;
 use crate::gpaxioms::Gpaxioms;
 use kb_auto::Checked;
 use kb_axioms::Construction as Counted;
 use kb_evidence::Evidence;
+use kb_io::{Shelf, Sink};
+use kb_progress::Progress;
 use kb_structure::Cert as StructureCert;
 use kb_system::Halted;
-use kb_task::{Cert, Construction, Limit, Status, TextFile, undecided_line};
+use kb_task::{
+    Cert, Construction, Limit, Status, TextFile, print_line, store_texts, undecided_line,
+};
 use kb_word::{Memory, Names, OwnedText, Presentation};
 use std::alloc::Global;
 
@@ -33,6 +44,37 @@ pub(crate) struct Finding {
     pub files: Vec<TextFile>,
     /// The line that is written.
     pub line: Vec<u8>,
+}
+
+/// Stores the files of what is found, and writes its line.
+pub(crate) fn show<F: Shelf, O: Sink, E: Sink>(
+    alloc: Global,
+    finding: Finding,
+    progress: &mut Progress<'_, E>,
+    shelf: &mut F,
+    out: &mut O,
+) -> Status
+    requires faultless { IsFaultless finding.status }
+    requires differ { AllPairs (λ (one other : List ℕ). one ≢ other)
+        (names_of (texts_of finding.files.items)) }
+    ensures { (input : SourceState)
+        → IsRun (ShowMeans (λ status texts line. HasParts status texts line finding))
+        (Contains (names_of (texts_of finding.files.items)))
+        (outside (F.state shelf.old) input (O.state out.old))
+        (outside (F.state shelf.new) input (O.state out.new)) result }
+{
+    let Finding {
+        status,
+        files,
+        line,
+    } = finding;
+    match store_texts(alloc, files, shelf) {
+        Status::Yes => {
+            progress.finish();
+            print_line(&line, status, out)
+        }
+        stopped => stopped,
+    }
 }
 
 /// What is stored and written where this is answered of automata.
@@ -83,7 +125,19 @@ fn too_many(alloc: Global, names: &Names, which: Counted) -> Result<Finding, Mem
     ensures { IfOk result (HasParts (Undecided (States (construction_of which))) []
         (undecided_line names.now (States (construction_of which)))) }
 {
-    let limit = Limit::States(construction_of(which));
+    states_counted(alloc, names, construction_of(which))
+}
+
+/// The states of a construction are counted above the limit.
+pub(crate) fn states_counted(
+    alloc: Global,
+    names: &Names,
+    which: Construction,
+) -> Result<Finding, Memory>
+    ensures { IfOk result (HasParts (Undecided (States which)) []
+        (undecided_line names.now (States which))) }
+{
+    let limit = Limit::States(which);
     let line = undecided_line(alloc, names, &limit)?;
     Ok(Finding {
         status: Status::Undecided(limit),

@@ -1,27 +1,18 @@
 //! `gpaxioms FILE`: whether the automata beside a group's file are its word acceptor and its multipliers.
 
-ghost use Rattle.std.specs.Prelude.{◌≢◌, List, ℕ, IfOk};
-ghost use Rattle.std.specs.List.{AllPairs};
+ghost use Rattle.std.specs.Prelude.{IfOk};
 ghost use Rattle.kb_io.specs.Outside.{outside};
-ghost use Rattle.kb_io.specs.States.{SourceState};
-ghost use Rattle.kb_word.specs.declared.presentation.Presentation.{Presentation as Group};
-ghost use Rattle.kb_fsa.specs.Language.{Automaton};
-ghost use Rattle.kb_task.specs.Runs.{IsRun};
-ghost use Rattle.kb_task.specs.Statuses.{IsFaultless};
-ghost use Rattle.kb_task.specs.Stores.{names_of, texts_of};
 ghost use Rattle.kb_cmd_structures.specs.Findings.{IsFound};
-ghost use Rattle.kb_cmd_structures.specs.Given.{GpaxiomsGiven};
-ghost use Rattle.kb_cmd_structures.specs.Gpaxioms.{AnswerMeans, GpaxiomsMayStore};
 ghost use Rattle.kb_cmd_structures.specs.Loaded.{AreAutomataOver};
 
 use crate::figures::figures_of;
-use crate::finding::{Finding, finding_of};
+use crate::finding::{Finding, finding_of, show};
 use crate::loading::{Loaded, load_structure};
 use kb_auto::{Checked, gpaxioms as check};
 use kb_book::Limits;
 use kb_io::{Gate, Shelf, Sink, Source};
 use kb_progress::Progress;
-use kb_task::{Status, Task, print_line, store_texts};
+use kb_task::{Status, Task};
 use kb_threads::Workers;
 use kb_word::{Memory, OwnedText};
 use std::alloc::Global;
@@ -89,7 +80,7 @@ impl Gpaxioms {
             Ok(loaded) => {
                 let mut progress = Progress::on(err, Some(&self.file));
                 match find(rt, alloc, gate, &self, &loaded, &mut progress) {
-                    Ok(finding) => conclude(alloc, finding, &mut progress, shelf, out),
+                    Ok(finding) => show(alloc, finding, &mut progress, shelf, out),
                     Err(Memory) => Status::Memory,
                 }
             }
@@ -99,7 +90,7 @@ impl Gpaxioms {
 }
 
 /// Finds whether the automata are the group's own, and makes what is stored and written of that.
-fn find<T: Threads + Wait + Sync, G: Gate, E: Sink>(
+pub(crate) fn find<T: Threads + Wait + Sync, G: Gate, E: Sink>(
     rt: &T,
     alloc: Global,
     gate: &G,
@@ -133,36 +124,4 @@ fn find<T: Threads + Wait + Sync, G: Gate, E: Sink>(
         progress.ended(figures_of(halted, limits));
     }
     finding_of(alloc, task, presentation, checked)
-}
-
-/// Stores the files of what is found, and writes its line.
-fn conclude<F: Shelf, O: Sink, E: Sink>(
-    alloc: Global,
-    finding: Finding,
-    progress: &mut Progress<'_, E>,
-    shelf: &mut F,
-    out: &mut O,
-) -> Status
-    requires faultless { IsFaultless finding.status }
-    requires differ { AllPairs (λ (one other : List ℕ). one ≢ other)
-        (names_of (texts_of finding.files.items)) }
-    ensures { (given : GpaxiomsGiven) (group : Group) (acceptor : Automaton)
-        (multipliers : List Automaton) (input : SourceState)
-        → IsFound given group acceptor multipliers finding
-        → IsRun (AnswerMeans given group acceptor multipliers) (GpaxiomsMayStore given)
-        (outside (F.state shelf.old) input (O.state out.old))
-        (outside (F.state shelf.new) input (O.state out.new)) result }
-{
-    let Finding {
-        status,
-        files,
-        line,
-    } = finding;
-    match store_texts(alloc, files, shelf) {
-        Status::Yes => {
-            progress.finish();
-            print_line(&line, status, out)
-        }
-        stopped => stopped,
-    }
 }

@@ -1,8 +1,8 @@
-//! The commands on automatic structures: `autgroup FILE`, which makes that of a group, and `gpaxioms FILE`, which checks
-//! automata that may be it.
+//! The commands on automatic structures: `autgroup FILE`, which makes that of a group, `gpaxioms FILE`, which checks
+//! automata that may be it, and `gpminkb FILE`, which makes the reduced complete system of a group of it.
 //!
-//! The public contract is that of `kb_task::Task`, with what the statuses mean in `specs/Autgroup.antt` and
-//! `specs/Gpaxioms.antt`. Both commands are given a group by a presentation. No option changes an answer yes or no; whether
+//! The public contract is that of `kb_task::Task`, with what the statuses mean in `specs/Autgroup.antt`,
+//! `specs/Gpaxioms.antt` and `specs/Gpminkb.antt`. The commands are given a group by a presentation. No option changes an answer yes or no; whether
 //! a limit is reached may depend on the options, and on the course of the completion.
 //!
 //! # What `autgroup` promises
@@ -23,12 +23,23 @@
 //! against automata that are the group's own (`specs/FirstCertificates.antt`). At a limit of the completion its log and its
 //! rules are stored: there is no certificate but perhaps of the last kind, and the rules don't settle that.
 //!
+//! # What `gpminkb` promises
+//!
+//! It does what `gpaxioms` does, and a no or a limit of that is its own. A yes means that the automata are the group's own, and
+//! that two more were stored, each canonical: one accepts exactly the left sides of the reduced complete system by its
+//! definition, the other exactly the pairs that are its rules, also where there are infinitely many
+//! (`specs/ReducedSystem.antt`). The group settles both (`specs/OneSystem.antt`). They are made of the canonical forms of
+//! the automata that were read, by `kb_minkb`, whose counts may be above the limit.
+//!
 //! # Where things are
 //!
-//! - `autgroup` and `gpaxioms` are the commands, and `task` has the enum of the family.
+//! - `autgroup`, `gpaxioms` and `gpminkb` are the commands, and `task` has the enum of the family.
 //! - `conclusion` makes what is stored and written of the search for a structure, and `evidence` what shows a limit of it.
 //! - `loading` loads a group and automata; `finding` makes what is stored and written of what is found of them, and
 //!   `certificates` the line of a certificate. `figures` says how a long run ended.
+//! - `system` makes the reduced complete system of a group's own structure.
+//! - `specs/Shown.antt` and `specs/ShownLaws.antt` have what a run means that loads automata and shows what is found of
+//!   them, and its laws, for `gpaxioms` and `gpminkb`.
 //! - `line` is what the command line says of the commands.
 //!
 //! Below are `kb_auto`, which searches and decides, `kb_answering`, which stores and answers, `kb_evidence`, with what shows
@@ -43,11 +54,14 @@ mod evidence;
 mod figures;
 mod finding;
 mod gpaxioms;
+mod gpminkb;
 mod line;
 mod loading;
+mod system;
 mod task;
 
 pub use autgroup::Autgroup;
 pub use gpaxioms::Gpaxioms;
+pub use gpminkb::Gpminkb;
 pub use line::{add_commands, command_named, entered_command};
 pub use task::StructuresTask;

@@ -2,6 +2,7 @@
 
 use crate::autgroup::Autgroup;
 use crate::gpaxioms::Gpaxioms;
+use crate::gpminkb::Gpminkb;
 use kb_io::{Gate, Shelf, Sink, Source};
 use kb_task::{Status, Task};
 use std::alloc::Global;
@@ -15,6 +16,8 @@ pub enum StructuresTask {
     Autgroup(Autgroup),
     /// `gpaxioms`
     Gpaxioms(Gpaxioms),
+    /// `gpminkb`
+    Gpminkb(Gpminkb),
 }
 
 impl Task for StructuresTask {
@@ -50,6 +53,7 @@ impl StructuresTask {
         match self {
             StructuresTask::Autgroup(task) => task.run(rt, alloc, gate, shelf, input, out, err),
             StructuresTask::Gpaxioms(task) => task.run(rt, alloc, gate, shelf, input, out, err),
+            StructuresTask::Gpminkb(task) => task.run(rt, alloc, gate, shelf, input, out, err),
         }
     }
 }

@@ -21,6 +21,7 @@ pub(super) fn definition<'a>(alloc: Global, name: Name) -> Result<Command<'a>, A
     match name {
         Name::Autgroup => autgroup_definition(alloc),
         Name::Gpaxioms => gpaxioms_definition(alloc),
+        Name::Gpminkb => gpminkb_definition(alloc),
     }
 }
 
@@ -43,6 +44,17 @@ fn gpaxioms_definition<'a>(alloc: Global) -> Result<Command<'a>, AllocError>
     with_limits(
         alloc,
         labelled(alloc, Name::Gpaxioms).arg(file_argument(alloc))?,
+    )
+}
+
+/// `gpminkb FILE`.
+fn gpminkb_definition<'a>(alloc: Global) -> Result<Command<'a>, AllocError>
+    ensures app { IfOk result (λ command. app_of command ≡ command_app names.Gpminkb) }
+    ensures local { IfOk result (λ command. (fields_of command).has_globals ≡ false) }
+{
+    with_limits(
+        alloc,
+        labelled(alloc, Name::Gpminkb).arg(file_argument(alloc))?,
     )
 }
 

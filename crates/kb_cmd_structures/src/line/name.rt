@@ -12,6 +12,8 @@ pub(crate) enum Name {
     Autgroup,
     /// `gpaxioms`
     Gpaxioms,
+    /// `gpminkb`
+    Gpminkb,
 }
 
 /// What a command is called, and its help.
@@ -26,7 +28,7 @@ pub(crate) struct Label<'a> {
 }
 
 /// The commands, in the order in which the program lists them.
-pub(crate) const NAMES: [Name; 2] = [Name::Autgroup, Name::Gpaxioms];
+pub(crate) const NAMES: [Name; 3] = [Name::Autgroup, Name::Gpaxioms, Name::Gpminkb];
 
 impl Name {
     /// The command of this name.
@@ -37,6 +39,7 @@ impl Name {
         match text {
             "autgroup" => Some(Name::Autgroup),
             "gpaxioms" => Some(Name::Gpaxioms),
+            "gpminkb" => Some(Name::Gpminkb),
             _ => None,
         }
     }
@@ -67,6 +70,17 @@ impl Name {
                     "`undecided states axiom N8 I`. At a limit of rules or length FILE.kblog, the log, and FILE.kbprog, the rules so far,",
                     "are stored; otherwise no file is. Standard input is not read.",
                     "Example: kb gpaxioms examples/free-2"
+                ),
+            },
+            Name::Gpminkb => Label {
+                text: "gpminkb",
+                about: "Makes automata of the reduced complete system of the group in FILE, also where it is infinite",
+                after_help: help_end!(
+                    "First it does what gpaxioms does, with the automata beside FILE; where they aren't the group's own, it ends as gpaxioms",
+                    "does. Where they are, it stores FILE.minred, the canonical automaton of the left sides of the reduced complete system, and",
+                    "FILE.minkb, that of the pairs that are its rules, and out has the line `yes`. Where one of them would have too many states,",
+                    "out has the line `undecided states minred` or `undecided states minkb`, and neither is stored. Standard input is not read.",
+                    "Example: kb gpminkb examples/free-2"
                 ),
             },
         }

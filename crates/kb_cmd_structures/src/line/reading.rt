@@ -8,6 +8,7 @@ ghost use Rattle.kb_cmd_structures.specs.declared.line.name.Name.TheVariants as 
 use super::name::Name;
 use crate::autgroup::Autgroup;
 use crate::gpaxioms::Gpaxioms;
+use crate::gpminkb::Gpminkb;
 use crate::task::StructuresTask;
 use clap::ArgMatches;
 use kb_options::{all_limits_given, limits_given};
@@ -26,6 +27,7 @@ pub(super) fn task_given(
     match name {
         Name::Autgroup => autgroup_given(alloc, matches),
         Name::Gpaxioms => gpaxioms_given(alloc, matches),
+        Name::Gpminkb => gpminkb_given(alloc, matches),
     }
 }
 
@@ -67,4 +69,25 @@ fn gpaxioms_given(alloc: Global, matches: &ArgMatches<'_>) -> Result<Option<Stru
         workers,
         limits,
     })))
+}
+
+/// The command that the matches of `gpminkb` give.
+fn gpminkb_given(alloc: Global, matches: &ArgMatches<'_>) -> Result<Option<StructuresTask>, Memory>
+    ensures { IfOk result (IsRead names.Gpminkb (rows_of (found_of matches.now))) }
+{
+    let Some(file) = text_given(matches, "file") else {
+        return Ok(None);
+    };
+    let Some(workers) = option_given(matches, NumberOption::Workers) else {
+        return Ok(None);
+    };
+    let Some(limits) = limits_given(matches) else {
+        return Ok(None);
+    };
+    let check = Gpaxioms {
+        file: OwnedText::from_str(alloc, file)?,
+        workers,
+        limits,
+    };
+    Ok(Some(StructuresTask::Gpminkb(Gpminkb { check })))
 }

@@ -1,0 +1,231 @@
+-- The laws of a run that shows what is found of a group's automata, from those of what is found.
+use Rattle.std.proofs.Common.{◌≡◌, ◌∙◌, ℕ, suc, List, ◌++◌, length, refl, sym, ap, subst, arith}
+use Rattle.kb_io.specs.Outside.{Outside}
+use Rattle.kb_word.specs.Presentations.{parts_of}
+use Rattle.kb_word.specs.declared.presentation.Presentation.{Presentation}
+use Rattle.kb_fsa.specs.Language.{Automaton}
+use Rattle.kb_structure.specs.Structure.{AreOverGenerators, IsAutomaticStructure}
+use Rattle.kb_axioms.specs.Answered.{IsFirstOfAll}
+use Rattle.kb_axioms.specs.Checked.{Checked, PassesRelations, own_structure}
+use Rattle.kb_task.specs.Presentations.{IsGroupFault}
+use Rattle.kb_task.specs.PromiseLaws.{yes-conclusive}
+use Rattle.kb_task.specs.Runs.{HasSameEffect, ReadsSame}
+use Rattle.kb_task.specs.Statuses.{IsAnswer, IsConclusive, IsFaultless, IsYes}
+use Rattle.kb_task.specs.Stores.{Text, HoldsTexts}
+use Rattle.kb_task.specs.declared.status.Cert.TheVariants.{Structure}
+use Rattle.kb_task.specs.declared.status.Status.{Status}
+use Rattle.kb_task.specs.declared.status.Status.TheVariants.{Yes, No, Memory}
+use Rattle.kb_task.proofs.LoadEnds.{memory_at_load, one_presentation_held}
+use Rattle.kb_evidence.specs.Files.{acceptor_file, multiplier_file}
+use Rattle.kb_answering.specs.AnswerLaws.{texts_same}
+use Rattle.kb_cmd_structures.specs.FirstCertificates.{one_certificate, own_has_none}
+use Rattle.kb_cmd_structures.specs.Given.{GpaxiomsGiven}
+use Rattle.kb_cmd_structures.specs.Gpaxioms.{GpaxiomsReads, reads_group, reads_acceptor, reads_multiplier, GpaxiomsSettles, IsGpaxiomsUnrefused, checked_by}
+use Rattle.kb_cmd_structures.specs.Loaded.{EndsAtFile, HoldStructure, IsAcceptorFault, IsMultiplierFault, at_group, at_acceptor, at_multiplier}
+use Rattle.kb_cmd_structures.specs.LoadedLaws.{files_inconclusive, held_over, one_checked}
+use Rattle.kb_cmd_structures.specs.Shown.{Found, FoundOf, ShowMeans, shown, output_failed, store_failed, no_memory_stored, no_memory, StructureMeans, at_file, loaded}
+
+pub conclusive : (status : Status) → GpaxiomsSettles status → IsConclusive status
+conclusive Yes settles = tt
+conclusive (No cert) settles = tt
+conclusive _ settles = absurd settles
+
+-- what yes and no say of what is checked
+abbrev pub Answered : Checked → Status → Type 0
+Answered checked Yes = PassesRelations checked × IsAutomaticStructure (own_structure checked)
+Answered checked (No (Structure cert)) = IsFirstOfAll checked cert
+Answered checked _ = ⊥
+
+-- What is found of automata is an answer; yes and no say what they say of what is checked.
+pub record AreAnswers (given : GpaxiomsGiven) (found : FoundOf) : Type 0 where
+  pub answers : (presentation : Presentation) (acceptor : Automaton) (multipliers : List Automaton)
+      (status : Status) (texts : List Text) (line : List ℕ)
+      → found presentation acceptor multipliers status texts line → IsAnswer status
+  pub say : (presentation : Presentation) (acceptor : Automaton) (multipliers : List Automaton)
+      (status : Status) (texts : List Text) (line : List ℕ)
+      → found presentation acceptor multipliers status texts line → GpaxiomsSettles status
+      → Answered (checked_by given presentation acceptor multipliers) status
+
+-- ---- complete
+
+file_answers : (given : GpaxiomsGiven) (before : Outside) (status : Status)
+    → EndsAtFile before.shelf.holds given.file status → IsGpaxiomsUnrefused given before
+    → IsFaultless status → status ≡ Memory
+file_answers given before status (at_group ends) unrefused faultless =
+    memory_at_load (IsGroupFault before.shelf.holds given.file) given.file status unrefused.group
+    faultless ends
+file_answers given before status (at_acceptor {presentation = presentation} held ends) unrefused
+    faultless =
+    memory_at_load (IsAcceptorFault before.shelf.holds given.file presentation)
+    (acceptor_file given.file) status (unrefused.acceptor presentation held) faultless ends
+file_answers given before status (at_multiplier {presentation = presentation} held accepts ends)
+    unrefused faultless =
+    let x = suc (length ends.earlier) in
+    memory_at_load (IsMultiplierFault before.shelf.holds given.file presentation x)
+    (multiplier_file given.file x) status
+    (unrefused.multipliers presentation x held (omega arith) (omega (arith, ends.within)))
+    faultless ends.ends
+
+module _ {given : GpaxiomsGiven} {found : FoundOf} (are : AreAnswers given found) where
+  module _ {presentation : Presentation} {accepts : Automaton} {multipliers : List Automaton} where
+    loaded_answers : {before after : Outside} {status : Status}
+        → ShowMeans (found presentation accepts multipliers) before after status
+        → IsFaultless status → IsAnswer status
+    loaded_answers (shown {status = status} {texts = texts} {line = line} finds holds unread written)
+        faultless = are.answers presentation accepts multipliers status texts line finds
+    loaded_answers (output_failed finds holds unread front) faultless = cc
+    loaded_answers (store_failed finds stops) faultless = cc
+    loaded_answers (no_memory_stored finds first) faultless = tt
+    loaded_answers (no_memory unchanged) faultless = tt
+
+    loaded_says : {before after : Outside} {status : Status}
+        → ShowMeans (found presentation accepts multipliers) before after status
+        → GpaxiomsSettles status
+        → Answered (checked_by given presentation accepts multipliers) status
+    loaded_says (shown {status = status} {texts = texts} {line = line} finds holds unread written)
+        settles = are.say presentation accepts multipliers status texts line finds settles
+    loaded_says (output_failed finds holds unread front) settles = absurd settles
+    loaded_says (store_failed finds stops) settles = absurd settles
+    loaded_says (no_memory_stored finds first) settles = absurd settles
+    loaded_says (no_memory unchanged) settles = absurd settles
+
+  pub complete : (before after : Outside) (status : Status)
+      → StructureMeans found given.file before after status → IsGpaxiomsUnrefused given before
+      → IsFaultless status → IsAnswer status
+  complete before after status (at_file ends unchanged) unrefused faultless =
+      subst IsAnswer (sym (file_answers given before status ends unrefused faultless)) tt
+  complete before after status (loaded held means) unrefused faultless =
+      loaded_answers means faultless
+
+-- ---- settled
+
+-- of what is checked there is one answer
+one_answer : (checked : Checked) → AreOverGenerators (own_structure checked)
+    → (status other : Status) → Answered checked status → Answered checked other → status ≡ other
+one_answer checked over Yes Yes one also = refl
+one_answer checked over Yes (No (Structure cert)) one also =
+    absurd (own_has_none checked one.0 one.1 cert also)
+one_answer checked over (No (Structure cert)) Yes one also =
+    absurd (own_has_none checked also.0 also.1 cert one)
+one_answer checked over (No (Structure cert)) (No (Structure other)) one also =
+    ap (λ c. No (Structure c)) (one_certificate checked over cert other one also)
+one_answer checked over Yes _ one also = absurd also
+one_answer checked over (No (Structure cert)) _ one also = absurd also
+one_answer checked over _ _ one also = absurd one
+
+pub settled : (given : GpaxiomsGiven) (found : FoundOf) → AreAnswers given found
+    → (before after other_before other_after : Outside) (status other : Status)
+    → StructureMeans found given.file before after status
+    → StructureMeans found given.file other_before other_after other
+    → ReadsSame (GpaxiomsReads given) before other_before
+    → GpaxiomsSettles status → GpaxiomsSettles other → status ≡ other
+settled given found are before after other_before other_after status other
+    (at_file ends unchanged) others same settles also =
+    absurd (files_inconclusive before.shelf.holds given.file status ends
+    (conclusive status settles))
+settled given found are before after other_before other_after status other (loaded held means)
+    (at_file ends unchanged) same settles also =
+    absurd (files_inconclusive other_before.shelf.holds given.file other ends
+    (conclusive other also))
+settled given found are before after other_before other_after status other (loaded held means)
+    (loaded {presentation = presentation} {acceptor = accepts} {multipliers = multipliers} again
+    others) same settles also =
+    let most = given.limits.states in
+    let checked = one_checked held again (same given.file (reads_group refl))
+    (same (acceptor_file given.file) (reads_acceptor refl))
+    (λ x. same (multiplier_file given.file x) (reads_multiplier x refl)) most in
+    let Says : Checked → Type 0 = λ c. Answered c status in
+    one_answer (checked_by given presentation accepts multipliers) (held_over most again) status
+    other (subst Says checked (loaded_says are means settles)) (loaded_says are others also)
+
+-- ---- one function
+
+-- what a yes stored and wrote, as it was found
+record WroteYes (found : Found) (before after : Outside) : Type 0 where
+  status : Status
+  is_yes : IsYes status
+  texts : List Text
+  line : List ℕ
+  finds : found status texts line
+  holds : HoldsTexts texts before.shelf after.shelf
+  written : after.output.written ≡ before.output.written ++ line
+
+wrote_yes : {found : Found} {before after : Outside} {status : Status}
+    → ShowMeans found before after status → IsYes status → WroteYes found before after
+wrote_yes (shown {status = status} {texts = texts} {line = line} finds holds unread written) is_yes =
+    record {
+      status = status;
+      is_yes = is_yes;
+      texts = texts;
+      line = line;
+      finds = finds;
+      holds = holds;
+      written = written;
+    }
+wrote_yes (output_failed finds holds unread front) is_yes = absurd is_yes
+wrote_yes (store_failed finds stops) is_yes = absurd is_yes
+wrote_yes (no_memory_stored finds first) is_yes = absurd is_yes
+wrote_yes (no_memory unchanged) is_yes = absurd is_yes
+
+-- what was loaded before a yes
+record LoadedYes (found : FoundOf) (file : List ℕ) (before after : Outside) : Type 0 where
+  presentation : Presentation
+  acceptor : Automaton
+  multipliers : List Automaton
+  held : HoldStructure before.shelf.holds file presentation acceptor multipliers
+  wrote : WroteYes (found presentation acceptor multipliers) before after
+
+loaded_yes : (found : FoundOf) (file : List ℕ) (before after : Outside) (status : Status)
+    → StructureMeans found file before after status → IsYes status
+    → LoadedYes found file before after
+loaded_yes found file before after status (at_file ends unchanged) is_yes =
+    absurd (files_inconclusive before.shelf.holds file status ends
+    (yes-conclusive status is_yes))
+loaded_yes found file before after status
+    (loaded {presentation = presentation} {acceptor = accepts} {multipliers = multipliers} held
+    means) is_yes = record {
+  presentation = presentation;
+  acceptor = accepts;
+  multipliers = multipliers;
+  held = held;
+  wrote = wrote_yes means is_yes;
+}
+
+-- of the same group a yes stores the same files and writes the same line
+abbrev pub FindsOne : FoundOf → FoundOf → Type 0
+FindsOne found other_found = (one other : Presentation) (acceptor second : Automaton)
+    (multipliers more : List Automaton) (status again : Status) (texts others : List Text)
+    (line also : List ℕ)
+    → parts_of one ≡ parts_of other
+    → found one acceptor multipliers status texts line → IsYes status
+    → other_found other second more again others also → IsYes again
+    → (texts ≡ others) × (line ≡ also)
+
+-- two runs that answered yes of the same group have the same effect
+pub one_effect : (found other_found : FoundOf) (file : List ℕ) (MayStore : List ℕ → Type 0)
+    (before after other_before other_after : Outside) (status other : Status)
+    → FindsOne found other_found
+    → before.shelf.holds file ≡ other_before.shelf.holds file
+    → StructureMeans found file before after status
+    → StructureMeans other_found file other_before other_after other
+    → IsYes status → IsYes other
+    → HasSameEffect MayStore before after other_before other_after
+one_effect found other_found file MayStore before after other_before other_after status other
+    finds_one same means others is_yes also =
+    let one = loaded_yes found file before after status means is_yes in
+    let again = loaded_yes other_found file other_before other_after other others also in
+    let here = one.wrote in
+    let there = again.wrote in
+    let parts = one_presentation_held same one.held.group.presents again.held.group.presents in
+    let alike = finds_one one.presentation again.presentation one.acceptor again.acceptor
+    one.multipliers again.multipliers here.status there.status here.texts there.texts here.line
+    there.line parts here.finds here.is_yes there.finds there.is_yes in
+    let Holds : List Text → Type 0 = λ t. HoldsTexts t other_before.shelf other_after.shelf in
+    record {
+      bytes = here.line;
+      written = here.written;
+      other_written = there.written
+          ∙ ap (λ (l : List ℕ). other_before.output.written ++ l) (sym alike.1);
+      stored = λ name may. texts_same here.texts before after other_before other_after here.holds
+          (subst Holds (sym alike.0) there.holds) name;
+    }
