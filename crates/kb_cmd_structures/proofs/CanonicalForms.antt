@@ -82,7 +82,7 @@ module _ (order : WordOrder) (relations : List Sides) {acceptor form : Automaton
 
   module _ (place : ℕ) (letter : IsGenerator given (suc place)) (u v : List ℕ) where
     within : place < length multipliers
-    within = let many = fit.one_each in let high = letter.1 in omega (arith, many, high)
+    within = let many = fit.one_each in let high : suc place ≤ generators acceptor.alphabet = letter.1 in omega (arith, many, high)
 
     form_within : place < length forms
     form_within = let many = as_many_forms multipliers forms are in let low = within in omega (arith, many, low)

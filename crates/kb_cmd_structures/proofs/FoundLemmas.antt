@@ -12,7 +12,7 @@ use Rattle.kb_evidence.specs.Files.{log_file, minkb_file, minred_file, rules_fil
 use Rattle.kb_evidence.specs.FileLaws.{both_differ, contained_cases, left_sides_beside_rules, log_beside_rules}
 use Rattle.kb_cmd_structures.specs.Given.{GpaxiomsGiven}
 use Rattle.kb_cmd_structures.specs.Gpaxioms.{Finds, own, refuted, too_many, unsettled, GpaxiomsMayStore, checked_by, stores_log, stores_rules}
-use Rattle.kb_cmd_structures.specs.Gpminkb.{FindsSystem, system, many_left_sides, many_rules, other, GpminkbMayStore, stores_evidence, stores_left_sides, stores_system_rules}
+use Rattle.kb_cmd_structures.specs.Gpminkb.{FindsSystem, system, many_left_sides, many_rules, not_own, GpminkbMayStore, stores_evidence, stores_left_sides, stores_system_rules}
 
 pub none_in_empty : {X : Type 0} (x : X) → ¬ Contains {X = X} [] x
 none_in_empty x here = omega (arith, here.1)
@@ -62,7 +62,7 @@ module _ {given : GpaxiomsGiven} {presentation : Presentation} {acceptor : Autom
   system_faultless (system is_own few fewer is) = refl
   system_faultless (many_left_sides is_own many) = refl
   system_faultless (many_rules is_own few many) = refl
-  system_faultless (other finds not_yes) = found_faultless finds
+  system_faultless (not_own finds not_yes) = found_faultless finds
 
   pub system_differ : {found : Status} {texts : List Text} {line : List ℕ}
       → FindsSystem given presentation acceptor multipliers found texts line
@@ -71,7 +71,7 @@ module _ {given : GpaxiomsGiven} {presentation : Presentation} {acceptor : Autom
       both_differ (minred_file given.file) (minkb_file given.file) (left_sides_beside_rules given.file) i j d before within
   system_differ (many_left_sides is_own many) i j d before within = absurd (omega (arith, before, within))
   system_differ (many_rules is_own few many) i j d before within = absurd (omega (arith, before, within))
-  system_differ (other finds not_yes) i j d before within = found_differ finds i j d before within
+  system_differ (not_own finds not_yes) i j d before within = found_differ finds i j d before within
 
   pub system_may : {found : Status} {texts : List Text} {line : List ℕ}
       → FindsSystem given presentation acceptor multipliers found texts line
@@ -82,4 +82,4 @@ module _ {given : GpaxiomsGiven} {presentation : Presentation} {acceptor : Autom
   ]
   system_may (many_left_sides is_own many) name here = absurd (none_in_empty name here)
   system_may (many_rules is_own few many) name here = absurd (none_in_empty name here)
-  system_may (other finds not_yes) name here = stores_evidence (found_may finds name here)
+  system_may (not_own finds not_yes) name here = stores_evidence (found_may finds name here)

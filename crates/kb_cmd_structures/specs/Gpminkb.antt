@@ -54,7 +54,7 @@ pub data FindsSystem (given : GpaxiomsGiven) (presentation : Presentation) (acce
       → CountedMinkb form forms given.limits.states
       → FindsSystem given presentation acceptor multipliers (Undecided (States Minkb)) []
       (undecided_line presentation.names (States Minkb))
-  other : {status : Status} {texts : List Text} {line : List ℕ}
+  not_own : {status : Status} {texts : List Text} {line : List ℕ}
       → Finds given presentation acceptor multipliers status texts line → (¬ IsYes status)
       → FindsSystem given presentation acceptor multipliers status texts line
 

@@ -11,7 +11,7 @@ use Rattle.kb_task.specs.declared.status.Status.{Status}
 use Rattle.kb_cmd_structures.specs.Given.{GpaxiomsGiven}
 use Rattle.kb_cmd_structures.specs.Gpaxioms.{GpaxiomsSettles, checked_by, reads_group}
 use Rattle.kb_cmd_structures.specs.GpaxiomsLaws.{found_answers, found_says}
-use Rattle.kb_cmd_structures.specs.Gpminkb.{FindsSystem, system, many_left_sides, many_rules, other, GpminkbMayStore, gpminkb_promise}
+use Rattle.kb_cmd_structures.specs.Gpminkb.{FindsSystem, system, many_left_sides, many_rules, not_own, GpminkbMayStore, gpminkb_promise}
 use Rattle.kb_cmd_structures.specs.OneSystem.{one_system, system_of_parts}
 use Rattle.kb_cmd_structures.specs.ReducedSystem.{IsSystemOf, system_texts}
 use Rattle.kb_cmd_structures.specs.Shown.{StructureMeans}
@@ -34,7 +34,7 @@ module _ {given : GpaxiomsGiven} {presentation : Presentation} {accepts : Automa
   system_answers (system own few fewer is) = tt
   system_answers (many_left_sides own many) = tt
   system_answers (many_rules own few many) = tt
-  system_answers (other finds not_yes) = found_answers finds
+  system_answers (not_own finds not_yes) = found_answers finds
 
   -- yes and no say what they say of what is checked
   system_says : {status : Status} {texts : List Text} {line : List ℕ}
@@ -44,7 +44,7 @@ module _ {given : GpaxiomsGiven} {presentation : Presentation} {accepts : Automa
   system_says (system own few fewer is) settles = (own.passes, own.own)
   system_says (many_left_sides own many) settles = absurd settles
   system_says (many_rules own few many) settles = absurd settles
-  system_says (other finds not_yes) settles = found_says finds settles
+  system_says (not_own finds not_yes) settles = found_says finds settles
 
   system_yes : {status : Status} {texts : List Text} {line : List ℕ}
       → FindsSystem given presentation accepts multipliers status texts line → IsYes status
@@ -58,7 +58,7 @@ module _ {given : GpaxiomsGiven} {presentation : Presentation} {accepts : Automa
   }
   system_yes (many_left_sides own many) is_yes = absurd is_yes
   system_yes (many_rules own few many) is_yes = absurd is_yes
-  system_yes (other finds not_yes) is_yes = absurd (not_yes is_yes)
+  system_yes (not_own finds not_yes) is_yes = absurd (not_yes is_yes)
 
 are_answers : (given : GpaxiomsGiven) → AreAnswers given (FindsSystem given)
 are_answers given = record {

@@ -1,6 +1,6 @@
 use Rattle.std.proofs.Common.{sym, subst}
 use Rattle.kb_task.specs.Statuses.{IsYes}
-use Rattle.kb_cmd_structures.specs.Gpminkb.{other}
+use Rattle.kb_cmd_structures.specs.Gpminkb.{not_own}
 use Rattle.kb_cmd_structures.proofs.FoundLemmas.{found_own}
 use Rattle.kb_cmd_structures.proofs.RunLemmas.{other-no_yes}
 use Rattle.kb_cmd_structures.proofs.gpminkb.find.Goals as goal
@@ -14,4 +14,4 @@ system_finding-requires-clause-own g c =
     let own = found_own c.in_ok-finding.ensures (subst IsYes (sym c.in-Yes.is) tt) in own.1
 
 pub returns-in_default : goal.returns-in_default
-returns-in_default g c = other c.in_ok-finding.ensures (other-no_yes c.in_ok-finding.finding.status c.in_default.not-Yes)
+returns-in_default g c = not_own c.in_ok-finding.ensures (other-no_yes c.in_ok-finding.finding.status c.in_default.not-Yes)
