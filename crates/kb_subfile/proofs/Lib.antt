@@ -1,0 +1,4 @@
+pub mod CheckLemmas
+pub mod FaultLemmas
+pub mod OneFault
+pub mod WordLemmas

@@ -1,0 +1,4 @@
+pub mod Holds
+pub mod Checks
+pub mod Faults
+pub mod Refusals

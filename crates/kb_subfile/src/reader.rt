@@ -1,0 +1,101 @@
+//! From bytes to the generators of a subgroup.
+
+ghost use Rattle.std.specs.Prelude.{◌↔◌, ◌+◌, ◌≤◌, ℕ, List, length, map, All, IsTrue, IfOk, IfErr, OnOk};
+ghost use Rattle.kb_word.specs.Presentations.{PresentationParts, parts_of};
+ghost use Rattle.kb_word.specs.Relations.{IsOver};
+ghost use Rattle.kb_record.specs.Tree.{record_value};
+ghost use Rattle.kb_record.specs.View.{word_view};
+ghost use Rattle.kb_fields.specs.Fields.{fields_view, HasFieldTwice};
+ghost use Rattle.kb_presfile.specs.Holds.{most_equations};
+ghost use Rattle.kb_subfile.specs.Checks.{is_there};
+ghost use Rattle.kb_subfile.specs.Holds.{HasWords, HoldsGenerators, GeneratorsOf};
+ghost use Rattle.kb_subfile.specs.Faults.{IsMemoryOr, IsFirstOf, IsFirstFrom, HasSubFault};
+
+use crate::error::SubError;
+use crate::words::{meanings, words_listed};
+use kb_fields::{field_named, repeated_name};
+use kb_presfile::MOST_EQUATIONS;
+use kb_record::{Expr, Value, parse};
+use kb_word::{Presentation, Word};
+use std::alloc::Global;
+
+/// Reads a file of a subgroup's generators, which are words of a presentation.
+///
+/// The bytes are a text of a record with the field that the head of the crate names. A refusal names the first fault that
+/// they have, in the order of refusals, and bytes that say generators have none
+/// ([`a_subgroup_file_has_no_fault`](crate::a_subgroup_file_has_no_fault)): so bytes are refused exactly where they have a
+/// fault, or memory runs out.
+pub fn read(
+    alloc: Global,
+    bytes: &[u8],
+    presentation: &Presentation,
+) -> Result<Vec<Word>, SubError>
+    ensures read { IfOk result
+        (λ generators. GeneratorsOf bytes.now (parts_of presentation.now) generators.items) }
+    ensures letters { IfOk result
+        (λ generators. All (IsOver (length presentation.now.names)) generators.items) }
+    ensures fault { IfErr result (HasSubFault (parts_of presentation.now) bytes.now) }
+{
+    let text = parse(alloc, bytes)?;
+    generators_of(alloc, text.fields.as_slice(), presentation)
+}
+
+/// The generators that fields say. Check by check, in the order in which a file is refused.
+fn generators_of<'a>(
+    alloc: Global,
+    fields: &[(&'a str, Value<'a>)],
+    presentation: &Presentation,
+) -> Result<Vec<Word>, SubError>
+    ensures read { IfOk result (λ generators.
+        HoldsGenerators (fields_view fields.now) (parts_of presentation.now) generators.items) }
+    ensures letters { IfOk result
+        (λ generators. All (IsOver (length presentation.now.names)) generators.items) }
+    ensures fault { IfErr result
+        (IsMemoryOr (IsFirstOf (parts_of presentation.now) (fields_view fields.now))) }
+{
+    check_once(alloc, fields)?;
+    let words = words_of(alloc, fields)?;
+    if !are_few(words.len(), presentation.eqs.as_slice().len()) {
+        return Err(SubError::TooManyEquations);
+    }
+    meanings(alloc, words.as_slice(), presentation)
+}
+
+/// Whether so many words and equations are no more together than a presentation may have.
+fn are_few(words: usize, equations: usize) -> bool
+    ensures { IsTrue result ↔ (words + equations ≤ most_equations) }
+{
+    words <= MOST_EQUATIONS && equations <= MOST_EQUATIONS - words
+}
+
+/// Refuses a record with a field name twice, nested ones too.
+fn check_once<'a>(alloc: Global, fields: &[(&'a str, Value<'a>)]) -> Result<(), SubError>
+    ensures once { OnOk result
+        ((name : List ℕ) → ¬ HasFieldTwice (record_value (fields_view fields.now)) name) }
+    ensures fault { IfErr result (λ error. (parts : PresentationParts)
+        → IsMemoryOr (IsFirstOf parts (fields_view fields.now)) error) }
+{
+    match repeated_name(alloc, fields)? {
+        Some(field) => Err(SubError::FieldTwice { field }),
+        None => Ok(()),
+    }
+}
+
+/// The words that the text lists.
+fn words_of<'r, 'a>(
+    alloc: Global,
+    fields: &'r [(&'a str, Value<'a>)],
+) -> Result<Vec<&'r Expr<'a>>, SubError>
+    ensures listed { IfOk result (λ words. HasWords (fields_view fields.now)
+        (map (λ word. word_view word.now) words.items)) }
+    ensures fault { IfErr result (λ error. (parts : PresentationParts)
+        → IsFirstFrom parts (fields_view fields.now) is_there error) }
+{
+    let Some(value) = field_named(fields, "subGenerators") else {
+        return Err(SubError::MissingField);
+    };
+    match words_listed(alloc, value)? {
+        Some(words) => Ok(words),
+        None => Err(SubError::WrongKind),
+    }
+}
