@@ -12,15 +12,18 @@
 //! - `concludes` is what a command says of itself.
 //! - `answering` stores files and answers word lines, `showing` stores files and writes a line, and `storing` is what both
 //!   begin with.
+//! - `figures` says how a completion ended, for the last line of a long run.
 //!
 //! Below are `kb_lines`, which reads and answers lines, `kb_evidence`, and `kb_task`, with files and statuses.
 #![tactic(auto)]
 
 mod answering;
 mod concludes;
+mod figures;
 mod showing;
 mod storing;
 
 pub use answering::store_and_answer;
 pub use concludes::Concludes;
+pub use figures::figures_of;
 pub use showing::show_limit;

@@ -12,12 +12,12 @@ use Rattle.kb_task.specs.declared.loading.automata.Kind.{Kind}
 use Rattle.kb_task.specs.declared.status.Limit.{Limit}
 use Rattle.kb_task.specs.declared.status.Status.{Status}
 use Rattle.kb_task.proofs.RunLemmas.{run-after_loads, run-ends, run-prints, unchanged-loads}
+use Rattle.kb_listing.specs.Printing.{OnlyPrints}
+use Rattle.kb_listing.proofs.PrintLemmas.{only_prints, prints-later}
 use Rattle.kb_cmd_automata.specs.Loaded.{MeaningOfOne, OneMeans, at_load, loaded}
 use Rattle.kb_cmd_automata.specs.Make.{MakeMeans, Making, MakingMeans, IsWithin}
 use Rattle.kb_cmd_automata.specs.MakeLaws.{IsKnown}
-use Rattle.kb_cmd_automata.specs.Printing.{OnlyPrints}
 use Rattle.kb_cmd_automata.proofs.MakeLemmas.{made-same, store-means, limit-means, make-later}
-use Rattle.kb_cmd_automata.proofs.PrintLemmas.{only_prints, prints-later}
 
 module _ {Means : Outside → Outside → Status → Type 0} {MayStore : List ℕ → Type 0} (before loaded : ShelfState) (input : SourceState)
     (output : SinkState) (loads : OnlyLoads before loaded) (status : Status) where

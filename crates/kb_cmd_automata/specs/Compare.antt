@@ -19,7 +19,7 @@ use Rattle.kb_task.specs.declared.status.Status.{Status}
 use Rattle.kb_task.specs.declared.status.Status.TheVariants.{Yes, Undecided, No, Memory, Fault}
 use Rattle.kb_task.specs.declared.status.Which.TheVariants.{Output}
 use Rattle.kb_cmd_automata.specs.Loaded.{TwoMean, AreBothUnrefused}
-use Rattle.kb_cmd_automata.specs.Printing.{OnlyPrints}
+use Rattle.kb_listing.specs.Printing.{OnlyPrints}
 use Rattle.kb_cmd_automata.specs.declared.compare.Compare.{Compare}
 
 -- the line of a text that exactly one of two automata accepts: the word, or the pair of words

@@ -1,13 +1,11 @@
 pub mod Loaded
 pub mod LoadedLaws
-pub mod Printing
 pub mod Make
 pub mod MakeLaws
 pub mod Compare
 pub mod CompareLaws
 pub mod Enumerate
 pub mod EnumerateLaws
-pub mod Listed
 pub mod Tasks
 pub mod TaskLaws
 pub mod Line

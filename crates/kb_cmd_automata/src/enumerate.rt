@@ -1,7 +1,7 @@
 //! `fsaenumerate MIN MAX A`: the words that an automaton accepts.
 
-use crate::listing::list_words;
 use kb_io::{Shelf, Sink, Source};
+use kb_listing::list_words;
 use kb_task::{Kind, Status, Task, load_automaton};
 use kb_word::OwnedText;
 use std::alloc::Global;
@@ -45,7 +45,7 @@ impl Enumerate {
     {
         let _ = input;
         match load_automaton(alloc, Kind::Words, self.file, shelf) {
-            Ok(given) => list_words(alloc, &given, self.min, self.max, out),
+            Ok(given) => list_words(alloc, &given.names, &given.fsa, self.min, self.max, out),
             Err(status) => status,
         }
     }

@@ -11,7 +11,8 @@
 //! Each kind of command is a struct in a file of its own; `task` has the enum of all five kinds, and `line` is what
 //! the command line says of them.
 //!
-//! Below are the operations on automata, their files and their canonical form, and `kb_task`.
+//! Below are the operations on automata, their files and their canonical form, `kb_listing`, which prints accepted words, and
+//! `kb_task`.
 #![tactic(auto)]
 
 mod combine;
@@ -19,7 +20,6 @@ mod compare;
 mod enumerate;
 mod files;
 mod line;
-mod listing;
 mod minimise;
 mod task;
 mod transform;

@@ -4,7 +4,8 @@ use Rattle.kb_word.specs.Presentations.{PresentationParts, parts_of}
 use Rattle.kb_reduced.specs.Reduced.{IsReducedComplete}
 use Rattle.kb_system.specs.Completed.{below, relations}
 use Rattle.kb_task.specs.Stores.{texts_of}
-use Rattle.kb_cmd_completion.specs.Files.{AreCompleted, ShowsLimit}
+use Rattle.kb_evidence.specs.Shown.{ShowsLimit}
+use Rattle.kb_cmd_completion.specs.Files.{AreCompleted}
 use Rattle.kb_cmd_completion.specs.Given.{KbprogGiven}
 use Rattle.kb_cmd_completion.specs.declared.conclusion.Conclusion.{Conclusion}
 use Rattle.kb_cmd_completion.specs.declared.conclusion.Conclusion.TheVariants.{Completed, Limit}

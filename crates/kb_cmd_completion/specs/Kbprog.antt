@@ -13,7 +13,8 @@ use Rattle.kb_task.specs.declared.status.Status.{Status}
 use Rattle.kb_system.specs.Completed.{IsLeastIn}
 use Rattle.kb_evidence.specs.Files.{rules_file, acceptor_file, log_file}
 use Rattle.kb_answering.specs.Answers.{Own, Shows, AnswersMean}
-use Rattle.kb_cmd_completion.specs.Files.{AreCompleted, ShowsLimit}
+use Rattle.kb_evidence.specs.Shown.{ShowsLimit}
+use Rattle.kb_cmd_completion.specs.Files.{AreCompleted}
 use Rattle.kb_cmd_completion.specs.Given.{KbprogGiven}
 
 -- the files of the completed presentation belong to it

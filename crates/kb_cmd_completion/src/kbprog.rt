@@ -10,8 +10,7 @@ ghost use Rattle.kb_cmd_completion.specs.Conclusions.{ConcludesAs};
 ghost use Rattle.kb_cmd_completion.specs.Kbprog.{kbprog_may_store, kbprog_own, kbprog_shows};
 
 use crate::conclusion::{Conclusion, conclusion_of};
-use crate::figures::figures_of;
-use kb_answering::{Concludes, show_limit, store_and_answer};
+use kb_answering::{Concludes, figures_of, show_limit, store_and_answer};
 use kb_book::Limits;
 use kb_io::{Gate, Shelf, Sink, Source};
 use kb_progress::Progress;

@@ -13,7 +13,7 @@
 //! - `line` is what the command line says of them.
 //! - `files` makes the files of a completed presentation, and `conclusion` those or what shows a limit, by how a completion
 //!   ended.
-//! - `figures` says how a completion ended, for the last line of a long run; `printing` appends the parts of lines.
+//! - `printing` appends the parts of lines.
 //!
 //! Below are `kb_system`, which completes presentations, `kb_progress`, which shows how far that has come,
 //! `kb_freeabelian`, which makes what `selftest` completes, `kb_proof`, which prints and reads logs, `kb_evidence`, with the
@@ -21,7 +21,6 @@
 #![tactic(auto)]
 
 mod conclusion;
-mod figures;
 mod files;
 mod kbprog;
 mod line;

@@ -7,8 +7,8 @@ ghost use Rattle.kb_freeabelian.specs.FreeAbelian.{free_abelian};
 ghost use Rattle.kb_cmd_completion.specs.Given.{SelfTestGiven, limits_of};
 ghost use Rattle.kb_cmd_completion.specs.SelfTest.{IsCompletedReport, IsHaltedReport, IsReport, IsTooLargeReport};
 
-use crate::figures::figures_of;
 use crate::printing::{append, append_number};
+use kb_answering::figures_of;
 use kb_book::Limits;
 use kb_evidence::limit_reached;
 use kb_freeabelian::selftest_presentation;

@@ -10,6 +10,8 @@
 //!   too large. Each makes an [`Evidence`]: the limit, the files that are to be stored (`halted_texts` and
 //!   `too_large_texts` of `specs/Files.antt`), and the line that is to be written. What makes them evidence is proved of the
 //!   completion (`kb_system`), and stands in the promises of the commands.
+//! - `ShowsLimit` of `specs/Shown.antt` says which files and which line show a limit of a completion, and
+//!   `proofs/ShownLemmas.antt` how these are named.
 //! - [`evidence_files`] makes a log and rules into files, [`limit_reached`] is what the limit of a log is called, and
 //!   [`both`] makes a list of two files.
 //!

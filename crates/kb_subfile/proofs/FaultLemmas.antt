@@ -1,5 +1,5 @@
 -- What is refused is the first fault of the file.
-use Rattle.std.proofs.Common.{◌≡◌, ◌≢◌, ℕ, ◌<◌, List, Some, None, Result, Err, refl, sym, subst, ◌∙◌}
+use Rattle.std.proofs.Common.{◌≡◌, ◌≢◌, ℕ, ◌<◌, List, Some, None, Result, Err, refl, sym, ap, subst, ◌∙◌}
 use Rattle.kb_word.specs.Presentations.{PresentationParts}
 use Rattle.kb_record.specs.Tree.{Factors, Value, list_value, Fields, record_value}
 use Rattle.kb_record.specs.Faults.{HasTextFault, Evaluates}
@@ -14,7 +14,7 @@ use Rattle.kb_fields.proofs.ListingLemmas.{some_value}
 use Rattle.kb_fields.proofs.NamingLemmas.{none_within}
 use Rattle.kb_subfile.specs.Checks.{Step, field_names, is_there, are_words, few_words, read_words}
 use Rattle.kb_subfile.specs.Holds.{field_name, list_of_words, HasWords, AreFew, Mean}
-use Rattle.kb_subfile.specs.Faults.{IsFaultOf, HasFaultAt, StepFinds, IsMemoryOr, IsFirstOf, IsFirstFrom, IsFreeBefore, HasSubFault}
+use Rattle.kb_subfile.specs.Faults.{IsFaultOf, HasFaultAt, StepFinds, IsMemoryOr, IsFirstOf, IsFreeBefore, HasSubFault}
 use Rattle.kb_subfile.specs.Refusals.{RefusesText, RefusesWord}
 use Rattle.kb_subfile.specs.declared.error.SubError.{SubError}
 use Rattle.kb_subfile.specs.declared.error.SubError.TheVariants as errors
@@ -69,11 +69,9 @@ module _ (parts : PresentationParts) (given : Fields) where
 
     -- ---- faults
 
-    module _ (free : IsFreeBefore parts given is_there) where
+    module _ (free : IsFreeBefore parts given are_words) where
       free_words : IsFreeBefore parts given few_words
-      free_words =
-          let there = passed parts given is_there free (none_missing (list_value (list_of_words words)) listed) are_words refl in
-          passed parts given are_words there none_of_other_kind few_words refl
+      free_words = passed parts given are_words free none_of_other_kind few_words refl
 
       pub many_fault : (AreFew parts words → ⊥) → IsFirstOf parts given errors.TooManyEquations
       many_fault many = first_found parts given few_words free_words errors.TooManyEquations (refl, words, listed, many)
@@ -91,13 +89,15 @@ module _ (parts : PresentationParts) (given : Fields) where
       first_at parts given field_names (at_start parts given) fault.check (errors.FieldTwice name) (name, refl, fault.found)
       (λ k other before found. fault.first k found.0 before found.2)
 
-  pub missing_fault : value_of given field_name ≡ None → IsFirstFrom parts given is_there errors.MissingField
-  missing_fault absent = λ free. first_found parts given is_there free errors.MissingField (refl, absent)
+  pub missing_fault : value_of given field_name ≡ None → IsFreeBefore parts given is_there → IsFirstOf parts given errors.MissingField
+  missing_fault absent free = first_found parts given is_there free errors.MissingField (refl, absent)
 
   pub kind_fault : (value : Value) → value_of given field_name ≡ Some value → ((words : List Factors) → value ≢ list_value (list_of_words words))
-      → IsFirstFrom parts given is_there errors.WrongKind
-  kind_fault value is other = λ free.
-      first_found parts given are_words (passed parts given is_there free (none_missing value is) are_words refl) errors.WrongKind (refl, value, is, other)
+      → IsFreeBefore parts given are_words → IsFirstOf parts given errors.WrongKind
+  kind_fault value is other free = first_found parts given are_words free errors.WrongKind (refl, value, is, other)
+
+  pub after_there : (value : Value) → value_of given field_name ≡ Some value → IsFreeBefore parts given is_there → IsFreeBefore parts given are_words
+  after_there value is free = passed parts given is_there free (none_missing value is) are_words refl
 
   pub after_once : ((name : List ℕ) → HasFieldTwice (record_value given) name → ⊥) → IsFreeBefore parts given is_there
   after_once once = passed parts given field_names (at_start parts given) (none_repeated once) is_there refl

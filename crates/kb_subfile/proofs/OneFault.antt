@@ -2,7 +2,7 @@
 use Rattle.std.proofs.Common.{◌≡◌, ◌≢◌, ℕ, ◌≤◌, ◌⊎◌, inl, inr, List, Some, Result, Err, refl, sym, ap, subst, ◌∙◌}
 use Rattle.std.proofs.lemmas.Option.{same_Some}
 use Rattle.kb_word.specs.Presentations.{PresentationParts}
-use Rattle.kb_record.specs.Tree.{Factors, list_value, Fields, TextTree, record_value}
+use Rattle.kb_record.specs.Tree.{Factors, Fields, TextTree, record_value}
 use Rattle.kb_record.specs.Grammar.{TextOf}
 use Rattle.kb_record.specs.Nesting.{deepest, text_nesting}
 use Rattle.kb_record.specs.Faults.{HasTextFault}
@@ -13,7 +13,7 @@ use Rattle.kb_fields.specs.Fields.{namings}
 use Rattle.kb_fields.proofs.FirstFaultLemmas.{one_first_fault}
 use Rattle.kb_fields.proofs.NamingLemmas.{one_repeated}
 use Rattle.kb_subfile.specs.Checks.{Step, field_names, is_there, are_words, few_words, read_words, Before}
-use Rattle.kb_subfile.specs.Holds.{list_of_words, HoldsGenerators, GeneratorsOf, Mean}
+use Rattle.kb_subfile.specs.Holds.{HasWords, HoldsGenerators, GeneratorsOf, Mean}
 use Rattle.kb_subfile.specs.Faults.{IsFaultOf, refusal_of, HasFaultAt, StepFinds, Finds, IsMemoryOr, IsFirstOf, IsFirstOfText, HasSubFault}
 use Rattle.kb_subfile.specs.declared.error.SubError.{SubError}
 use Rattle.kb_subfile.specs.declared.error.SubError.TheVariants as errors
@@ -48,13 +48,16 @@ module _ (parts : PresentationParts) where
   one_fault_of_fields given e f a b =
       one_first_fault Before (λ check error. Finds parts given check error) in_order (λ c x y s t. one_finding given c.step c.place x y s t) e f a b
 
+  words_given : (given : Fields) (generators : List (List ℕ)) (h : HoldsGenerators given parts generators) → HasWords given h.lists.words
+  words_given given generators h = h.given ∙ ap Some h.lists.listed
+
   -- no check finds a fault where the fields say generators
   finds_none : (given : Fields) (generators : List (List ℕ)) → HoldsGenerators given parts generators → (step : Step) → FindsNone parts given step
   finds_none given generators h field_names = none_repeated parts given h.once
-  finds_none given generators h is_there = none_missing parts given (list_value (list_of_words h.words)) h.listed
-  finds_none given generators h are_words = none_of_other_kind parts given h.words h.listed
-  finds_none given generators h few_words = none_too_many parts given h.words h.listed h.few
-  finds_none given generators h read_words = none_unread parts given h.words h.listed generators h.mean
+  finds_none given generators h is_there = none_missing parts given h.value h.given
+  finds_none given generators h are_words = none_of_other_kind parts given h.lists.words (words_given given generators h)
+  finds_none given generators h few_words = none_too_many parts given h.lists.words (words_given given generators h) h.lists.few
+  finds_none given generators h read_words = none_unread parts given h.lists.words (words_given given generators h) generators h.lists.mean
 
   no_fault : (given : Fields) (generators : List (List ℕ)) (error : SubError) → HoldsGenerators given parts generators → IsFirstOf parts given error → ⊥
   no_fault given generators error h fault = finds_none given generators h fault.check.step fault.check.place error fault.found
@@ -98,7 +101,8 @@ module _ (parts : PresentationParts) where
   pub one_list : (given : Fields) (one other : List (List ℕ)) → HoldsGenerators given parts one → HoldsGenerators given parts other → one ≡ other
   one_list given one other a b =
       let P : List Factors → Type 0 = λ ws. Mean parts ws one in
-      one_meaning parts b.words one other (subst P (one_list_of_words given a.words b.words a.listed b.listed) a.mean) b.mean
+      let same = one_list_of_words given a.lists.words b.lists.words (words_given parts given one a) (words_given parts given other b) in
+      one_meaning parts b.lists.words one other (subst P same a.lists.mean) b.lists.mean
 
 -- the refusal of a text as that of a file
 abbrev file_refusal : RecordError → SubError

@@ -1,18 +1,17 @@
 -- Lists of words, element by element, and the words that they mean.
 use Rattle.std.proofs.Common.{◌≡◌, ℕ, zero, suc, ◌+◌, ◌<◌, ◌≤◌, inl, inr, List, [], ◌∷◌, ◌++◌, length, map, take, get_or, slice_get, All, Option, None, Some, Result, Ok, Err, refl, sym, ap, subst, ◌∙◌, arith}
 use Rattle.std.proofs.lemmas.Bool.{cases_lt}
-use Rattle.std.specs.Option.{option_map}
-use Rattle.std.proofs.lemmas.List.{map-append, take_more}
-use Rattle.std.proofs.lemmas.Option.{same_Some, slice_get-map, slice_get-get_or}
+use Rattle.std.proofs.lemmas.List.{length-map, map-append, take_more}
+use Rattle.std.proofs.lemmas.Option.{get_or_from_slice_get, same_Some, slice_get_within}
 use Rattle.kb_word.specs.Presentations.{PresentationParts}
 use Rattle.kb_word.specs.Relations.{IsOver}
 use Rattle.kb_record.specs.Tree.{Factors, Value, list_value, word_value, Fields, place}
 use Rattle.kb_record.specs.Meaning.{WordFault, word_meaning}
-use Rattle.kb_record.specs.View.{places_of, word_view}
-use Rattle.kb_record.specs.declared.tree.Expr.{Expr}
-use Rattle.std.specs.Borrow.{Bor}
+use Rattle.kb_record.specs.View.{places_of}
+use Rattle.kb_record.specs.Listed.{listed}
+use Rattle.kb_record.proofs.Views.{listed-is}
 use Rattle.kb_fields.specs.FirstFaults.{IsFirstFault}
-use Rattle.kb_fields.proofs.ListingLemmas.{places_of-injective, list_same, some_value}
+use Rattle.kb_fields.proofs.ListingLemmas.{places_of-injective, list_same, one_place_more, some_value}
 use Rattle.kb_presfile.specs.Holds.{AreMutual}
 use Rattle.kb_presfile.proofs.OverLemmas.{word_over}
 use Rattle.kb_subfile.specs.Holds.{field_name, list_of_words, HasWords, Mean}
@@ -112,24 +111,22 @@ module _ (parts : PresentationParts) where
   abbrev pub NoneBefore : List Factors → ℕ → Type 0
   NoneBefore words n = (k : ℕ) (e : SubError) → k < n → HasFaultAt parts words k e → ⊥
 
-  module _ {X : Type 0} (view : X → Factors) (xs : List X) (k : ℕ) (d : X) (within : k < length xs) where
-    word_here : slice_get (map view xs) k ≡ Some (view (get_or xs k d))
-    word_here = slice_get-map view xs k ∙ ap (option_map view) (slice_get-get_or xs k d within)
-
+  module _ (words : List Factors) (k : ℕ) (word : Factors) (at : slice_get words k ≡ Some word) where
     -- one more word, and what it means
-    pub mean_more : (generators more : List (List ℕ)) (generator : List ℕ) → Mean parts (map view (take k xs)) generators
-        → meaning (view (get_or xs k d)) ≡ Ok generator → more ≡ generators ++ generator ∷ [] → Mean parts (map view (take (k + 1) xs)) more
+    pub mean_more : (generators more : List (List ℕ)) (generator : List ℕ) → Mean parts (take k words) generators
+        → meaning word ≡ Ok generator → more ≡ generators ++ generator ∷ [] → Mean parts (take (k + 1) words) more
     mean_more generators more generator before is longer =
-        let x = get_or xs k d in
-        ap (λ (ys : List X). map meaning (map view ys)) (take_more xs k d within)
-        ∙ (ap (map meaning) (map-append view (take k xs) (x ∷ []))
-        ∙ (map-append meaning (map view (take k xs)) (view x ∷ [])
-        ∙ (ap (λ (rs : List Meant). rs ++ meaning (view x) ∷ []) before
+        let within = slice_get_within words k word at in
+        let here = get_or_from_slice_get words k word word at in
+        ap (map meaning) (take_more words k word within)
+        ∙ (ap (λ (w : Factors). map meaning (take k words ++ w ∷ [])) here
+        ∙ (map-append meaning (take k words) (word ∷ [])
+        ∙ (ap (λ (rs : List Meant). rs ++ meaning word ∷ []) before
         ∙ (ap (λ (r : Meant). map Ok generators ++ r ∷ []) is
         ∙ (sym (map-append Ok generators (generator ∷ [])) ∙ ap (map Ok) (sym longer))))))
 
     -- it has no fault
-    pub none_more : (generator : List ℕ) → NoneBefore (map view xs) k → meaning (view (get_or xs k d)) ≡ Ok generator → NoneBefore (map view xs) (k + 1)
+    pub none_more : (generator : List ℕ) → NoneBefore words k → meaning word ≡ Ok generator → NoneBefore words (k + 1)
     none_more generator before is j e less fault = elim (cases_lt j k) [
       | inl sooner ↦ before j e sooner fault
       | inr last ↦ here (omega (arith, last, less))
@@ -137,22 +134,66 @@ module _ (parts : PresentationParts) where
       where
         here : j ≡ k → ⊥
         here same =
-            let P : ℕ → Type 0 = λ i. slice_get (map view xs) i ≡ Some fault.word in
-            no_fault_here (view (get_or xs k d)) fault.word generator e is (sym word_here ∙ subst P same fault.stands) fault.fault
+            let P : ℕ → Type 0 = λ i. slice_get words i ≡ Some fault.word in
+            no_fault_here word fault.word generator e is (sym at ∙ subst P same fault.stands) fault.fault
 
     -- its fault is the first of the list
-    pub word_fault : NoneBefore (map view xs) k → (error : SubError) → IsMemoryOr (IsFaultOf (meaning (view (get_or xs k d)))) error
-        → IsMemoryOr (IsFirstFault ◌<◌ (HasFaultAt parts (map view xs))) error
+    pub word_fault : NoneBefore words k → (error : SubError) → IsMemoryOr (IsFaultOf (meaning word)) error
+        → IsMemoryOr (IsFirstFault ◌<◌ (HasFaultAt parts words)) error
     word_fault before error fault =
-        memory_or_weaker (IsFaultOf (meaning (view (get_or xs k d)))) (IsFirstFault ◌<◌ (HasFaultAt parts (map view xs)))
+        memory_or_weaker (IsFaultOf (meaning word)) (IsFirstFault ◌<◌ (HasFaultAt parts words))
         (λ e has. record {
           check = k;
-          found = record { word = view (get_or xs k d); stands = word_here; fault = has };
+          found = record { word = word; stands = at; fault = has };
           first = λ j other less found. before j other less found;
         }) error fault
 
--- the places of words as the code has them
-pub map_viewed : (words : List (Bor Expr)) → map (λ (word : Bor Expr). Some (word_value (word_view word.now))) words
-    ≡ map (λ (word : Factors). Some (word_value word)) (map (λ (word : Bor Expr). word_view word.now) words)
-map_viewed [] = refl
-map_viewed (w ∷ ws) = ap (λ (ps : List (Option Value)). Some (word_value (word_view w.now)) ∷ ps) (map_viewed ws)
+-- ---- places
+
+-- what stands at the places of a list of words
+pub places_are : (value : Value) (words : List Factors) → value ≡ list_value (list_of_words words) → listed value ≡ map (λ (word : Factors). Some (word_value word)) words
+places_are value words is =
+    listed-is value (map (λ (word : Factors). Some (word_value word)) words) (is ∙ ap list_value (list_of_words-places_of words))
+
+-- the word at a place
+pub record WordAt (words : List Factors) (k : ℕ) (place : Option Value) : Type 0 where
+  pub word : Factors
+  pub at : slice_get words k ≡ Some word
+  pub is : place ≡ Some (word_value word)
+
+at_place : (words : List Factors) (k : ℕ) (place : Option Value) → slice_get (map (λ (word : Factors). Some (word_value word)) words) k ≡ Some place → WordAt words k place
+at_place [] k place stands = cc
+at_place (w ∷ words) zero place stands = record { word = w; at = refl; is = sym (inside stands) }
+  where
+    inside : {p q : Option Value} → Some p ≡ Some q → p ≡ q
+    inside e = cc
+at_place (w ∷ words) (suc k) place stands =
+    let rest = at_place words k place stands in record { word = rest.word; at = rest.at; is = rest.is }
+
+pub word_here : (value : Value) (words : List Factors) (k : ℕ) (place : Option Value) → value ≡ list_value (list_of_words words)
+    → slice_get (listed value) k ≡ Some place → WordAt words k place
+word_here value words k place is stands =
+    let P : List (Option Value) → Type 0 = λ ps. slice_get ps k ≡ Some place in at_place words k place (subst P (places_are value words is) stands)
+
+-- a value has as many words as places
+pub words_counted : (value : Value) (words : List Factors) → value ≡ list_value (list_of_words words) → length words ≡ length (listed value)
+words_counted value words is =
+    sym (length-map words (λ (word : Factors). Some (word_value word))) ∙ ap length (sym (places_are value words is))
+
+-- the first places hold words
+pub record AreWordsBefore (value : Value) (k : ℕ) : Type 0 where
+  pub words : List Factors
+  pub are : take k (listed value) ≡ map (λ (word : Factors). Some (word_value word)) words
+
+pub no_words_yet : (value : Value) → AreWordsBefore value 0
+no_words_yet value = record { words = []; are = refl }
+
+pub one_word_more : (value : Value) (k : ℕ) (place : Option Value) (word : Factors) → slice_get (listed value) k ≡ Some place → place ≡ Some (word_value word)
+    → AreWordsBefore value k → AreWordsBefore value (k + 1)
+one_word_more value k place word stands is before = record {
+  words = before.words ++ word ∷ [];
+  are = one_place_more (λ (w : Factors). Some (word_value w)) (listed value) k place stands before.words (before.words ++ word ∷ []) word before.are is refl;
+}
+
+pub same_word : {v w : Factors} → Some (word_value v) ≡ Some (word_value w) → v ≡ w
+same_word e = cc

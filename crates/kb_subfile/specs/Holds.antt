@@ -1,7 +1,7 @@
 -- What a text of a subgroup's generators holds.
 use Rattle.std.specs.Prelude.{◌≡◌, ℕ, ◌+◌, ◌≤◌, List, [], ◌∷◌, length, map, codes, Some, Ok}
 use Rattle.kb_word.specs.Presentations.{PresentationParts}
-use Rattle.kb_record.specs.Tree.{Factors, list_value, word_value, Fields, Places, no_places, place, TextTree, record_value}
+use Rattle.kb_record.specs.Tree.{Factors, Value, list_value, word_value, Fields, Places, no_places, place, TextTree, record_value}
 use Rattle.kb_record.specs.Grammar.{TextOf}
 use Rattle.kb_record.specs.Meaning.{word_meaning}
 use Rattle.kb_record.specs.Nesting.{deepest, text_nesting}
@@ -30,14 +30,20 @@ abbrev pub Mean : PresentationParts → List Factors → List (List ℕ) → Typ
 Mean parts words generators =
     map (word_meaning parts.names parts.inverses) words ≡ map Ok generators
 
+-- the value is a list of words, few enough, that mean the generators
+pub record Lists (parts : PresentationParts) (value : Value) (generators : List (List ℕ)) : Type 0 where
+  pub words : List Factors
+  pub listed : value ≡ list_value (list_of_words words)
+  pub few : AreFew parts words
+  pub mean : Mean parts words generators
+
 -- the fields of a text say these generators, over the presentation
 pub record HoldsGenerators (fields : Fields) (parts : PresentationParts)
     (generators : List (List ℕ)) : Type 0 where
   pub once : (name : List ℕ) → ¬ HasFieldTwice (record_value fields) name
-  pub words : List Factors
-  pub listed : HasWords fields words
-  pub few : AreFew parts words
-  pub mean : Mean parts words generators
+  pub value : Value
+  pub given : value_of fields field_name ≡ Some value
+  pub lists : Lists parts value generators
 
 -- the bytes are a text that says these generators, over the presentation
 pub record GeneratorsOf (bytes : List ℕ) (parts : PresentationParts)

@@ -1,21 +1,21 @@
 //! From bytes to the generators of a subgroup.
 
-ghost use Rattle.std.specs.Prelude.{◌↔◌, ◌+◌, ◌≤◌, ℕ, List, length, map, All, IsTrue, IfOk, IfErr, OnOk};
+ghost use Rattle.std.specs.Prelude.{◌≡◌, ◌↔◌, ◌+◌, ◌≤◌, ℕ, List, length, Some, All, IsTrue, IfOk, IfErr, OnOk};
 ghost use Rattle.kb_word.specs.Presentations.{PresentationParts, parts_of};
 ghost use Rattle.kb_word.specs.Relations.{IsOver};
-ghost use Rattle.kb_record.specs.Tree.{record_value};
-ghost use Rattle.kb_record.specs.View.{word_view};
-ghost use Rattle.kb_fields.specs.Fields.{fields_view, HasFieldTwice};
+ghost use Rattle.kb_record.specs.Tree.{Fields, record_value};
+ghost use Rattle.kb_record.specs.View.{value_view};
+ghost use Rattle.kb_fields.specs.Fields.{fields_view, value_of, HasFieldTwice};
 ghost use Rattle.kb_presfile.specs.Holds.{most_equations};
-ghost use Rattle.kb_subfile.specs.Checks.{is_there};
-ghost use Rattle.kb_subfile.specs.Holds.{HasWords, HoldsGenerators, GeneratorsOf};
+ghost use Rattle.kb_subfile.specs.Checks.{are_words};
+ghost use Rattle.kb_subfile.specs.Holds.{field_name, Lists, HoldsGenerators, GeneratorsOf};
 ghost use Rattle.kb_subfile.specs.Faults.{IsMemoryOr, IsFirstOf, IsFirstFrom, HasSubFault};
 
 use crate::error::SubError;
-use crate::words::{meanings, words_listed};
+use crate::words::{meanings, word_count};
 use kb_fields::{field_named, repeated_name};
 use kb_presfile::MOST_EQUATIONS;
-use kb_record::{Expr, Value, parse};
+use kb_record::{Value, parse};
 use kb_word::{Presentation, Word};
 use std::alloc::Global;
 
@@ -54,11 +54,32 @@ fn generators_of<'a>(
         (IsMemoryOr (IsFirstOf (parts_of presentation.now) (fields_view fields.now))) }
 {
     check_once(alloc, fields)?;
-    let words = words_of(alloc, fields)?;
-    if !are_few(words.len(), presentation.eqs.as_slice().len()) {
+    let Some(value) = field_named(fields, "subGenerators") else {
+        return Err(SubError::MissingField);
+    };
+    generators_in(alloc, value, presentation)
+}
+
+/// The generators that a value lists.
+fn generators_in<'a>(
+    alloc: Global,
+    value: &Value<'a>,
+    presentation: &Presentation,
+) -> Result<Vec<Word>, SubError>
+    ensures read { IfOk result (λ generators. Lists (parts_of presentation.now)
+        (value_view value.now) generators.items) }
+    ensures letters { IfOk result
+        (λ generators. All (IsOver (length presentation.now.names)) generators.items) }
+    ensures fault { (given : Fields) → value_of given field_name ≡ Some (value_view value.now)
+        → IfErr result (IsFirstFrom (parts_of presentation.now) given are_words) }
+{
+    let Some(count) = word_count(value) else {
+        return Err(SubError::WrongKind);
+    };
+    if !are_few(count, presentation.eqs.as_slice().len()) {
         return Err(SubError::TooManyEquations);
     }
-    meanings(alloc, words.as_slice(), presentation)
+    meanings(alloc, value, count, presentation)
 }
 
 /// Whether so many words and equations are no more together than a presentation may have.
@@ -78,24 +99,5 @@ fn check_once<'a>(alloc: Global, fields: &[(&'a str, Value<'a>)]) -> Result<(), 
     match repeated_name(alloc, fields)? {
         Some(field) => Err(SubError::FieldTwice { field }),
         None => Ok(()),
-    }
-}
-
-/// The words that the text lists.
-fn words_of<'r, 'a>(
-    alloc: Global,
-    fields: &'r [(&'a str, Value<'a>)],
-) -> Result<Vec<&'r Expr<'a>>, SubError>
-    ensures listed { IfOk result (λ words. HasWords (fields_view fields.now)
-        (map (λ word. word_view word.now) words.items)) }
-    ensures fault { IfErr result (λ error. (parts : PresentationParts)
-        → IsFirstFrom parts (fields_view fields.now) is_there error) }
-{
-    let Some(value) = field_named(fields, "subGenerators") else {
-        return Err(SubError::MissingField);
-    };
-    match words_listed(alloc, value)? {
-        Some(words) => Ok(words),
-        None => Err(SubError::WrongKind),
     }
 }

@@ -1,43 +1,32 @@
 //! Values that are lists of words, and the words that those mean.
 
-ghost use Rattle.std.specs.Prelude.{◌≡◌, ◌≢◌, ◌<◌, List, map, Some, IfOk, IfErr, IfSome, IfNone};
+ghost use Rattle.std.specs.Prelude.{◌≡◌, ◌≢◌, ◌<◌, List, length, Some, Ok, IfOk, IfErr, IfSome, IfNone};
 ghost use Rattle.kb_word.specs.Presentations.{parts_of};
 ghost use Rattle.kb_record.specs.Tree.{Factors, list_value, word_value};
 ghost use Rattle.kb_record.specs.View.{value_view, word_view};
 ghost use Rattle.kb_record.specs.Listed.{place_view};
+ghost use Rattle.kb_record.specs.Meaning.{word_meaning};
 ghost use Rattle.kb_fields.specs.FirstFaults.{IsFirstFault};
 ghost use Rattle.kb_subfile.specs.Holds.{list_of_words, Mean};
-ghost use Rattle.kb_subfile.specs.Faults.{HasFaultAt, IsMemoryOr};
+ghost use Rattle.kb_subfile.specs.Faults.{IsFaultOf, HasFaultAt, IsMemoryOr};
 
 use crate::error::SubError;
 use kb_record::{Expr, Place, Value, word_of};
-use kb_word::{Memory, Presentation, Word};
+use kb_word::{Presentation, Word};
 use std::alloc::Global;
 
-/// The words at the places of a value that is a list of words.
-pub fn words_listed<'r, 'a>(
-    alloc: Global,
-    value: &'r Value<'a>,
-) -> Result<Option<Vec<&'r Expr<'a>>>, Memory>
-    ensures listed { IfOk result
-        (λ words. IfSome words
-        (λ words. value_view value.now
-        ≡ list_value (list_of_words (map (λ word. word_view word.now) words.items)))) }
-    ensures other { IfOk result
-        (λ words. IfNone words
-        ((words : List Factors) → value_view value.now ≢ list_value (list_of_words words))) }
+/// How many words a value lists that is a list of words.
+pub fn word_count<'a>(value: &Value<'a>) -> Option<usize>
+    ensures listed { IfSome result (λ count. (words : List Factors) × (length words ≡ count)
+        × (value_view value.now ≡ list_value (list_of_words words))) }
+    ensures other { IfNone result
+        ((words : List Factors) → value_view value.now ≢ list_value (list_of_words words)) }
 {
-    let Some(count) = value.place_count() else {
-        return Ok(None);
-    };
-    let mut words = Vec::with_capacity(alloc, count)?;
+    let count = value.place_count()?;
     for place in 0..count {
-        let Some(word) = word_at(value.place(place)) else {
-            return Ok(None);
-        };
-        words.push(word)?;
+        word_at(value.place(place))?;
     }
-    Ok(Some(words))
+    Some(count)
 }
 
 /// The word at a place of a list.
@@ -53,21 +42,44 @@ fn word_at<'r, 'a>(place: Place<'r, 'a>) -> Option<&'r Expr<'a>>
     }
 }
 
-/// The words that trees of words mean, each before the next.
-pub fn meanings(
+/// The words that a list of so many words means, each before the next.
+pub fn meanings<'a>(
     alloc: Global,
-    words: &[&Expr<'_>],
+    value: &Value<'a>,
+    count: usize,
     presentation: &Presentation,
 ) -> Result<Vec<Word>, SubError>
-    ensures read { IfOk result (λ generators. Mean (parts_of presentation.now)
-        (map (λ word. word_view word.now) words.now) generators.items) }
-    ensures fault { IfErr result
-        (IsMemoryOr (IsFirstFault ◌<◌ (HasFaultAt (parts_of presentation.now)
-        (map (λ word. word_view word.now) words.now)))) }
+    requires { (words : List Factors) × (length words ≡ count)
+        × (value_view value.now ≡ list_value (list_of_words words)) }
+    ensures read { (words : List Factors) → value_view value.now ≡ list_value (list_of_words words)
+        → IfOk result (λ generators. Mean (parts_of presentation.now) words generators.items) }
+    ensures fault { (words : List Factors) → value_view value.now ≡ list_value (list_of_words words)
+        → IfErr result
+        (IsMemoryOr (IsFirstFault ◌<◌ (HasFaultAt (parts_of presentation.now) words))) }
 {
-    let mut generators = Vec::with_capacity(alloc, words.len())?;
-    for word in words {
-        generators.push(word_of(alloc, word, presentation)?)?;
+    let mut generators = Vec::with_capacity(alloc, count)?;
+    for place in 0..count {
+        generators.push(meaning_at(alloc, value.place(place), presentation)?)?;
     }
     Ok(generators)
+}
+
+/// The word that the word at a place of a list means.
+fn meaning_at(
+    alloc: Global,
+    place: Place<'_, '_>,
+    presentation: &Presentation,
+) -> Result<Word, SubError>
+    requires { (word : Factors) × (place_view place.entry ≡ Some (word_value word)) }
+    ensures read { (word : Factors) → place_view place.entry ≡ Some (word_value word)
+        → IfOk result (λ generator.
+        word_meaning presentation.now.names presentation.now.inv word ≡ Ok generator) }
+    ensures fault { (word : Factors) → place_view place.entry ≡ Some (word_value word)
+        → IfErr result (IsMemoryOr
+        (IsFaultOf (word_meaning presentation.now.names presentation.now.inv word))) }
+{
+    let Some(word) = word_at(place) else {
+        unreachable!();
+    };
+    Ok(word_of(alloc, word, presentation)?)
 }

@@ -33,6 +33,11 @@ pub record HoldsOtherOrder (files : Files) (name : List ℕ) : Type 0 where
   pub holds : HoldsPresentation files name parts
   pub other : parts.order ≢ ShortLex
 
+-- why the file of this name holds no presentation by shortlex
+abbrev pub IsShortlexFault : Files → List ℕ → FileFault → Type 0
+IsShortlexFault files name NeedsShortlex = HoldsOtherOrder files name
+IsShortlexFault files name fault = IsPresentationFault files name fault
+
 -- the generator of this name is the first that has no inverse
 pub record IsFirstWithoutInverse (names : List (List ℕ)) (inverses : List (Option ℕ))
     (generator : List ℕ) : Type 0 where

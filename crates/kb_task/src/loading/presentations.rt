@@ -11,7 +11,7 @@ ghost use Rattle.kb_presfile.specs.Holds.{most_equations};
 ghost use Rattle.kb_diff.specs.Groups.{EachInverts};
 ghost use Rattle.kb_proof.specs.Printable.{AreReadableNames};
 ghost use Rattle.kb_task.specs.Loads.{Files, IsHeld, IsCause, EndsAtLoad, OnlyLoads, LoadIsCounted};
-ghost use Rattle.kb_task.specs.Presentations.{HoldsPresentation, IsPresentationFault, IsGroupFault};
+ghost use Rattle.kb_task.specs.Presentations.{HoldsPresentation, IsPresentationFault, IsShortlexFault, IsGroupFault};
 ghost use Rattle.kb_task.specs.Runs.{FaultIsCounted};
 
 use super::{LoadStop, load_text};
@@ -83,6 +83,71 @@ fn presentation_of(alloc: Global, bytes: &[u8]) -> Result<Presentation, LoadStop
         Ok(presentation) => Ok(presentation),
         Err(PresError::Memory) => Err(LoadStop::Memory),
         Err(fault) => Err(LoadStop::Refused(FileFault::Presentation(fault))),
+    }
+}
+
+/// The presentation by shortlex that the file of this name holds, or the status of a run that ends there.
+pub fn load_shortlex<F: Shelf>(
+    alloc: Global,
+    file: OwnedText,
+    shelf: &mut F,
+) -> Result<Presentation, Status>
+    ensures holds { IsTrue (F.state shelf.old).told
+        → IfOk result (λ presentation.
+        HoldsPresentation (F.state shelf.old).holds file (parts_of presentation)) }
+    ensures few { IfOk result (λ presentation. length presentation.eqs ≤ most_equations) }
+    ensures names { IfOk result (λ presentation. AreReadableNames presentation.names) }
+    ensures shortlex { IfOk result (λ presentation. presentation.order ≡ ShortLex) }
+    ensures ends { IsTrue (F.state shelf.old).told
+        → IfErr result (EndsAtLoad (IsShortlexFault (F.state shelf.old).holds file) file) }
+    ensures fault { IfErr result (λ status. (input : SourceState) (output : SinkState)
+        → FaultIsCounted (outside (F.state shelf.old) input output)
+        (outside (F.state shelf.new) input output) status) }
+    ensures only_loads { OnlyLoads (F.state shelf.old) (F.state shelf.new) }
+{
+    match shortlex_in(alloc, file.as_str(), shelf) {
+        Ok(presentation) => Ok(presentation),
+        Err(stop) => Err(stop.status(file)),
+    }
+}
+
+/// The presentation by shortlex that the file of this name holds.
+fn shortlex_in<F: Shelf>(
+    alloc: Global,
+    name: &str,
+    shelf: &mut F,
+) -> Result<Presentation, LoadStop>
+    ensures holds { IsTrue (F.state shelf.old).told
+        → IfOk result (λ presentation.
+        HoldsPresentation (F.state shelf.old).holds name.now (parts_of presentation)) }
+    ensures few { IfOk result (λ presentation. length presentation.eqs ≤ most_equations) }
+    ensures names { IfOk result (λ presentation. AreReadableNames presentation.names) }
+    ensures shortlex { IfOk result (λ presentation. presentation.order ≡ ShortLex) }
+    ensures stops { IsTrue (F.state shelf.old).told
+        → IfErr result (IsCause (IsShortlexFault (F.state shelf.old).holds name.now)) }
+    ensures counted { IfErr result (LoadIsCounted (F.state shelf.old) (F.state shelf.new)) }
+    ensures only_loads { OnlyLoads (F.state shelf.old) (F.state shelf.new) }
+{
+    match presentation_in(alloc, name, shelf) {
+        Ok(presentation) => match look_at_order(&presentation) {
+            Ok(()) => Ok(presentation),
+            Err(stop) => Err(stop),
+        },
+        Err(stop) => Err(stop),
+    }
+}
+
+/// Stops at a presentation by another order than shortlex.
+fn look_at_order(presentation: &Presentation) -> Result<(), LoadStop>
+    ensures shortlex { OnOk result (presentation.now.order ≡ ShortLex) }
+    ensures stops { (files : Files) (name : List ℕ)
+        → HoldsPresentation files name (parts_of presentation.now)
+        → IfErr result (IsCause (IsShortlexFault files name)) }
+    ensures unfailed { (a b : ShelfState) → IfErr result (LoadIsCounted a b) }
+{
+    match presentation.order {
+        WordOrder::ShortLex => Ok(()),
+        WordOrder::WtLex(_) => Err(LoadStop::Refused(FileFault::NeedsShortlex)),
     }
 }
 

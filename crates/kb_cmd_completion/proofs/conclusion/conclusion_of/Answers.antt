@@ -3,7 +3,7 @@ use Rattle.kb_word.specs.Presentations.{PresentationParts, parts_of}
 use Rattle.kb_system.specs.Ended.{EndsAs}
 use Rattle.kb_system.specs.declared.ending.Ending.{Ending}
 use Rattle.kb_cmd_completion.specs.Given.{KbprogGiven}
-use Rattle.kb_cmd_completion.proofs.LimitLemmas.{shown-halted, shown-too_large}
+use Rattle.kb_evidence.proofs.ShownLemmas.{shown-halted, shown-too_large}
 use Rattle.kb_cmd_completion.proofs.conclusion.conclusion_of.Goals as goal
 
 pub completed-requires : goal.completed-requires
@@ -19,7 +19,7 @@ returns-in_ok-halted-in-Halted c =
     let at = c.in-Halted in
     let ends = subst (λ (e : Ending). EndsAs given.limits parts e) at.is c.requires in
     let file : c.task.inside.file ≡ given.file = ap (λ (it : KbprogGiven). it.file) c.task.view_is in
-    shown-halted given parts c.task.inside.file file c.in_ok-halted-in-Halted.field-0 at.shown.lines.items at.shown.waiting at.shown.rules.rules
+    shown-halted given.limits given.file parts c.task.inside.file file c.in_ok-halted-in-Halted.field-0 at.shown.lines.items at.shown.waiting at.shown.rules.rules
     at.shown.reached ends.1 c.in_ok-halted-in-Halted.ensures
 
 pub returns-in_ok-too_large-in-TooLarge : goal.returns-in_ok-too_large-in-TooLarge
@@ -29,5 +29,5 @@ returns-in_ok-too_large-in-TooLarge c =
     let at = c.in-TooLarge in
     let ends = subst (λ (e : Ending). EndsAs given.limits parts e) at.is c.requires in
     let file : c.task.inside.file ≡ given.file = ap (λ (it : KbprogGiven). it.file) c.task.view_is in
-    shown-too_large given parts c.task.inside.file file c.in_ok-too_large-in-TooLarge.field-0 at.lines.items at.rules.rules
+    shown-too_large given.limits given.file parts c.task.inside.file file c.in_ok-too_large-in-TooLarge.field-0 at.lines.items at.rules.rules
     ends.1 c.in_ok-too_large-in-TooLarge.ensures

@@ -11,7 +11,8 @@ use Rattle.kb_cmd_completion.specs.Files.{AreCompleted}
 use Rattle.kb_cmd_completion.specs.Given.{KbprogGiven}
 use Rattle.kb_cmd_completion.specs.Kbprog.{kbprog_may_store, kbprog_own, kbprog_shows}
 use Rattle.kb_cmd_completion.specs.declared.conclusion.Conclusion.{Conclusion}
-use Rattle.kb_cmd_completion.proofs.LimitLemmas.{completed_differ, completed_may, shows_differ, shows_may}
+use Rattle.kb_evidence.proofs.ShownLemmas.{shows_differ}
+use Rattle.kb_cmd_completion.proofs.LimitLemmas.{completed_differ, completed_may, shows_may}
 use Rattle.kb_cmd_completion.proofs.kbprog.conclude.Goals as goal
 
 pub store_and_answer-requires-clause-differ : goal.store_and_answer-requires-clause-differ

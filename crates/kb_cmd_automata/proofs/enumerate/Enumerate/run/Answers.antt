@@ -1,5 +1,5 @@
 use Rattle.kb_task.proofs.RunLemmas.{run-ends, unchanged-loads}
-use Rattle.kb_cmd_automata.specs.Enumerate.{WordsArePrinted}
+use Rattle.kb_listing.specs.Asked.{WordsArePrinted}
 use Rattle.kb_cmd_automata.specs.Loaded.{at_load, loaded}
 use Rattle.kb_cmd_automata.proofs.RunLemmas.{run-lines}
 use Rattle.kb_cmd_automata.proofs.enumerate.Enumerate.run.Goals as goal

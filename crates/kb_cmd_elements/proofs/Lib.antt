@@ -1,0 +1,3 @@
+pub mod BallLemmas
+pub mod LineLemmas
+pub mod RunLemmas

@@ -1,0 +1,55 @@
+-- What a run of `ball` means by its status.
+use Rattle.std.specs.Prelude.{◌≡◌, ℕ, ◌⊎◌, List}
+use Rattle.kb_io.specs.Outside.{Outside, IsUnchanged}
+use Rattle.kb_word.specs.Presentations.{PresentationParts}
+use Rattle.kb_word.specs.declared.word_order.WordOrder.TheVariants.{ShortLex}
+use Rattle.kb_task.specs.Automata.{IsUnrefused}
+use Rattle.kb_task.specs.Loads.{EndsAtLoad}
+use Rattle.kb_task.specs.Presentations.{HoldsPresentation, IsShortlexFault}
+use Rattle.kb_task.specs.Promises.{Promise}
+use Rattle.kb_task.specs.Statuses.{AnswersYesOrLimit, IsYes}
+use Rattle.kb_task.specs.declared.status.Status.{Status}
+use Rattle.kb_evidence.specs.Files.{rules_file, log_file}
+use Rattle.kb_evidence.specs.Shown.{ShowsLimit}
+use Rattle.kb_answering.specs.Answers.{Own, Shows, AnswersMean}
+use Rattle.kb_listing.specs.Printing.{OnlyPrints}
+use Rattle.kb_cmd_elements.specs.Balls.{BallIsPrinted}
+use Rattle.kb_cmd_elements.specs.Given.{BallGiven}
+
+-- no files belong to the presentation: a ball is printed, and stores none
+abbrev pub no_files : Own
+no_files = λ parts texts. ⊥
+
+-- what shows that the completion reached a limit
+abbrev pub ball_shows : BallGiven → Shows
+ball_shows given = ShowsLimit given.limits given.file
+
+-- what each status means once the presentation has been read: the ball was printed, or a limit was shown
+abbrev pub BallAnswers : BallGiven → PresentationParts → Outside → Outside → Status → Type 0
+BallAnswers given parts before after status =
+    OnlyPrints (BallIsPrinted parts given.radius) before after status
+    ⊎ AnswersMean no_files (ball_shows given) parts before after status
+
+-- What each status means: the run ended at the load of the file, or the file holds a presentation by shortlex.
+abbrev pub BallMeans : BallGiven → Outside → Outside → Status → Type 0
+BallMeans given before after status =
+    (EndsAtLoad (IsShortlexFault before.shelf.holds given.file) given.file status
+    × IsUnchanged before after)
+    ⊎ ((parts : PresentationParts) × HoldsPresentation before.shelf.holds given.file parts
+    × (parts.order ≡ ShortLex) × BallAnswers given parts before after status)
+
+abbrev pub ball_may_store : BallGiven → List ℕ → Type 0
+ball_may_store given name = (name ≡ rules_file given.file) ⊎ (name ≡ log_file given.file)
+
+-- Which limit is reached may depend on the course of the completion. Another of the same radius on the same file is the same
+-- but for its workers and its limits.
+abbrev pub ball_promise : BallGiven → Promise BallGiven
+ball_promise given = record {
+  means = BallMeans given;
+  may_store = ball_may_store given;
+  reads = λ name. name ≡ given.file;
+  is_unrefused = λ before. IsUnrefused (IsShortlexFault before.shelf.holds given.file);
+  answers = AnswersYesOrLimit;
+  settles = IsYes;
+  differs_in_options = λ other. (given.file ≡ other.file) × (given.radius ≡ other.radius);
+}

@@ -1,0 +1,19 @@
+-- What a completion came to.
+use Rattle.std.specs.Prelude.{◌≡◌, List}
+use Rattle.kb_word.specs.Words.{Pair}
+use Rattle.kb_word.specs.Presentations.{PresentationParts, parts_of}
+use Rattle.kb_system.specs.Completed.{IsCompletion}
+use Rattle.kb_evidence.specs.Shown.{ShowsLimit}
+use Rattle.kb_task.specs.Stores.{texts_of}
+use Rattle.kb_cmd_elements.specs.Given.{BallGiven}
+use Rattle.kb_cmd_elements.specs.declared.outcome.Outcome.{Outcome}
+use Rattle.kb_cmd_elements.specs.declared.outcome.Outcome.TheVariants.{Completed, Limit}
+
+-- the presentation with its word acceptor; or what shows a limit
+abbrev pub ComesTo : BallGiven → PresentationParts → Outcome → Type 0
+ComesTo given parts (Completed presentation acceptor) =
+    (parts_of presentation ≡ parts)
+    × ((rules : List Pair) × IsCompletion parts rules acceptor)
+ComesTo given parts (Limit evidence) =
+    ShowsLimit given.limits given.file parts evidence.limit
+    (texts_of evidence.files.items) evidence.line.items

@@ -1,0 +1,52 @@
+//! Commands from their arguments and options.
+
+ghost use Rattle.std.specs.Prelude.{IfOk};
+ghost use Rattle.clap.specs.Words.{found_of, rows_of};
+ghost use Rattle.kb_cmd_elements.specs.Line.{IsRead};
+ghost use Rattle.kb_cmd_elements.specs.declared.line.name.Name.TheVariants as names;
+
+use super::name::Name;
+use crate::ball::Ball;
+use crate::task::ElementsTask;
+use clap::ArgMatches;
+use kb_options::limits_given;
+use kb_task::{NumberOption, length_given, option_given, text_given};
+use kb_word::{Memory, OwnedText};
+use std::alloc::Global;
+
+/// The command of the name that the matches give.
+pub(super) fn task_given(
+    alloc: Global,
+    name: Name,
+    matches: &ArgMatches<'_>,
+) -> Result<Option<ElementsTask>, Memory>
+    ensures { IfOk result (IsRead name (rows_of (found_of matches.now))) }
+{
+    match name {
+        Name::Ball => ball_given(alloc, matches),
+    }
+}
+
+/// The command that the matches of `ball` give.
+fn ball_given(alloc: Global, matches: &ArgMatches<'_>) -> Result<Option<ElementsTask>, Memory>
+    ensures { IfOk result (IsRead names.Ball (rows_of (found_of matches.now))) }
+{
+    let Some(file) = text_given(matches, "file") else {
+        return Ok(None);
+    };
+    let Some(radius) = length_given(matches, "radius") else {
+        return Ok(None);
+    };
+    let Some(workers) = option_given(matches, NumberOption::Workers) else {
+        return Ok(None);
+    };
+    let Some(limits) = limits_given(matches) else {
+        return Ok(None);
+    };
+    Ok(Some(ElementsTask::Ball(Ball {
+        file: OwnedText::from_str(alloc, file)?,
+        radius,
+        workers,
+        limits,
+    })))
+}

@@ -1,0 +1,4 @@
+pub mod Asked
+pub mod AskedLaws
+pub mod Listed
+pub mod Printing
