@@ -1,5 +1,5 @@
--- The names of the commands of completion, of those on automatic structures, and of those about proofs are apart from
--- those of other families.
+-- The names of the commands of completion, of those on elements, of those on automatic structures, and of those about
+-- proofs are apart from those of other families.
 use Rattle.std.proofs.Common.{◌≡◌, ◌≢◌, ◌<◌, ◌≤◌, ◌∙◌, ℕ, sym, ap, arith, slice_index, refl, codes}
 use Rattle.clap.specs.Words.{Text}
 use Rattle.kb_cmd_automata.specs.Line.{name_text as automata_text, name_of_task as automata_name}
@@ -8,6 +8,9 @@ use Rattle.kb_cmd_automata.proofs.NameLemmas.{names_begin_with_f}
 use Rattle.kb_cmd_completion.specs.Line.{name_text, name_of_task}
 use Rattle.kb_cmd_completion.specs.declared.task.CompletionTask.{CompletionTask}
 use Rattle.kb_cmd_completion.specs.declared.task.CompletionTask.TheVariants.{Kbprog, Logread, SelfTest}
+use Rattle.kb_cmd_elements.specs.Line.{name_text as elements_text, name_of_task as elements_name}
+use Rattle.kb_cmd_elements.specs.declared.task.ElementsTask.{ElementsTask}
+use Rattle.kb_cmd_elements.specs.declared.task.ElementsTask.TheVariants.{Ball}
 use Rattle.kb_cmd_structures.specs.Line.{name_text as structures_text, name_of_task as structures_name}
 use Rattle.kb_cmd_structures.specs.declared.task.StructuresTask.{StructuresTask}
 use Rattle.kb_cmd_structures.specs.declared.task.StructuresTask.TheVariants.{Autgroup, Gpaxioms, Gpminkb}
@@ -111,6 +114,36 @@ structures_not_completion task other same =
     let own = structures_begins other in
     let apart : begin task ≡ structures_begin other = sym first ∙ (bytes ∙ own) in
     omega (arith, apart, begin_above task, structures_begin_within other)
+
+-- ---- names on elements
+
+-- the first byte is that of b
+elements_begins : (task : ElementsTask) → first_byte (elements_text (elements_name task)) ≡ 98
+unfolding first_byte
+elements_begins (Ball task) = refl
+
+pub elements_not_wordreduce : (task : ElementsTask) → codes "wordreduce" ≢ elements_text (elements_name task)
+elements_not_wordreduce task same =
+    let apart : 119 ≡ 98 = sym begins_with_w ∙ (ap first_byte same ∙ elements_begins task) in
+    omega (arith, apart)
+
+pub elements_not_automata : (task : AutomataTask) (other : ElementsTask) → automata_text (automata_name task) ≢ elements_text (elements_name other)
+elements_not_automata task other same =
+    let apart : 102 ≡ 98 = sym (begins_with_f task) ∙ (ap first_byte same ∙ elements_begins other) in
+    omega (arith, apart)
+
+pub elements_not_completion : (task : CompletionTask) (other : ElementsTask) → name_text (name_of_task task) ≢ elements_text (elements_name other)
+elements_not_completion task other same =
+    let apart : begin task ≡ 98 = sym (begins task) ∙ (ap first_byte same ∙ elements_begins other) in
+    omega (arith, apart, begin_above task)
+
+structures_begin_apart : (task : StructuresTask) → structures_begin task ≢ 98
+structures_begin_apart (Autgroup task) = λ same. omega (arith, same)
+structures_begin_apart (Gpaxioms task) = λ same. omega (arith, same)
+
+pub structures_not_elements : (task : ElementsTask) (other : StructuresTask) → elements_text (elements_name task) ≢ structures_text (structures_name other)
+structures_not_elements task other same =
+    structures_begin_apart other (sym (structures_begins other) ∙ (sym (ap first_byte same) ∙ elements_begins task))
 
 -- ---- names about proofs
 

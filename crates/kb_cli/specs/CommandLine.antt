@@ -7,12 +7,13 @@ use Rattle.kb_task.specs.Arguments.{Entered}
 use Rattle.kb_cmd_words.specs.Line.{with_wordreduce, IsWordReduce}
 use Rattle.kb_cmd_automata.specs.Line.{with_automata, IsAutomataTask}
 use Rattle.kb_cmd_completion.specs.Line.{with_completions, IsCompletionTask}
+use Rattle.kb_cmd_elements.specs.Line.{with_elements, IsElementsTask}
 use Rattle.kb_cmd_structures.specs.Line.{with_structures, IsStructuresTask}
 use Rattle.kb_cmd_proofs.specs.Line.{with_proofs, IsProofsTask}
 use Rattle.kb_cli.specs.declared.arguments.UsageError.{UsageError}
 use Rattle.kb_cli.specs.declared.arguments.UsageError.TheVariants.{Usage, Memory}
 use Rattle.kb_cli.specs.declared.command.Command.{Command}
-use Rattle.kb_cli.specs.declared.command.Command.TheVariants.{WordReduce, Automata, Completion, Structures, Proofs}
+use Rattle.kb_cli.specs.declared.command.Command.TheVariants.{WordReduce, Automata, Completion, Elements, Structures, Proofs}
 
 -- the program without commands; the arguments begin after the program's name, and `--version` may be among them
 abbrev pub bare_app : App
@@ -28,13 +29,14 @@ bare_app = record (new_app (codes "kb")) {
 -- the program with its commands
 abbrev pub line_app : App
 line_app =
-    with_automata (with_proofs (with_structures (with_completions (with_wordreduce bare_app))))
+    with_automata (with_elements (with_proofs (with_structures (with_completions (with_wordreduce bare_app)))))
 
 -- the subcommand that was entered is the command
 abbrev pub IsCommand : Entered → Command → Type 0
 IsCommand entered (WordReduce task) = IsWordReduce entered task
 IsCommand entered (Automata task) = IsAutomataTask entered task
 IsCommand entered (Completion task) = IsCompletionTask entered task
+IsCommand entered (Elements task) = IsElementsTask entered task
 IsCommand entered (Structures task) = IsStructuresTask entered task
 IsCommand entered (Proofs task) = IsProofsTask entered task
 

@@ -79,6 +79,9 @@ fn entered_command(alloc: Global, matches: &ArgMatches<'_>) -> Result<Option<Com
     if let Some(task) = kb_cmd_completion::entered_command(alloc, matches)? {
         return Ok(Some(Command::Completion(task)));
     }
+    if let Some(task) = kb_cmd_elements::entered_command(alloc, matches)? {
+        return Ok(Some(Command::Elements(task)));
+    }
     if let Some(task) = kb_cmd_structures::entered_command(alloc, matches)? {
         return Ok(Some(Command::Structures(task)));
     }

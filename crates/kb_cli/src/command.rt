@@ -2,6 +2,7 @@
 
 use kb_cmd_automata::AutomataTask;
 use kb_cmd_completion::CompletionTask;
+use kb_cmd_elements::ElementsTask;
 use kb_cmd_proofs::ProofsTask;
 use kb_cmd_structures::StructuresTask;
 use kb_cmd_words::WordReduce;
@@ -20,6 +21,8 @@ pub enum Command {
     Automata(AutomataTask),
     /// Complete presentations.
     Completion(CompletionTask),
+    /// List elements.
+    Elements(ElementsTask),
     /// Check automatic structures.
     Structures(StructuresTask),
     /// Check logs.
@@ -60,6 +63,7 @@ impl Command {
             Command::WordReduce(task) => task.run(rt, alloc, shelf, input, out, err),
             Command::Automata(task) => task.run(alloc, shelf, input, out),
             Command::Completion(task) => task.run(rt, alloc, gate, shelf, input, out, err),
+            Command::Elements(task) => task.run(rt, alloc, gate, shelf, input, out, err),
             Command::Structures(task) => task.run(rt, alloc, gate, shelf, input, out, err),
             Command::Proofs(task) => task.run(alloc, shelf, input, out),
         }

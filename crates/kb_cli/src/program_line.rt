@@ -15,6 +15,7 @@ pub(crate) fn program_line<'a>(alloc: Global) -> Result<clap::Command<'a>, Alloc
     let program = kb_cmd_completion::add_commands(alloc, program)?;
     let program = kb_cmd_structures::add_commands(alloc, program)?;
     let program = kb_cmd_proofs::add_commands(alloc, program)?;
+    let program = kb_cmd_elements::add_commands(alloc, program)?;
     kb_cmd_automata::add_commands(alloc, program)
 }
 
@@ -52,6 +53,9 @@ pub(crate) fn command_line_of<'a>(
     if let Some(command) = kb_cmd_completion::command_named(alloc, name)? {
         return command.bin_name(called.as_str());
     }
+    if let Some(command) = kb_cmd_elements::command_named(alloc, name)? {
+        return command.bin_name(called.as_str());
+    }
     if let Some(command) = kb_cmd_structures::command_named(alloc, name)? {
         return command.bin_name(called.as_str());
     }
@@ -71,6 +75,7 @@ Status 0 is a theorem: the answer to each word line is the least word equal to i
 const AFTER_HELP: &str = "\
 Words and completion: wordreduce, kbprog, logread
 Automatic structures: autgroup, gpaxioms, gpminkb
+Elements:             ball
 Proofs by logs:       kbverify
 Automata:             fsaand to fsaenumerate
 The program itself:   selftest, help

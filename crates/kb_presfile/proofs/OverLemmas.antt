@@ -10,7 +10,7 @@ use Rattle.kb_word.specs.declared.word_order.WordOrder.{WordOrder}
 use Rattle.kb_word.specs.Relations.{inverse_letter, inverse_word, IsOver, IsPresentation}
 use Rattle.kb_word.specs.Words.{Pair, OneOf}
 use Rattle.kb_record.specs.Tree.{Factor, named, grouped, Factors, no_factors, factor, Places}
-use Rattle.kb_record.specs.Meaning.{WordFault, too_long, most_letters, letter_from, name_meaning, repeated, repetition, power_meaning, and_then, product, factor_meaning, product_meaning, word_meaning}
+use Rattle.kb_record.specs.Meaning.{WordFault, too_long, most_letters, letter_from, name_meaning, repeated, repetition, power_meaning, and_then, product, factor_meaning, product_meaning}
 use Rattle.kb_record.proofs.WordMeanings.{name_known, name_unknown}
 use Rattle.kb_presfile.specs.Holds.{AreMutual, AreMeanings, AreEquations}
 use Rattle.kb_presfile.proofs.InverseLemmas.{letter_within, inverse_read}
@@ -121,9 +121,6 @@ module _ (names : List (List ℕ)) (inverses : List (Option ℕ)) (both_ways : A
         let joined = All-append (λ x. (0 < x) × (x ≤ length names)) so_far last.between over (factor_over next last.between last.was) in
         product_over others whole.between v
         (subst P (unless_long (nat_lt most_letters (length so_far + length last.between)) (so_far ++ last.between) whole.between last.gave) joined) whole.gave
-
-  pub word_over : (factors : Factors) (v : List ℕ) → word_meaning names inverses factors ≡ Ok v → IsOver (length names) v
-  word_over factors v e = product_over factors [] v (over_none (length names)) e
 
   pairs_over : (sides : List (Factors × Factors)) (pairs : List Pair) → AreMeanings names inverses sides pairs → (pair : Pair) → OneOf pairs pair
       → IsOver (length names) pair.0 × IsOver (length names) pair.1

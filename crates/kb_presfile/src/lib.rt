@@ -66,7 +66,6 @@ mod order;
 mod reader;
 mod values;
 
-pub use equations::MOST_EQUATIONS;
 pub use error::{Field, PresError};
 pub use laws::{
     a_presentation_file_has_no_fault, a_presentation_file_has_one_fault,

@@ -4,7 +4,7 @@ use Rattle.std.proofs.lemmas.Bool.{cases_lt}
 use Rattle.std.proofs.lemmas.List.{length-map, map-append, take_more}
 use Rattle.std.proofs.lemmas.Option.{get_or_from_slice_get, same_Some, slice_get_within}
 use Rattle.kb_word.specs.Presentations.{PresentationParts}
-use Rattle.kb_word.specs.Relations.{IsOver}
+use Rattle.kb_word.specs.Relations.{IsOver, IsPresentation}
 use Rattle.kb_record.specs.Tree.{Factors, Value, list_value, word_value, Fields, place}
 use Rattle.kb_record.specs.Meaning.{WordFault, word_meaning}
 use Rattle.kb_record.specs.View.{places_of}
@@ -12,8 +12,10 @@ use Rattle.kb_record.specs.Listed.{listed}
 use Rattle.kb_record.proofs.Views.{listed-is}
 use Rattle.kb_fields.specs.FirstFaults.{IsFirstFault}
 use Rattle.kb_fields.proofs.ListingLemmas.{places_of-injective, list_same, one_place_more, some_value}
-use Rattle.kb_presfile.specs.Holds.{AreMutual}
-use Rattle.kb_presfile.proofs.OverLemmas.{word_over}
+use Rattle.kb_word.specs.declared.word_order.WordOrder.TheVariants as orders
+use Rattle.kb_presfile.specs.Holds.{AreMutual, AreEquations}
+use Rattle.kb_presfile.specs.Kinds.{list_of_equations}
+use Rattle.kb_presfile.proofs.OverLemmas.{equations_over}
 use Rattle.kb_subfile.specs.Holds.{field_name, list_of_words, HasWords, Mean}
 use Rattle.kb_subfile.specs.Faults.{IsFaultOf, HasFaultAt, IsMemoryOr}
 use Rattle.kb_subfile.specs.declared.error.SubError.{SubError}
@@ -68,6 +70,25 @@ oks_same [] (w ∷ ws) e = cc
 oks_same (v ∷ vs) [] e = cc
 oks_same (v ∷ vs) (w ∷ ws) e =
     ap (λ (u : List ℕ). u ∷ vs) (ok_same (first_same e)) ∙ ap (λ (us : List (List ℕ)). w ∷ us) (oks_same vs ws (others_same e))
+
+no_weights : (n : ℕ) (weights : List ℕ) → orders.ShortLex ≡ orders.WtLex weights → length weights ≡ n
+no_weights n weights is = cc
+
+-- the letters of a word's meaning are generators, as those of an equation's sides are
+word_over : (names : List (List ℕ)) (inverses : List (Option ℕ)) → AreMutual inverses → length inverses ≡ length names
+    → (word : Factors) (generator : List ℕ) → word_meaning names inverses word ≡ Ok generator → IsOver (length names) generator
+word_over names inverses both_ways one_each word generator means = (presents.letters (generator, generator) (0, refl)).0
+  where
+    sides : List (Factors × Factors)
+    sides = (word, word) ∷ []
+
+    are : AreEquations names inverses (list_of_equations sides) ((generator, generator) ∷ [])
+    are = record { sides = sides; listed = refl; meanings = (means, means, refl) }
+
+    presents : IsPresentation (length names) orders.ShortLex names inverses ((generator, generator) ∷ [])
+    presents =
+        equations_over names inverses both_ways one_each (length names) orders.ShortLex (list_of_equations sides) ((generator, generator) ∷ []) refl
+        (no_weights (length names)) are
 
 module _ (parts : PresentationParts) where
   abbrev meaning : Factors → Meant

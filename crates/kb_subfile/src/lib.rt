@@ -25,7 +25,7 @@
 //! - `proofs/FaultLemmas.antt`: what is refused is the first fault.
 //! - `proofs/OneFault.antt`: a text has one fault at most, and none where it says generators.
 //!
-//! Below are `kb_presfile`, with the most equations that there may be, `kb_fields`, `kb_record`, which reads trees and
+//! Below are `kb_presfile`, whose definitions say how many equations there may be, `kb_fields`, `kb_record`, which reads trees and
 //! evaluates words, and `kb_word`.
 #![tactic(auto)]
 

@@ -14,10 +14,12 @@ ghost use Rattle.kb_subfile.specs.Faults.{IsMemoryOr, IsFirstOf, IsFirstFrom, Ha
 use crate::error::SubError;
 use crate::words::{meanings, word_count};
 use kb_fields::{field_named, repeated_name};
-use kb_presfile::MOST_EQUATIONS;
 use kb_record::{Value, parse};
 use kb_word::{Presentation, Word};
 use std::alloc::Global;
+
+/// A presentation has at most so many equations.
+const MOST_EQUATIONS: usize = 65535;
 
 /// Reads a file of a subgroup's generators, which are words of a presentation.
 ///
