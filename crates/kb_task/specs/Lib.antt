@@ -14,3 +14,4 @@ pub mod Limits
 pub mod Lines
 pub mod Arguments
 pub mod Stops
+pub mod Subgroups

@@ -47,6 +47,7 @@ pub use loading::automata::{
 };
 pub use loading::logs::{load_derivations, load_log, stored_logs_are_read};
 pub use loading::presentations::{load_group, load_presentation, load_shortlex};
+pub use loading::subgroups::{load_markable, load_subgroup};
 pub use loading::{LoadStop, load_text};
 pub use status::{Cert, Construction, FileFault, Limit, Refusal, Status, Which};
 pub use stopping::status_of;

@@ -11,6 +11,7 @@ use std::alloc::Global;
 pub(crate) mod automata;
 pub(crate) mod logs;
 pub(crate) mod presentations;
+pub(crate) mod subgroups;
 
 /// A file has at most so many bytes.
 const MOST_FILE: usize = 16_777_216;

@@ -7,6 +7,7 @@ use kb_presfile::PresError;
 use kb_proof::{LogError, Why};
 use kb_record::WordError;
 use kb_structure::Cert as StructureCert;
+use kb_subfile::SubError;
 use kb_word::{Letter, OwnedText, Word};
 use std::fmt;
 
@@ -53,6 +54,8 @@ pub enum FileFault {
     Automaton(FsaError),
     /// It holds no log.
     Log(LogError),
+    /// It holds no generators of a subgroup.
+    Subgroup(SubError),
     /// It holds a log without derivations, where they are needed.
     NoDerivations,
     /// It holds an automaton of pairs, where a plain one is needed.
@@ -66,6 +69,10 @@ pub enum FileFault {
     /// It holds a presentation in which the generator of this name, and none before it, has no inverse, where a group's
     /// is needed.
     NotGroup(OwnedText),
+    /// It holds a presentation with as many generators as there may be, where one more is needed.
+    NoRoom,
+    /// It holds a presentation with a generator `_H`, where that is the marker of cosets.
+    MarkerTaken,
 }
 
 /// A limit that was reached.
@@ -169,12 +176,15 @@ impl fmt::Display for FileFault {
             FileFault::Presentation(fault) => write!(f, "{fault}"),
             FileFault::Automaton(fault) => write!(f, "{fault}"),
             FileFault::Log(fault) => write!(f, "{fault}"),
+            FileFault::Subgroup(fault) => write!(f, "{fault}"),
             FileFault::NoDerivations => write!(f, "E27 NoDerivations"),
             FileFault::NotPlain => write!(f, "E18 AlphabetOther"),
             FileFault::NotPairs => write!(f, "E20 NotPairs"),
             FileFault::AlphabetsDiffer => write!(f, "E22 AlphabetsDiffer"),
             FileFault::NeedsShortlex => write!(f, "E30 NeedsShortlex"),
             FileFault::NotGroup(generator) => write!(f, "E23 NotGroup {generator}"),
+            FileFault::NoRoom => write!(f, "E9 TooManyGenerators"),
+            FileFault::MarkerTaken => write!(f, "E8 NameTaken _H"),
         }
     }
 }

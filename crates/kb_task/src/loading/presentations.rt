@@ -179,7 +179,11 @@ pub fn load_group<F: Shelf>(
 }
 
 /// The presentation of a group by shortlex that the file of this name holds.
-fn group_in<F: Shelf>(alloc: Global, name: &str, shelf: &mut F) -> Result<Presentation, LoadStop>
+pub(super) fn group_in<F: Shelf>(
+    alloc: Global,
+    name: &str,
+    shelf: &mut F,
+) -> Result<Presentation, LoadStop>
     ensures holds { IsTrue (F.state shelf.old).told
         → IfOk result (λ presentation.
         HoldsPresentation (F.state shelf.old).holds name.now (parts_of presentation)) }
