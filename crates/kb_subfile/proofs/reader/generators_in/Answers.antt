@@ -10,3 +10,27 @@ use Rattle.kb_subfile.proofs.reader.generators_in.Goals as goal
 pub returns-in_default-clause-fault : goal.returns-in_default-clause-fault
 returns-in_default-clause-fault c = λ given is free.
     kind_fault (parts_of c.args.presentation.now) given (value_view c.args.value.now) is c.in_default.ensures.other free
+
+pub returns-clause-read : goal.returns-clause-read
+returns-clause-read c =
+    let words = c.in-Some.ensures.listed.0 in
+    IfOk_then c.meanings.result (c.meanings.ensures.read words c.in-Some.ensures.listed.2) (λ generators mean. record {
+      words = words;
+      listed = c.in-Some.ensures.listed.2;
+      few = ?;
+      mean = mean;
+    })
+
+pub returns-clause-letters : goal.returns-clause-letters
+returns-clause-letters c =
+    let parts = parts_of c.args.presentation.now in
+    let given = c.args.presentation.now.is_presentation in
+    let words = c.in-Some.ensures.listed.0 in
+    IfOk_then c.meanings.result (c.meanings.ensures.read words c.in-Some.ensures.listed.2) (λ generators mean.
+    all_over parts given.mutual_inverses (given.one_inverse_each ∙ sym given.one_name_each) words generators.items mean)
+
+pub returns-clause-fault : goal.returns-clause-fault
+returns-clause-fault c = λ given is.
+    let words = c.in-Some.ensures.listed.0 in
+    IfErr_then c.meanings.result (c.meanings.ensures.fault words c.in-Some.ensures.listed.2) (λ error fault free.
+    words_fault (parts_of c.args.presentation.now) given words (is ∙ ap Some c.in-Some.ensures.listed.2) free ? error fault)
