@@ -1,6 +1,7 @@
 -- Lists of words, element by element, and the words that they mean.
 use Rattle.std.proofs.Common.{◌≡◌, ℕ, zero, suc, ◌+◌, ◌<◌, ◌≤◌, inl, inr, List, [], ◌∷◌, ◌++◌, length, map, take, get_or, slice_get, All, Option, None, Some, Result, Ok, Err, refl, sym, ap, subst, ◌∙◌, arith}
 use Rattle.std.proofs.lemmas.Bool.{cases_lt}
+use Rattle.std.proofs.lemmas.List.Elements.{All-cons, All-nil}
 use Rattle.std.proofs.lemmas.List.{length-map, map-append, take_more}
 use Rattle.std.proofs.lemmas.Option.{get_or_from_slice_get, same_Some, slice_get_within}
 use Rattle.kb_word.specs.Presentations.{PresentationParts}
@@ -119,14 +120,12 @@ module _ (parts : PresentationParts) where
   -- their letters are generators of the presentation
   pub all_over : AreMutual parts.inverses → length parts.inverses ≡ length parts.names
       → (words : List Factors) (generators : List (List ℕ)) → Mean parts words generators → All (IsOver (length parts.names)) generators
-  all_over both_ways one_each [] [] mean = λ k d h. absurd (omega (arith, h))
+  all_over both_ways one_each [] [] mean = All-nil (IsOver (length parts.names))
   all_over both_ways one_each [] (g ∷ generators) mean = cc
   all_over both_ways one_each (w ∷ words) [] mean = cc
-  all_over both_ways one_each (w ∷ words) (g ∷ generators) mean = at
-    where
-      at : All (IsOver (length parts.names)) (g ∷ generators)
-      at zero d h = word_over parts.names parts.inverses both_ways one_each w g (first_same mean)
-      at (suc k) d h = all_over both_ways one_each words generators (others_same mean) k d (omega (arith, h))
+  all_over both_ways one_each (w ∷ words) (g ∷ generators) mean =
+      All-cons (IsOver (length parts.names)) g generators (word_over parts.names parts.inverses both_ways one_each w g (first_same mean))
+      (all_over both_ways one_each words generators (others_same mean))
 
   -- no word before this place has a fault
   abbrev pub NoneBefore : List Factors → ℕ → Type 0

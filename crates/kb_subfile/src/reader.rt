@@ -78,7 +78,7 @@ fn generators_in<'a>(
     let Some(count) = word_count(value) else {
         return Err(SubError::WrongKind);
     };
-    if !are_few(count, presentation.eqs.as_slice().len()) {
+    if !are_few(count, presentation.eqs.len()) {
         return Err(SubError::TooManyEquations);
     }
     meanings(alloc, value, count, presentation)
