@@ -176,24 +176,24 @@ places_are value words is =
     listed-is value (map (λ (word : Factors). Some (word_value word)) words) (is ∙ ap list_value (list_of_words-places_of words))
 
 -- the word at a place
-pub record WordAt (words : List Factors) (k : ℕ) (place : Option Value) : Type 0 where
+pub record WordAt (words : List Factors) (k : ℕ) (p : Option Value) : Type 0 where
   pub word : Factors
   pub at : slice_get words k ≡ Some word
-  pub is : place ≡ Some (word_value word)
+  pub is : p ≡ Some (word_value word)
 
-at_place : (words : List Factors) (k : ℕ) (place : Option Value) → slice_get (map (λ (word : Factors). Some (word_value word)) words) k ≡ Some place → WordAt words k place
-at_place [] k place stands = cc
-at_place (w ∷ words) zero place stands = record { word = w; at = refl; is = sym (inside stands) }
+at_place : (words : List Factors) (k : ℕ) (p : Option Value) → slice_get (map (λ (word : Factors). Some (word_value word)) words) k ≡ Some p → WordAt words k p
+at_place [] k p stands = cc
+at_place (w ∷ words) zero p stands = record { word = w; at = refl; is = sym (inside stands) }
   where
-    inside : {p q : Option Value} → Some p ≡ Some q → p ≡ q
+    inside : {v w : Option Value} → Some v ≡ Some w → v ≡ w
     inside e = cc
-at_place (w ∷ words) (suc k) place stands =
-    let rest = at_place words k place stands in record { word = rest.word; at = rest.at; is = rest.is }
+at_place (w ∷ words) (suc k) p stands =
+    let rest = at_place words k p stands in record { word = rest.word; at = rest.at; is = rest.is }
 
-pub word_here : (value : Value) (words : List Factors) (k : ℕ) (place : Option Value) → value ≡ list_value (list_of_words words)
-    → slice_get (listed value) k ≡ Some place → WordAt words k place
-word_here value words k place is stands =
-    let P : List (Option Value) → Type 0 = λ ps. slice_get ps k ≡ Some place in at_place words k place (subst P (places_are value words is) stands)
+pub word_here : (value : Value) (words : List Factors) (k : ℕ) (p : Option Value) → value ≡ list_value (list_of_words words)
+    → slice_get (listed value) k ≡ Some p → WordAt words k p
+word_here value words k p is stands =
+    let P : List (Option Value) → Type 0 = λ ps. slice_get ps k ≡ Some p in at_place words k p (subst P (places_are value words is) stands)
 
 -- a value has as many words as places
 pub words_counted : (value : Value) (words : List Factors) → value ≡ list_value (list_of_words words) → length words ≡ length (listed value)
@@ -208,11 +208,11 @@ pub record AreWordsBefore (value : Value) (k : ℕ) : Type 0 where
 pub no_words_yet : (value : Value) → AreWordsBefore value 0
 no_words_yet value = record { words = []; are = refl }
 
-pub one_word_more : (value : Value) (k : ℕ) (place : Option Value) (word : Factors) → slice_get (listed value) k ≡ Some place → place ≡ Some (word_value word)
+pub one_word_more : (value : Value) (k : ℕ) (p : Option Value) (word : Factors) → slice_get (listed value) k ≡ Some p → p ≡ Some (word_value word)
     → AreWordsBefore value k → AreWordsBefore value (k + 1)
-one_word_more value k place word stands is before = record {
+one_word_more value k p word stands is before = record {
   words = before.words ++ word ∷ [];
-  are = one_place_more (λ (w : Factors). Some (word_value w)) (listed value) k place stands before.words (before.words ++ word ∷ []) word before.are is refl;
+  are = one_place_more (λ (w : Factors). Some (word_value w)) (listed value) k p stands before.words (before.words ++ word ∷ []) word before.are is refl;
 }
 
 pub same_word : {v w : Factors} → Some (word_value v) ≡ Some (word_value w) → v ≡ w
