@@ -76,7 +76,7 @@ pub run-printed : (given : BallGiven) (presentation : Presentation) (parts : Pre
     → IsRun (BallAnswers given parts) (ball_may_store given) (outside shelf input before) (outside shelf input after) status
 run-printed given presentation parts same rules acceptor completion shortlex shelf input before after status prints goes_on fault =
     run-prints shelf input before after status goes_on fault (λ told. inl (
-      only_prints (BallIsPrinted parts given.radius) shelf input before after status (is_ball (prints told.output))
+    only_prints (BallIsPrinted parts given.radius) shelf input before after status (is_ball (prints told.output))
     ))
   where
     is_ball : WordsArePrinted presentation.names acceptor 0 given.radius before.written after.written status

@@ -36,7 +36,6 @@ mod words;
 
 pub use error::SubError;
 pub use laws::{
-    a_subgroup_file_has_no_fault, a_subgroup_file_has_one_fault,
-    a_text_says_one_list_of_generators,
+    a_subgroup_file_has_no_fault, a_subgroup_file_has_one_fault, a_text_says_one_list_of_generators,
 };
 pub use reader::read;

@@ -27,11 +27,7 @@ const MOST_EQUATIONS: usize = 65535;
 /// they have, in the order of refusals, and bytes that say generators have none
 /// ([`a_subgroup_file_has_no_fault`](crate::a_subgroup_file_has_no_fault)): so bytes are refused exactly where they have a
 /// fault, or memory runs out.
-pub fn read(
-    alloc: Global,
-    bytes: &[u8],
-    presentation: &Presentation,
-) -> Result<Vec<Word>, SubError>
+pub fn read(alloc: Global, bytes: &[u8], presentation: &Presentation) -> Result<Vec<Word>, SubError>
     ensures read { IfOk result
         (λ generators. GeneratorsOf bytes.now (parts_of presentation.now) generators.items) }
     ensures letters { IfOk result

@@ -112,11 +112,7 @@ pub fn load_shortlex<F: Shelf>(
 }
 
 /// The presentation by shortlex that the file of this name holds.
-fn shortlex_in<F: Shelf>(
-    alloc: Global,
-    name: &str,
-    shelf: &mut F,
-) -> Result<Presentation, LoadStop>
+fn shortlex_in<F: Shelf>(alloc: Global, name: &str, shelf: &mut F) -> Result<Presentation, LoadStop>
     ensures holds { IsTrue (F.state shelf.old).told
         → IfOk result (λ presentation.
         HoldsPresentation (F.state shelf.old).holds name.now (parts_of presentation)) }

@@ -125,11 +125,7 @@ pub fn load_markable<F: Shelf>(
 }
 
 /// The presentation of a group by shortlex to which the marker of cosets can be added, that the file of this name holds.
-fn markable_in<F: Shelf>(
-    alloc: Global,
-    name: &str,
-    shelf: &mut F,
-) -> Result<Presentation, LoadStop>
+fn markable_in<F: Shelf>(alloc: Global, name: &str, shelf: &mut F) -> Result<Presentation, LoadStop>
     ensures holds { IsTrue (F.state shelf.old).told
         → IfOk result (λ presentation.
         HoldsPresentation (F.state shelf.old).holds name.now (parts_of presentation)) }
