@@ -2,4 +2,3 @@ pub mod MakeLemmas
 pub mod PrintLemmas
 pub mod LineLemmas
 pub mod RunLemmas
-pub mod NameLemmas
