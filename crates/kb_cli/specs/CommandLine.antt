@@ -29,7 +29,7 @@ bare_app = record (new_app (codes "kb")) {
 -- the program with its commands
 abbrev pub line_app : App
 line_app =
-    with_automata (with_elements (with_proofs (with_structures (with_completions (with_wordreduce bare_app)))))
+    with_automata (with_proofs (with_elements (with_structures (with_completions (with_wordreduce bare_app)))))
 
 -- the subcommand that was entered is the command
 abbrev pub IsCommand : Entered → Command → Type 0

@@ -14,8 +14,8 @@ pub(crate) fn program_line<'a>(alloc: Global) -> Result<clap::Command<'a>, Alloc
     let program = kb_cmd_words::add_commands(alloc, program)?;
     let program = kb_cmd_completion::add_commands(alloc, program)?;
     let program = kb_cmd_structures::add_commands(alloc, program)?;
-    let program = kb_cmd_proofs::add_commands(alloc, program)?;
     let program = kb_cmd_elements::add_commands(alloc, program)?;
+    let program = kb_cmd_proofs::add_commands(alloc, program)?;
     kb_cmd_automata::add_commands(alloc, program)
 }
 
