@@ -51,7 +51,7 @@ family_named name =
     else 1))))
 
 automata_family : (name : Name) → family_named (automata_text name) ≡ 1
-unfolding family_named, is_among
+unfolding family_named is_among
 automata_family (names.Combine And) = refl
 automata_family (names.Combine Or) = refl
 automata_family (names.Combine Concat) = refl
@@ -64,7 +64,7 @@ automata_family names.Compare = refl
 automata_family names.Enumerate = refl
 
 pub family_by_name : (command : Command) → family_named (command_name command) ≡ family command
-unfolding family_named, is_among
+unfolding family_named is_among
 family_by_name (WordReduce task) = refl
 family_by_name (Automata task) = automata_family (automata_name task)
 family_by_name (Completion (Kbprog task)) = refl
