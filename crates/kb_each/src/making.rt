@@ -1,0 +1,99 @@
+//! What is made place by place, and the list of all of it.
+
+ghost use Rattle.std.specs.Prelude.{◌≡◌, ℕ, ◌^◌, ◌<◌, ◌≤◌, IfOk};
+ghost use Rattle.kb_each.specs.Made.{AreMadeInOrder};
+
+use crate::share::{Placed, Share};
+use crate::slots::in_order;
+use kb_draw::{Work, share_out};
+use kb_io::{Gate, Point};
+use kb_word::Memory;
+use std::alloc::Global;
+use std::sync::Wait;
+use std::thread::Threads;
+
+/// What is made place by place. Places are numbered from 0 on.
+pub trait Making {
+    /// What is made for a place.
+    type Made: Drop;
+
+    /// How many places there are.
+    ghost places: { Self → ℕ };
+
+    /// This is what belongs at the place.
+    ghost is: { Self → ℕ → Self.Made → Type 0 };
+
+    /// How many places there are.
+    fn places(&self) -> u64
+        ensures { result ≡ places self.now };
+
+    /// Makes what belongs at the place.
+    fn make(&self, alloc: Global, place: u64) -> Result<Self::Made, Memory>
+        requires { place < places self.now }
+        ensures { IfOk result (is self.now place) };
+}
+
+/// The places of a making, as work.
+#[derive(Drop)]
+struct Places<'a, M: Making, G: Gate> {
+    alloc: Global,
+    making: &'a M,
+    gate: &'a G,
+}
+
+/// A part is a place. A worker comes to the gate before it draws one.
+impl<'a, M: Making, G: Gate> Work for Places<'a, M, G> {
+    ghost use Rattle.kb_each.specs.Shares.{HasMade, IsSound};
+
+    type Share = Share<M::Made>;
+
+    ghost parts = { λ it. M.places it.making.now };
+
+    ghost sound = { λ it share.
+        IsSound (M.places it.making.now) (M.is it.making.now) share };
+
+    ghost done = { λ it share place. HasMade share place };
+
+    fn parts(&self) -> u64 {
+        self.making.places()
+    }
+
+    fn begin(&self, alloc: Global, worker: u32) -> Result<Share<M::Made>, Memory> {
+        self.gate.at(worker, Point::Draw);
+        Ok(Share {
+            worker,
+            made: Vec::new(alloc),
+        })
+    }
+
+    fn take(&self, place: u64, share: &mut Share<M::Made>) -> Result<(), Memory> {
+        let made = self.making.make(self.alloc, place)?;
+        share.made.push(Placed { place, made })?;
+        self.gate.at(share.worker, Point::Draw);
+        Ok(())
+    }
+}
+
+/// Makes one for each place, in the order of the places, by so many workers, each a thread where there are several.
+pub fn make_all<M: Making + Sync, G: Gate, T: Threads + Wait + Sync>(
+    rt: &T,
+    alloc: Global,
+    making: &M,
+    workers: u32,
+    gate: &G,
+) -> Result<Vec<M::Made>, Memory>
+where
+    M::Made: Send,
+    requires places { M.places making.now ≤ 2 ^ 62 }
+    requires workers { (1 ≤ workers) × (workers ≤ 64) }
+    ensures { IfOk result (λ list.
+        AreMadeInOrder (M.places making.now) (M.is making.now) list.items) }
+{
+    let places = Places {
+        alloc,
+        making,
+        gate,
+    };
+    let shares = share_out(rt, alloc, &places, workers)?;
+    in_order(alloc, making.places(), shares)
+}
