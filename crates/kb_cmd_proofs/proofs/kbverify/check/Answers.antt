@@ -6,6 +6,6 @@ pub returns-in-Ok : goal.returns-in-Ok
 returns-in-Ok g c = λ shelf input.
     c.print_answer.ensures (parts_of c.args.presentation.now) c.args.log.now shelf input c.in-Ok.ensures
 
-pub returns : goal.returns
-returns g c = λ shelf input.
+pub returns-in-Err : goal.returns-in-Err
+returns-in-Err g c = λ shelf input.
     run-unanswered (parts_of c.args.presentation.now) c.args.log.now shelf input (g.O.Sink.state c.args.out.now)

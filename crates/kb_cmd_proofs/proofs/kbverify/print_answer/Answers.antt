@@ -8,5 +8,5 @@ returns-in-Ok g c = λ parts log shelf input says.
     (g.O.Sink.state c.args.out.now) (g.O.Sink.state c.print_line.new.out) c.print_line.result
     c.print_line.ensures.written (c.print_line.ensures.fault shelf input) c.print_line.ensures.goes_on
 
-pub returns : goal.returns
-returns g c = λ parts log shelf input says. run-unanswered parts log shelf input (g.O.Sink.state c.args.out.now)
+pub returns-in-Err : goal.returns-in-Err
+returns-in-Err g c = λ parts log shelf input says. run-unanswered parts log shelf input (g.O.Sink.state c.args.out.now)
