@@ -24,4 +24,5 @@ returns-in_err-word_of-clause-fault c = λ word is.
     let inverses = c.args.presentation.now.inv in
     let same : word_view c.in-Some.word.now ≡ word = same_word (sym c.in-Some.ensures.found ∙ is) in
     let p = err_from_is_err_and c.from_residual.result c.from_residual.ensures.1 in
-    let P : Factors → Type 0 = λ w. IsMemoryOr (IsFaultOf (word_meaning names inverses w)) p.0 in ?
+    let P : Factors → Type 0 = λ w. IsMemoryOr (IsFaultOf (word_meaning names inverses w)) p.0 in
+    rw p.1 (subst P same (word_refused (word_meaning names inverses (word_view c.in-Some.word.now)) _ p.0 c.in_err-word_of.ensures p.2))
