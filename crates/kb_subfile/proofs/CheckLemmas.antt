@@ -4,7 +4,6 @@ use Rattle.std.proofs.lemmas.Bool.{cases_order, cases_lt}
 use Rattle.std.proofs.lemmas.Option.{same_Some}
 use Rattle.kb_word.specs.Presentations.{PresentationParts}
 use Rattle.kb_record.specs.Tree.{Fields}
-use Rattle.kb_fields.specs.FirstFaults.{IsFirstFault}
 use Rattle.kb_subfile.specs.Checks.{Step, field_names, is_there, are_words, few_words, read_words, rank, Check, Before}
 use Rattle.kb_subfile.specs.Faults.{StepFinds, Finds, IsMemoryOr, IsFirstOf, IsFreeBefore}
 use Rattle.kb_subfile.specs.declared.error.SubError.{SubError}

@@ -1,5 +1,5 @@
 -- What is refused is the first fault of the file.
-use Rattle.std.proofs.Common.{◌≡◌, ◌≢◌, ℕ, ◌<◌, List, Some, None, Result, Err, refl, sym, ap, subst, ◌∙◌}
+use Rattle.std.proofs.Common.{◌≡◌, ◌≢◌, ℕ, ◌<◌, List, Some, None, Result, Err, refl, sym, subst, ◌∙◌}
 use Rattle.kb_word.specs.Presentations.{PresentationParts}
 use Rattle.kb_record.specs.Tree.{Factors, Value, list_value, Fields, record_value}
 use Rattle.kb_record.specs.Faults.{HasTextFault, Evaluates}
@@ -52,12 +52,12 @@ module _ (parts : PresentationParts) (given : Fields) where
 
   module _ (words : List Factors) (listed : HasWords given words) where
     pub none_of_other_kind : FindsNone are_words
-    none_of_other_kind k e found = found.3 words (some_value (sym found.2 ∙ listed))
+    none_of_other_kind k e found = found.1.2 words (some_value (sym found.1.1 ∙ listed))
 
     pub none_too_many : AreFew parts words → FindsNone few_words
     none_too_many few k e found =
         let P : List Factors → Type 0 = λ ws. AreFew parts ws in
-        found.3 (subst P (one_list_of_words given words found.1 listed found.2) few)
+        found.1.2 (subst P (one_list_of_words given words found.1.0 listed found.1.1) few)
 
     fault_of : (k : ℕ) (e : SubError) → StepFinds parts given read_words k e → HasFaultAt parts words k e
     fault_of k e found =
@@ -74,7 +74,7 @@ module _ (parts : PresentationParts) (given : Fields) where
       free_words = passed parts given are_words free none_of_other_kind few_words refl
 
       pub many_fault : (AreFew parts words → ⊥) → IsFirstOf parts given errors.TooManyEquations
-      many_fault many = first_found parts given few_words free_words errors.TooManyEquations (refl, words, listed, many)
+      many_fault many = first_found parts given few_words free_words errors.TooManyEquations (refl, (words, listed, many))
 
       first_of_words : AreFew parts words → (e : SubError) → IsFirstFault ◌<◌ (HasFaultAt parts words) e → IsFirstOf parts given e
       first_of_words few e fault =
@@ -94,7 +94,7 @@ module _ (parts : PresentationParts) (given : Fields) where
 
   pub kind_fault : (value : Value) → value_of given field_name ≡ Some value → ((words : List Factors) → value ≢ list_value (list_of_words words))
       → IsFreeBefore parts given are_words → IsFirstOf parts given errors.WrongKind
-  kind_fault value is other free = first_found parts given are_words free errors.WrongKind (refl, value, is, other)
+  kind_fault value is other free = first_found parts given are_words free errors.WrongKind (refl, (value, is, other))
 
   pub after_there : (value : Value) → value_of given field_name ≡ Some value → IsFreeBefore parts given is_there → IsFreeBefore parts given are_words
   after_there value is free = passed parts given is_there free (none_missing value is) are_words refl

@@ -1,5 +1,5 @@
 -- Lists of words, element by element, and the words that they mean.
-use Rattle.std.proofs.Common.{◌≡◌, ℕ, zero, suc, ◌+◌, ◌<◌, ◌≤◌, inl, inr, List, [], ◌∷◌, ◌++◌, length, map, take, get_or, slice_get, All, Option, None, Some, Result, Ok, Err, refl, sym, ap, subst, ◌∙◌, arith}
+use Rattle.std.proofs.Common.{◌≡◌, ℕ, zero, suc, ◌+◌, ◌<◌, inl, inr, List, [], ◌∷◌, ◌++◌, length, map, take, slice_get, All, Option, None, Some, IfNone, Result, Ok, Err, refl, sym, ap, subst, ◌∙◌, arith}
 use Rattle.std.proofs.lemmas.Bool.{cases_lt}
 use Rattle.std.proofs.lemmas.List.Elements.{All-cons, All-nil}
 use Rattle.std.proofs.lemmas.List.{length-map, map-append, take_more}
@@ -17,10 +17,15 @@ use Rattle.kb_word.specs.declared.word_order.WordOrder.TheVariants as orders
 use Rattle.kb_presfile.specs.Holds.{AreMutual, AreEquations}
 use Rattle.kb_presfile.specs.Kinds.{list_of_equations}
 use Rattle.kb_presfile.proofs.OverLemmas.{equations_over}
-use Rattle.kb_subfile.specs.Holds.{field_name, list_of_words, HasWords, Mean}
+use Rattle.kb_subfile.specs.Holds.{list_of_words, HasWords, Mean}
 use Rattle.kb_subfile.specs.Faults.{IsFaultOf, HasFaultAt, IsMemoryOr}
 use Rattle.kb_subfile.specs.declared.error.SubError.{SubError}
 use Rattle.kb_subfile.proofs.CheckLemmas.{memory_or_weaker}
+
+-- what is so, is so where there is none
+pub if_none : {X P : Type 0} (found : Option X) → P → IfNone found P
+if_none None p = p
+if_none (Some x) p = tt
 
 -- ---- lists of words
 

@@ -1,5 +1,5 @@
 -- When each refusal of a file of a subgroup's generators comes: the fault that it names is the first.
-use Rattle.std.specs.Prelude.{◌≡◌, ◌≢◌, ℕ, ◌<◌, ◌≤◌, List, Option, Some, None, slice_get, Result, Err}
+use Rattle.std.specs.Prelude.{◌≡◌, ◌≢◌, ℕ, ◌<◌, ◌≤◌, List, Some, None, slice_get, Result, Err}
 use Rattle.kb_word.specs.Presentations.{PresentationParts}
 use Rattle.kb_record.specs.Tree.{Factors, Value, list_value, Fields, TextTree, record_value}
 use Rattle.kb_record.specs.Faults.{HasTextFault}

@@ -70,7 +70,7 @@ fn meaning_at(
     place: Place<'_, '_>,
     presentation: &Presentation,
 ) -> Result<Word, SubError>
-    requires { (word : Factors) × (place_view place.entry ≡ Some (word_value word)) }
+    requires { (word : Factors) × (place_view place ≡ Some (word_value word)) }
     ensures read { (word : Factors) → place_view place.entry ≡ Some (word_value word)
         → IfOk result (λ generator.
         word_meaning presentation.now.names presentation.now.inv word ≡ Ok generator) }

@@ -1,4 +1,4 @@
-use Rattle.std.proofs.Common.{◌≡◌, ◌+◌, ◌≤◌, Some, length, true≢false, sym, ap, ◌∙◌, arith}
+use Rattle.std.proofs.Common.{Some, true≢false, sym, ap, ◌∙◌, arith}
 use Rattle.kb_word.specs.Presentations.{parts_of}
 use Rattle.kb_record.specs.View.{value_view}
 use Rattle.kb_fields.proofs.Outcomes.{IfErr_then, IfOk_then}

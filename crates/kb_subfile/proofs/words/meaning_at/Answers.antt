@@ -1,16 +1,15 @@
-use Rattle.std.proofs.Common.{◌≡◌, Ok, Some, Result, List, ℕ, sym, ap, subst, ◌∙◌}
+use Rattle.std.proofs.Common.{◌≡◌, Ok, sym, subst, ◌∙◌}
 use Rattle.std.proofs.lemmas.Result.{err_from_is_err_and}
-use Rattle.kb_record.specs.Tree.{Factors, word_value}
+use Rattle.kb_record.specs.Tree.{Factors}
 use Rattle.kb_record.specs.View.{word_view}
-use Rattle.kb_record.specs.Listed.{place_view}
 use Rattle.kb_record.specs.Meaning.{word_meaning}
 use Rattle.kb_subfile.specs.Faults.{IsFaultOf, IsMemoryOr}
 use Rattle.kb_subfile.proofs.FaultLemmas.{word_refused}
 use Rattle.kb_subfile.proofs.WordLemmas.{same_word}
 use Rattle.kb_subfile.proofs.words.meaning_at.Goals as goal
 
-pub prove-unreachable-requires : goal.prove-unreachable-requires
-prove-unreachable-requires c = c.in_default.ensures.none c.requires.0 c.requires.1
+pub unreachable-requires : goal.unreachable-requires
+unreachable-requires c = c.in_default.ensures.none c.requires.0 c.requires.1
 
 pub returns-clause-read : goal.returns-clause-read
 returns-clause-read c = λ word is.

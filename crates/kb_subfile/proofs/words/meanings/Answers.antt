@@ -1,10 +1,9 @@
-use Rattle.std.proofs.Common.{◌≡◌, ◌<◌, ◌≤◌, ℕ, List, length, take, refl, sym, ap, subst, ◌∙◌, arith}
+use Rattle.std.proofs.Common.{List, subst, arith}
 use Rattle.std.proofs.lemmas.List.{take_all}
 use Rattle.std.proofs.lemmas.Result.{err_from_is_err_and}
 use Rattle.kb_word.specs.Presentations.{parts_of}
 use Rattle.kb_record.specs.Tree.{Factors}
 use Rattle.kb_record.specs.View.{value_view}
-use Rattle.kb_record.specs.Listed.{listed}
 use Rattle.kb_subfile.specs.Holds.{Mean}
 use Rattle.kb_subfile.proofs.WordLemmas.{mean_more, none_more, word_fault, word_here, words_counted}
 use Rattle.kb_subfile.proofs.words.meanings.Goals as goal

@@ -1,11 +1,11 @@
-use Rattle.std.proofs.Common.{◌≡◌, List, Some, length, map, sym, ◌∙◌, arith}
+use Rattle.std.proofs.Common.{◌≡◌, Some, sym, ◌∙◌, arith}
 use Rattle.std.proofs.lemmas.List.{take_all}
-use Rattle.kb_record.specs.Tree.{Factors, Value, list_value, word_value}
-use Rattle.kb_record.specs.View.{value_view, word_view}
+use Rattle.kb_record.specs.Tree.{Factors, list_value, word_value}
+use Rattle.kb_record.specs.View.{value_view}
 use Rattle.kb_record.specs.Listed.{listed}
 use Rattle.kb_fields.proofs.ListingLemmas.{value_listed, value_other}
 use Rattle.kb_subfile.specs.Holds.{list_of_words}
-use Rattle.kb_subfile.proofs.WordLemmas.{list_of_words-places_of, no_words_yet, one_word_more, words_counted}
+use Rattle.kb_subfile.proofs.WordLemmas.{if_none, list_of_words-places_of, no_words_yet, one_word_more, words_counted}
 use Rattle.kb_subfile.proofs.words.word_count.Goals as goal
 
 pub loop-place-init : goal.loop-place-init
@@ -17,8 +17,9 @@ loop-place-preserved c =
 
 pub returns-in_err-word_at-clause-other : goal.returns-in_err-word_at-clause-other
 returns-in_err-word_at-clause-other c =
-    value_other (λ (word : Factors). Some (word_value word)) list_of_words list_of_words-places_of (value_view c.args.value.now) c.loop-place.place _
-    c.place.ensures c.in_err-word_at.ensures.none
+    if_none c.from_residual-in_err-word_at.result
+    (value_other (λ (word : Factors). Some (word_value word)) list_of_words list_of_words-places_of (value_view c.args.value.now) c.loop-place.place _
+    c.place.ensures c.in_err-word_at.ensures.none)
 
 pub returns-clause-listed : goal.returns-clause-listed
 returns-clause-listed c =
