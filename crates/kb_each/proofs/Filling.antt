@@ -1,30 +1,27 @@
 -- How slots are filled, by one thing after another.
-use Rattle.std.proofs.Common.{◌≡◌, ◌≢◌, ℕ, zero, suc, ◌+◌, ◌<◌, ◌⊎◌, List, [], ◌∷◌, ◌++◌, length, get_or, set, Option, Some, None, refl, sym, ◌∙◌, ap, subst, inl, inr, ⊎_elim, length-append, arith}
+use Rattle.std.proofs.Common.{◌≡◌, ◌≢◌, ℕ, ◌<◌, ◌⊎◌, List, [], ◌∷◌, ◌++◌, length, get_or, set, Option, Some, None, refl, sym, ◌∙◌, ap, subst, inl, inr, ⊎_elim, arith}
 use Rattle.std.proofs.lemmas.Bool.{cases_eq}
 use Rattle.std.proofs.lemmas.List.{length-set, get_or-set_same, get_or-set_other}
 use Rattle.std.proofs.lemmas.List.Elements.{All-pop, Contains-append_left, Contains-append_right, Contains-push_cases}
 use Rattle.std.specs.List.{All, Contains}
 use Rattle.kb_each.specs.Shares.{AreWithin, IsAmong, IsMadeBy}
-use Rattle.kb_each.specs.Slots.{IsAt, HasAt, AreEmpty, IsFilled}
+use Rattle.kb_each.specs.Slots.{IsAt, IsFilled}
 use Rattle.kb_each.specs.declared.share.Placed.{Placed}
 use Rattle.kb_each.specs.declared.share.Share.{Share}
-
-not_among : {X : Type 0} (xs : List X) (x : X) → length xs ≡ 0 → Contains xs x → ⊥
-not_among xs x none has = let within = has.1 in omega (arith, none, within)
 
 module _ {Made : Type 0} where
   some_injective : {x y : Made} → Some x ≡ Some y → x ≡ y
   some_injective e = cc
 
   -- this alone, at its place
-  abbrev pub IsThis : Placed Made → ℕ → Made → Type 0
+  abbrev IsThis : Placed Made → ℕ → Made → Type 0
   IsThis one place made = one ≡ record { place = place; made = made }
 
   this : (one : Placed Made) (place : ℕ) (made : Made) → place ≡ one.place → made ≡ one.made → IsThis one place made
   this one place made here is = rw (here, is) refl
 
   -- one slot is filled
-  pub one_filled : (slots : List (Option Made)) (one : Placed Made) → one.place < length slots
+  one_filled : (slots : List (Option Made)) (one : Placed Made) → one.place < length slots
       → IsFilled (IsThis one) slots (set slots one.place (Some one.made))
   one_filled slots one within =
       let after = set slots one.place (Some one.made) in
@@ -69,22 +66,9 @@ module _ {Made : Type 0} where
         (either place made both);
   }
 
-  nothing_filled : (For : ℕ → Made → Type 0) (slots : List (Option Made)) → ((place : ℕ) (made : Made) → For place made → ⊥)
-      → IsFilled For slots slots
-  nothing_filled For slots none = record {
-    count = refl;
-    from = λ place made at. inl at;
-    kept = λ place has. has;
-    filled = λ place made is. absurd (none place made is);
-  }
-
   -- ---- what was made, one after another
 
-  pub none_among : (all : List (Placed Made)) (slots : List (Option Made)) → length all ≡ 0 → IsFilled (IsAmong all) slots slots
-  none_among all slots none =
-      nothing_filled (IsAmong all) slots (λ place made is. not_among all (record { place = place; made = made }) none is)
-
-  pub one_more : (rest all : List (Placed Made)) (one : Placed Made) (before between after : List (Option Made)) → all ≡ rest ++ one ∷ []
+  one_more : (rest all : List (Placed Made)) (one : Placed Made) (before between after : List (Option Made)) → all ≡ rest ++ one ∷ []
       → IsFilled (IsThis one) before between → IsFilled (IsAmong rest) between after → IsFilled (IsAmong all) before after
   one_more rest all one before between after is first later =
       subst (λ (list : List (Placed Made)). IsFilled (IsAmong list) before after) (sym is)
@@ -114,11 +98,7 @@ module _ {Made : Type 0} where
 
   -- ---- shares, one after another
 
-  pub none_shared : (shares : List (Share Made)) (slots : List (Option Made)) → length shares ≡ 0 → IsFilled (IsMadeBy shares) slots slots
-  none_shared shares slots none =
-      nothing_filled (IsMadeBy shares) slots (λ place made is. not_among shares is.share none is.worker)
-
-  pub share_more : (rest all : List (Share Made)) (share : Share Made) (before between after : List (Option Made)) → all ≡ rest ++ share ∷ []
+  share_more : (rest all : List (Share Made)) (share : Share Made) (before between after : List (Option Made)) → all ≡ rest ++ share ∷ []
       → IsFilled (IsAmong share.made.items) before between → IsFilled (IsMadeBy rest) between after → IsFilled (IsMadeBy all) before after
   share_more rest all share before between after is first later =
       subst (λ (list : List (Share Made)). IsFilled (IsMadeBy list) before after) (sym is)
@@ -151,20 +131,3 @@ module _ {Made : Type 0} where
     (All-pop (λ (it : Share Made). AreWithin (length initial) it.made.items) all rest (Some share) is within).0,
     λ after later. goes after (share_more rest all share before between after is first later),
   )
-
-  -- ---- empty slots
-
-  empty_more_at : (slots : List (Option Made)) (place : ℕ) → get_or slots place None ≡ None → get_or (slots ++ None ∷ []) place None ≡ None
-  empty_more_at [] zero is = refl
-  empty_more_at [] (suc place) is = refl
-  empty_more_at (slot ∷ slots) zero is = is
-  empty_more_at (slot ∷ slots) (suc place) is = empty_more_at slots place is
-
-  pub no_slots : AreEmpty {Made = Made} 0 []
-  no_slots = record { count = refl; nothing = λ place. refl }
-
-  pub one_more_slot : (places : ℕ) (slots : List (Option Made)) → AreEmpty places slots → AreEmpty (places + 1) (slots ++ None ∷ [])
-  one_more_slot places slots are = record {
-    count = let count = are.count in let more = length-append slots (None ∷ []) in omega (arith, count, more);
-    nothing = λ place. empty_more_at slots place (are.nothing place);
-  }

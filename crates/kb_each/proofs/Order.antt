@@ -1,13 +1,13 @@
 -- What the slots of all places have, as a list in the order of the places.
-use Rattle.std.proofs.Common.{◌≡◌, ℕ, ◌<◌, ◌⊎◌, option_map, List, [], ◌∷◌, ◌++◌, length, map, get_or, slice_get, Option, Some, None, refl, sym, ◌∙◌, ap, subst, inl, inr, ⊎_elim, arith}
-use Rattle.std.specs.List.{All, Contains}
-use Rattle.std.proofs.lemmas.List.{length-map, map-append}
+use Rattle.std.proofs.Common.{◌≡◌, ℕ, ◌<◌, option_map, List, length, map, get_or, slice_get, Option, Some, None, sym, ◌∙◌, ap, subst, ⊎_elim, arith}
+use Rattle.std.specs.List.{All}
+use Rattle.std.proofs.lemmas.List.{length-map}
 use Rattle.std.proofs.lemmas.List.Elements.{All-contains}
 use Rattle.std.proofs.lemmas.Option.{slice_get-map, get_or_from_slice_get}
 use Rattle.kb_draw.specs.Sharing.{IsShared}
 use Rattle.kb_each.specs.Made.{AreMadeInOrder}
-use Rattle.kb_each.specs.Shares.{AreInOrder, AreWithin, HasMade, IsMadeBy, IsSound}
-use Rattle.kb_each.specs.Slots.{AreEmpty, AreFull, HasAt, IsAt, IsFilled}
+use Rattle.kb_each.specs.Shares.{AreInOrder, HasMade, IsMadeBy, IsSound}
+use Rattle.kb_each.specs.Slots.{AreEmpty, AreFull, IsAt, IsFilled}
 use Rattle.kb_each.specs.declared.share.Placed.{Placed}
 use Rattle.kb_each.specs.declared.share.Share.{Share}
 
@@ -35,12 +35,6 @@ module _ {Made : Type 0} where
         (filled.from place one (get_or_from_slice_get after place (Some one) None stands));
   }
 
-  -- one more slot is taken out
-  pub taken_more : (yielded : List (Option Made)) (slot : Option Made) (made : Made) (list more : List Made) → slot ≡ Some made
-      → more ≡ list ++ made ∷ [] → map Some list ≡ yielded → map Some more ≡ yielded ++ slot ∷ []
-  taken_more yielded slot made list more is longer same =
-      rw (longer, is) (map-append Some list (made ∷ []) ∙ ap (λ (l : List (Option Made)). l ++ Some made ∷ []) same)
-
   -- the slot has something
   pub not_empty : (slots : List (Option Made)) (place : ℕ) (slot : Option Made) → AreFull slots → place < length slots
       → slot ≡ get_or slots place slot → slot ≡ None → ⊥
@@ -51,9 +45,6 @@ module _ {Made : Type 0} where
       cc
 
   module _ (places : ℕ) (Is : ℕ → Made → Type 0) where
-    pub all_within : (shares : List (Share Made)) → All (IsSound places Is) shares → All (λ (share : Share Made). AreWithin places share.made.items) shares
-    all_within shares sound = λ k share within. λ i one low. (sound k share within i one low).0
-
     -- what was made for its place is what belongs there
     pub made_in_order : (shares : List (Share Made)) (list : List Made) → All (IsSound places Is) shares → AreInOrder places shares list
         → AreMadeInOrder places Is list

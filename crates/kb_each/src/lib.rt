@@ -1,4 +1,4 @@
-//! A list that is made place by place, by several threads.
+//! Lists that are made place by place, by several threads.
 //!
 //! # The public contract
 //!
