@@ -1,5 +1,5 @@
 -- Canonical automata of texts with labels, one for each label, and what stays so of multipliers.
-use Rattle.std.proofs.Common.{◌≡◌, ◌↔◌, ℕ, suc, ◌+◌, All, List, [], ◌∷◌, ◌++◌, length, get_or, slice_get, Some, refl, sym, ap, ◌∙◌, subst, inl, inr, length-append, arith}
+use Rattle.std.proofs.Common.{◌≡◌, ◌↔◌, ℕ, suc, All, List, [], ◌∷◌, length, get_or, slice_get, Some, sym, ap, ◌∙◌, subst, arith}
 use Rattle.std.proofs.lemmas.List.Elements.{All-nil, All-from_get_or}
 use Rattle.std.proofs.lemmas.Option.{slice_get_within, slice_get-get_or}
 use Rattle.kb_fsa.specs.Canonical.{IsCanonical}
@@ -7,35 +7,9 @@ use Rattle.kb_fsa.specs.Language.{AcceptsText, Automaton, generators}
 use Rattle.kb_fsa.specs.Padding.{padded}
 use Rattle.kb_fsa.specs.declared.alphabet.Alphabet.TheVariants.{Pair}
 use Rattle.kb_labelled.specs.Labels.{LabelledAutomaton, SameLabels, label_after}
-use Rattle.kb_explore.proofs.Lists.{item_cases}
 use Rattle.kb_diff.specs.Groups.{Group}
 use Rattle.kb_diffwa.specs.Multipliers.{AreMultipliers, HasMultipliers, IsMultiplied}
-use Rattle.kb_round.specs.Reduced.{AreCanonicalForms, IsCanonicalForm}
-
-pub no_forms : (labelled : LabelledAutomaton) (labels : List ℕ) → AreCanonicalForms labelled labels 0 []
-no_forms labelled labels = record {
-  count = refl;
-  each = λ index form at. absurd (let within = slice_get_within [] index form at in let no : ⊥ = omega arith in no);
-}
-
--- one more label, with its automaton
-pub forms_more : (labelled : LabelledAutomaton) (labels : List ℕ) (done : ℕ) (forms : List Automaton) (form : Automaton)
-    → AreCanonicalForms labelled labels done forms → IsCanonicalForm labelled (get_or labels done 0) form
-    → AreCanonicalForms labelled labels (done + 1) (forms ++ form ∷ [])
-forms_more labelled labels done forms form are is = record {
-  count =
-      let more = length-append forms (form ∷ []) in
-      let count = are.count in omega arith;
-  each = λ index one at. elim (item_cases forms form index one at) [
-    | inl early ↦ are.each index one early
-    | inr late ↦
-        let count = are.count in
-        let place : index ≡ done = omega (arith, late.0) in
-        let P : ℕ → Type 0 = λ k. IsCanonicalForm labelled (get_or labels k 0) one in
-        let Q : Automaton → Type 0 = λ a. IsCanonicalForm labelled (get_or labels done 0) a in
-        subst P (sym place) (subst Q (sym late.1) is)
-  ];
-}
+use Rattle.kb_round.specs.Reduced.{AreCanonicalForms}
 
 -- the same by another automaton with the same labels
 pub forms_kept : {labelled reduced : LabelledAutomaton} {labels : List ℕ} {done : ℕ} {forms : List Automaton} → SameLabels labelled reduced

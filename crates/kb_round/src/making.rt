@@ -1,6 +1,6 @@
 //! The automata of word differences.
 
-ghost use Rattle.std.specs.Prelude.{◌≡◌, All, Ok, None, length, IfOk, IfSome};
+ghost use Rattle.std.specs.Prelude.{◌≡◌, ◌≤◌, All, Ok, None, length, IfOk, IfSome};
 ghost use Rattle.kb_word.specs.declared.word_order.WordOrder.TheVariants.{ShortLex};
 ghost use Rattle.kb_fsa.specs.Canonical.{IsCanonical};
 ghost use Rattle.kb_fsa.specs.declared.alphabet.Alphabet.TheVariants.{Plain};
@@ -13,13 +13,17 @@ ghost use Rattle.kb_round.specs.Rounds.{IsAcceptorOf};
 
 use kb_diff::{Differences, Machine};
 use kb_diffwa::{AllMultipliers, acceptor, multipliers};
+use kb_each::{Making, make_all};
 use kb_explore::Det;
 use kb_fsa::Fsa;
 use kb_fsamin::{canonical, reduced_by_labels};
+use kb_io::OpenGate;
 use kb_labelled::Labelled;
 use kb_rules::Reducer;
 use kb_word::Memory;
 use std::alloc::Global;
+use std::sync::Wait;
+use std::thread::Threads;
 
 /// The canonical word acceptor of the differences; none where it counts more states than the limit.
 pub(crate) fn canonical_acceptor<R: Reducer>(
@@ -42,16 +46,20 @@ pub(crate) fn canonical_acceptor<R: Reducer>(
     }
 }
 
-/// The canonical multipliers of the differences over their acceptor; none where they count more states than the limit.
-pub(crate) fn canonical_multipliers<R: Reducer>(
+/// The canonical multipliers of the differences over their acceptor, made canonical by so many workers; none where they
+/// count more states than the limit.
+pub(crate) fn canonical_multipliers<R: Reducer, T: Threads + Wait + Sync>(
+    rt: &T,
     alloc: Global,
     differences: &Differences<R>,
     machine: &Machine,
     acceptor: &Fsa,
     limit: u32,
+    workers: u32,
 ) -> Result<Option<Vec<Fsa>>, Memory>
     requires steps { AreSteps differences.now.group differences.now.words (step_in machine.now) }
     requires alphabet { acceptor.now.alphabet ≡ Plain differences.now.group.n }
+    requires workers { (1 ≤ workers) × (workers ≤ 64) }
     ensures multiply { IfOk result (λ found. IfSome found (λ multipliers. AreMultipliers
         differences.now.group differences.now.words acceptor.now differences.now.group.n
         multipliers.items)) }
@@ -61,34 +69,70 @@ pub(crate) fn canonical_multipliers<R: Reducer>(
         → CountedPlaces differences.now.group differences.now.words acceptor.now.table limit }
 {
     match multipliers(alloc, differences, machine, acceptor, limit) {
-        Ok(explored) => Ok(Some(canonical_forms(alloc, explored)?)),
+        Ok(explored) => Ok(Some(canonical_forms(rt, alloc, explored, workers)?)),
         Err(Det::TooManyStates { .. }) => Ok(None),
         Err(Det::Memory) => Err(Memory),
     }
 }
 
-/// The canonical multipliers. What was explored is made small once for all of them, and is let go before the first of them is
-/// made canonical.
-fn canonical_forms(alloc: Global, explored: AllMultipliers) -> Result<Vec<Fsa>, Memory>
+/// The canonical multipliers, by so many workers. What was explored is made small once for all of them, and is let go before
+/// the first of them is made canonical.
+fn canonical_forms<T: Threads + Wait + Sync>(
+    rt: &T,
+    alloc: Global,
+    explored: AllMultipliers,
+    workers: u32,
+) -> Result<Vec<Fsa>, Memory>
+    requires { (1 ≤ workers) × (workers ≤ 64) }
     ensures { IfOk result (λ forms. AreCanonicalForms explored.labelled explored.targets.items
         (length explored.targets.items) forms.items) }
 {
     let AllMultipliers { labelled, targets } = explored;
     let reduced = reduced_by_labels(alloc, &labelled)?;
     drop(labelled);
-    canonical_each(alloc, &reduced, targets.as_slice())
+    canonical_each(rt, alloc, &reduced, targets.as_slice(), workers)
 }
 
 /// For each of the labels in order, the canonical automaton of the texts that have it.
-fn canonical_each(alloc: Global, labelled: &Labelled, labels: &[u32]) -> Result<Vec<Fsa>, Memory>
+fn canonical_each<T: Threads + Wait + Sync>(
+    rt: &T,
+    alloc: Global,
+    labelled: &Labelled,
+    labels: &[u32],
+    workers: u32,
+) -> Result<Vec<Fsa>, Memory>
+    requires { (1 ≤ workers) × (workers ≤ 64) }
     ensures { IfOk result (λ forms.
         AreCanonicalForms labelled.now labels.now (length labels.now) forms.items) }
 {
-    let mut forms = Vec::with_capacity(alloc, labels.len())?;
-    for label in labels {
-        forms.push(canonical_form(alloc, labelled, *label)?)?;
+    make_all(rt, alloc, &Forms { labelled, labels }, workers, &OpenGate)
+}
+
+/// The canonical automata of the texts that have the labels.
+#[derive(Drop)]
+struct Forms<'a> {
+    labelled: &'a Labelled,
+    labels: &'a [u32],
+}
+
+/// A place is a label's.
+impl<'a> Making for Forms<'a> {
+    ghost use Rattle.std.specs.Prelude.{length, get_or};
+    ghost use Rattle.kb_round.specs.Reduced.{IsCanonicalForm};
+
+    type Made = Fsa;
+
+    ghost places = { λ it. length it.labels.now };
+
+    ghost is = { λ it place. IsCanonicalForm it.labelled.now (get_or it.labels.now place 0) };
+
+    fn places(&self) -> u64 {
+        self.labels.len() as u64
     }
-    Ok(forms)
+
+    fn make(&self, alloc: Global, place: u64) -> Result<Fsa, Memory> {
+        canonical_form(alloc, self.labelled, self.labels[place as usize])
+    }
 }
 
 /// The canonical automaton of the texts that have the label.

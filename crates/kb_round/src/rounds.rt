@@ -19,7 +19,8 @@ use std::sync::Wait;
 use std::thread::Threads;
 
 /// Makes the automata of word differences, and checks whether they are the group's own automatic structure. Several
-/// workers are a thread each. How large the automata were is told beside the answer, and counts for nothing.
+/// workers are a thread each: they make the multipliers canonical, and check the axioms. How large the automata were is
+/// told beside the answer, and counts for nothing.
 pub fn round<R: Reducer, T: Threads + Wait + Sync>(
     rt: &T,
     alloc: Global,
@@ -38,18 +39,21 @@ pub fn round<R: Reducer, T: Threads + Wait + Sync>(
     ensures { IfOk result (λ answer. RoundSays presentation.now differences.now.group.rules
         differences.now.words limit answer.0) }
 {
-    let mut figures = Figures {
-        differences: differences.len(),
-        acceptor: 0,
-        multiplier: 0,
-        broken: None,
-    };
+    let mut figures = no_figures(differences.len());
     let machine = differences.machine(alloc)?;
     let Some(acceptor) = canonical_acceptor(alloc, differences, &machine, limit)? else {
         return Ok((Round::TooManyStates(Construction::Acceptor), figures));
     };
     figures.acceptor = acceptor.len();
-    let Some(multipliers) = canonical_multipliers(alloc, differences, &machine, &acceptor, limit)?
+    let Some(multipliers) = canonical_multipliers(
+        rt,
+        alloc,
+        differences,
+        &machine,
+        &acceptor,
+        limit,
+        workers,
+    )?
     else {
         return Ok((Round::TooManyStates(Construction::Multipliers), figures));
     };
@@ -71,6 +75,18 @@ pub fn round<R: Reducer, T: Threads + Wait + Sync>(
     )?;
     figures.broken = broken;
     Ok((round, figures))
+}
+
+/// The figures of so many word differences, of which nothing is made yet.
+fn no_figures(differences: usize) -> Figures
+    ensures { result.differences ≡ differences }
+{
+    Figures {
+        differences,
+        acceptor: 0,
+        multiplier: 0,
+        broken: None,
+    }
 }
 
 /// What the check finds of the automata of word differences, and which axiom they break.

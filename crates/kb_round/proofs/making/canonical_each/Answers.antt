@@ -1,17 +1,15 @@
-use Rattle.std.proofs.Common.{◌≡◌, ◌+◌, ℕ, List, length, sym, subst, arith}
-use Rattle.kb_fsa.specs.Language.{Automaton}
-use Rattle.kb_round.specs.Reduced.{AreCanonicalForms}
-use Rattle.kb_round.proofs.CanonicalForms.{forms_more, no_forms}
+use Rattle.std.proofs.Common.{get_or, length}
+use Rattle.std.proofs.lemmas.Result.{IfOk-weaker}
+use Rattle.kb_each.specs.Made.{AreMadeInOrder}
+use Rattle.kb_round.specs.Reduced.{AreCanonicalForms, IsCanonicalForm}
 use Rattle.kb_round.proofs.making.canonical_each.Goals as goal
 
-pub loop-label-init : goal.loop-label-init
-loop-label-init c =
-    let P : List Automaton → Type 0 = λ forms. AreCanonicalForms c.args.labelled.now c.args.labels.now 0 forms in
-    subst P (sym c.in_ok-forms.ensures.items) (no_forms c.args.labelled.now c.args.labels.now)
-
-pub loop-label-preserved : goal.loop-label-preserved
-loop-label-preserved c =
-    let P : List Automaton → Type 0 = λ forms. AreCanonicalForms c.args.labelled.now c.args.labels.now (c.loop-label.label-index + 1) forms in
-    subst P (sym c.in_ok-push.ensures.items)
-    (forms_more c.args.labelled.now c.args.labels.now c.loop-label.label-index c.loop-label.forms.items c.in_ok-canonical_form.field-0
-    c.loop-label.invariant c.in_ok-canonical_form.ensures)
+pub returns : goal.returns
+returns g c =
+    let labelled = c.args.labelled.now in
+    let labels = c.args.labels.now in
+    IfOk-weaker c.make_all.result
+    (λ forms. AreMadeInOrder (length labels) (λ place form. IsCanonicalForm labelled (get_or labels place 0) form) forms.items)
+    (λ forms. AreCanonicalForms labelled labels (length labels) forms.items)
+    (λ forms are. record { count = are.count; each = are.each })
+    c.make_all.ensures

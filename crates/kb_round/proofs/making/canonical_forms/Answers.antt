@@ -5,7 +5,7 @@ use Rattle.kb_round.proofs.CanonicalForms.{forms_kept}
 use Rattle.kb_round.proofs.making.canonical_forms.Goals as goal
 
 pub returns : goal.returns
-returns c =
+returns g c =
     let reduced = c.in_ok-reduced.reduced in
     let labels = c.as_slice.result.now in
     IfOk-weaker c.canonical_each.result (λ forms. AreCanonicalForms reduced labels (length labels) forms.items) _
