@@ -19,8 +19,7 @@ use Rattle.kb_task.proofs.LoadEnds.{same_files}
 use Rattle.kb_task.proofs.RunLemmas.{counted_after, goes_on-loads, loads-along, run-after_loads, run-ends, run-prints, told-later, unchanged-loads}
 use Rattle.kb_evidence.specs.Files.{log_file}
 use Rattle.kb_cmd_proofs.specs.Given.{KbverifyGiven}
-use Rattle.kb_cmd_proofs.specs.Kbverify.{CheckMeans, KbverifyMeans, LogSays, StoresNothing, answer_line, answer_status}
-use Rattle.kb_cmd_proofs.specs.Kbverify.CheckMeans.{answered, cut_off, no_memory}
+use Rattle.kb_cmd_proofs.specs.Kbverify.{CheckMeans, answered, cut_off, no_memory, KbverifyMeans, LogSays, StoresNothing, answer_line, answer_status}
 
 -- what a status means where nothing but loads came before
 check-later : (parts : PresentationParts) (log : Log) {before between : Outside} (after : Outside) → IsUnchanged before between → (status : Status)

@@ -23,8 +23,7 @@ use Rattle.kb_task.proofs.LoadEnds.{memory_at_load, load_inconclusive, one_prese
 use Rattle.kb_task.proofs.StoredLogs.{names_apart}
 use Rattle.kb_evidence.specs.Files.{log_file}
 use Rattle.kb_cmd_proofs.specs.Given.{KbverifyGiven}
-use Rattle.kb_cmd_proofs.specs.Kbverify.{CheckMeans, IsKbverifyUnrefused, KbverifyMeans, LogFileMeans, LogSays, StoresNothing, answer_line, answer_status, kbverify_promise}
-use Rattle.kb_cmd_proofs.specs.Kbverify.CheckMeans.{answered, cut_off, no_memory}
+use Rattle.kb_cmd_proofs.specs.Kbverify.{CheckMeans, answered, cut_off, no_memory, IsKbverifyUnrefused, KbverifyMeans, LogFileMeans, LogSays, StoresNothing, answer_line, answer_status, kbverify_promise}
 
 -- ---- an answer
 
