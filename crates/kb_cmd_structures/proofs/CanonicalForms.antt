@@ -143,8 +143,8 @@ module _ (order : WordOrder) (relations : List Sides) {acceptor form : Automaton
   pub own_forms : IsAutomaticStructure given → IsAutomaticStructure made
   own_forms own = record {
     acceptor = λ w. (
-        (λ accepts. representative_made w ((own.acceptor w).0 (accepts_given w accepts))),
-        (λ least. accepts_made w ((own.acceptor w).1 (representative_given w least))),
+      (λ accepts. representative_made w ((own.acceptor w).0 (accepts_given w accepts))),
+      (λ least. accepts_made w ((own.acceptor w).1 (representative_given w least))),
     );
     multipliers = λ x generator u v.
         let letter = generator_given x generator in (

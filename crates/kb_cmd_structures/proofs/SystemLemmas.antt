@@ -94,8 +94,8 @@ module _ {given : GpaxiomsGiven} {presentation : Presentation} {acceptor form : 
       (passes.earlier.earlier.earlier.earlier.images ShortLex relations) in
       record {
         left_sides = λ w. (
-            (λ accepts. rule_of_left_side own_system images w (from_end w) ((made.are_left_sides states w).0 accepts)),
-            (λ rule. (made.are_left_sides states w).1 (left_side_of_rule own_system (w, rule.0) rule.1)),
+          (λ accepts. rule_of_left_side own_system images w (from_end w) ((made.are_left_sides states w).0 accepts)),
+          (λ rule. (made.are_left_sides states w).1 (left_side_of_rule own_system (w, rule.0) rule.1)),
         );
         rules = λ left right first second.
             let both = made.are_rules states left right (over_form left first) (over_form right second) in (

@@ -184,12 +184,12 @@ loaded_yes found file before after status (at_file ends unchanged) is_yes =
 loaded_yes found file before after status
     (loaded {presentation = presentation} {acceptor = accepts} {multipliers = multipliers} held
     means) is_yes = record {
-  presentation = presentation;
-  acceptor = accepts;
-  multipliers = multipliers;
-  held = held;
-  wrote = wrote_yes means is_yes;
-}
+      presentation = presentation;
+      acceptor = accepts;
+      multipliers = multipliers;
+      held = held;
+      wrote = wrote_yes means is_yes;
+    }
 
 -- of the same group a yes stores the same files and writes the same line
 abbrev pub FindsOne : FoundOf → FoundOf → Type 0

@@ -95,8 +95,7 @@ fn reduced_system(
 
 /// The construction has too many states, or memory ran out.
 fn too_many(det: Det, which: Construction) -> Result<Reduced, Memory>
-    ensures which { IfOk result (λ reduced. reduced ≡ TooManyStates which) }
-    ensures counted { IfOk result (λ reduced. IsTooManyStates det) }
+    ensures { IfOk result (λ reduced. (reduced ≡ TooManyStates which) × IsTooManyStates det) }
 {
     match det {
         Det::TooManyStates { .. } => Ok(Reduced::TooManyStates(which)),
