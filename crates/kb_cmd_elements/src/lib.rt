@@ -13,7 +13,7 @@
 //!
 //! - `proofs/BallLemmas.antt`: the words that the word acceptor of a completed presentation accepts up to a length are the ball.
 //! - `proofs/RunLemmas.antt`: what a run means, from what it means after the load of its file.
-//! - `proofs/LineLemmas.antt`, `proofs/NameLemmas.antt`: the command line.
+//! - `proofs/LineLemmas.antt`: the command line.
 //!
 //! Below are `kb_system`, which completes presentations, `kb_listing`, which prints accepted words, `kb_progress`, which shows how
 //! far a completion has come, `kb_evidence` and `kb_answering`, with what shows a limit, and `kb_task`.
