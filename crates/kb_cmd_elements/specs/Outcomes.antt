@@ -12,8 +12,8 @@ use Rattle.kb_cmd_elements.specs.declared.outcome.Outcome.TheVariants.{Completed
 -- the presentation with its word acceptor; or what shows a limit
 abbrev pub ComesTo : BallGiven → PresentationParts → Outcome → Type 0
 ComesTo given parts (Completed presentation acceptor) =
-    (parts_of presentation ≡ parts)
-    × ((rules : List Pair) × IsCompletion parts rules acceptor)
+    (rules : List Pair) × (parts_of presentation ≡ parts)
+    × IsCompletion parts rules acceptor
 ComesTo given parts (Limit evidence) =
     ShowsLimit given.limits given.file parts evidence.limit
     (texts_of evidence.files.items) evidence.line.items

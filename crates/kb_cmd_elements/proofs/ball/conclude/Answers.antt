@@ -42,7 +42,7 @@ returns-in-Completed g c = λ parts input shortlex comes.
     let before = g.O.Sink.state c.args.out.now in
     let after = g.O.Sink.state c.list_words.new.out in
     let radius : c.task.inside.radius ≡ given.radius = ap (λ (it : BallGiven). it.radius) c.task.view_is in
-    run-printed given c.in-Completed.presentation parts says.0 says.1 c.in-Completed.acceptor says.2 shortlex shelf input before after
+    run-printed given c.in-Completed.presentation parts says.1 says.0 c.in-Completed.acceptor says.2 shortlex shelf input before after
     c.list_words.result
     (λ told. subst (λ r. WordsArePrinted c.in-Completed.presentation.names c.in-Completed.acceptor 0 r before.written after.written c.list_words.result) radius
     (c.list_words.ensures.printed told))

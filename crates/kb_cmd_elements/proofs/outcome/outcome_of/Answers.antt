@@ -10,7 +10,7 @@ pub returns-in-Completed : goal.returns-in-Completed
 returns-in-Completed c =
     let parts : PresentationParts = parts_of c.args.presentation in
     let ends = subst (λ (e : Ending). EndsAs c.args.task.now.limits parts e) c.in-Completed.is c.requires in
-    (refl, c.in-Completed.rules.rules, ends.1)
+    (c.in-Completed.rules.rules, refl, ends.1)
 
 pub returns-in_ok-halted-in-Halted : goal.returns-in_ok-halted-in-Halted
 returns-in_ok-halted-in-Halted c =
