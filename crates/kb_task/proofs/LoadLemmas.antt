@@ -16,7 +16,7 @@ use Rattle.kb_task.specs.declared.loading.LoadStop.TheVariants as stops
 use Rattle.kb_task.specs.declared.loading.automata.Kind.{Kind}
 use Rattle.kb_task.specs.declared.loading.automata.Kind.TheVariants.{Words, Pairs}
 use Rattle.kb_task.specs.declared.status.FileFault.{FileFault}
-use Rattle.kb_task.specs.declared.status.FileFault.TheVariants.{Missing, TooLong, Presentation, Automaton as NoAutomaton, Log as NoLog, NotPlain, NotPairs, AlphabetsDiffer, NeedsShortlex, NotGroup}
+use Rattle.kb_task.specs.declared.status.FileFault.TheVariants.{Missing, TooLong, Presentation, Automaton as NoAutomaton, Log as NoLog, Subgroup as NoSubgroup, NoDerivations, NotPlain, NotPairs, AlphabetsDiffer, NeedsShortlex, NotGroup, NoRoom, MarkerTaken}
 use Rattle.kb_task.specs.declared.status.Status.{Status}
 
 -- lists of one length that are the same at each place
@@ -80,6 +80,10 @@ second_fault kind names alphabet files name (Presentation fault) cause = cause
 second_fault kind names alphabet files name (NoLog fault) cause = cause
 second_fault kind names alphabet files name NeedsShortlex cause = cause
 second_fault kind names alphabet files name (NotGroup generator) cause = cause
+second_fault kind names alphabet files name (NoSubgroup fault) cause = cause
+second_fault kind names alphabet files name NoDerivations cause = cause
+second_fault kind names alphabet files name NoRoom cause = cause
+second_fault kind names alphabet files name MarkerTaken cause = cause
 
 pub second_cause : (kind : Kind) (names : List (List ℕ)) (alphabet : Alphabet) (files : Files) (name : List ℕ) (stop : LoadStop)
     → IsCause (IsAutomatonFault kind files name) stop → IsCause (IsSecondFault kind names alphabet files name) stop
@@ -99,6 +103,10 @@ group_fault files name (NoLog fault) cause = cause
 group_fault files name NotPlain cause = cause
 group_fault files name NotPairs cause = cause
 group_fault files name AlphabetsDiffer cause = cause
+group_fault files name (NoSubgroup fault) cause = cause
+group_fault files name NoDerivations cause = cause
+group_fault files name NoRoom cause = cause
+group_fault files name MarkerTaken cause = cause
 
 pub group_cause : (files : Files) (name : List ℕ) (stop : LoadStop) → IsCause (IsPresentationFault files name) stop
     → IsCause (IsGroupFault files name) stop
