@@ -15,7 +15,7 @@ returns-in-Ok-clause-stops g c = λ told.
 pub returns-in-Ok-clause-counted : goal.returns-in-Ok-clause-counted
 returns-in-Ok-clause-counted g c = c.with_derivations.ensures.unfailed (g.F.Shelf.state c.args.shelf.now) (g.F.Shelf.state c.log_in.new.shelf)
 
-pub returns-in-Err-clause-stops : goal.returns-clause-stops
+pub returns-in-Err-clause-stops : goal.returns-in-Err-clause-stops
 returns-in-Err-clause-stops g c = λ told.
     let shelf : ShelfState = g.F.Shelf.state c.args.shelf.now in
     cause_kept c.args.presentation.now.names shelf.holds c.args.name.now c.in-Err.stop (c.in-Err.ensures.stops told)
