@@ -7,16 +7,16 @@ use Rattle.kb_word.specs.Words.{Pair, OneOf, Less, shorter}
 use Rattle.kb_word.specs.Congruence.{Congruent, Touches}
 use Rattle.kb_word.specs.Presentations.{PresentationParts, parts_of}
 use Rattle.kb_word.specs.Relations.{IsOver, IsPresentation}
+use Rattle.kb_word.specs.Rewriting.{NormalForm}
 use Rattle.kb_word.specs.WordOrders.{Below}
 use Rattle.kb_word.specs.WordOrderLaws.{word_orders}
 use Rattle.kb_word.specs.declared.presentation.Presentation.{Presentation}
 use Rattle.kb_word.specs.declared.word_order.WordOrder.{WordOrder}
 use Rattle.kb_word.specs.declared.word_order.WordOrder.TheVariants.{ShortLex}
-use Rattle.kb_word.proofs.PathLemmas.{path_keeps, congruent_reflexive}
+use Rattle.kb_word.proofs.PathLemmas.{path_keeps, congruent_reflexive, congruent_transitive}
 use Rattle.kb_rules.proofs.Exists.{normal_form_exists}
 use Rattle.kb_rules.proofs.Lists.{All-front, All-rest}
-use Rattle.kb_reduced.proofs.Complete.{reduced_complete, reduced_normal_least}
-use Rattle.kb_reduced.proofs.Least.{least_of_class}
+use Rattle.kb_reduced.specs.Reduced.{IsCompleteSystem}
 use Rattle.kb_machine.proofs.Relations.{relations_over}
 use Rattle.kb_fsa.specs.Language.{Automaton}
 use Rattle.kb_system.specs.Completed.{IsCompletion, IsLeastIn, below, relations}
@@ -52,7 +52,9 @@ module _ (n : ℕ) (pairs : List Pair) (over : (pair : Pair) → OneOf pairs pai
 -- ---- the ball
 
 module _ (parts : PresentationParts) (presents : IsPresentation (length parts.names) parts.order parts.names parts.inverses parts.equations)
-    (rules : List Pair) (acceptor : Automaton) (completion : IsCompletion parts rules acceptor) (radius : ℕ) where
+    (rules : List Pair) (acceptor : Automaton) (completion : IsCompletion parts rules acceptor) (radius : ℕ)
+    (complete : IsCompleteSystem (below parts) (relations parts) rules)
+    (normal_least : (w m : List ℕ) → NormalForm rules w m → IsLeastIn parts w m) where
   inside_of : (word : List ℕ) → IsAsked acceptor 0 radius word → IsInBall parts radius word
   inside_of word is =
       let has = (completion.acceptor.language word).0 is.accepted in record { over = has.0; least = has.1; short = is.most_length }
@@ -77,9 +79,8 @@ module _ (parts : PresentationParts) (presents : IsPresentation (length parts.na
   -- a word has a least word
   least_word : (w : List ℕ) → (m : List ℕ) × IsLeastIn parts w m
   least_word w =
-      let complete = reduced_complete {below = below parts} (word_orders parts.order) (relations parts) rules completion.reduced in
       let normal = normal_form_exists {below = below parts} (word_orders parts.order) rules complete.decreasing w in
-      (normal.0, reduced_normal_least {below = below parts} (word_orders parts.order) (relations parts) rules completion.reduced w normal.0 normal.1)
+      (normal.0, normal_least w normal.0 normal.1)
 
   module _ (shortlex : parts.order ≡ ShortLex) where
     -- a least word is no longer than any word congruent to it
@@ -94,7 +95,10 @@ module _ (parts : PresentationParts) (presents : IsPresentation (length parts.na
     least_inside : (w m : List ℕ) → IsOver (length parts.names) w → length w ≤ radius → IsLeastIn parts w m → IsInBall parts radius m
     least_inside w m over short least = record {
       over = congruent_over (length parts.names) (relations parts) (relations_over presents) w m least.congruent over;
-      least = least_of_class {below = below parts} (word_orders parts.order) w m least;
+      least = record {
+        congruent = congruent_reflexive m;
+        least = λ v congruent. least.least v (congruent_transitive least.congruent congruent);
+      };
       short = omega (arith, no_longer w m least, short);
     }
 

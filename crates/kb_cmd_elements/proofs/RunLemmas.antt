@@ -7,10 +7,12 @@ use Rattle.kb_io.specs.States.{ShelfState, SourceState, SinkState, SinkGoesOn}
 use Rattle.kb_word.specs.Words.{Pair}
 use Rattle.kb_word.specs.Presentations.{PresentationParts, parts_of}
 use Rattle.kb_word.specs.Relations.{IsPresentation}
+use Rattle.kb_word.specs.Rewriting.{NormalForm}
 use Rattle.kb_word.specs.declared.presentation.Presentation.{Presentation}
 use Rattle.kb_word.specs.declared.word_order.WordOrder.TheVariants.{ShortLex}
 use Rattle.kb_fsa.specs.Language.{Automaton}
-use Rattle.kb_system.specs.Completed.{IsCompletion}
+use Rattle.kb_reduced.specs.Reduced.{IsCompleteSystem}
+use Rattle.kb_system.specs.Completed.{IsCompletion, IsLeastIn, below, relations}
 use Rattle.kb_task.specs.Loads.{OnlyLoads}
 use Rattle.kb_task.specs.Presentations.{HoldsPresentation}
 use Rattle.kb_task.specs.Runs.{FaultIsCounted, IsRun}
@@ -69,12 +71,14 @@ run-held given parts shelf loaded input output loads after status holds shortlex
 
 -- the ball was printed
 pub run-printed : (given : BallGiven) (presentation : Presentation) (parts : PresentationParts) → parts_of presentation ≡ parts
-    → (rules : List Pair) (acceptor : Automaton) → IsCompletion parts rules acceptor → parts.order ≡ ShortLex
+    → (rules : List Pair) (acceptor : Automaton) → IsCompletion parts rules acceptor
+    → IsCompleteSystem (below parts) (relations parts) rules → ((w m : List ℕ) → NormalForm rules w m → IsLeastIn parts w m)
+    → parts.order ≡ ShortLex
     → (shelf : ShelfState) (input : SourceState) (before after : SinkState) (status : Status)
     → (IsTrue before.told → WordsArePrinted presentation.names acceptor 0 given.radius before.written after.written status)
     → SinkGoesOn before after → FaultIsCounted (outside shelf input before) (outside shelf input after) status
     → IsRun (BallAnswers given parts) (ball_may_store given) (outside shelf input before) (outside shelf input after) status
-run-printed given presentation parts same rules acceptor completion shortlex shelf input before after status prints goes_on fault =
+run-printed given presentation parts same rules acceptor completion complete normal_least shortlex shelf input before after status prints goes_on fault =
     run-prints shelf input before after status goes_on fault (λ told. inl (
     only_prints (BallIsPrinted parts given.radius) shelf input before after status (is_ball (prints told.output))
     ))
@@ -84,7 +88,7 @@ run-printed given presentation parts same rules acceptor completion shortlex she
     is_ball words =
         let P : PresentationParts → Type 0 = λ p. IsPresentation (length p.names) p.order p.names p.inverses p.equations in
         let W : PresentationParts → Type 0 = λ p. WordsArePrinted p.names acceptor 0 given.radius before.written after.written status in
-        ball_printed parts (subst P same (parts_present presentation)) rules acceptor completion given.radius shortlex
+        ball_printed parts (subst P same (parts_present presentation)) rules acceptor completion given.radius complete normal_least shortlex
         before.written after.written status (subst W same words)
 
 -- a limit was shown

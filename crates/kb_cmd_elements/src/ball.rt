@@ -16,6 +16,7 @@ use kb_book::Limits;
 use kb_io::{Gate, Shelf, Sink, Source};
 use kb_listing::list_words;
 use kb_progress::Progress;
+use kb_reduced::reduced_complete_systems_are_complete;
 use kb_system::complete_presentation;
 use kb_task::{Status, Task, load_shortlex};
 use kb_threads::Workers;
@@ -149,6 +150,7 @@ fn conclude<F: Shelf, O: Sink, E: Sink>(
             presentation,
             acceptor,
         } => {
+            reduced_complete_systems_are_complete();
             progress.finish();
             list_words(alloc, &presentation.names, &acceptor, 0, task.radius, out)
         }

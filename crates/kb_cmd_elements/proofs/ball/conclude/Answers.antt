@@ -3,6 +3,7 @@ use Rattle.std.specs.Prelude.{IsTrue}
 use Rattle.kb_io.specs.Outside.{Outside, outside}
 use Rattle.kb_io.specs.States.{ShelfState, SourceState}
 use Rattle.kb_word.specs.Presentations.{PresentationParts, parts_of}
+use Rattle.kb_system.specs.Completed.{relations}
 use Rattle.kb_task.specs.Stores.{texts_of}
 use Rattle.kb_evidence.proofs.ShownLemmas.{shows_differ}
 use Rattle.kb_listing.specs.Asked.{WordsArePrinted}
@@ -42,7 +43,10 @@ returns-in-Completed g c = λ parts input shortlex comes.
     let before = g.O.Sink.state c.args.out.now in
     let after = g.O.Sink.state c.list_words.new.out in
     let radius : c.task.inside.radius ≡ given.radius = ap (λ (it : BallGiven). it.radius) c.task.view_is in
-    run-printed given c.in-Completed.presentation parts says.1 says.0 c.in-Completed.acceptor says.2 shortlex shelf input before after
+    let law = c.reduced_complete_systems_are_complete.ensures in
+    run-printed given c.in-Completed.presentation parts says.1 says.0 c.in-Completed.acceptor says.2
+    (law.complete parts.order (relations parts) says.0 says.2.reduced)
+    (λ w m normal. law.least parts.order (relations parts) says.0 w m says.2.reduced normal) shortlex shelf input before after
     c.list_words.result
     (λ told. subst (λ r. WordsArePrinted c.in-Completed.presentation.names c.in-Completed.acceptor 0 r before.written after.written c.list_words.result) radius
     (c.list_words.ensures.printed told))
