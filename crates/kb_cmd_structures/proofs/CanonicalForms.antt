@@ -54,8 +54,9 @@ all_forms automata forms many are whole =
 
 -- ---- what they accept
 
-module _ (order : WordOrder) (relations : List Sides) {acceptor form : Automaton} {multipliers forms : List Automaton}
-    (fit : FitTogether acceptor multipliers) (is : IsCanonicalForm acceptor form) (are : AreCanonicalForms multipliers forms) where
+module _ (order : WordOrder) (relations : List Sides) (forms : List Automaton) {acceptor form : Automaton}
+    {multipliers : List Automaton} (fit : FitTogether acceptor multipliers) (is : IsCanonicalForm acceptor form)
+    (are : AreCanonicalForms multipliers forms) where
   abbrev given : Structure
   given = structure_of order relations acceptor multipliers
 

@@ -22,7 +22,7 @@ use Rattle.kb_cmd_structures.specs.Given.{GpaxiomsGiven}
 use Rattle.kb_cmd_structures.specs.Gpminkb.{AreOwnForms, FindsSystem, system, many_left_sides, many_rules}
 use Rattle.kb_cmd_structures.specs.Loaded.{AreAutomataOver}
 use Rattle.kb_cmd_structures.specs.ReducedSystem.{IsSystemOf}
-use Rattle.kb_cmd_structures.specs.Systems.{AreSystemOf, CanBePrinted, IsReducedFinding, IsSystemFound, ReducedSays}
+use Rattle.kb_cmd_structures.specs.Systems.{AreSystemOf, IsReducedFinding, IsSystemFound, ReducedSays}
 use Rattle.kb_cmd_structures.specs.declared.finding.Finding.{Finding}
 use Rattle.kb_cmd_structures.specs.declared.system.Reduced.{Reduced}
 use Rattle.kb_cmd_structures.specs.declared.system.Reduced.TheVariants.{System, TooManyStates}
@@ -30,7 +30,7 @@ use Rattle.kb_cmd_structures.proofs.CanonicalForms.{as_many_forms, form_at, imag
 
 -- ---- the forms are over the group's generators
 
-module _ {presentation : Presentation} {acceptor form : Automaton} {multipliers forms : List Automaton}
+module _ (forms : List Automaton) {presentation : Presentation} {acceptor form : Automaton} {multipliers : List Automaton}
     (are_over : AreAutomataOver presentation acceptor multipliers) (is : IsCanonicalForm acceptor form)
     (are : AreCanonicalForms multipliers forms) where
   form_words : form.alphabet ≡ Plain presentation.n
@@ -57,9 +57,6 @@ module _ {presentation : Presentation} {acceptor form : Automaton} {multipliers 
   pub forms_fit : FitTogether form forms
   forms_fit = fit presentation form forms form_words form_pairs
 
-  pub names_of_form : length presentation.names ≡ generators form.alphabet
-  names_of_form = presentation.is_presentation.one_name_each ∙ sym (ap generators form_words)
-
 -- ---- and the system is the group's
 
 module _ {given : GpaxiomsGiven} {presentation : Presentation} {acceptor form : Automaton} {multipliers forms : List Automaton}
@@ -74,23 +71,23 @@ module _ {given : GpaxiomsGiven} {presentation : Presentation} {acceptor form : 
   own_system : IsOwn ShortLex relations form forms
   own_system = record {
     words = automaton;
-    fit = forms_fit are_over own.acceptor_form own.multiplier_forms;
-    over = over presentation form forms (form_words are_over own.acceptor_form own.multiplier_forms);
-    structure = own_forms ShortLex relations given_fit own.acceptor_form own.multiplier_forms own.own;
+    fit = forms_fit forms are_over own.acceptor_form own.multiplier_forms;
+    over = over presentation form forms (form_words forms are_over own.acceptor_form own.multiplier_forms);
+    structure = own_forms ShortLex relations forms given_fit own.acceptor_form own.multiplier_forms own.own;
   }
 
   over_form : (w : List ℕ) → IsOver presentation.n w → IsOver (generators form.alphabet) w
   over_form w letters =
       let Over : ℕ → Type 0 = λ k. IsOver k w in
-      subst Over (sym (ap generators (form_words are_over own.acceptor_form own.multiplier_forms))) letters
+      subst Over (sym (ap generators (form_words forms are_over own.acceptor_form own.multiplier_forms))) letters
 
   pub system_is : (left_sides rules : Automaton) → AreSystemOf form forms left_sides rules → IsSystemOf presentation left_sides rules
   system_is left_sides rules made =
       let form_is = own.acceptor_form in
       let passes = own.passes in
-      let words = form_words are_over form_is own.multiplier_forms in
+      let words = form_words forms are_over form_is own.multiplier_forms in
       let states = each_state_accepts own_system form_is.canonical in
-      let images = images_of_forms ShortLex relations given_fit form_is own.multiplier_forms
+      let images = images_of_forms ShortLex relations forms given_fit form_is own.multiplier_forms
       (passes.earlier.earlier.earlier.earlier.images ShortLex relations) in
       record {
         left_sides = λ w. (
@@ -130,12 +127,3 @@ module _ {given : GpaxiomsGiven} {presentation : Presentation} {acceptor form : 
   system_found finding (TooManyStates Minred) says parts = found_as finding parts (many_left_sides own says)
   system_found finding (TooManyStates Minkb) says parts = found_as finding parts (many_rules own says.0 says.1)
   system_found finding (TooManyStates _) says parts = absurd says
-
--- the automata of the system can be printed
-pub system_printable : (names : List (List ℕ)) (form : Automaton) (forms : List Automaton) (limit : ℕ) (reduced : Reduced)
-    → length names ≡ generators form.alphabet → ReducedSays form forms limit reduced → CanBePrinted names reduced
-system_printable names form forms limit (System left_sides rules) named says = let made = says.0 in (
-  record { canonical = made.left_sides_canonical; one_name = named ∙ sym (ap generators made.words) },
-  record { canonical = made.rules_canonical; one_name = named ∙ sym (ap generators made.pairs) },
-)
-system_printable names form forms limit (TooManyStates which) named says = tt
