@@ -21,7 +21,9 @@ reduced_system-requires c =
     } in
     let From : List Automaton → Type 0 = λ l. AreCanonicalForms l forms in
     let Fit : List Automaton → Type 0 = λ l. FitTogether form l in
-    subst Fit (sym c.deref-2.ensures.value) (forms_fit forms c.requires.over is (subst From c.deref.ensures.value c.in_ok-forms.ensures))
+    record {
+      fit = subst Fit (sym c.deref-2.ensures.value) (forms_fit forms c.requires.over is (subst From c.deref.ensures.value c.in_ok-forms.ensures));
+    }
 
 pub returns : goal.returns
 returns c =
