@@ -3,10 +3,13 @@ use Rattle.std.proofs.Common.{◌≡◌, ℕ, Bool, true, false, List, [], ◌�
 use Rattle.std.specs.Str.{bytes_eq}
 use Rattle.clap.specs.Words.{Text}
 use Rattle.kb_cmd_automata.specs.Line.{name_text as automata_text, name_of_task as automata_name}
+use Rattle.kb_cmd_automata.specs.declared.combine.Combination.{Combination}
 use Rattle.kb_cmd_automata.specs.declared.combine.Combination.TheVariants.{And, Or, Concat}
-use Rattle.kb_cmd_automata.specs.declared.line.name.Name.{Name}
-use Rattle.kb_cmd_automata.specs.declared.line.name.Name.TheVariants as names
-use Rattle.kb_cmd_automata.specs.declared.line.name.Unlimited.TheVariants.{Minimise}
+use Rattle.kb_cmd_automata.specs.declared.combine.Combine.{Combine}
+use Rattle.kb_cmd_automata.specs.declared.task.AutomataTask.{AutomataTask}
+use Rattle.kb_cmd_automata.specs.declared.task.AutomataTask.TheVariants as automata
+use Rattle.kb_cmd_automata.specs.declared.transform.Transform.{Transform}
+use Rattle.kb_cmd_automata.specs.declared.transform.Transformation.{Transformation}
 use Rattle.kb_cmd_automata.specs.declared.transform.Transformation.TheVariants.{Not, Exists, Star, Reverse}
 use Rattle.kb_cmd_completion.specs.Line.{name_text as completion_text, name_of_task as completion_name}
 use Rattle.kb_cmd_completion.specs.declared.task.CompletionTask.TheVariants.{Kbprog, Logread, SelfTest}
@@ -50,23 +53,33 @@ family_named name =
     else (if is_among name (codes "kbverify" ∷ []) then 5
     else 1))))
 
-automata_family : (name : Name) → family_named (automata_text name) ≡ 1
+combined : (task : Combine) (operation : Combination)
+    → family_named (automata_text (automata_name (automata.Combine (record task { operation = operation })))) ≡ 1
 unfolding family_named is_among
-automata_family (names.Combine And) = refl
-automata_family (names.Combine Or) = refl
-automata_family (names.Combine Concat) = refl
-automata_family (names.Transform Not) = refl
-automata_family (names.Transform Exists) = refl
-automata_family (names.Transform Star) = refl
-automata_family (names.Transform Reverse) = refl
-automata_family (names.Unlimited Minimise) = refl
-automata_family names.Compare = refl
-automata_family names.Enumerate = refl
+combined task And = refl
+combined task Or = refl
+combined task Concat = refl
+
+transformed : (task : Transform) (operation : Transformation)
+    → family_named (automata_text (automata_name (automata.Transform (record task { operation = operation })))) ≡ 1
+unfolding family_named is_among
+transformed task Not = refl
+transformed task Exists = refl
+transformed task Star = refl
+transformed task Reverse = refl
+
+automata_family : (task : AutomataTask) → family_named (automata_text (automata_name task)) ≡ 1
+unfolding family_named is_among
+automata_family (automata.Combine task) = combined task task.operation
+automata_family (automata.Transform task) = transformed task task.operation
+automata_family (automata.Minimise task) = refl
+automata_family (automata.Compare task) = refl
+automata_family (automata.Enumerate task) = refl
 
 pub family_by_name : (command : Command) → family_named (command_name command) ≡ family command
 unfolding family_named is_among
 family_by_name (WordReduce task) = refl
-family_by_name (Automata task) = automata_family (automata_name task)
+family_by_name (Automata task) = automata_family task
 family_by_name (Completion (Kbprog task)) = refl
 family_by_name (Completion (Logread task)) = refl
 family_by_name (Completion (SelfTest task)) = refl
