@@ -1,5 +1,5 @@
 -- What a run of `kbverify` means by its status.
-use Rattle.std.specs.Prelude.{◌≡◌, ℕ, ◌⊎◌, List, [], ◌∷◌, ◌++◌, codes, decimal}
+use Rattle.std.specs.Prelude.{◌≡◌, ℕ, ◌⊎◌, List, [], ◌∷◌, ◌++◌, codes}
 use Rattle.kb_io.specs.Bytes.{newline}
 use Rattle.kb_io.specs.Outside.{Outside, IsUnchanged}
 use Rattle.kb_word.specs.Presentations.{PresentationParts}
@@ -7,8 +7,6 @@ use Rattle.kb_word.specs.Relations.{relations_of}
 use Rattle.kb_word.specs.WordOrders.{Below}
 use Rattle.kb_proof.specs.Verifying.{VerifiedSays}
 use Rattle.kb_proof.specs.declared.log.Log.{Log}
-use Rattle.kb_proof.specs.declared.verified.Why.{Why}
-use Rattle.kb_proof.specs.declared.verified.Why.TheVariants as reasons
 use Rattle.kb_proof.specs.declared.verified.Verified.{Verified}
 use Rattle.kb_proof.specs.declared.verified.Verified.TheVariants as verdicts
 use Rattle.kb_task.specs.Automata.{IsUnrefused}
@@ -17,6 +15,7 @@ use Rattle.kb_task.specs.Loads.{EndsAtLoad}
 use Rattle.kb_task.specs.Logs.{HoldsDerivations, IsDerivationsFault}
 use Rattle.kb_task.specs.Presentations.{HoldsPresentation, IsPresentationFault}
 use Rattle.kb_task.specs.Promises.{Promise}
+use Rattle.kb_task.specs.Reasons.{unjustified_line}
 use Rattle.kb_task.specs.Statuses.{AnswersYesOrNo, IsConclusive}
 use Rattle.kb_task.specs.declared.status.Cert.TheVariants.{NotJustified}
 use Rattle.kb_task.specs.declared.status.Status.{Status}
@@ -31,23 +30,10 @@ StoresNothing name = ⊥
 
 -- ---- the line of an answer, and its status
 
--- what a reason is called
-abbrev pub reason_name : Why → List ℕ
-reason_name reasons.Origin = codes "Origin"
-reason_name reasons.Step = codes "Step"
-reason_name reasons.Result = codes "Result"
-reason_name reasons.Order = codes "Order"
-reason_name reasons.Earlier = codes "Earlier"
-
--- `no log N WHY`
-abbrev pub no_line : ℕ → Why → List ℕ
-no_line number why =
-    codes "no log " ++ (decimal number ++ (codes " " ++ (reason_name why ++ newline ∷ [])))
-
 -- `yes`, or `no log N WHY`
 abbrev pub answer_line : Verified → List ℕ
 answer_line verdicts.Yes = codes "yes" ++ newline ∷ []
-answer_line (verdicts.No number why) = no_line number why
+answer_line (verdicts.No number why) = unjustified_line number why
 
 abbrev pub answer_status : Verified → Status
 answer_status verdicts.Yes = Yes

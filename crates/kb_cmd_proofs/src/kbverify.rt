@@ -1,19 +1,20 @@
 //! `kbverify FILE`: whether the log of a completion is justified line by line.
 
-ghost use Rattle.std.specs.Prelude.{◌≡◌, ◌++◌, IfOk, OnOk};
+ghost use Rattle.std.specs.Prelude.{◌≡◌, IfOk};
 ghost use Rattle.kb_io.specs.Outside.{outside};
 ghost use Rattle.kb_io.specs.States.{ShelfState, SourceState};
 ghost use Rattle.kb_word.specs.Presentations.{PresentationParts, parts_of};
 ghost use Rattle.kb_proof.specs.declared.log.Log.{Log as SomeLog};
 ghost use Rattle.kb_task.specs.Runs.{IsRun};
 ghost use Rattle.kb_task.specs.Statuses.{IsFaultless};
-ghost use Rattle.kb_cmd_proofs.specs.Kbverify.{CheckMeans, LogSays, StoresNothing, answer_line, answer_status, no_line, reason_name};
+ghost use Rattle.kb_cmd_proofs.specs.Kbverify.{CheckMeans, LogSays, StoresNothing, answer_line, answer_status};
 
-use crate::printing::{append, append_number};
 use kb_evidence::log_file;
 use kb_io::{Shelf, Sink, Source};
-use kb_proof::{Log, Verified, Why, verify};
-use kb_task::{Cert, Status, Task, load_derivations, load_presentation, print_line};
+use kb_proof::{Log, Verified, verify};
+use kb_task::{
+    Cert, Status, Task, load_derivations, load_presentation, print_line, unjustified_line,
+};
 use kb_word::{Memory, OwnedText, Presentation};
 use std::alloc::Global;
 use std::marker::Model;
@@ -116,31 +117,6 @@ fn line_of(alloc: Global, answer: Verified) -> Result<Vec<u8>, Memory>
 {
     match answer {
         Verified::Yes => Ok(Vec::from_slice(alloc, b"yes\n")?),
-        Verified::No { line, why } => line_of_no(alloc, line, why),
-    }
-}
-
-/// `no log`, the number of the line, the reason, and a newline.
-fn line_of_no(alloc: Global, number: u64, why: Why) -> Result<Vec<u8>, Memory>
-    ensures { IfOk result (λ line. line.items ≡ no_line number why) }
-{
-    let mut line = Vec::from_slice(alloc, b"no log ")?;
-    append_number(number, &mut line)?;
-    append(b" ", &mut line)?;
-    append_reason(why, &mut line)?;
-    line.push(b'\n')?;
-    Ok(line)
-}
-
-/// Appends what a reason is called.
-fn append_reason(why: Why, line: &mut Vec<u8>) -> Result<(), Memory>
-    ensures { OnOk result (line.new.items ≡ line.old.items ++ reason_name why) }
-{
-    match why {
-        Why::Origin => append(b"Origin", line),
-        Why::Step => append(b"Step", line),
-        Why::Result => append(b"Result", line),
-        Why::Order => append(b"Order", line),
-        Why::Earlier => append(b"Earlier", line),
+        Verified::No { line, why } => unjustified_line(alloc, line, why),
     }
 }

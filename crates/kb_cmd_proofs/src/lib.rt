@@ -8,14 +8,12 @@
 //!
 //! - `kbverify` is the command, and `task` has the enum of all commands.
 //! - `line` is what the command line says of them.
-//! - `printing` appends the parts of lines.
 //!
 //! Below are `kb_proof`, which reads and checks logs, `kb_evidence`, with the names of files, and `kb_task`.
 #![tactic(auto)]
 
 mod kbverify;
 mod line;
-mod printing;
 mod task;
 
 pub use kbverify::Kbverify;

@@ -1,13 +1,14 @@
 -- What is given under the names of a subcommand's arguments and options, and a program with one more subcommand.
 use Rattle.std.proofs.Common.{◌≡◌, ◌∙◌, ℕ, Option, Some, None, List, [], Result, Ok, Err, IfOk, refl, sym, ap, ap₂, subst, option_map, unwrap_or}
-use Rattle.std.specs.Prelude.{false}
+use Rattle.std.specs.Prelude.{◌↔◌, Bool, true, false, IsTrue, codes}
 use Rattle.std.specs.Str.Parse.{digits_value}
+use Rattle.std.proofs.lemmas.Option.{none-some, same_Some}
 use Rattle.clap.specs.Words.{AddsSubcommand, App, Row, Text, app_of, first_of, subcommand_name_of, subcommand_rows_of, with_subcommand}
 use Rattle.clap.specs.declared.builder.command.Command.{Command}
 use Rattle.clap.specs.declared.builder.command.Command.TheViews.{out-Command}
 use Rattle.clap.specs.declared.parser.matches.ArgMatches.{ArgMatches}
 use Rattle.clap.specs.declared.parser.matches.ArgMatches.TheViews.{out-ArgMatches}
-use Rattle.kb_task.specs.Arguments.{Entered, GivesNumber, GivesOption, GivesText, IsEntered, option_most, option_name}
+use Rattle.kb_task.specs.Arguments.{Entered, GivesFlag, GivesNumber, GivesOption, GivesText, IsEntered, option_most, option_name}
 use Rattle.kb_task.specs.declared.arguments.NumberOption.{NumberOption}
 
 -- ---- what is given under a name
@@ -33,6 +34,24 @@ number_given-at rows name low high n given =
 -- and so is the number of an option
 pub option_given-at : (rows : List Row) (option : NumberOption) (n : ℕ) → GivesOption rows option n → n ≡ number_at rows (option_name option)
 option_given-at rows option n given = number_given-at rows (option_name option) 1 (option_most option) n given
+
+-- an option without a value is given or not
+pub flag_given-at : (rows : List Row) (name : Text) (one other : Bool) → GivesFlag rows name one → GivesFlag rows name other → one ≡ other
+flag_given-at rows name true true a b = refl
+flag_given-at rows name false false a b = refl
+flag_given-at rows name true false a b = let bad : false ≡ true = b.1 (a.0 refl) in cc
+flag_given-at rows name false true a b = let bad : false ≡ true = a.1 (b.0 refl) in cc
+
+-- it is given where the text under its name is `true`
+pub flag-some : (rows : List Row) (name text : Text) (flag : Bool) → first_of name rows ≡ Some text → (IsTrue flag ↔ (text ≡ codes "true"))
+    → GivesFlag rows name flag
+flag-some rows name text flag given is =
+    (λ holds. given ∙ ap Some (is.0 holds), λ so. is.1 (same_Some text (codes "true") (sym given ∙ so)))
+
+-- and it isn't where there is none
+pub flag-none : (rows : List Row) (name : Text) → first_of name rows ≡ None → GivesFlag rows name false
+flag-none rows name none =
+    (λ holds. let bad : false ≡ true = holds in cc, λ so. absurd (none-some (codes "true") (sym none ∙ so)))
 
 -- ---- the subcommand that was entered
 

@@ -1,8 +1,8 @@
 -- Arguments and options of commands, by clap's own definition of what a command takes.
-use Rattle.std.specs.Prelude.{◌≡◌, ◌≤◌, ℕ, pos, true, List, [], ◌∷◌, Option, Some, None, codes, slice_get}
+use Rattle.std.specs.Prelude.{◌≡◌, ◌↔◌, ◌≤◌, ℕ, pos, Bool, true, IsTrue, List, [], ◌∷◌, Option, Some, None, codes, slice_get}
 use Rattle.std.specs.Str.Parse.{IsNumeral, digits_value}
 use Rattle.clap.specs.Words.{Row, Rule, Text, first_of, new_rule}
-use Rattle.clap.specs.declared.builder.action.ArgAction.TheVariants.{Set}
+use Rattle.clap.specs.declared.builder.action.ArgAction.TheVariants.{Set, SetTrue}
 use Rattle.clap.specs.declared.builder.value_parser.ValueParser.TheVariants.{Signed}
 use Rattle.kb_task.specs.declared.arguments.NumberOption.{NumberOption}
 use Rattle.kb_task.specs.declared.arguments.NumberOption.TheVariants.{Workers, MaxRules, MaxLen, MaxDiffs, MaxStates}
@@ -43,6 +43,10 @@ option_rule option = record (new_rule (option_name option)) {
   parser = Some (Signed (pos 1) (pos (option_most option)));
 }
 
+-- an option without a value
+abbrev pub flag_rule : Text → Rule
+flag_rule name = record (new_rule name) { long = Some name; action = Some SetTrue }
+
 -- an argument that is a length of words, from 0 to 65,535
 abbrev pub length_rule : Text → Rule
 length_rule name = record (needed_rule name) { parser = Some (Signed (pos 0) (pos 65535)) }
@@ -68,6 +72,10 @@ pub record GivesNumber (rows : List Row) (name : Text) (low high n : ℕ) : Type
 -- the text is given under the name
 abbrev pub GivesText : List Row → Text → Text → Type 0
 GivesText rows name text = first_of name rows ≡ Some text
+
+-- the option of this name, which takes no value, is given, or it is not
+abbrev pub GivesFlag : List Row → Text → Bool → Type 0
+GivesFlag rows name flag = IsTrue flag ↔ (first_of name rows ≡ Some (codes "true"))
 
 -- the option gives this number
 abbrev pub GivesOption : List Row → NumberOption → ℕ → Type 0

@@ -11,6 +11,7 @@ pub mod Automata
 pub mod Stored
 pub mod Stores
 pub mod Limits
+pub mod Reasons
 pub mod Lines
 pub mod Arguments
 pub mod Stops

@@ -1,8 +1,8 @@
 //! Arguments and options that commands take, and what is given for them.
 
-ghost use Rattle.std.specs.Prelude.{◌≡◌, ◌<◌, ◌^◌, ℕ, IfSome, None, option_map, false};
+ghost use Rattle.std.specs.Prelude.{◌≡◌, ◌↔◌, ◌<◌, ◌^◌, ℕ, IfSome, IsTrue, None, option_map, codes, false};
 ghost use Rattle.clap.specs.Words.{first_of, found_of, rows_of, rule_of};
-ghost use Rattle.kb_task.specs.Arguments.{GivesNumber, GivesOption, IsNumber, IsNumberWithin, needed_rule, length_rule, option_rule};
+ghost use Rattle.kb_task.specs.Arguments.{GivesFlag, GivesNumber, GivesOption, IsNumber, IsNumberWithin, flag_rule, needed_rule, length_rule, option_rule};
 
 use clap::{Arg, ArgAction, ArgMatches, value_parser};
 use std::alloc::Global;
@@ -43,6 +43,34 @@ pub fn length_argument<'a>(
     ensures local { result.global ≡ false }
 {
     needed_argument(alloc, id, value_name, help).value_parser(value_parser!(u16))
+}
+
+/// An option without a value.
+pub fn flag_option<'a>(alloc: Global, name: &'a str, help: &'a str) -> Arg<'a>
+    ensures rule { rule_of result ≡ flag_rule name.entry.now }
+    ensures local { result.global ≡ false }
+{
+    Arg::new(alloc, name)
+        .long(name)
+        .action(ArgAction::SetTrue)
+        .help(help)
+}
+
+/// Whether the option of this name, which takes no value, is given.
+pub fn flag_given(matches: &ArgMatches<'_>, name: &str) -> bool
+    ensures { GivesFlag (rows_of (found_of matches.now)) name.now result }
+{
+    match text_given(matches, name) {
+        Some(text) => is_true(text),
+        None => false,
+    }
+}
+
+/// Whether a text is `true`, which is what stands for an option that is given and takes no value.
+fn is_true(text: &str) -> bool
+    ensures { IsTrue result ↔ (text.now ≡ codes "true") }
+{
+    text == "true"
 }
 
 /// An option that gives a number, of which the least is 1.

@@ -33,15 +33,15 @@ mod storing;
 mod task;
 
 pub use arguments::{
-    NumberOption, length_argument, length_given, needed_argument, number_given, number_option,
-    option_given, text_given,
+    NumberOption, flag_given, flag_option, length_argument, length_given, needed_argument,
+    number_given, number_option, option_given, text_given,
 };
 pub use laws::{
     a_group_is_refused_for_one_reason, a_log_is_refused_for_one_reason,
     a_presentation_is_refused_for_one_reason, a_second_automaton_is_refused_for_one_reason,
     an_automaton_is_refused_for_one_reason,
 };
-pub use lines::{print_limit, print_line, undecided_line, undecided_words_line};
+pub use lines::{print_limit, print_line, undecided_line, undecided_words_line, unjustified_line};
 pub use loading::automata::{
     Kind, Loaded, load_acceptor, load_automaton, load_multiplier, load_second,
 };

@@ -1,11 +1,12 @@
 //! The line that a status prints.
 
-ghost use Rattle.std.specs.Prelude.{◌≡◌, ◌++◌, ℕ, List, IsTrue, IfOk, OnOk};
+ghost use Rattle.std.specs.Prelude.{◌≡◌, ◌++◌, ℕ, List, IsTrue, IfOk, OnOk, decimal};
 ghost use Rattle.kb_io.specs.Outside.{outside};
 ghost use Rattle.kb_io.specs.States.{ShelfState, SourceState, SinkGoesOn};
 ghost use Rattle.kb_word.specs.Printed.{letter_name};
 ghost use Rattle.kb_task.specs.Limits.{construction_name, limit_name, undecided_line, undecided_words_line};
 ghost use Rattle.kb_task.specs.Lines.{LineIsWritten, LimitIsPrinted};
+ghost use Rattle.kb_task.specs.Reasons.{reason_name, unjustified_line};
 ghost use Rattle.kb_task.specs.Runs.{FaultIsCounted};
 ghost use Rattle.kb_task.specs.Statuses.{IsFaultless};
 ghost use Rattle.kb_task.specs.declared.status.Construction.TheVariants.{Images, Multiplier, Relation};
@@ -14,6 +15,7 @@ ghost use Rattle.kb_task.specs.declared.status.Limit.TheVariants.{States};
 use crate::status::{Construction, Limit, Status, Which};
 use itoa::Buffer;
 use kb_io::{Failed, Sink, write_all};
+use kb_proof::Why;
 use kb_word::{Letter, Memory, Names, Word, print_word};
 use std::alloc::Global;
 
@@ -76,6 +78,39 @@ pub fn undecided_words_line(
     print_word(names, v, &mut line)?;
     line.push(b'\n')?;
     Ok(line)
+}
+
+/// `no log`, the number of the line that doesn't follow, the reason, and a newline.
+pub fn unjustified_line(alloc: Global, number: u64, why: Why) -> Result<Vec<u8>, Memory>
+    ensures { IfOk result (λ line. line.items ≡ unjustified_line number why) }
+{
+    let mut line = Vec::from_slice(alloc, b"no log ")?;
+    append_number(number, &mut line)?;
+    append(b" ", &mut line)?;
+    append_reason(why, &mut line)?;
+    line.push(b'\n')?;
+    Ok(line)
+}
+
+/// Appends what a reason is called.
+fn append_reason(why: Why, line: &mut Vec<u8>) -> Result<(), Memory>
+    ensures { OnOk result (line.new.items ≡ line.old.items ++ reason_name why) }
+{
+    match why {
+        Why::Origin => append(b"Origin", line),
+        Why::Step => append(b"Step", line),
+        Why::Result => append(b"Result", line),
+        Why::Order => append(b"Order", line),
+        Why::Earlier => append(b"Earlier", line),
+    }
+}
+
+/// Appends a number in decimal digits.
+fn append_number(number: u64, line: &mut Vec<u8>) -> Result<(), Memory>
+    ensures { OnOk result (line.new.items ≡ line.old.items ++ decimal number) }
+{
+    let mut buffer = Buffer::new();
+    append(buffer.format(number).as_bytes(), line)
 }
 
 /// Appends what a limit is called.

@@ -123,6 +123,9 @@ pub enum Cert {
     Structure(StructureCert),
     /// A log isn't justified: the line of this number is the first for which there is a reason, and this is its first.
     NotJustified { line: u64, why: Why },
+    /// By the lines of a log the sides of the relation of this number, and of none before it, have different normal
+    /// forms: the left side has `u`, and the right side `v`.
+    RelationApart { relation: u64, u: Word, v: Word },
 }
 
 /// What failed outside.
