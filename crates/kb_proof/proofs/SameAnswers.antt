@@ -118,7 +118,8 @@ lines_back [] (y ∷ ys) all = absurd all
 lines_back (x ∷ xs) [] all = absurd all
 lines_back (x ∷ xs) (y ∷ ys) all = (line_back all.0, lines_back xs ys all.1)
 
-rules_same : (xs ys : List Line) → AllZip AreSameLines xs ys → rules_of xs ≡ rules_of ys
+-- lines that say the same have the same rules
+pub rules_same : (xs ys : List Line) → AllZip AreSameLines xs ys → rules_of xs ≡ rules_of ys
 rules_same [] [] all = refl
 rules_same [] (y ∷ ys) all = absurd all
 rules_same (x ∷ xs) [] all = absurd all
