@@ -58,7 +58,7 @@ pub headline_one_function : (arguments other_arguments : List (List ℕ)) (comma
     → IsLine arguments command → IsLine other_arguments other_command → (command_promise command).differs_in_options other_command
     → Headline arguments before after status → Headline other_arguments other_before other_after other → IsYes status → IsYes other
     → ReadsSame (command_promise command).reads before other_before → before.input.left ≡ other_before.input.left
-    → HasSameEffect (command_promise command).may_store before after other_before other_after
+    → HasSameEffect (command_promise command).settled_stores before after other_before other_after
 headline_one_function arguments other_arguments command other_command before after other_before other_after status other line also differ one another is_yes also_yes same input =
     (commands_lawful command).one_function other_command before after other_before other_after status other
     (meant arguments command before after status line (yes-conclusive status is_yes) one)

@@ -49,8 +49,8 @@ pub fn one_answer_by_the_files()
         → status ≡ other }
 {}
 
-/// What status 0 writes and stores is one function of the command without its options, of the files that it reads and
-/// of the input: no option changes a byte of it.
+/// What status 0 writes, and stores under the names that it settles, is one function of the command without its
+/// options, of the files that it reads and of the input: no option changes a byte of it.
 pub fn status_0_is_one_function()
     ensures { (arguments other_arguments : List (List ℕ)) (command other_command : Command)
         (before after other_before other_after : Outside) (status other : Status)
@@ -63,5 +63,5 @@ pub fn status_0_is_one_function()
         → IsYes other
         → ReadsSame (command_promise command).reads before other_before
         → before.input.left ≡ other_before.input.left
-        → HasSameEffect (command_promise command).may_store before after other_before other_after }
+        → HasSameEffect (command_promise command).settled_stores before after other_before other_after }
 {}

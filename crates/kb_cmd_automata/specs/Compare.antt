@@ -72,6 +72,7 @@ compare_promise task = record {
   means = TwoMean WordsOrPairs task.one task.two
       (λ names one two. OnlyPrints (ComparisonIsPrinted names one two task.max_states));
   may_store = λ name. ⊥;
+  settled_stores = λ name. ⊥;
   reads = λ name. (name ≡ task.one) ⊎ (name ≡ task.two);
   is_unrefused = AreBothUnrefused WordsOrPairs task.one task.two;
   answers = IsAnswer;

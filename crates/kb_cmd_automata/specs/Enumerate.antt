@@ -14,6 +14,7 @@ enumerate_promise task = record {
   means = OneMeans Words task.file
       (λ names automaton. OnlyPrints (WordsArePrinted names automaton task.min task.max));
   may_store = λ name. ⊥;
+  settled_stores = λ name. ⊥;
   reads = λ name. name ≡ task.file;
   is_unrefused = IsUnrefusedAs Words task.file;
   answers = AnswersYes;

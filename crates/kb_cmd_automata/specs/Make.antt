@@ -87,6 +87,7 @@ abbrev pub make_promise : {Task : Type 0} → Making → (Automaton → Limit �
 make_promise making Exceeds Answers DiffersInOptions = record {
   means = MakingMeans making Exceeds;
   may_store = λ name. name ≡ making.out;
+  settled_stores = λ name. name ≡ making.out;
   reads = λ name. name ≡ making.file;
   is_unrefused = IsUnrefusedAs making.kind making.file;
   answers = Answers;
@@ -142,6 +143,7 @@ combine_promise task = record {
       (ExceedsCombined task.operation task.max_states one two)
       task.out names);
   may_store = λ name. name ≡ task.out;
+  settled_stores = λ name. name ≡ task.out;
   reads = λ name. (name ≡ task.one) ⊎ (name ≡ task.two);
   is_unrefused = AreBothUnrefused (combined_kind task.operation) task.one task.two;
   answers = AnswersYesOrLimit;

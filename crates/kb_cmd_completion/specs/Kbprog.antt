@@ -53,6 +53,7 @@ abbrev pub kbprog_promise : KbprogGiven → Promise KbprogGiven
 kbprog_promise given = record {
   means = KbprogMeans given;
   may_store = kbprog_may_store given;
+  settled_stores = kbprog_may_store given;
   reads = λ name. name ≡ given.file;
   is_unrefused = IsKbprogUnrefused given;
   answers = AnswersYesOrLimit;

@@ -78,6 +78,7 @@ abbrev pub logread_promise : LogreadGiven → Promise LogreadGiven
 logread_promise given = record {
   means = LogreadMeans given;
   may_store = StoresNothing;
+  settled_stores = StoresNothing;
   reads = λ name. (name ≡ given.file) ⊎ (name ≡ log_file given.file);
   is_unrefused = IsLogreadUnrefused given;
   answers = AnswersYes;

@@ -88,6 +88,7 @@ abbrev pub selftest_promise : SelfTestGiven → Promise SelfTestGiven
 selftest_promise given = record {
   means = SelfTestMeans given;
   may_store = λ name. ⊥;
+  settled_stores = λ name. ⊥;
   reads = λ name. ⊥;
   is_unrefused = λ before. Unit {0};
   answers = AnswersYesOrLimit;

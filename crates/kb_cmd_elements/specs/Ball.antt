@@ -47,6 +47,7 @@ abbrev pub ball_promise : BallGiven → Promise BallGiven
 ball_promise given = record {
   means = BallMeans given;
   may_store = ball_may_store given;
+  settled_stores = ball_may_store given;
   reads = λ name. name ≡ given.file;
   is_unrefused = λ before. IsUnrefused (IsShortlexFault before.shelf.holds given.file);
   answers = AnswersYesOrLimit;

@@ -87,6 +87,7 @@ abbrev pub kbverify_promise : KbverifyGiven → Promise KbverifyGiven
 kbverify_promise given = record {
   means = KbverifyMeans given;
   may_store = StoresNothing;
+  settled_stores = StoresNothing;
   reads = λ name. (name ≡ given.file) ⊎ (name ≡ log_file given.file);
   is_unrefused = IsKbverifyUnrefused given;
   answers = AnswersYesOrNo;

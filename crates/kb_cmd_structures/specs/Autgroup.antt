@@ -61,6 +61,7 @@ abbrev pub autgroup_promise : AutgroupGiven → Promise AutgroupGiven
 autgroup_promise given = record {
   means = AutgroupMeans given;
   may_store = AutgroupMayStore given;
+  settled_stores = AutgroupMayStore given;
   reads = λ name. name ≡ given.file;
   is_unrefused = IsAutgroupUnrefused given;
   answers = AnswersYesOrLimit;

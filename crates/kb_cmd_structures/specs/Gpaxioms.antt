@@ -106,6 +106,7 @@ abbrev pub gpaxioms_promise : GpaxiomsGiven → Promise GpaxiomsGiven
 gpaxioms_promise given = record {
   means = StructureMeans (Finds given) given.file;
   may_store = GpaxiomsMayStore given;
+  settled_stores = GpaxiomsMayStore given;
   reads = GpaxiomsReads given;
   is_unrefused = IsGpaxiomsUnrefused given;
   answers = IsAnswer;

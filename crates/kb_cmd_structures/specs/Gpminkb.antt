@@ -69,6 +69,7 @@ abbrev pub gpminkb_promise : GpaxiomsGiven → Promise GpaxiomsGiven
 gpminkb_promise given = record {
   means = StructureMeans (FindsSystem given) given.file;
   may_store = GpminkbMayStore given;
+  settled_stores = GpminkbMayStore given;
   reads = GpaxiomsReads given;
   is_unrefused = IsGpaxiomsUnrefused given;
   answers = IsAnswer;

@@ -81,6 +81,7 @@ abbrev pub wordreduce_promise : Given → Promise Given
 wordreduce_promise given = record {
   means = WordReduceMeans given;
   may_store = StoresNothing;
+  settled_stores = StoresNothing;
   reads = λ name. name ≡ given.file;
   is_unrefused = IsWordReduceUnrefused given;
   answers = AnswersYesOrNo;

@@ -10,8 +10,10 @@ use Rattle.kb_task.specs.declared.status.Status.TheVariants.{Memory}
 pub record Promise (Task : Type 0) : Type 1 where
   -- what a run from one moment of the outside to another means by its status
   pub means : Outside → Outside → Status → Type 0
-  -- the names under which it may store, and those of the files that it reads
+  -- the names under which it may store; those of them whose bytes status 0 settles, which are all but those of a log
   pub may_store : List ℕ → Type 0
+  pub settled_stores : List ℕ → Type 0
+  -- the names of the files that it reads
   pub reads : List ℕ → Type 0
   -- nothing of what it reads is refused; the statuses with which it then ends, where no device fails
   pub is_unrefused : Outside → Type 0
@@ -30,6 +32,7 @@ abbrev pub in_family : {Task Family : Type 0} → (Task → Family) → Promise 
 in_family {Task} variant promise = record {
   means = promise.means;
   may_store = promise.may_store;
+  settled_stores = promise.settled_stores;
   reads = promise.reads;
   is_unrefused = promise.is_unrefused;
   answers = promise.answers;
@@ -54,8 +57,8 @@ pub record IsLawful {Task : Type 0} (promise : Task → Promise Task)
       → status ≡ other
   -- a status that they settle is yes, no or a limit
   pub conclusive : (status : Status) → own.settles status → IsConclusive status
-  -- What status 0 writes and stores is one function of the command without its options, of the files that it reads and
-  -- of the input.
+  -- What status 0 writes, and stores under the names that it settles, is one function of the command without its
+  -- options, of the files that it reads and of the input.
   pub one_function : (other_task : Task) (before after other_before other_after : Outside)
       (status other : Status)
       → own.means before after status
@@ -63,4 +66,4 @@ pub record IsLawful {Task : Type 0} (promise : Task → Promise Task)
       → IsYes status → IsYes other
       → own.differs_in_options other_task → ReadsSame own.reads before other_before
       → before.input.left ≡ other_before.input.left
-      → HasSameEffect own.may_store before after other_before other_after
+      → HasSameEffect own.settled_stores before after other_before other_after

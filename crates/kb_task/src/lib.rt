@@ -6,8 +6,8 @@
 //! reads is refused, with which statuses it then ends, which statuses the files settle, and which commands are the
 //! same but for options that change no answer. Its laws (`lawful`) are over these: where nothing is refused there is
 //! an answer (`complete`), the files settle which of the statuses that they settle there is (`settled`), and what
-//! status 0 writes and stores is one function of command, files and input (`one_function`). `specs/Promises.antt` has
-//! both. Every run also keeps what `IsRun` of `specs/Runs.antt` states once for all commands: the cause of a fault,
+//! status 0 writes, and stores under the names that it settles, is one function of command, files and input
+//! (`one_function`). `specs/Promises.antt` has both. Every run also keeps what `IsRun` of `specs/Runs.antt` states once for all commands: the cause of a fault,
 //! that counts never fall, and that other files stay.
 //!
 //! - `status` is how a run ends, with its exit status and its messages.
