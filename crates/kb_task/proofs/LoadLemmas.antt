@@ -16,7 +16,7 @@ use Rattle.kb_task.specs.declared.loading.LoadStop.TheVariants as stops
 use Rattle.kb_task.specs.declared.loading.automata.Kind.{Kind}
 use Rattle.kb_task.specs.declared.loading.automata.Kind.TheVariants.{Words, Pairs}
 use Rattle.kb_task.specs.declared.status.FileFault.{FileFault}
-use Rattle.kb_task.specs.declared.status.FileFault.TheVariants.{Missing, TooLong, Presentation, Automaton as NoAutomaton, Log as NoLog, Subgroup as NoSubgroup, NoDerivations, NotPlain, NotPairs, AlphabetsDiffer, NeedsShortlex, NotGroup, NoRoom, MarkerTaken}
+use Rattle.kb_task.specs.declared.status.FileFault.TheVariants.{Missing, TooLong, Presentation, Automaton as NoAutomaton, Log as NoLog, Subgroup as NoSubgroup, NoDerivations, LogUnresolved, NotPlain, NotPairs, AlphabetsDiffer, NeedsShortlex, NotGroup, NoRoom, MarkerTaken}
 use Rattle.kb_task.specs.declared.status.Status.{Status}
 
 -- lists of one length that are the same at each place
@@ -82,6 +82,7 @@ second_fault kind names alphabet files name NeedsShortlex cause = cause
 second_fault kind names alphabet files name (NotGroup generator) cause = cause
 second_fault kind names alphabet files name (NoSubgroup fault) cause = cause
 second_fault kind names alphabet files name NoDerivations cause = cause
+second_fault kind names alphabet files name (LogUnresolved generator label other) cause = cause
 second_fault kind names alphabet files name NoRoom cause = cause
 second_fault kind names alphabet files name MarkerTaken cause = cause
 
@@ -105,6 +106,7 @@ group_fault files name NotPairs cause = cause
 group_fault files name AlphabetsDiffer cause = cause
 group_fault files name (NoSubgroup fault) cause = cause
 group_fault files name NoDerivations cause = cause
+group_fault files name (LogUnresolved generator label other) cause = cause
 group_fault files name NoRoom cause = cause
 group_fault files name MarkerTaken cause = cause
 

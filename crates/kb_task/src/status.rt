@@ -58,6 +58,14 @@ pub enum FileFault {
     Subgroup(SubError),
     /// It holds a log without derivations, where they are needed.
     NoDerivations,
+    /// It holds a log whose lines don't settle whether automata are a group's own: they aren't confluent, and by them the
+    /// label and another label word of a state of the multiplier of this generator, and of none before it, have these
+    /// different normal forms.
+    LogUnresolved {
+        generator: OwnedText,
+        label: OwnedText,
+        other: OwnedText,
+    },
     /// It holds an automaton of pairs, where a plain one is needed.
     NotPlain,
     /// It holds a plain automaton, where one of pairs is needed.
@@ -181,6 +189,11 @@ impl fmt::Display for FileFault {
             FileFault::Log(fault) => write!(f, "{fault}"),
             FileFault::Subgroup(fault) => write!(f, "{fault}"),
             FileFault::NoDerivations => write!(f, "E27 NoDerivations"),
+            FileFault::LogUnresolved {
+                generator,
+                label,
+                other,
+            } => write!(f, "E28 LogUnresolved {generator} {label} {other}"),
             FileFault::NotPlain => write!(f, "E18 AlphabetOther"),
             FileFault::NotPairs => write!(f, "E20 NotPairs"),
             FileFault::AlphabetsDiffer => write!(f, "E22 AlphabetsDiffer"),
