@@ -1,0 +1,91 @@
+#############################################################################
+##
+##  running.g: how kb.g runs the program, and what it says where there is no
+##  answer
+##
+#############################################################################
+
+# Runs kb in a folder with these arguments and this input. What it writes to
+# standard output and standard error comes back as strings, with its status.
+KbRun := function( folder, arguments, input )
+  local shell, command, place, status, content;
+  place := name -> Filename( folder, name );
+  FileString( place( "input" ), input );
+  shell := Filename( DirectoriesSystemPrograms(), "sh" );
+  command := "exec \"$0\" \"$@\" <input >output 2>messages";
+  status := Process( folder, shell, InputTextNone(), OutputTextNone(),
+                     Concatenation( [ "-c", command, KbProgram ], arguments ) );
+  content := StringFile( place( "messages" ) );
+  if status in [ 126, 127 ] then
+    Error( "kb: the program ", KbProgram, " can't be run: set KbProgram to its path\n", content );
+  fi;
+  return rec( status := status, out := StringFile( place( "output" ) ), messages := content );
+end;
+
+KbLines := text -> Filtered( SplitString( text, "\n" ), line -> line <> "" );
+
+# What a line of status 2 says, in words.
+KbUndecided := function( line, system )
+  local parts, evidence, counted;
+  parts := SplitString( line, " " );
+  evidence := Concatenation( "; the evidence is in ", system.file, ".kblog and ", system.file, ".kbprog" );
+  if parts[2] = "rules" then
+    return Concatenation( "the limit of lines (maxRules) is reached, and ", parts[3], " = ", parts[4],
+                          " is still to be entered", evidence );
+  elif parts[2] = "length" then
+    return Concatenation( "a left side would have more letters than the limit (maxLen): ", parts[3],
+                          " = ", parts[4], " is still to be entered", evidence );
+  elif parts[2] = "diffs" then
+    return Concatenation( "the limit of word differences (maxDiffs) is reached: ", parts[3],
+                          ", of ", parts[4], " and ", parts[5], ", isn't kept", evidence,
+                          " and ", system.file, ".diff" );
+  fi;
+  counted := JoinStringsWithSeparator( parts{ [ 3 .. Length( parts ) ] }, " " );
+  return Concatenation( "an automaton has more states than the limit (maxStates): ", counted, evidence );
+end;
+
+# Ends with an error in words where the program hasn't answered.
+KbAnswered := function( came, system )
+  local lines, said;
+  if came.status = 0 then
+    return came;
+  fi;
+  lines := KbLines( came.out );
+  said := Concatenation( KbLines( came.messages ), [ "" ] )[1];
+  if came.status = 1 then
+    Error( "kb: refused: ", said );
+  elif came.status = 2 then
+    Error( "kb: undecided: ", KbUndecided( lines[Length( lines )], system ) );
+  elif came.status = 3 then
+    Error( "kb: no: ", lines[Length( lines )] );
+  elif came.status = 4 then
+    Error( "kb: memory ran out" );
+  fi;
+  Error( "kb: status ", came.status, ": ", came.messages );
+end;
+
+# The options of the command line.
+KbArguments := function( options )
+  local arguments, row;
+  arguments := [];
+  for row in [ [ "maxRules", "--max-rules" ], [ "maxLen", "--max-len" ], [ "maxDiffs", "--max-diffs" ],
+               [ "maxStates", "--max-states" ], [ "workers", "--workers" ] ] do
+    if IsBound( options.( row[1] ) ) then
+      Append( arguments, [ row[2], String( options.( row[1] ) ) ] );
+    fi;
+  od;
+  return arguments;
+end;
+
+KbOptions := function( given )
+  local name;
+  if given = [] then
+    return rec();
+  fi;
+  for name in RecNames( given[1] ) do
+    if not name in [ "maxRules", "maxLen", "maxDiffs", "maxStates", "workers", "order", "weights" ] then
+      Error( "kb: there is no option ", name );
+    fi;
+  od;
+  return given[1];
+end;
