@@ -18,9 +18,10 @@ const VERSIONS: u64 = 10;
 const ROUNDS: u64 = 10;
 
 /// Shows that a long completion lives: when its log has 1,000 lines, each time it has twice as many
-/// as the last time, and at every tenth version that is published after the first time; and of rounds
-/// of automata at every tenth, and after that at the first one by other rules. A run that
-/// showed it ends with a line on how the completion ended. What fails in that is ignored.
+/// as the last time, and at every tenth version that is published after the first time. Of rounds of
+/// automata it shows the first after each growth of the rules, every tenth, and those whose automata
+/// break no axiom. A run that showed something ends with a line on how the completion ended. What
+/// fails in that is ignored.
 #[derive(Drop)]
 pub struct Progress<'a, E: Sink> {
     err: &'a mut E,
@@ -32,8 +33,10 @@ pub struct Progress<'a, E: Sink> {
     versions: u64,
     /// How many rounds of automata were made.
     rounds: u64,
-    /// By how many rules the last of them was.
-    rules: usize,
+    /// How many growths of the rules these rounds came after.
+    growths: u64,
+    /// Whether no round was made yet since the rules have grown.
+    has_grown: bool,
     /// How the completion ended, if it did.
     summary: Option<Summary>,
 }
@@ -47,7 +50,8 @@ impl<'a, E: Sink> Progress<'a, E> {
             next: FIRST,
             versions: 0,
             rounds: 0,
-            rules: 0,
+            growths: 0,
+            has_grown: true,
             summary: None,
         }
     }
@@ -57,23 +61,24 @@ impl<'a, E: Sink> Progress<'a, E> {
         self.summary = Some(summary);
     }
 
-    /// Writes the last line of a run that showed progress.
+    /// Writes the last line of a run that showed something.
     pub fn finish(&mut self) {
-        if self.is_shown() {
+        if self.next > FIRST || self.rounds > 0 {
             if let Some(summary) = self.summary {
                 let _ = summary.write(self.file, self.err);
             }
         }
     }
 
-    /// Whether progress was shown.
-    fn is_shown(&self) -> bool {
+    /// Whether the run is a long one.
+    fn is_long(&self) -> bool {
         self.next > FIRST || self.rounds >= ROUNDS
     }
 
-    /// Writes how large the automata of a round were.
+    /// Writes after which growth a round was made, and how large its automata were.
     fn show_round(&mut self, rules: usize, figures: &Figures) -> Result<(), Failed> {
-        write_number(b"kb: round ", self.rounds as usize, self.err)?;
+        write_number(b"kb: growth ", self.growths as usize, self.err)?;
+        write_number(b", round ", self.rounds as usize, self.err)?;
         write_number(b": ", rules, self.err)?;
         write_number(b" rules, ", figures.differences, self.err)?;
         write_number(
@@ -110,6 +115,7 @@ impl<'a, E: Sink> Progress<'a, E> {
 
 impl<'a, E: Sink> Watch for Progress<'a, E> {
     fn line_made<R: Reducer>(&mut self, book: &Book<R>) {
+        self.has_grown = true;
         let lines = book.lines().len();
         if lines >= self.next {
             self.next = lines.saturating_mul(2);
@@ -118,7 +124,7 @@ impl<'a, E: Sink> Watch for Progress<'a, E> {
     }
 
     fn published<R: Reducer>(&mut self, book: &Book<R>) {
-        if !self.is_shown() {
+        if !self.is_long() {
             return;
         }
         self.versions = self.versions.saturating_add(1);
@@ -132,10 +138,13 @@ impl<'a, E: Sink> WatchRounds for Progress<'a, E> {
     fn round_made(&mut self, rules: usize, figures: &Figures) {
         self.rounds = self.rounds.saturating_add(1);
         let is_tenth = self.rounds % ROUNDS == 0;
-        if is_tenth || (self.is_shown() && rules != self.rules) {
+        if self.has_grown {
+            self.growths = self.growths.saturating_add(1);
+        }
+        if self.has_grown || is_tenth || figures.broken.is_none() {
             let _ = self.show_round(rules, figures);
         }
-        self.rules = rules;
+        self.has_grown = false;
     }
 }
 
