@@ -1,40 +1,83 @@
-"""What is measured of `autgroup`, with one worker, two and four."""
+"""What is measured of `autgroup`: a table by groups and workers, of one run each, with what the run itself tells on err.
+
+A line of err tells of the first round after each growth of the rules, of every tenth, and of those that break no axiom. So the
+growths are all there; the last round told is the last one where an automatic structure comes of it, and else one of the last ten.
+"""
 
 import os
 import re
-import subprocess
+import tempfile
 
 import presentations as known
-from workers import measure_by_workers
+from measuring import GIVEN_UP, run_once
+from workers import COUNTS
+
+HEADING = (
+    "group",
+    "workers",
+    "status",
+    "clock",
+    "processor",
+    "memory",
+    "growths",
+    "last round told",
+    "its rules",
+    "its differences",
+    "most states of an acceptor",
+    "most states of a multiplier",
+    "comes to",
+)
+ROUND = re.compile(
+    r"kb: growth (\d+), round (\d+): (\d+) rules, (\d+) differences, "
+    r"word acceptor of (\d+) states, largest multiplier of (\d+) states"
+)
+LIMIT = re.compile(r"kb: \d+ .* reached \((.*)\)")
+STRUCTURE = re.compile(r"kb: (word acceptor of \d+ states), multipliers: (\d+)")
 
 
 def measure_autgroups(program, room):
-    """Prints the figures of automatic structures."""
-    measure_by_workers(program, room, "autgroup", groups(), came_to)
+    """Prints the table of automatic structures."""
+    print(row(HEADING))
+    print(row(["---"] * len(HEADING)), flush=True)
+    for what, text in groups():
+        for count in COUNTS:
+            with tempfile.TemporaryDirectory(dir=room) as folder:
+                print(row([what, count, *figures(program, f"{folder}/group", text, count)]), flush=True)
 
 
-def came_to(words, file):
-    """The rounds, and the states of the word acceptor and of the largest multiplier; the files go."""
-    ended = subprocess.run(words, stdin=subprocess.DEVNULL, capture_output=True, text=True, check=False)
-    rounds = re.findall(r"round (\d+): (\d+) rules, (\d+) differences", ended.stderr)
-    sizes = {}
-    for name in os.listdir(os.path.dirname(file)):
-        ending = name.removeprefix(os.path.basename(file))
-        if re.fullmatch(r"\.(wa|m\d+)", ending):
-            sizes[ending] = states(f"{os.path.dirname(file)}/{name}")
-        if ending and name.startswith(os.path.basename(file)):
-            os.remove(f"{os.path.dirname(file)}/{name}")
-    if ".wa" not in sizes:
-        return ended.stdout.strip()
-    largest = max([size for ending, size in sizes.items() if ending != ".wa"], default=0)
-    shown = f"last shown: round {rounds[-1][0]}, {rounds[-1][1]} rules, {rounds[-1][2]} differences, " if rounds else ""
-    return f"{shown}word acceptor of {sizes['.wa']} states, largest multiplier of {largest}"
+def row(words):
+    """A row of the table."""
+    return f"| {' | '.join(str(word) for word in words)} |"
 
 
-def states(file):
-    """How many states the automaton in a file has."""
-    with open(file, encoding="ascii") as it:
-        return int(re.search(r'type := "simple",\s*size := (\d+)', it.read()).group(1))
+def figures(program, file, text, count):
+    """What a run by so many workers takes, and what it tells."""
+    with open(file, "w", encoding="ascii") as it:
+        it.write(text)
+    with tempfile.TemporaryFile() as err:
+        run = run_once([program, "autgroup", file, "--workers", str(count)], os.devnull, err)
+        err.seek(0)
+        told = err.read().decode()
+    if run is None:
+        return ["-", f"over {GIVEN_UP} s", "-", "-", *rounds_told(told), "given up"]
+    took = [f"{run.clock:.2f} s", f"{run.spent:.2f} s", f"{run.memory:.0f} MiB"]
+    return [run.status, *took, *rounds_told(told), came_to(told)]
+
+
+def rounds_told(told):
+    """The growths, the last round with its rules and differences, and the largest automata of all rounds that are told."""
+    rounds = [[int(number) for number in numbers] for numbers in ROUND.findall(told)]
+    if not rounds:
+        return [0, "-", "-", "-", "-", "-"]
+    return [*rounds[-1][:4], max(it[4] for it in rounds), max(it[5] for it in rounds)]
+
+
+def came_to(told):
+    """What the last line says: the structure, or which limit was reached."""
+    structure, limit = STRUCTURE.search(told), LIMIT.search(told)
+    if structure:
+        return structure.expand(r"\1 and \2 multipliers")
+    return f"limit {limit.group(1)}" if limit else "?"
 
 
 def groups():

@@ -33,11 +33,12 @@ class Run(typing.NamedTuple):
     """The most memory that was resident, in MiB."""
 
 
-def run_once(words, given):
-    """One run of the command line, with a file as standard input; None where it is given up."""
+def run_once(words, given, told=subprocess.DEVNULL):
+    """One run of the command line, with a file as standard input, and an open one for what it tells on err; None where it is
+    given up."""
     with open(given, "rb") as lines, tempfile.TemporaryFile() as out:
         begun = time.perf_counter()
-        child = subprocess.Popen(words, stdin=lines, stdout=out, stderr=subprocess.DEVNULL)
+        child = subprocess.Popen(words, stdin=lines, stdout=out, stderr=told)
         end = threading.Timer(GIVEN_UP, child.kill)
         end.start()
         _, status, used = os.wait4(child.pid, 0)
