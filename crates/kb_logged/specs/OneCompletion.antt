@@ -1,0 +1,32 @@
+-- A presentation has one completion.
+use Rattle.std.proofs.Common.{◌≡◌, ◌∙◌, List, sym}
+use Rattle.kb_word.specs.Words.{Pair}
+use Rattle.kb_word.specs.Presentations.{PresentationParts}
+use Rattle.kb_word.specs.WordOrderLaws.{word_orders}
+use Rattle.kb_fsa.specs.Language.{Automaton}
+use Rattle.kb_fsamin.proofs.Uniqueness.{one_canonical}
+use Rattle.kb_system.specs.Completed.{IsCompletion, below}
+use Rattle.kb_reduced.proofs.Sorted.{sorted_same}
+
+module _ (parts : PresentationParts) {rules others : List Pair} {acceptor other : Automaton}
+    (one : IsCompletion parts rules acceptor) (also : IsCompletion parts others other) where
+  -- it has one reduced complete system
+  pub one_rules : rules ≡ others
+  one_rules =
+      let laws = word_orders parts.order in
+      sorted_same (λ (p q : Pair). below parts p.0 q.0) (λ x. laws.irreflexive x.0)
+      (λ x y z. laws.transitive x.0 y.0 z.0) rules others
+      one.reduced.sorted also.reduced.sorted
+      (λ rule is. also.reduced.all rule (one.reduced.each rule is))
+      (λ rule is. one.reduced.all rule (also.reduced.each rule is))
+
+  -- and one word acceptor
+  pub one_acceptor : acceptor ≡ other
+  one_acceptor =
+      one_canonical acceptor other one.acceptor.automaton also.acceptor.automaton
+      (one.acceptor.alphabet ∙ sym also.acceptor.alphabet)
+      one.acceptor.canonical also.acceptor.canonical
+      (λ w. (
+        λ accepts. (also.acceptor.language w).1 ((one.acceptor.language w).0 accepts),
+        λ accepts. (one.acceptor.language w).1 ((also.acceptor.language w).0 accepts),
+      ))
