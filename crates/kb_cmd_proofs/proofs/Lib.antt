@@ -1,2 +1,4 @@
 pub mod KbverifyRuns
+pub mod ShowRuns
+pub mod CertifyLemmas
 pub mod LineLemmas

@@ -1,6 +1,10 @@
 pub mod Given
 pub mod Kbverify
 pub mod KbverifyLaws
+pub mod Shown
+pub mod Certified
+pub mod Kbcertify
+pub mod KbcertifyLaws
 pub mod Tasks
 pub mod TaskLaws
 pub mod Line

@@ -1,15 +1,20 @@
 //! The commands in one type.
 
+use crate::kbcertify::Kbcertify;
 use crate::kbverify::Kbverify;
 use kb_io::{Shelf, Sink, Source};
 use kb_task::{Status, Task};
 use std::alloc::Global;
+use std::sync::Wait;
+use std::thread::Threads;
 
 /// A command about proofs.
 #[derive(Drop)]
 pub enum ProofsTask {
     /// `kbverify`
     Kbverify(Kbverify),
+    /// `kbcertify`
+    Kbcertify(Kbcertify),
 }
 
 impl Task for ProofsTask {
@@ -26,13 +31,15 @@ impl ProofsTask {
     ghost use Rattle.kb_task.specs.Promises.{Keeps};
     ghost use Rattle.kb_cmd_proofs.specs.Tasks.{proofs_promise};
 
-    /// Runs the command.
-    pub fn run<F: Shelf, I: Source, O: Sink>(
+    /// Runs the command. What is written to `err` only shows that it lives. No thread is started.
+    pub fn run<T: Threads + Wait + Sync, F: Shelf, I: Source, O: Sink, E: Sink>(
         self,
+        rt: &T,
         alloc: Global,
         shelf: &mut F,
         input: &mut I,
         out: &mut O,
+        err: &mut E,
     ) -> Status
         ensures { Keeps (proofs_promise self)
             (outside (F.state shelf.old) (I.state input.old) (O.state out.old))
@@ -40,6 +47,7 @@ impl ProofsTask {
     {
         match self {
             ProofsTask::Kbverify(task) => task.run(alloc, shelf, input, out),
+            ProofsTask::Kbcertify(task) => task.run(rt, alloc, shelf, input, out, err),
         }
     }
 }

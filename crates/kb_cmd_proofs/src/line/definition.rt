@@ -5,10 +5,11 @@ ghost use Rattle.clap.specs.Words.{app_of, new_app, rule_of};
 ghost use Rattle.clap.specs.declared.builder.command.Command.TheViews.{out-Command as fields_of};
 ghost use Rattle.kb_task.specs.Arguments.{needed_rule};
 ghost use Rattle.kb_cmd_proofs.specs.Line.{command_app, name_text};
+ghost use Rattle.kb_cmd_proofs.specs.declared.line.name.Name.TheVariants as names;
 
 use super::name::Name;
 use clap::{Arg, Command};
-use kb_task::needed_argument;
+use kb_task::{NumberOption, needed_argument, number_option};
 use std::alloc::{AllocError, Global};
 
 /// The definition of a command.
@@ -17,8 +18,29 @@ pub(super) fn definition<'a>(alloc: Global, name: Name) -> Result<Command<'a>, A
     ensures local { IfOk result (λ command. (fields_of command).has_globals ≡ false) }
 {
     match name {
-        Name::Kbverify => labelled(alloc, Name::Kbverify).arg(file_argument(alloc)),
+        Name::Kbverify => kbverify_definition(alloc),
+        Name::Kbcertify => kbcertify_definition(alloc),
     }
+}
+
+/// `kbverify FILE`.
+fn kbverify_definition<'a>(alloc: Global) -> Result<Command<'a>, AllocError>
+    ensures app { IfOk result (λ command. app_of command ≡ command_app names.Kbverify) }
+    ensures local { IfOk result (λ command. (fields_of command).has_globals ≡ false) }
+{
+    labelled(alloc, Name::Kbverify).arg(file_argument(alloc))
+}
+
+/// `kbcertify FILE`, with the limits of a completion.
+fn kbcertify_definition<'a>(alloc: Global) -> Result<Command<'a>, AllocError>
+    ensures app { IfOk result (λ command. app_of command ≡ command_app names.Kbcertify) }
+    ensures local { IfOk result (λ command. (fields_of command).has_globals ≡ false) }
+{
+    labelled(alloc, Name::Kbcertify)
+        .arg(file_argument(alloc))?
+        .arg(number_option(alloc, NumberOption::MaxRules))?
+        .arg(number_option(alloc, NumberOption::MaxLen))?
+        .arg(number_option(alloc, NumberOption::MaxStates))
 }
 
 /// A command with its name and its help, which takes nothing yet.

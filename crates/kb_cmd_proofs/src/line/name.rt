@@ -10,6 +10,8 @@ use kb_task::help_end;
 pub(crate) enum Name {
     /// `kbverify`
     Kbverify,
+    /// `kbcertify`
+    Kbcertify,
 }
 
 /// What a command is called, and its help.
@@ -24,7 +26,7 @@ pub(crate) struct Label<'a> {
 }
 
 /// The commands, in the order in which the program lists them.
-pub(crate) const NAMES: [Name; 1] = [Name::Kbverify];
+pub(crate) const NAMES: [Name; 2] = [Name::Kbverify, Name::Kbcertify];
 
 impl Name {
     /// The command of this name.
@@ -34,6 +36,7 @@ impl Name {
     {
         match text {
             "kbverify" => Some(Name::Kbverify),
+            "kbcertify" => Some(Name::Kbcertify),
             _ => None,
         }
     }
@@ -51,6 +54,17 @@ impl Name {
                     "as those have that kbprog stores. Out has one line: `yes`, or `no log N WHY`, status 3: line N is the first that",
                     "doesn't follow, and WHY is Origin, Step, Result, Order or Earlier.",
                     "Example: kb kbverify FILE"
+                ),
+            },
+            Name::Kbcertify => Label {
+                text: "kbcertify",
+                about: "Stores the complete rules and the word acceptor of FILE, with a log that proves them",
+                after_help: help_end!(
+                    "The files FILE.kblog, the log, FILE.kbprog, the rules, and FILE.wa, the word acceptor, are stored, and out has one",
+                    "line, `yes`. At a limit FILE.kblog and FILE.kbprog, the rules so far, are stored, and out has one line:",
+                    "`undecided rules U V`, `undecided length U V` or `undecided states acceptor`. One worker completes.",
+                    "Standard input is not read. `kb kbverify FILE` checks the log.",
+                    "Example: kb kbcertify examples/free-abelian-2"
                 ),
             },
         }
