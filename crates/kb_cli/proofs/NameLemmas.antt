@@ -18,7 +18,7 @@ use Rattle.kb_cmd_elements.specs.declared.task.ElementsTask.TheVariants.{Ball}
 use Rattle.kb_cmd_structures.specs.Line.{name_text as structures_text, name_of_task as structures_name}
 use Rattle.kb_cmd_structures.specs.declared.task.StructuresTask.TheVariants.{Autgroup, Gpaxioms, Gpminkb}
 use Rattle.kb_cmd_proofs.specs.Line.{name_text as proofs_text, name_of_task as proofs_name}
-use Rattle.kb_cmd_proofs.specs.declared.task.ProofsTask.TheVariants.{Kbverify}
+use Rattle.kb_cmd_proofs.specs.declared.task.ProofsTask.TheVariants.{Kbcertify, Kbverify}
 use Rattle.kb_cli.specs.declared.command.Command.{Command}
 use Rattle.kb_cli.specs.declared.command.Command.TheVariants.{WordReduce, Automata, Completion, Elements, Structures, Proofs}
 
@@ -50,7 +50,7 @@ family_named name =
     else (if is_among name (codes "kbprog" ∷ codes "logread" ∷ codes "selftest" ∷ []) then 2
     else (if is_among name (codes "ball" ∷ []) then 3
     else (if is_among name (codes "autgroup" ∷ codes "gpaxioms" ∷ codes "gpminkb" ∷ []) then 4
-    else (if is_among name (codes "kbverify" ∷ []) then 5
+    else (if is_among name (codes "kbverify" ∷ codes "kbcertify" ∷ []) then 5
     else 1))))
 
 combined : (task : Combine) (operation : Combination)
@@ -88,3 +88,4 @@ family_by_name (Structures (Autgroup task)) = refl
 family_by_name (Structures (Gpaxioms task)) = refl
 family_by_name (Structures (Gpminkb task)) = refl
 family_by_name (Proofs (Kbverify task)) = refl
+family_by_name (Proofs (Kbcertify task)) = refl

@@ -6,11 +6,12 @@
 -- is the canonical one of the stated language; that the words listed are the accepted ones; or that
 -- the rules stored are the reduced complete rewriting system of the presentation, and that the
 -- automaton beside them accepts its least words; or that automata are the word acceptor and the
--- multipliers of the presented group; or that a log is justified line by line. Status 3 shows why
--- the relations are not confluent, the languages not the same, the automata not the group's own, or
--- the log not justified. Status 2 comes exactly where a
--- construction counts more states than the limit; or a completion reached a limit, and then its log
--- is stored, whose lines are justified one by one.
+-- multipliers of the presented group; or that a log is justified line by line, and of one stored
+-- beside rules and word acceptor also that the rules of its lines are confluent and generate the
+-- presentation's congruence. Status 3 shows why the relations are not confluent, the languages not
+-- the same, the automata not the group's own, or the log not justified. Status 2 comes exactly
+-- where a construction counts more states than the limit; or a completion reached a limit, and then
+-- its log is stored, whose lines are justified one by one.
 use Rattle.std.specs.Prelude.{ℕ, List}
 use Rattle.kb_io.specs.Outside.{Outside, IsUnchanged}
 use Rattle.kb_task.specs.declared.status.Status.{Status}

@@ -25,7 +25,7 @@ pub enum Command {
     Elements(ElementsTask),
     /// Check automatic structures.
     Structures(StructuresTask),
-    /// Check logs.
+    /// Check logs, and complete with a log that certifies what was found.
     Proofs(ProofsTask),
 }
 
@@ -65,7 +65,7 @@ impl Command {
             Command::Completion(task) => task.run(rt, alloc, gate, shelf, input, out, err),
             Command::Elements(task) => task.run(rt, alloc, gate, shelf, input, out, err),
             Command::Structures(task) => task.run(rt, alloc, gate, shelf, input, out, err),
-            Command::Proofs(task) => task.run(alloc, shelf, input, out),
+            Command::Proofs(task) => task.run(rt, alloc, shelf, input, out, err),
         }
     }
 }

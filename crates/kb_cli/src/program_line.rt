@@ -76,7 +76,7 @@ const AFTER_HELP: &str = "\
 Words and completion: wordreduce, kbprog, logread
 Automatic structures: autgroup, gpaxioms, gpminkb
 Elements:             ball
-Proofs by logs:       kbverify
+Proofs by logs:       kbverify, kbcertify
 Automata:             fsaand to fsaenumerate
 The program itself:   selftest, help
 
