@@ -12,3 +12,4 @@ pub mod RuleLanguages
 pub mod RuleSteps
 pub mod OwnRules
 pub mod Gathered
+pub mod MarkLemmas

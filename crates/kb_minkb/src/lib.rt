@@ -39,6 +39,9 @@
 //! letter's multiplier reads: that symbol has the letter beside the padding, or beside the last letter of the right side,
 //! which the multiplier reads beside the padding.
 //!
+//! Of many generators there are many pairs of letters, and a state of a multiplier has moves by few of them. So the symbols
+//! by which some multiplier goes on are marked first, and only by these the states are looked for.
+//!
 //! # Where the proofs are
 //!
 //! - `Items`: machines that lead a text to the one thing that belongs to it, and how many states these have.
@@ -46,7 +49,7 @@
 //! - `Places`: the places of words, letter by letter; `LeftLanguages`: which words have that of a left side.
 //! - `LastSymbols` and `Going`: texts of pairs with a symbol more at the end.
 //! - `States` and `Multiplied`: the multipliers' states after a text, and what they accept.
-//! - `Gathered`: these states, gathered one by one.
+//! - `Gathered`: these states, gathered one by one; `MarkLemmas`: marks of the symbols by which they have moves.
 //! - `PairPlaces`, `RuleFollowing` and `RuleSteps`: the places of pairs, symbol by symbol; `RuleLanguages`: which pairs are
 //!   rules.
 //! - `OwnRules`: the group's own structure.
@@ -56,6 +59,7 @@
 
 mod laws;
 mod left_sides;
+mod marks;
 mod pair_place;
 mod place;
 mod rules;

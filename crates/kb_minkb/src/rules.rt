@@ -6,14 +6,18 @@ ghost use Rattle.kb_word.specs.Relations.{IsOver};
 ghost use Rattle.kb_word.specs.Comparison.{same_from_pointwise};
 ghost use Rattle.kb_fsa.specs.Language.{AcceptsPair, IsAutomaton, generators, symbols};
 ghost use Rattle.kb_fsa.specs.Canonical.{IsCanonical};
+ghost use Rattle.kb_fsa.specs.PairSymbols.{first_letter};
 ghost use Rattle.kb_fsa.specs.declared.alphabet.Alphabet.TheVariants.{Pair};
 ghost use Rattle.kb_explore.specs.declared.det.Det.TheVariants.{TooManyStates};
 ghost use Rattle.kb_structure.specs.StructureOf.{FitTogether};
+ghost use Rattle.kb_minkb.specs.LeftMachine as left_machine;
 ghost use Rattle.kb_minkb.specs.LeftSides.{AcceptsEachState};
+ghost use Rattle.kb_minkb.specs.Marks.{AreAllMarked};
 ghost use Rattle.kb_minkb.specs.Rules.{CountedMinkb, IsRule, states_after};
 ghost use Rattle.kb_minkb.specs.RuleMachine as rule_machine;
 
 use crate::left_sides::next_place;
+use crate::marks::{is_marked, moving_symbols};
 use crate::pair_place::PairPlace;
 use crate::place::LeftPlace;
 use crate::state_list::StateList;
@@ -78,9 +82,15 @@ impl Machine for Rules<'_> {
         let symbols = PairSymbols {
             n: self.acceptor.alphabet().generators(),
         };
+        let states = place.states.as_slice();
+        let marks = moving_symbols(alloc, self.multipliers, states, symbols.count())?;
         let mut moves = Vec::new(alloc);
+        // Symbols with one first letter come one after another.
+        let mut known = (0, next_place(self.acceptor, place.left, 0));
         for symbol in 1..symbols.count() + 1 {
-            if let Some(next) = self.next(alloc, place, symbol)? {
+            let letter = symbols.first(symbol);
+            known = place_by_letter(self.acceptor, place.left, known, letter);
+            if let Some(next) = self.next(alloc, place, marks.as_slice(), symbol, known.1)? {
                 moves.push((symbol, next))?;
             }
         }
@@ -93,15 +103,21 @@ impl Machine for Rules<'_> {
 }
 
 impl Rules<'_> {
-    /// The place of a text with the symbol behind it, where the text has this place.
+    /// The place of a text with the symbol behind it, where the text has this place, these marks tell by which symbols its
+    /// states have moves, and the first word has this place with its letter behind it.
     fn next(
         &self,
         alloc: Global,
         place: &PairPlace,
+        marks: &[bool],
         symbol: u32,
+        left: Option<LeftPlace>,
     ) -> Result<Option<PairPlace>, Memory>
+        requires marks { AreAllMarked self.now.multipliers.now place.now.states marks.now }
         requires positive { 0 < symbol }
         requires symbol { symbol ≤ symbols (Pair (generators self.now.acceptor.now.alphabet)) }
+        requires left { left ≡ left_machine.next_place self.now.acceptor.now.table place.now.left
+            (first_letter (generators self.now.acceptor.now.alphabet) symbol) }
         ensures { IfOk result (λ next. next
             ≡ (rule_machine.rules self.now.acceptor.now self.now.multipliers.now).follow
             place.now symbol) }
@@ -109,13 +125,37 @@ impl Rules<'_> {
         let symbols = PairSymbols {
             n: self.acceptor.alphabet().generators(),
         };
-        let letter = symbols.first(symbol);
-        if letter == symbols.padding() {
+        if symbols.first(symbol) == symbols.padding() {
             return Ok(None);
         }
-        let left = next_place(self.acceptor, place.left, letter);
         let states = place.states.as_slice();
-        place_by(alloc, symbols, self.multipliers, states, symbol, left)
+        place_by(
+            alloc,
+            symbols,
+            self.multipliers,
+            states,
+            marks,
+            symbol,
+            left,
+        )
+    }
+}
+
+/// The letter, and the place of a word with it behind it, where the word has this place. It may be known.
+fn place_by_letter(
+    acceptor: &Fsa,
+    place: LeftPlace,
+    known: (u32, Option<LeftPlace>),
+    letter: u32,
+) -> (u32, Option<LeftPlace>)
+    requires { known.1 ≡ left_machine.next_place acceptor.now.table place known.0 }
+    ensures letter { result.0 ≡ letter }
+    ensures place { result.1 ≡ left_machine.next_place acceptor.now.table place letter }
+{
+    if known.0 == letter {
+        known
+    } else {
+        (letter, next_place(acceptor, place, letter))
     }
 }
 
@@ -126,9 +166,11 @@ fn place_by(
     symbols: PairSymbols,
     multipliers: &[Fsa],
     states: &[u32],
+    marks: &[bool],
     symbol: u32,
     left: Option<LeftPlace>,
 ) -> Result<Option<PairPlace>, Memory>
+    requires { AreAllMarked multipliers.now states.now marks.now }
     ensures { IfOk result (λ next. next
         ≡ rule_machine.place_by symbols.n multipliers.now states.now symbol left) }
 {
@@ -138,11 +180,28 @@ fn place_by(
             let makes = makes_rule(symbols, multipliers, states, symbol);
             Ok(rule_place(alloc, makes))
         }
-        Some(left) => {
-            let states = next_states(alloc, multipliers, states, symbol)?;
-            Ok(place_with(left, states))
-        }
+        Some(left) => place_after(alloc, multipliers, states, marks, symbol, left),
     }
+}
+
+/// The place with the states after the symbol, unless there is none. No states are looked for after a symbol without a mark.
+fn place_after(
+    alloc: Global,
+    multipliers: &[Fsa],
+    states: &[u32],
+    marks: &[bool],
+    symbol: u32,
+    left: LeftPlace,
+) -> Result<Option<PairPlace>, Memory>
+    requires { AreAllMarked multipliers.now states.now marks.now }
+    ensures { IfOk result (λ next. next ≡ rule_machine.place_with left
+        (rule_machine.next_states multipliers.now states.now symbol)) }
+{
+    if !is_marked(marks, symbol) {
+        return Ok(None);
+    }
+    let states = next_states(alloc, multipliers, states, symbol)?;
+    Ok(place_with(left, states))
 }
 
 /// The place of a rule, if the pair is one.
