@@ -12,4 +12,5 @@ pub mod RuleLanguages
 pub mod RuleSteps
 pub mod OwnRules
 pub mod Gathered
+mod Between
 pub mod MarkLemmas

@@ -40,7 +40,8 @@
 //! which the multiplier reads beside the padding.
 //!
 //! Of many generators there are many pairs of letters, and a state of a multiplier has moves by few of them. So the symbols
-//! by which some multiplier goes on are marked first, and only by these the states are looked for.
+//! by which some multiplier goes on are marked first, and only by these the states are looked for. As the symbols ascend,
+//! each multiplier's move is guessed to be a little behind the one before, and the guess is tested.
 //!
 //! # Where the proofs are
 //!
@@ -50,6 +51,7 @@
 //! - `LastSymbols` and `Going`: texts of pairs with a symbol more at the end.
 //! - `States` and `Multiplied`: the multipliers' states after a text, and what they accept.
 //! - `Gathered`: these states, gathered one by one; `MarkLemmas`: marks of the symbols by which they have moves.
+//! - `Between`: where in an ascending row a symbol's move is.
 //! - `PairPlaces`, `RuleFollowing` and `RuleSteps`: the places of pairs, symbol by symbol; `RuleLanguages`: which pairs are
 //!   rules.
 //! - `OwnRules`: the group's own structure.
@@ -57,6 +59,7 @@
 //! Below are `kb_explore`, `kb_fsamin`, and for the definitions `kb_structure` and `kb_reduced`.
 #![tactic(auto)]
 
+mod guesses;
 mod laws;
 mod left_sides;
 mod marks;

@@ -16,6 +16,7 @@ ghost use Rattle.kb_minkb.specs.Marks.{AreAllMarked};
 ghost use Rattle.kb_minkb.specs.Rules.{CountedMinkb, IsRule, states_after};
 ghost use Rattle.kb_minkb.specs.RuleMachine as rule_machine;
 
+use crate::guesses::guessed_step;
 use crate::left_sides::next_place;
 use crate::marks::{is_marked, moving_symbols};
 use crate::pair_place::PairPlace;
@@ -84,13 +85,22 @@ impl Machine for Rules<'_> {
         };
         let states = place.states.as_slice();
         let marks = moving_symbols(alloc, self.multipliers, states, symbols.count())?;
+        let mut guesses = vec![in alloc; 0; states.len()]?;
         let mut moves = Vec::new(alloc);
         // Symbols with one first letter come one after another.
         let mut known = (0, next_place(self.acceptor, place.left, 0));
         for symbol in 1..symbols.count() + 1 {
             let letter = symbols.first(symbol);
             known = place_by_letter(self.acceptor, place.left, known, letter);
-            if let Some(next) = self.next(alloc, place, marks.as_slice(), symbol, known.1)? {
+            let next = self.next(
+                alloc,
+                place,
+                marks.as_slice(),
+                &mut guesses,
+                symbol,
+                known.1,
+            )?;
+            if let Some(next) = next {
                 moves.push((symbol, next))?;
             }
         }
@@ -110,6 +120,7 @@ impl Rules<'_> {
         alloc: Global,
         place: &PairPlace,
         marks: &[bool],
+        guesses: &mut Vec<usize>,
         symbol: u32,
         left: Option<LeftPlace>,
     ) -> Result<Option<PairPlace>, Memory>
@@ -135,6 +146,7 @@ impl Rules<'_> {
             self.multipliers,
             states,
             marks,
+            guesses,
             symbol,
             left,
         )
@@ -167,6 +179,7 @@ fn place_by(
     multipliers: &[Fsa],
     states: &[u32],
     marks: &[bool],
+    guesses: &mut Vec<usize>,
     symbol: u32,
     left: Option<LeftPlace>,
 ) -> Result<Option<PairPlace>, Memory>
@@ -180,7 +193,7 @@ fn place_by(
             let makes = makes_rule(symbols, multipliers, states, symbol);
             Ok(rule_place(alloc, makes))
         }
-        Some(left) => place_after(alloc, multipliers, states, marks, symbol, left),
+        Some(left) => place_after(alloc, multipliers, states, marks, guesses, symbol, left),
     }
 }
 
@@ -190,6 +203,7 @@ fn place_after(
     multipliers: &[Fsa],
     states: &[u32],
     marks: &[bool],
+    guesses: &mut Vec<usize>,
     symbol: u32,
     left: LeftPlace,
 ) -> Result<Option<PairPlace>, Memory>
@@ -200,7 +214,7 @@ fn place_after(
     if !is_marked(marks, symbol) {
         return Ok(None);
     }
-    let states = next_states(alloc, multipliers, states, symbol)?;
+    let states = next_states(alloc, multipliers, states, guesses, symbol)?;
     Ok(place_with(left, states))
 }
 
@@ -254,11 +268,12 @@ fn accepts_with(symbols: PairSymbols, multiplier: &Fsa, state: u32, second: u32)
     multiplier.is_accepting(multiplier.step(state, symbol))
 }
 
-/// The multipliers' states after the symbol.
+/// The multipliers' states after the symbol. Guesses of the places of their moves by it are kept for the symbols to come.
 fn next_states(
     alloc: Global,
     multipliers: &[Fsa],
     states: &[u32],
+    guesses: &mut Vec<usize>,
     symbol: u32,
 ) -> Result<StateList, Memory>
     ensures { IfOk result (λ next. next
@@ -266,7 +281,8 @@ fn next_states(
 {
     let mut next = Vec::with_capacity(alloc, states.len())?;
     for (multiplier, state) in multipliers.iter().zip(states) {
-        next.push(multiplier.step(*state, symbol))?;
+        let place = next.len();
+        next.push(guessed_step(multiplier, *state, symbol, guesses, place))?;
     }
     Ok(StateList::from_vec(next))
 }

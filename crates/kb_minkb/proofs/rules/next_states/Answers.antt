@@ -22,7 +22,7 @@ loop-multiplier-preserved c =
     let state : ℕ = c.in-Some.state.now in
     let next = c.loop-multiplier.next.items in
     let more : c.push.new.self.items ≡ next ++ step multiplier.table state symbol ∷ [] =
-    c.in_ok-push.ensures.items ∙ ap (λ (s : ℕ). next ++ s ∷ []) c.step.ensures.step in
+    c.in_ok-push.ensures.items ∙ ap (λ (s : ℕ). next ++ s ∷ []) c.guessed_step.ensures in
     subst (λ (many : ℕ). c.push.new.self.items ≡ first_states multipliers states symbol many)
     (sym (length_push done (c.in-Some.multiplier, c.in-Some.state)))
     (more ∙ ap (λ l. l ++ step multiplier.table state symbol ∷ []) c.loop-multiplier.invariant

@@ -48,7 +48,7 @@ loop-symbol-preserved c =
     let symbol : ℕ = c.loop-symbol.symbol in
     let P = λ (moves : List (ℕ × PairPlace)). AreMovesBefore machine place (symbol + 1) moves in
     record {
-      moves = elim c.match-branch-3.branch [
+      moves = elim c.match-next.branch [
         | in-Some+in_ok-push w ↦
             let follows : Some w.in-Some.next ≡ machine.follow place symbol = sym w.in-Some.is ∙ c.in_ok-next.ensures in
             subst P (sym w.in_ok-push.ensures.items ∙ ap (λ v. v.items) (sym w.moves-is))
