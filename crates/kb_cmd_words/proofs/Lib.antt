@@ -1,4 +1,6 @@
 pub mod LineLemmas
+pub mod LogLemmas
+pub mod LogRuns
 pub mod OrientLemmas
 pub mod RunLemmas
 pub mod ValueLemmas

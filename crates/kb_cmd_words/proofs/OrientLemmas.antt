@@ -99,7 +99,8 @@ one_of_middle (y ∷ xs) x ys = let one = one_of_middle xs x ys in (suc one.0, o
 
 -- ---- the congruence
 
-one_of_front : (xs ys : List Pair) (pair : Pair) → OneOf xs pair → OneOf (xs ++ ys) pair
+-- what stands in a list stands in a longer one
+pub one_of_front : (xs ys : List Pair) (pair : Pair) → OneOf xs pair → OneOf (xs ++ ys) pair
 one_of_front [] ys pair (index, at) = absurd (not_both _ pair at refl)
 one_of_front (x ∷ xs) ys pair (zero, at) = (zero, at)
 one_of_front (x ∷ xs) ys pair (suc index, at) = let one = one_of_front xs ys pair (index, at) in (suc one.0, one.1)

@@ -1,6 +1,6 @@
 -- What a run means, from what its parts mean.
 use Rattle.std.proofs.Common.{◌≡◌, ℕ, zero, suc, ◌<◌, ◌≤◌, inl, inr, List, [], ◌∷◌, ◌++◌, length, Option, Some, None, refl, sym, ◌∙◌, ap, subst, arith, length-append}
-use Rattle.std.specs.Prelude.{IsTrue}
+use Rattle.std.specs.Prelude.{Bool, IsTrue}
 use Rattle.kb_io.specs.Bytes.{AppendsPrefix}
 use Rattle.kb_io.specs.Outside.{Outside, outside, IsUnchanged}
 use Rattle.kb_io.specs.States.{ShelfState, SourceState, SinkState, SinkGoesOn}
@@ -28,7 +28,8 @@ use Rattle.kb_task.proofs.RunLemmas.{run-prints}
 use Rattle.kb_task.specs.Stops.{stop_status}
 use Rattle.kb_task.proofs.StopLemmas.{stop-counted}
 use Rattle.kb_cmd_words.specs.Confluence.{relations, IsLeastIn, OrientedAreConfluent, OrientedAreNotConfluent, no_line}
-use Rattle.kb_cmd_words.specs.WordReduce.{streams_of, AnswersMean, StoresNothing}
+use Rattle.kb_cmd_words.specs.ByRelations.{streams_of, AnswersMean, StoresNothing}
+use Rattle.kb_cmd_words.specs.WordReduce.{MeansBy}
 use Rattle.kb_cmd_words.proofs.OrientLemmas.{rules_covered}
 
 -- ---- how many rules there may be
@@ -91,6 +92,14 @@ answers-later parts one loaded input output same after (Fault Output) (inr stops
 answers-later parts one loaded input output same after Memory (inl unchanged) = inl (unchanged-later same unchanged)
 answers-later parts one loaded input output same after Memory (inr stops) = inr stops
 answers-later parts one loaded input output same after _ means = absurd means
+
+-- a run by what is the same
+pub run-same : (by_log other : Bool) (file name : List ℕ) (before after : Outside) (status : Status) → by_log ≡ other → file ≡ name
+    → IsRun (MeansBy by_log file) StoresNothing before after status → IsRun (MeansBy other name) StoresNothing before after status
+run-same by_log other file name before after status is named run =
+    let Named : List ℕ → Type 0 = λ f. IsRun (MeansBy other f) StoresNothing before after status in
+    let By : Bool → Type 0 = λ b. IsRun (MeansBy b file) StoresNothing before after status in
+    subst Named named (subst By is run)
 
 -- memory ran out before anything was done
 pub nothing-run : (parts : PresentationParts) (shelf : ShelfState) (input : SourceState) (output : SinkState)

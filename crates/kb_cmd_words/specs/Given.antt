@@ -1,6 +1,7 @@
 -- What the command line gives `wordreduce`.
-use Rattle.std.specs.Prelude.{ℕ, List}
+use Rattle.std.specs.Prelude.{Bool, ℕ, List}
 
 pub record Given : Type 0 where
   pub file : List ℕ
   pub workers : ℕ
+  pub by_log : Bool

@@ -1,6 +1,13 @@
 pub mod Given
 pub mod Confluence
 pub mod OrientationLaws
+pub mod LogLines
+pub mod ByRelations
+pub mod Answering
+pub mod ByLog
 pub mod WordReduce
+pub mod ByRelationsLaws
+pub mod LogLineLaws
+pub mod ByLogLaws
 pub mod WordReduceLaws
 pub mod Line

@@ -1,258 +1,73 @@
--- The laws of what the statuses of `wordreduce` mean.
-use Rattle.std.proofs.Common.{◌≡◌, ℕ, ◌<◌, inl, inr, List, ◌++◌, length, slice_get, refl, sym, ◌∙◌, ap, subst, arith, length-append}
-use Rattle.std.proofs.lemmas.Option.{same_Some}
+-- The laws of what the statuses of `wordreduce` mean, by the relations or by the lines of the log.
+use Rattle.std.proofs.Common.{◌≡◌, inl, inr, List, ℕ, refl, sym, subst}
+use Rattle.std.specs.Prelude.{Bool, true, false}
 use Rattle.kb_io.specs.Outside.{Outside}
-use Rattle.kb_word.specs.Words.{Pair}
-use Rattle.kb_word.specs.Overlap.{IsConfluent, IsResolved, IsUnresolved, critical_pair}
-use Rattle.kb_word.specs.Rewriting.{NormalForm}
-use Rattle.kb_word.specs.Presentations.{PresentationParts}
-use Rattle.kb_word.specs.WordOrderLaws.{word_orders}
-use Rattle.kb_rules.proofs.Unique.{normal_form_unique}
-use Rattle.kb_confluence.specs.FirstApart.{ComesBefore, IsFirstApart}
-use Rattle.kb_task.specs.Presentations.{HoldsPresentation, IsPresentationFault}
-use Rattle.kb_task.specs.PromiseLaws.{yes-conclusive}
 use Rattle.kb_task.specs.Promises.{IsLawful}
 use Rattle.kb_task.specs.Runs.{HasSameEffect, ReadsSame}
 use Rattle.kb_task.specs.Statuses.{AnswersYesOrNo, IsConclusive, IsFaultless, IsYes}
-use Rattle.kb_task.specs.declared.status.Cert.TheVariants.{NotConfluent}
-use Rattle.kb_task.specs.declared.status.Refusal.TheVariants.{File, Line, InputTooLong}
 use Rattle.kb_task.specs.declared.status.Status.{Status}
-use Rattle.kb_task.specs.declared.status.Status.TheVariants.{Yes, Refused, Undecided, No, Memory, Fault, Usage}
-use Rattle.kb_task.proofs.LoadEnds.{memory_at_load, load_inconclusive, one_presentation_held}
-use Rattle.kb_lines.proofs.UniqueLemmas.{one-answered}
-use Rattle.kb_cmd_words.specs.Confluence.{IsLeastIn, OrientedAreConfluent, OrientedAreNotConfluent}
+use Rattle.kb_evidence.specs.Files.{log_file}
+use Rattle.kb_cmd_words.specs.Answering.{HasAnswered, one_effect}
+use Rattle.kb_cmd_words.specs.ByLogLaws.{log_answered, log_complete, log_settled}
+use Rattle.kb_cmd_words.specs.ByRelations.{StoresNothing}
+use Rattle.kb_cmd_words.specs.ByRelationsLaws.{relations_answered, relations_complete, relations_settled}
 use Rattle.kb_cmd_words.specs.Given.{Given}
-use Rattle.kb_cmd_words.specs.WordReduce.{streams_of, AnswersMean, WordReduceMeans, IsWordReduceUnrefused, StoresNothing, wordreduce_promise}
-use Rattle.kb_cmd_words.specs.OrientationLaws.{one_orienting}
+use Rattle.kb_cmd_words.specs.WordReduce.{IsUnrefusedBy, MeansBy, ReadsBy, wordreduce_promise}
 
--- ---- confluent or not
-
--- what is joined isn't apart
-not_apart : {rules : List Pair} {pair : Pair} {u v : List ℕ} → IsResolved rules pair
-    → ¬ IsUnresolved rules pair u v
-not_apart joined apart =
-    apart.different
-    (normal_form_unique apart.left joined.left ∙ normal_form_unique joined.right apart.right)
-
--- no presentation's oriented relations are confluent and not
-pub confluent-not_refuted : (parts : PresentationParts) (u v : List ℕ) → OrientedAreConfluent parts
-    → ¬ OrientedAreNotConfluent parts u v
-confluent-not_refuted parts u v holds refuted =
-    let confluent =
-    subst IsConfluent
-    (one_orienting (word_orders parts.order) _ _ holds.rules refuted.rules holds.oriented
-    refuted.oriented)
-    holds.confluent in
-    let first = refuted.first in
-    not_apart (confluent refuted.i refuted.j refuted.place first.first first.second first.overlap)
-    first.parts
-
--- no overlap that is apart comes before the first
-not_before : {rules : List Pair} {i j p k l q : ℕ} {u v w x : List ℕ}
-    → IsFirstApart rules i j p u v
-    → IsFirstApart rules k l q w x
-    → ¬ ComesBefore i j p k l q
-not_before {i = i} {j = j} {p = p} one other before =
-    not_apart (other.earlier i j p one.first one.second before one.overlap) one.parts
-
-one_place : (i j p k l q : ℕ) → ¬ ComesBefore i j p k l q → ¬ ComesBefore k l q i j p
-    → (i ≡ k) × (j ≡ l) × (p ≡ q)
-one_place i j p k l q none_before none_after =
-    let not_less : i < k → ⊥ = λ less. none_before (inl less) in
-    let not_more : k < i → ⊥ = λ more. none_after (inl more) in
-    let first : i ≡ k = omega arith in
-    let second_not_less : j < l → ⊥ = λ less. none_before (inr (first, inl less)) in
-    let second_not_more : l < j → ⊥ = λ more. none_after (inr (sym first, inl more)) in
-    let second : j ≡ l = omega arith in
-    let place_not_less : p < q → ⊥ = λ less. none_before (inr (first, inr (second, less))) in
-    let place_not_more : q < p → ⊥ = λ more. none_after (inr (sym first, inr (sym second, more))) in
-    (first, second, omega arith)
-
--- the first overlap that is apart has one pair of normal forms
-one_first_apart : {rules : List Pair} {i j p k l q : ℕ} {u v w x : List ℕ}
-    → IsFirstApart rules i j p u v
-    → IsFirstApart rules k l q w x
-    → (u ≡ w) × (v ≡ x)
-one_first_apart {rules} {i} {j} {p} {k} {l} {q} {u} {v} {w} {x} one other =
-    let places = one_place i j p k l q (not_before one other) (not_before other one) in
-    let first : one.first ≡ other.first =
-    same_Some _ _ (sym one.overlap.is_first ∙ ap (slice_get rules) places.0
-    ∙ other.overlap.is_first) in
-    let second : one.second ≡ other.second =
-    same_Some _ _ (sym one.overlap.is_second ∙ ap (slice_get rules) places.1
-    ∙ other.overlap.is_second) in
-    let pair : critical_pair other.first other.second q ≡ critical_pair one.first one.second p =
-    let place : p ≡ q = places.2 in cc in
-    let left = subst (λ (c : Pair). NormalForm rules c.0 w) pair other.parts.left in
-    let right = subst (λ (c : Pair). NormalForm rules c.1 x) pair other.parts.right in
-    (normal_form_unique one.parts.left left, normal_form_unique one.parts.right right)
-
-one_counterexample : (parts : PresentationParts) (u v w x : List ℕ)
-    → OrientedAreNotConfluent parts u v
-    → OrientedAreNotConfluent parts w x
-    → NotConfluent u v ≡ NotConfluent w x
-one_counterexample parts u v w x one other =
-    let rules : other.rules ≡ one.rules =
-    one_orienting (word_orders parts.order) _ _ other.rules one.rules other.oriented one.oriented in
-    let words = one_first_apart one.first
-    (subst (λ r. IsFirstApart r other.i other.j other.place w x) rules other.first) in
-    ap (λ a. NotConfluent a v) words.0 ∙ ap (NotConfluent w) words.1
-
--- a word has one least word
-pub one_least : (parts : PresentationParts) (w m n : List ℕ) → IsLeastIn parts w m
-    → IsLeastIn parts w n → m ≡ n
-one_least parts w m n one other = elim ((word_orders parts.order).total m n) [
-  | inl same ↦ same
-  | inr (inl less) ↦ absurd (other.least m one.congruent less)
-  | inr (inr more) ↦ absurd (one.least n other.congruent more)
-]
-
--- ---- the laws
-
-lines_answer : (given : Given) (parts : PresentationParts) (before after : Outside)
-    (status : Status)
-    → HoldsPresentation before.shelf.holds given.file parts → IsWordReduceUnrefused given before
+complete : (by_log : Bool) (file : List ℕ) (before after : Outside) (status : Status)
+    → MeansBy by_log file before after status → IsUnrefusedBy by_log file before
     → IsFaultless status
-    → AnswersMean parts before after status → AnswersYesOrNo status
-lines_answer given parts before after Yes holds unrefused faultless means = tt
-lines_answer given parts before after (No cert) holds unrefused faultless means = tt
-lines_answer given parts before after Memory holds unrefused faultless means = tt
-lines_answer given parts before after (Refused (Line number fault)) holds unrefused
-    faultless means =
-    unrefused.lines parts number fault holds means.1.means.refused
-lines_answer given parts before after (Refused InputTooLong) holds unrefused faultless means =
-    let more = means.1.means.0 in
-    let short = unrefused.short in
-    omega (
-      arith,
-      more,
-      short,
-      ap length means.1.takes,
-      length-append means.1.taken
-          after.input.left,
-    )
-lines_answer given parts before after (Refused (File name fault)) holds unrefused faultless means =
-    means
-lines_answer given parts before after (Fault which) holds unrefused faultless means = cc
-lines_answer given parts before after (Undecided limit) holds unrefused faultless means = means
-lines_answer given parts before after (Usage kind) holds unrefused faultless means = means
+    → AnswersYesOrNo status
+complete true file before after status means unrefused faultless =
+    log_complete file before after status means unrefused faultless
+complete false file before after status means unrefused faultless =
+    relations_complete file before after status means unrefused faultless
 
-complete : (given : Given) (before after : Outside) (status : Status)
-    → WordReduceMeans given before after status
-    → IsWordReduceUnrefused given before → IsFaultless status → AnswersYesOrNo status
-complete given before after status (inl means) unrefused faultless =
-    subst AnswersYesOrNo
-    (sym (memory_at_load (IsPresentationFault before.shelf.holds given.file) given.file
-    status unrefused.file
-    faultless means.0)) tt
-complete given before after status (inr means) unrefused faultless =
-    lines_answer given means.0 before after status means.1 unrefused faultless means.2
-
-lines_settled : (parts : PresentationParts) (before after other_before other_after : Outside)
+settled : (by_log : Bool) (file : List ℕ) (before after other_before other_after : Outside)
     (status other : Status)
-    → IsConclusive status → IsConclusive other → AnswersMean parts before after status
-    → AnswersMean parts other_before other_after other
-    → status ≡ other
-lines_settled parts a b c d Yes Yes conclusive also means others = refl
-lines_settled parts a b c d Yes (No (NotConfluent u v)) conclusive also means others =
-    absurd (confluent-not_refuted parts u v means.0 others.0)
-lines_settled parts a b c d Yes (No cert) conclusive also means others = absurd others
-lines_settled parts a b c d Yes (Undecided limit) conclusive also means others = absurd others
-lines_settled parts a b c d Yes other conclusive also means others = absurd also
-lines_settled parts a b c d (No (NotConfluent u v)) Yes conclusive also means others =
-    absurd (confluent-not_refuted parts u v others.0 means.0)
-lines_settled parts a b c d (No (NotConfluent u v)) (No (NotConfluent w x)) conclusive
-    also means others =
-    ap No (one_counterexample parts u v w x means.0 others.0)
-lines_settled parts a b c d (No (NotConfluent u v)) (No cert) conclusive also means others =
-    absurd others
-lines_settled parts a b c d (No (NotConfluent u v)) (Undecided limit) conclusive also means others =
-    absurd others
-lines_settled parts a b c d (No (NotConfluent u v)) other conclusive also means others = absurd also
-lines_settled parts a b c d (No cert) other conclusive also means others = absurd means
-lines_settled parts a b c d (Undecided limit) other conclusive also means others = absurd means
-lines_settled parts a b c d status other conclusive also means others = absurd conclusive
-
-settled : (given : Given) (before after other_before other_after : Outside)
-    (status other : Status)
-    → WordReduceMeans given before after status
-    → WordReduceMeans given other_before other_after other
-    → ReadsSame (wordreduce_promise given).reads before other_before → IsConclusive status
+    → MeansBy by_log file before after status → MeansBy by_log file other_before other_after other
+    → ReadsSame (ReadsBy by_log file) before other_before → IsConclusive status
     → IsConclusive other → status ≡ other
-settled given before after other_before other_after status other (inl means) others same
+settled true file before after other_before other_after status other means others same
     conclusive also =
-    absurd (load_inconclusive (IsPresentationFault before.shelf.holds given.file) given.file status
-    means.0 conclusive)
-settled given before after other_before other_after status other (inr means)
-    (inl others) same
+    log_settled file before after other_before other_after status other means others
+    (same file (inl refl)) (same (log_file file) (inr (refl, refl))) conclusive also
+settled false file before after other_before other_after status other means others same
     conclusive also =
-    absurd (load_inconclusive (IsPresentationFault other_before.shelf.holds given.file) given.file
-    other others.0 also)
-settled given before after other_before other_after status other (inr means)
-    (inr others) same
-    conclusive also =
-    let parts = one_presentation_held (same given.file refl) means.1 others.1 in
-    lines_settled others.0 before after other_before other_after status other conclusive also
-    (subst (λ p. AnswersMean p before after status) parts means.2) others.2
+    relations_settled file before after other_before other_after status other means others
+    (same file (inl refl)) conclusive also
 
-lines_same : (given : Given) (parts : PresentationParts)
-    (before after other_before other_after : Outside)
-    (status other : Status) → IsYes status → IsYes other
-    → AnswersMean parts before after status → AnswersMean parts other_before other_after other
-    → before.input.left ≡ other_before.input.left
-    → HasSameEffect StoresNothing before after other_before other_after
-lines_same given parts before after other_before other_after Yes Yes is_yes also means others same =
-    let one = means.1 in
-    let other = others.1 in
-    let text = one-answered (streams_of before) (streams_of after) (streams_of other_before)
-    (streams_of other_after) (one_least parts) one other same in
-    record {
-      bytes = one.given;
-      written = one.sent;
-      other_written = other.sent ∙ ap (λ g. other_before.output.written ++ g) (sym text);
-      stored = λ name stored. absurd stored;
-    }
-lines_same given parts before after other_before other_after Yes other is_yes also means others
-    same = absurd also
-lines_same given parts before after other_before other_after status other is_yes also means others
-    same = absurd is_yes
+-- what a yes says, whatever answers
+answered : (by_log : Bool) (file : List ℕ) (before after : Outside) (status : Status)
+    → IsYes status → MeansBy by_log file before after status → HasAnswered file before after
+answered true file before after status is_yes means =
+    log_answered file before after status is_yes means
+answered false file before after status is_yes means =
+    relations_answered file before after status is_yes means
 
-one_function : (given other_given : Given)
-    (before after other_before other_after : Outside)
+one_function : (given other_given : Given) (before after other_before other_after : Outside)
     (status other : Status)
-    → WordReduceMeans given before after status
-    → WordReduceMeans other_given other_before other_after other
+    → MeansBy given.by_log given.file before after status
+    → MeansBy other_given.by_log other_given.file other_before other_after other
     → IsYes status → IsYes other
     → given.file ≡ other_given.file
-    → ReadsSame (wordreduce_promise given).reads before other_before
+    → ReadsSame (ReadsBy given.by_log given.file) before other_before
     → before.input.left ≡ other_before.input.left
     → HasSameEffect StoresNothing before after other_before other_after
-one_function given other_given before after other_before other_after status other
-    (inl means) others
+one_function given other_given before after other_before other_after status other means others
     is_yes also file same input =
-    absurd (load_inconclusive (IsPresentationFault before.shelf.holds given.file)
-    given.file status means.0
-    (yes-conclusive status is_yes))
-one_function given other_given before after other_before other_after status
-    other (inr means)
-    (inl others) is_yes also file same input =
-    absurd (load_inconclusive
-    (IsPresentationFault other_before.shelf.holds other_given.file) other_given.file
-    other others.0 (yes-conclusive other also))
-one_function given other_given before after other_before other_after status
-    other (inr means)
-    (inr others) is_yes also file same input =
-    let held = subst (λ name. HoldsPresentation other_before.shelf.holds name others.0)
-    (sym file) others.1 in
-    let parts = one_presentation_held (same given.file refl) means.1 held in
-    lines_same given others.0 before after other_before other_after status other is_yes also
-    (subst (λ p. AnswersMean p before after status) parts means.2) others.2 input
+    let one = answered given.by_log given.file before after status is_yes means in
+    let another = answered other_given.by_log other_given.file other_before other_after other also
+    others in
+    one_effect given.file before after other_before other_after one
+    (subst (λ (name : List ℕ). HasAnswered name other_before other_after) (sym file) another)
+    (same given.file (inl refl)) input
 
 pub wordreduce_lawful : (given : Given) → IsLawful wordreduce_promise (wordreduce_promise given)
 wordreduce_lawful given = record {
-  complete = complete given;
+  complete = complete given.by_log given.file;
   memory = tt;
-  settled = settled given;
+  settled = settled given.by_log given.file;
   conclusive = λ status settles. settles;
   one_function = one_function given;
 }

@@ -8,7 +8,10 @@ ghost use Rattle.kb_cmd_words.specs.Line.{with_wordreduce, wordreduce_app, IsWor
 
 use crate::word_reduce::WordReduce;
 use clap::{ArgMatches, Command};
-use kb_task::{NumberOption, help_end, needed_argument, number_option, option_given, text_given};
+use kb_task::{
+    NumberOption, flag_given, flag_option, help_end, needed_argument, number_option, option_given,
+    text_given,
+};
 use kb_word::{Memory, OwnedText};
 use std::alloc::{AllocError, Global};
 
@@ -56,10 +59,11 @@ fn wordreduce_given(alloc: Global, matches: &ArgMatches<'_>) -> Result<Option<Wo
     Ok(Some(WordReduce {
         file: OwnedText::from_str(alloc, file)?,
         workers,
+        by_log: flag_given(matches, "log"),
     }))
 }
 
-/// `wordreduce FILE`.
+/// `wordreduce FILE`, its number of workers, and whether the log answers.
 fn definition<'a>(alloc: Global) -> Result<Command<'a>, AllocError>
     ensures app { IfOk result (λ command. app_of command ≡ wordreduce_app) }
     ensures local { IfOk result (λ command. (fields_of command).has_globals ≡ false) }
@@ -70,13 +74,19 @@ fn definition<'a>(alloc: Global) -> Result<Command<'a>, AllocError>
         "FILE",
         "A presentation file (GAP record); its relations must be confluent as rules",
     );
+    let log = flag_option(
+        alloc,
+        "log",
+        "Checks FILE.kblog, and answers by its lines in place of FILE's relations",
+    );
     Command::new(alloc, "wordreduce")
         .about("Prints, for the word on each line of standard input, the least word that equals it")
         .after_help(help_end!(
             "Words come from standard input, one a line; end with Ctrl-D; `</dev/null` for none.",
-            "No file is stored.",
+            "No file is stored. With --log the lines of FILE.kblog must prove FILE's relations, and be confluent.",
             "Example: echo 'a*b*a*b' | kb wordreduce examples/symmetric-3"
         ))
         .arg(file)?
-        .arg(number_option(alloc, NumberOption::Workers))
+        .arg(number_option(alloc, NumberOption::Workers))?
+        .arg(log)
 }

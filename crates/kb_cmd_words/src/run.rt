@@ -1,4 +1,4 @@
-//! A run of the command.
+//! A run of the command, and the answers by the presentation's relations.
 
 ghost use Rattle.std.specs.Prelude.{◌≡◌, ◌≤◌, ◌^◌, IfOk, length};
 ghost use Rattle.kb_io.specs.Outside.{outside};
@@ -10,8 +10,9 @@ ghost use Rattle.kb_word.specs.Relations.{AreOriented};
 ghost use Rattle.kb_presfile.specs.Holds.{most_equations};
 ghost use Rattle.kb_task.specs.Runs.{IsRun};
 ghost use Rattle.kb_cmd_words.specs.Confluence.{relations, OrientedAreNotConfluent, no_line};
-ghost use Rattle.kb_cmd_words.specs.WordReduce.{AnswersMean, StoresNothing};
+ghost use Rattle.kb_cmd_words.specs.ByRelations.{AnswersMean, ByRelationsMean, StoresNothing};
 
+use crate::by_log::run_by_log;
 use crate::orienting::{oriented, oriented_relations_keep_the_congruence, oriented_rules_decrease};
 use crate::word_reduce::WordReduce;
 use kb_confluence::{
@@ -23,7 +24,7 @@ use kb_lines::answer_lines;
 use kb_reduce::NormalForms;
 use kb_rules::{Reducer, Rules};
 use kb_task::{Cert, Status, Task, load_presentation, print_line, status_of};
-use kb_word::{Memory, Names, Presentation, Word, print_word};
+use kb_word::{Memory, Names, OwnedText, Presentation, Word, print_word};
 use kb_wordreader::WordReader;
 use std::alloc::Global;
 use std::sync::Wait;
@@ -57,11 +58,35 @@ impl WordReduce {
             (outside (F.state shelf.new) (I.state input.new) (O.state out.new)) result }
     {
         let _ = err;
+        let by_log = self.by_log;
         let workers = self.workers;
-        match load_presentation(alloc, self.file, shelf) {
-            Ok(presentation) => answer_by(rt, alloc, presentation, workers, input, out),
-            Err(status) => status,
+        let file = self.file;
+        if by_log {
+            run_by_log(rt, alloc, file, workers, shelf, input, out)
+        } else {
+            run_by_relations(rt, alloc, file, workers, shelf, input, out)
         }
+    }
+}
+
+/// Loads the presentation, and answers the word lines by its relations.
+fn run_by_relations<T: Threads + Wait + Sync, F: Shelf, I: Source, O: Sink>(
+    rt: &T,
+    alloc: Global,
+    file: OwnedText,
+    workers: u32,
+    shelf: &mut F,
+    input: &mut I,
+    out: &mut O,
+) -> Status
+    requires { (1 ≤ workers) × (workers ≤ 64) }
+    ensures { IsRun (ByRelationsMean file) StoresNothing
+        (outside (F.state shelf.old) (I.state input.old) (O.state out.old))
+        (outside (F.state shelf.new) (I.state input.new) (O.state out.new)) result }
+{
+    match load_presentation(alloc, file, shelf) {
+        Ok(presentation) => answer_by(rt, alloc, presentation, workers, input, out),
+        Err(status) => status,
     }
 }
 
@@ -158,7 +183,12 @@ fn print_no<O: Sink>(
 }
 
 /// `no confluent U V` and a newline.
-fn line_of_no(alloc: Global, names: &Names, u: &Word, v: &Word) -> Result<Vec<u8>, Memory>
+pub(crate) fn line_of_no(
+    alloc: Global,
+    names: &Names,
+    u: &Word,
+    v: &Word,
+) -> Result<Vec<u8>, Memory>
     ensures { IfOk result (λ line. line.items ≡ no_line names.now u.now v.now) }
 {
     let mut line = Vec::from_slice(alloc, b"no confluent ")?;

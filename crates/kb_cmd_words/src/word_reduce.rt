@@ -4,13 +4,16 @@ use kb_word::OwnedText;
 use std::marker::Model;
 
 /// `wordreduce FILE`: prints the least words of word lines, by a presentation whose oriented
-/// relations are confluent. Contracts see what the command line gives it; there are 1 to 64 workers.
+/// relations are confluent, or by the lines of its log. Contracts see what the command line gives it; there are 1 to 64
+/// workers.
 #[derive(Drop)]
 pub struct WordReduce {
     /// The name of the file with the presentation.
     pub file: OwnedText,
     /// How many threads may work side by side.
     pub workers: u32,
+    /// Whether the lines of the presentation's log answer in place of its relations.
+    pub by_log: bool,
 }
 
 impl Model for WordReduce {
@@ -19,7 +22,11 @@ impl Model for WordReduce {
 
     ghost Value = { Given };
 
-    ghost view = { λ task. record { file = task.file; workers = task.workers } };
+    ghost view = { λ task. record {
+      file = task.file;
+      workers = task.workers;
+      by_log = task.by_log;
+    } };
 
     ghost invariant = { λ task. (1 ≤ task.workers) × (task.workers ≤ 64) };
 }

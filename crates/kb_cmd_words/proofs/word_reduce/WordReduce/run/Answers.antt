@@ -1,41 +1,26 @@
-use Rattle.std.proofs.Common.{◌≡◌, inl, inr, ℕ, List, ap, subst}
+use Rattle.std.proofs.Common.{◌≡◌, ◌∙◌, true, false, sym, ap}
 use Rattle.kb_io.specs.Outside.{Outside, outside}
-use Rattle.kb_io.specs.States.{ShelfState, SourceState, SinkState}
-use Rattle.kb_word.specs.Presentations.{PresentationParts, parts_of}
-use Rattle.kb_task.specs.Loads.{EndsAtLoad}
-use Rattle.kb_task.specs.Presentations.{HoldsPresentation, IsPresentationFault}
-use Rattle.kb_task.proofs.RunLemmas.{unchanged-loads, run-after_loads, run-ends}
 use Rattle.kb_cmd_words.specs.Given.{Given}
-use Rattle.kb_cmd_words.proofs.RunLemmas.{answers-later}
+use Rattle.kb_cmd_words.proofs.RunLemmas.{run-same}
 use Rattle.kb_cmd_words.proofs.word_reduce.WordReduce.run.Goals as goal
 
-pub returns-in-Ok : goal.returns-in-Ok
-returns-in-Ok g c =
-    let shelf : ShelfState = g.F.Shelf.state c.args.shelf.now in
-    let loaded : ShelfState = g.F.Shelf.state c.load_presentation.new.shelf in
-    let input : SourceState = g.I.Source.state c.args.input.now in
-    let output : SinkState = g.O.Sink.state c.args.out.now in
-    let after : Outside = outside loaded (g.I.Source.state c.answer_by.new.input) (g.O.Sink.state c.answer_by.new.out) in
-    let parts : PresentationParts = parts_of c.in-Ok.presentation in
-    let loads = c.load_presentation.ensures.only_loads in
+pub returns-then-by_log : goal.returns-then-by_log
+returns-then-by_log g c =
+    let before : Outside = outside (g.F.Shelf.state c.args.shelf.now) (g.I.Source.state c.args.input.now) (g.O.Sink.state c.args.out.now) in
+    let after : Outside =
+    outside (g.F.Shelf.state c.run_by_log.new.shelf) (g.I.Source.state c.run_by_log.new.input) (g.O.Sink.state c.run_by_log.new.out) in
     let file : c.self.inside.file ≡ c.args.self.file = ap (λ (given : Given). given.file) c.self.view_is in
-    run-after_loads shelf loaded input output loads after c.answer_by.result (c.answer_by.ensures loaded) (λ name stored. stored)
-    (λ told means. inr (
-      parts,
-      subst (λ (name : List ℕ). HoldsPresentation shelf.holds name parts) file (c.in-Ok.ensures.holds told.shelf),
-      answers-later parts shelf loaded input output (unchanged-loads shelf loaded input output loads) after c.answer_by.result means,
-    ))
+    let by_log : c.self.inside.by_log ≡ c.args.self.by_log = ap (λ (given : Given). given.by_log) c.self.view_is in
+    run-same true c.args.self.by_log c.self.inside.file c.args.self.file before after c.run_by_log.result
+    (sym c.if-by_log.true ∙ by_log) file c.run_by_log.ensures
 
-pub returns-in-Err : goal.returns-in-Err
-returns-in-Err g c =
-    let shelf : ShelfState = g.F.Shelf.state c.args.shelf.now in
-    let loaded : ShelfState = g.F.Shelf.state c.load_presentation.new.shelf in
-    let input : SourceState = g.I.Source.state c.args.input.now in
-    let output : SinkState = g.O.Sink.state c.args.out.now in
-    let loads = c.load_presentation.ensures.only_loads in
+pub returns-else-by_log : goal.returns-else-by_log
+returns-else-by_log g c =
+    let before : Outside = outside (g.F.Shelf.state c.args.shelf.now) (g.I.Source.state c.args.input.now) (g.O.Sink.state c.args.out.now) in
+    let after : Outside =
+    outside (g.F.Shelf.state c.run_by_relations.new.shelf) (g.I.Source.state c.run_by_relations.new.input)
+    (g.O.Sink.state c.run_by_relations.new.out) in
     let file : c.self.inside.file ≡ c.args.self.file = ap (λ (given : Given). given.file) c.self.view_is in
-    run-ends shelf loaded input output loads c.in-Err.status (c.in-Err.ensures.fault input output)
-    (λ told. inl (
-      subst (λ (name : List ℕ). EndsAtLoad (IsPresentationFault shelf.holds name) name c.in-Err.status) file (c.in-Err.ensures.ends told.shelf),
-      unchanged-loads shelf loaded input output loads,
-    ))
+    let by_log : c.self.inside.by_log ≡ c.args.self.by_log = ap (λ (given : Given). given.by_log) c.self.view_is in
+    run-same false c.args.self.by_log c.self.inside.file c.args.self.file before after c.run_by_relations.result
+    (sym c.if-by_log.false ∙ by_log) file c.run_by_relations.ensures
