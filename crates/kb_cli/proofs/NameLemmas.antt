@@ -14,7 +14,7 @@ use Rattle.kb_cmd_automata.specs.declared.transform.Transformation.TheVariants.{
 use Rattle.kb_cmd_completion.specs.Line.{name_text as completion_text, name_of_task as completion_name}
 use Rattle.kb_cmd_completion.specs.declared.task.CompletionTask.TheVariants.{Kbprog, Logread, SelfTest}
 use Rattle.kb_cmd_elements.specs.Line.{name_text as elements_text, name_of_task as elements_name}
-use Rattle.kb_cmd_elements.specs.declared.task.ElementsTask.TheVariants.{Ball}
+use Rattle.kb_cmd_elements.specs.declared.task.ElementsTask.TheVariants.{Ball, Kbcos}
 use Rattle.kb_cmd_structures.specs.Line.{name_text as structures_text, name_of_task as structures_name}
 use Rattle.kb_cmd_structures.specs.declared.task.StructuresTask.TheVariants.{Autgroup, Gpaxioms, Gpminkb}
 use Rattle.kb_cmd_proofs.specs.Line.{name_text as proofs_text, name_of_task as proofs_name}
@@ -48,7 +48,7 @@ pub family_named : Text → ℕ
 family_named name =
     if is_among name (codes "wordreduce" ∷ []) then 0
     else (if is_among name (codes "kbprog" ∷ codes "logread" ∷ codes "selftest" ∷ []) then 2
-    else (if is_among name (codes "ball" ∷ []) then 3
+    else (if is_among name (codes "ball" ∷ codes "kbcos" ∷ []) then 3
     else (if is_among name (codes "autgroup" ∷ codes "gpaxioms" ∷ codes "gpminkb" ∷ []) then 4
     else (if is_among name (codes "kbverify" ∷ codes "kbcertify" ∷ []) then 5
     else 1))))
@@ -84,6 +84,7 @@ family_by_name (Completion (Kbprog task)) = refl
 family_by_name (Completion (Logread task)) = refl
 family_by_name (Completion (SelfTest task)) = refl
 family_by_name (Elements (Ball task)) = refl
+family_by_name (Elements (Kbcos task)) = refl
 family_by_name (Structures (Autgroup task)) = refl
 family_by_name (Structures (Gpaxioms task)) = refl
 family_by_name (Structures (Gpminkb task)) = refl

@@ -75,7 +75,7 @@ Status 0 is a theorem: the answer to each word line is the least word equal to i
 const AFTER_HELP: &str = "\
 Words and completion: wordreduce, kbprog, logread
 Automatic structures: autgroup, gpaxioms, gpminkb
-Elements:             ball
+Elements:             ball, kbcos
 Proofs by logs:       kbverify, kbcertify
 Automata:             fsaand to fsaenumerate
 The program itself:   selftest, help

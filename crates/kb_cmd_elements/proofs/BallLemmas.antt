@@ -1,9 +1,8 @@
 -- The words that the word acceptor of a completed presentation accepts up to a length are the ball.
 use Rattle.std.proofs.Common.{◌≡◌, ◌<◌, ◌≤◌, inl, inr, ℕ, List, ◌++◌, length, refl, sym, subst, arith}
-use Rattle.std.specs.List.{Contains}
 use Rattle.std.proofs.lemmas.Bool.{cases_lt}
 use Rattle.std.proofs.lemmas.List.Elements.{All-append}
-use Rattle.kb_word.specs.Words.{Pair, OneOf, Less, shorter}
+use Rattle.kb_word.specs.Words.{Pair, OneOf, shorter}
 use Rattle.kb_word.specs.Congruence.{Congruent, Touches}
 use Rattle.kb_word.specs.Presentations.{PresentationParts, parts_of}
 use Rattle.kb_word.specs.Relations.{IsOver, IsPresentation}

@@ -8,3 +8,10 @@ pub record BallGiven : Type 0 where
   pub radius : ℕ
   pub workers : ℕ
   pub limits : Limits
+
+-- of a completion that makes no word acceptor: how many lines its log, and how many letters a left side, has at most
+pub record KbcosGiven : Type 0 where
+  pub file : List ℕ
+  pub workers : ℕ
+  pub lines : ℕ
+  pub letters : ℕ

@@ -3,6 +3,11 @@ pub mod Balls
 pub mod Outcomes
 pub mod Ball
 pub mod BallLaws
+pub mod CosetAnswers
+pub mod CosetOutcomes
+pub mod CosetsTold
+pub mod Kbcos
+pub mod KbcosLaws
 pub mod Tasks
 pub mod TaskLaws
 pub mod Line

@@ -1,6 +1,7 @@
 //! The commands of the family in one type.
 
 use crate::ball::Ball;
+use crate::kbcos::Kbcos;
 use kb_io::{Gate, Shelf, Sink, Source};
 use kb_task::{Status, Task};
 use std::alloc::Global;
@@ -12,6 +13,8 @@ use std::thread::Threads;
 pub enum ElementsTask {
     /// `ball`
     Ball(Ball),
+    /// `kbcos`
+    Kbcos(Kbcos),
 }
 
 impl Task for ElementsTask {
@@ -46,6 +49,7 @@ impl ElementsTask {
     {
         match self {
             ElementsTask::Ball(task) => task.run(rt, alloc, gate, shelf, input, out, err),
+            ElementsTask::Kbcos(task) => task.run(rt, alloc, gate, shelf, input, out, err),
         }
     }
 }

@@ -10,7 +10,7 @@ ghost use Rattle.kb_cmd_elements.specs.declared.line.name.Name.TheVariants as na
 use super::name::Name;
 use clap::{Arg, Command};
 use kb_options::with_limits;
-use kb_task::{length_argument, needed_argument};
+use kb_task::{NumberOption, length_argument, needed_argument, number_option};
 use std::alloc::{AllocError, Global};
 
 /// The definition of a command.
@@ -20,6 +20,7 @@ pub(super) fn definition<'a>(alloc: Global, name: Name) -> Result<Command<'a>, A
 {
     match name {
         Name::Ball => ball_definition(alloc),
+        Name::Kbcos => kbcos_definition(alloc),
     }
 }
 
@@ -39,6 +40,18 @@ fn ball_definition<'a>(alloc: Global) -> Result<Command<'a>, AllocError>
                 "The greatest length of the words, 0 to 65535",
             ))?,
     )
+}
+
+/// `kbcos FILE`.
+fn kbcos_definition<'a>(alloc: Global) -> Result<Command<'a>, AllocError>
+    ensures app { IfOk result (λ command. app_of command ≡ command_app names.Kbcos) }
+    ensures local { IfOk result (λ command. (fields_of command).has_globals ≡ false) }
+{
+    labelled(alloc, Name::Kbcos)
+        .arg(file_argument(alloc))?
+        .arg(number_option(alloc, NumberOption::Workers))?
+        .arg(number_option(alloc, NumberOption::MaxRules))?
+        .arg(number_option(alloc, NumberOption::MaxLen))
 }
 
 /// A command with its name and its help, which takes nothing yet.

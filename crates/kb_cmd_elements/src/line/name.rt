@@ -10,6 +10,8 @@ use kb_task::help_end;
 pub(crate) enum Name {
     /// `ball`
     Ball,
+    /// `kbcos`
+    Kbcos,
 }
 
 /// What a command is called, and its help.
@@ -24,7 +26,7 @@ pub(crate) struct Label<'a> {
 }
 
 /// The commands, in the order in which the program lists them.
-pub(crate) const NAMES: [Name; 1] = [Name::Ball];
+pub(crate) const NAMES: [Name; 2] = [Name::Ball, Name::Kbcos];
 
 impl Name {
     /// The command of this name.
@@ -34,6 +36,7 @@ impl Name {
     {
         match text {
             "ball" => Some(Name::Ball),
+            "kbcos" => Some(Name::Kbcos),
             _ => None,
         }
     }
@@ -51,6 +54,17 @@ impl Name {
                     "and FILE.kbprog, the rules so far, are stored, and out has one line: `undecided rules U V`,",
                     "`undecided length U V` or `undecided states acceptor`. Standard input is not read.",
                     "Example: kb ball examples/free-abelian-2 3"
+                ),
+            },
+            Name::Kbcos => Label {
+                text: "kbcos",
+                about: "Prints, for the word on each line of standard input, the least word of its right coset of the subgroup in FILE.sub",
+                after_help: help_end!(
+                    "FILE.sub has words that generate the subgroup. The file FILE.sub.kbprog, the rules with the marker _H of cosets, is",
+                    "stored. At a limit FILE.sub.kblog, the log, and FILE.sub.kbprog, the rules so far, are stored, and out has one line:",
+                    "`undecided rules U V` or `undecided length U V`.",
+                    "Words come from standard input, one a line; end with Ctrl-D; `</dev/null` for none.",
+                    "Example: echo 'a*b*a' | kb kbcos examples/symmetric-3"
                 ),
             },
         }

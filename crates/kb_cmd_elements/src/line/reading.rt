@@ -7,12 +7,20 @@ ghost use Rattle.kb_cmd_elements.specs.declared.line.name.Name.TheVariants as na
 
 use super::name::Name;
 use crate::ball::Ball;
+use crate::kbcos::Kbcos;
 use crate::task::ElementsTask;
 use clap::ArgMatches;
+use kb_book::Limits;
 use kb_options::limits_given;
 use kb_task::{NumberOption, length_given, option_given, text_given};
 use kb_word::{Memory, OwnedText};
 use std::alloc::Global;
+
+/// `kbcos` keeps no word differences, so this limit of theirs is never reached.
+const MOST_DIFFERENCES: u32 = 65_535;
+
+/// It makes no word acceptor, so this limit of its states is never reached.
+const MOST_STATES: u32 = 1;
 
 /// The command of the name that the matches give.
 pub(super) fn task_given(
@@ -24,6 +32,7 @@ pub(super) fn task_given(
 {
     match name {
         Name::Ball => ball_given(alloc, matches),
+        Name::Kbcos => kbcos_given(alloc, matches),
     }
 }
 
@@ -48,5 +57,28 @@ fn ball_given(alloc: Global, matches: &ArgMatches<'_>) -> Result<Option<Elements
         radius,
         workers,
         limits,
+    })))
+}
+
+/// The command that the matches of `kbcos` give.
+fn kbcos_given(alloc: Global, matches: &ArgMatches<'_>) -> Result<Option<ElementsTask>, Memory>
+    ensures { IfOk result (IsRead names.Kbcos (rows_of (found_of matches.now))) }
+{
+    let Some(file) = text_given(matches, "file") else {
+        return Ok(None);
+    };
+    let Some(workers) = option_given(matches, NumberOption::Workers) else {
+        return Ok(None);
+    };
+    let Some(lines) = option_given(matches, NumberOption::MaxRules) else {
+        return Ok(None);
+    };
+    let Some(letters) = option_given(matches, NumberOption::MaxLen) else {
+        return Ok(None);
+    };
+    Ok(Some(ElementsTask::Kbcos(Kbcos {
+        file: OwnedText::from_str(alloc, file)?,
+        workers,
+        limits: Limits::new(lines, letters, MOST_DIFFERENCES, MOST_STATES),
     })))
 }

@@ -1,8 +1,7 @@
 use Rattle.std.proofs.Common.{◌≡◌, ap, subst}
-use Rattle.std.specs.Prelude.{IsTrue}
 use Rattle.kb_io.specs.Outside.{Outside, outside}
-use Rattle.kb_io.specs.States.{ShelfState, SourceState}
-use Rattle.kb_word.specs.Presentations.{PresentationParts, parts_of}
+use Rattle.kb_io.specs.States.{ShelfState}
+use Rattle.kb_word.specs.Presentations.{PresentationParts}
 use Rattle.kb_system.specs.Completed.{relations}
 use Rattle.kb_task.specs.Stores.{texts_of}
 use Rattle.kb_evidence.proofs.ShownLemmas.{shows_differ}
