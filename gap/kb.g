@@ -11,6 +11,7 @@
 ##      KbWordAcceptor( system )                 the word acceptor, a record
 ##      KbReducedForm( system, words )           least words
 ##      KbElements( system, least, most )        least words by their length
+##      KbCosets( G, H [, options] )             least words of right cosets
 ##      KbAutomaton( record )                    an automaton of the package automata
 ##      KbRead( file, names, values )            any file that kb writes
 ##
@@ -38,6 +39,7 @@ end;
 KbReadBeside( "running.g" );
 KbReadBeside( "presentations.g" );
 KbReadBeside( "files.g" );
+KbReadBeside( "cosets.g" );
 
 # Completes the presentation: `rules` are the pairs of words of its reduced
 # complete system, and `wordAcceptor` accepts the least words.
@@ -89,12 +91,7 @@ KbReducedForm := function( system, words )
     words := [ words ];
   fi;
   elements := List( words, word -> IsElementOfFpGroup( word ) or IsElementOfFpMonoid( word ) );
-  free := List( words, function( word )
-    if IsElementOfFpGroup( word ) or IsElementOfFpMonoid( word ) then
-      return UnderlyingElement( word );
-    fi;
-    return word;
-  end );
+  free := List( words, KbFreeWord );
   came := KbAnswered( KbRun( system.folder, system.reducing,
     Concatenation( List( free, word -> Concatenation( KbWord( system, word ), "\n" ) ) ) ), system );
   forms := List( KbLines( came.out ), line -> KbElement( system, line ) );

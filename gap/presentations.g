@@ -103,13 +103,16 @@ KbLinked := function( letters )
   return all;
 end;
 
+# The marker of kbcos, which no letter may be called.
+KbMarker := "_H";
+
 # The letters of a presentation: each generator and, in a group, its inverse
 # behind it, where it isn't its own. A letter is a record of its name, its
 # element of the free group or monoid, and the place of its inverse, or 0.
 KbLetters := function( parts )
   local letters, taken, generator, name, at, own;
   letters := [];
-  taken := [];
+  taken := [ KbMarker ];
   for generator in parts.generators do
     name := KbFreeName( KbSafeName( String( generator ) ), taken );
     Add( taken, name );
@@ -181,6 +184,15 @@ KbElement := function( system, text )
     for name in SplitString( text, "*" ) do
       element := element * system.letters[Position( system.names, name )].element;
     od;
+  fi;
+  return element;
+end;
+
+# The word that an element of the presented group or monoid is written as; a
+# word is itself.
+KbFreeWord := function( element )
+  if IsElementOfFpGroup( element ) or IsElementOfFpMonoid( element ) then
+    return UnderlyingElement( element );
   fi;
   return element;
 end;

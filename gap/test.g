@@ -86,6 +86,52 @@ KbTryFiniteGroup := function( name, G )
   KbTry( Concatenation( name, ": by multipliers" ), KbReducedForm( automatic, words ), wanted );
 end;
 
+# The least words of the right cosets by GAP's own table, which has a row for
+# each generator and one for its inverse: the first word that reaches a coset.
+KbLeastCosetWords := function( system, table )
+  local leads, found, cosets, words, at, letter, next;
+  found := Concatenation( List( system.generators, g -> [ g, g^-1 ] ) );
+  leads := List( system.letters, letter -> table[Position( found, letter.element )] );
+  cosets := [ 1 ];
+  words := [ One( system.free ) ];
+  at := 1;
+  while at <= Length( cosets ) do
+    for letter in [ 1 .. Length( leads ) ] do
+      next := leads[letter][cosets[at]];
+      if not next in cosets then
+        Add( cosets, next );
+        Add( words, words[at] * system.letters[letter].element );
+      fi;
+    od;
+    at := at + 1;
+  od;
+  return rec( cosets := cosets, words := words );
+end;
+
+# A subgroup of finite index: its index, the least words of its right cosets,
+# and those of the cosets of words at random. Of the table's rows the one of
+# generator n is 2n - 1.
+KbTryCosets := function( name, G, generators )
+  local H, system, table, least, words, wanted;
+  name := Concatenation( "cosets, ", name );
+  H := Subgroup( G, generators );
+  system := KbCosets( G, H );
+  table := CosetTable( G, H );
+  least := KbLeastCosetWords( system, table );
+  KbTry( Concatenation( name, ": index" ), system.index, Index( G, H ) );
+  KbTry( Concatenation( name, ": least words" ), system.words, least.words );
+  words := List( [ 1 .. 50 ], n -> KbRandomWord( system, Random( [ 0 .. 30 ] ) ) );
+  wanted := List( words, function( word )
+    local coset, letter;
+    coset := 1;
+    for letter in LetterRepAssocWord( word ) do
+      coset := table[2 * AbsInt( letter ) - ( SignInt( letter ) + 1 ) / 2][coset];
+    od;
+    return least.words[Position( least.cosets, coset )];
+  end );
+  KbTry( Concatenation( name, ": reduced forms" ), KbReducedForm( system, words ), wanted );
+end;
+
 # A monoid: normal forms against GAP's own completion.
 KbTryMonoid := function( name, M )
   local system, own, words, form, family;
@@ -108,6 +154,36 @@ KbSaid := function( action, arguments )
   came := CALL_WITH_CATCH( action, arguments );
   BreakOnError := true;
   return came;
+end;
+
+KbTryAllCosets := function()
+  local F, G, a, b, system;
+  F := FreeGroup( "a", "b" );
+  a := F.1;
+  b := F.2;
+  G := F / [ a^2, b^3, ( a * b )^4 ];
+  KbTryCosets( "symmetric 4 over the trivial group", G, [] );
+  KbTryCosets( "symmetric 4 over a cyclic group of order 3", G, [ G.2 ] );
+  KbTryCosets( "symmetric 4 over a dihedral group", G, [ G.1, ( G.1 * G.2 )^2 ] );
+  KbTryCosets( "symmetric 4 over itself", G, [ G.1, G.2 ] );
+  G := F / [ a^2, b^3, ( a * b )^7, ( a * b * a * b^-1 )^4 ];
+  KbTryCosets( "PSL(2,7) over a cyclic group of order 7", G, [ G.1 * G.2 ] );
+  G := F / [ a^2, b^3 ];
+  KbTryCosets( "the modular group over its commutator subgroup", G, [ Comm( G.1, G.2 ), Comm( G.1, G.2^-1 ) ] );
+  G := F / [ Comm( a, b ) ];
+  KbTryCosets( "the plane over a lattice", G, [ G.1^2 * G.2, G.2^3 ] );
+  system := KbCosets( G, [ a^2, b ] );
+  KbTry( "cosets, generators as words", system.words, [ One( F ), a ] );
+  KbTry( "cosets, an element", KbReducedForm( system, G.2 * G.1^-1 ), G.1 );
+  system := KbCosets( F, [ a^2, b, a * b * a ], rec( order := [ a^-1, a, b, b^-1 ] ) );
+  KbTry( "cosets, a free group and another order", system.words, [ One( F ), a^-1 ] );
+  KbTry( "cosets, infinitely many", KbSaid( KbCosets, [ G, [ a ] ] )[1], false );
+  KbTry( "cosets, a limit", KbSaid( KbCosets, [ F / [ a * b * a * b^-1 * a^-1 * b^-1 ], [ a ],
+                                                rec( maxRules := 100 ) ] )[1], false );
+  F := FreeGroup( "_h", "_H" );
+  system := KbCosets( F / [ F.1^3, F.2^2, F.1 * F.2 * F.1^-1 * F.2 ], [ F.2 ] );
+  KbTry( "cosets, no letter is called as the marker", "_H" in system.names, false );
+  KbTry( "cosets, by other names", system.words, [ One( F ), F.1, F.1^-1 ] );
 end;
 
 KbTryAll := function()
@@ -143,6 +219,7 @@ KbTryAll := function()
 end;
 
 KbTryAll();
+KbTryAllCosets();
 Print( KbTried, " tried, ", KbWrong, " wrong\n" );
 if KbWrong > 0 then
   FORCE_QUIT_GAP( 1 );

@@ -1,0 +1,99 @@
+#############################################################################
+##
+##  cosets.g: the right cosets of a subgroup, as kb.g has them from kbcos
+##
+#############################################################################
+
+# The text of the file of a subgroup. The subgroup is one of GAP, or a list of
+# elements or of words that generate it.
+KbSubgroupText := function( system, H )
+  local generators;
+  if IsGroup( H ) then
+    H := GeneratorsOfGroup( H );
+  fi;
+  generators := List( H, element -> KbWord( system, KbFreeWord( element ) ) );
+  return Concatenation( "_RWS_Sub := rec(\n  subGenerators := [",
+                        JoinStringsWithSeparator( generators, "," ), "]\n);\n" );
+end;
+
+# How many texts over the first letters are accepted from a state on, of an
+# automaton in which each state accepts; `infinity` where a text has as many
+# letters as there are states, so that a state comes twice on its way.
+KbCountFrom := function( rows, begin, letters )
+  local count, length, reaching, next, state, target;
+  count := 0;
+  reaching := ListWithIdenticalEntries( Length( rows ), 0 );
+  reaching[begin] := 1;
+  for length in [ 1 .. Length( rows ) ] do
+    count := count + Sum( reaching );
+    next := ListWithIdenticalEntries( Length( rows ), 0 );
+    for state in [ 1 .. Length( rows ) ] do
+      for target in rows[state]{ [ 1 .. letters ] } do
+        if target <> 0 then
+          next[target] := next[target] + reaching[state];
+        fi;
+      od;
+    od;
+    reaching := next;
+  od;
+  if Sum( reaching ) > 0 then
+    return infinity;
+  fi;
+  return count;
+end;
+
+# These texts as words, in the shortlex order.
+KbWordsFrom := function( system, rows, begin )
+  local words, level, longer, at, letter;
+  words := [];
+  level := [ [ One( system.free ), begin ] ];
+  while level <> [] do
+    Append( words, List( level, at -> at[1] ) );
+    longer := [];
+    for at in level do
+      for letter in [ 1 .. Length( system.letters ) ] do
+        if rows[at[2]][letter] <> 0 then
+          Add( longer, [ at[1] * system.letters[letter].element, rows[at[2]][letter] ] );
+        fi;
+      od;
+    od;
+    level := longer;
+  od;
+  return words;
+end;
+
+# The presentation with the marker, completed: the rows of its word acceptor,
+# and the state behind the marker. Irreducible words have irreducible prefixes,
+# so each state accepts; and what comes from that state on are the least words
+# of the cosets.
+KbMarked := function( system, options )
+  local limits, names, marked, fsa, rows;
+  limits := ShallowCopy( options );
+  Unbind( limits.maxStates );
+  system.reducing := Concatenation( [ "kbcos", "P" ], KbArguments( limits ) );
+  KbAnswered( KbRun( system.folder, system.reducing, "" ), rec( file := Concatenation( system.file, ".sub" ) ) );
+  marked := Concatenation( system.file, ".sub.kbprog" );
+  KbAnswered( KbRun( system.folder, Concatenation( [ "kbprog", "P.sub.kbprog" ], KbArguments( options ) ), "" ),
+              rec( file := marked ) );
+  names := Concatenation( system.names, [ KbMarker ] );
+  fsa := KbRead( Concatenation( marked, ".wa" ), names, Concatenation( names, [ "IdWord" ] ) );
+  rows := KbDenseRows( fsa );
+  return rec( rows := rows, begin := rows[fsa.initial[1]][Length( names )] );
+end;
+
+# The right cosets of a subgroup of finite index: `words` are their shortlex
+# least words, in the shortlex order, and `index` is their number. By this system
+# KbReducedForm gives the least words of the cosets of words.
+KbCosets := function( G, H, given... )
+  local options, system, marked;
+  options := KbOptions( given );
+  system := KbSystem( G, options );
+  FileString( Concatenation( system.file, ".sub" ), KbSubgroupText( system, H ) );
+  marked := KbMarked( system, options );
+  system.index := KbCountFrom( marked.rows, marked.begin, Length( system.letters ) );
+  if system.index = infinity then
+    Error( "kb: the subgroup has infinitely many cosets" );
+  fi;
+  system.words := KbWordsFrom( system, marked.rows, marked.begin );
+  return system;
+end;
