@@ -16,12 +16,12 @@ use Rattle.kb_task.specs.declared.status.Status.{Status}
 use Rattle.kb_task.specs.declared.status.Status.TheVariants.{Yes, No, Undecided}
 use Rattle.kb_evidence.specs.Files.{halted_texts, limit_of}
 use Rattle.kb_cmd_structures.specs.Findings.{HasParts, IsFound}
-use Rattle.kb_cmd_structures.specs.Given.{GpaxiomsGiven}
+use Rattle.kb_cmd_structures.specs.Given.{CheckGiven}
 use Rattle.kb_cmd_structures.specs.Gpaxioms.{Finds, own, refuted, too_many, unsettled, construction_of}
 use Rattle.kb_cmd_structures.specs.Lines.{certificate_line}
 use Rattle.kb_cmd_structures.specs.declared.finding.Finding.{Finding}
 
-module _ (given : GpaxiomsGiven) (presentation : Presentation) (acceptor : Automaton) (multipliers : List Automaton) (finding : Finding) where
+module _ (given : CheckGiven) (presentation : Presentation) (acceptor : Automaton) (multipliers : List Automaton) (finding : Finding) where
   -- a finding of these parts is found where they are
   found_as : {status : Status} {texts : List Text} {line : List ℕ} → HasParts status texts line finding
       → Finds given presentation acceptor multipliers status texts line → IsFound given presentation acceptor multipliers finding

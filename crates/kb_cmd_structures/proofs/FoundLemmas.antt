@@ -10,14 +10,14 @@ use Rattle.kb_task.specs.Stores.{Text, names_of}
 use Rattle.kb_task.specs.declared.status.Status.{Status}
 use Rattle.kb_evidence.specs.Files.{log_file, minkb_file, minred_file, rules_file}
 use Rattle.kb_evidence.specs.FileLaws.{both_differ, contained_cases, left_sides_beside_rules, log_beside_rules}
-use Rattle.kb_cmd_structures.specs.Given.{GpaxiomsGiven}
+use Rattle.kb_cmd_structures.specs.Given.{CheckGiven}
 use Rattle.kb_cmd_structures.specs.Gpaxioms.{Finds, own, refuted, too_many, unsettled, GpaxiomsMayStore, checked_by, stores_log, stores_rules}
 use Rattle.kb_cmd_structures.specs.Gpminkb.{FindsSystem, system, many_left_sides, many_rules, not_own, GpminkbMayStore, stores_evidence, stores_left_sides, stores_system_rules}
 
 pub none_in_empty : {X : Type 0} (x : X) → ¬ Contains {X = X} [] x
 none_in_empty x here = omega (arith, here.1)
 
-module _ {given : GpaxiomsGiven} {presentation : Presentation} {acceptor : Automaton} {multipliers : List Automaton} where
+module _ {given : CheckGiven} {presentation : Presentation} {acceptor : Automaton} {multipliers : List Automaton} where
   -- no failure of a device is found
   pub found_faultless : {found : Status} {texts : List Text} {line : List ℕ} → Finds given presentation acceptor multipliers found texts line
       → IsFaultless found

@@ -9,3 +9,5 @@ pub mod MadeStructures
 pub mod AutgroupLimits
 pub mod CanonicalForms
 pub mod SystemLemmas
+pub mod LinesLemmas
+pub mod LoggedRuns

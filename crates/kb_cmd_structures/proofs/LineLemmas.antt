@@ -9,11 +9,11 @@ use Rattle.clap.specs.declared.builder.command.Command.TheViews.{out-Command}
 use Rattle.kb_system.specs.Evidence.{Limits}
 use Rattle.kb_task.specs.Arguments.{Entered, GivesOption, GivesText, ReadsAs}
 use Rattle.kb_task.specs.declared.arguments.NumberOption.TheVariants.{Workers}
-use Rattle.kb_task.proofs.ArgumentLemmas.{added, text_given-at, own_name, own_rows}
+use Rattle.kb_task.proofs.ArgumentLemmas.{added, flag_given-at, text_given-at, own_name, own_rows}
 use Rattle.kb_options.specs.Options.{GivesAllLimits, GivesLimits}
 use Rattle.kb_options.proofs.OptionLemmas.{same_all_limits, same_limits, same_most, same_workers}
-use Rattle.kb_cmd_structures.specs.Given.{AutgroupGiven, GpaxiomsGiven}
-use Rattle.kb_cmd_structures.specs.Line.{name_text, command_app, with_commands, all_names, name_of_task, GivesTask, GivesAutgroup, GivesGpaxioms, IsStructuresTask, IsRead}
+use Rattle.kb_cmd_structures.specs.Given.{AutgroupGiven, CheckGiven, GpaxiomsGiven}
+use Rattle.kb_cmd_structures.specs.Line.{name_text, command_app, with_commands, all_names, name_of_task, GivesTask, GivesAutgroup, GivesCheck, GivesGpaxioms, IsStructuresTask, IsRead}
 use Rattle.kb_cmd_structures.specs.declared.line.name.Name.{Name}
 use Rattle.kb_cmd_structures.specs.declared.line.name.Name.TheVariants as names
 use Rattle.kb_cmd_structures.specs.declared.task.StructuresTask.{StructuresTask}
@@ -50,17 +50,23 @@ same_autgroup rows given other a b =
     let kept : given.most ≡ other.most = same_most rows given.limits other.limits given.most other.most a.limits b.limits in
     λ i. record { file = files i; workers = threads i; limits = bounds i; most = kept i }
 
-same_gpaxioms : (rows : List Row) (given other : GpaxiomsGiven) → GivesGpaxioms rows given → GivesGpaxioms rows other → given ≡ other
-same_gpaxioms rows given other a b =
+same_check : (rows : List Row) (given other : CheckGiven) → GivesCheck rows given → GivesCheck rows other → given ≡ other
+same_check rows given other a b =
     let files : given.file ≡ other.file = same_file rows given.file other.file a.file b.file in
     let threads : given.workers ≡ other.workers = same_workers rows given.workers other.workers a.workers b.workers in
     let bounds : given.limits ≡ other.limits = same_limits rows given.limits other.limits a.limits b.limits in
     λ i. record { file = files i; workers = threads i; limits = bounds i }
 
+same_gpaxioms : (rows : List Row) (given other : GpaxiomsGiven) → GivesGpaxioms rows given → GivesGpaxioms rows other → given ≡ other
+same_gpaxioms rows given other a b =
+    let check : given.check ≡ other.check = same_check rows given.check other.check a.check b.check in
+    let by_log : given.by_log ≡ other.by_log = flag_given-at rows (codes "log") given.by_log other.by_log a.by_log b.by_log in
+    λ i. record { check = check i; by_log = by_log i }
+
 same_task : (rows : List Row) (task other : StructuresTask) → name_of_task task ≡ name_of_task other → GivesTask task rows → GivesTask other rows → task ≡ other
 same_task rows (tasks.Autgroup task) (tasks.Autgroup other) is a b = ap tasks.Autgroup (same_autgroup rows task other a b)
 same_task rows (tasks.Gpaxioms task) (tasks.Gpaxioms other) is a b = ap tasks.Gpaxioms (same_gpaxioms rows task other a b)
-same_task rows (tasks.Gpminkb task) (tasks.Gpminkb other) is a b = ap tasks.Gpminkb (same_gpaxioms rows task other a b)
+same_task rows (tasks.Gpminkb task) (tasks.Gpminkb other) is a b = ap tasks.Gpminkb (same_check rows task other a b)
 same_task rows _ _ is a b = cc
 
 -- one command at most is entered
@@ -88,12 +94,12 @@ read-entered entered name rows None is reads = λ task entered_task.
 pub no_workers : (rows : List Row) → ((n : ℕ) → ¬ GivesOption rows Workers n) → (name : Name) (task : StructuresTask)
     → name_of_task task ≡ name → ¬ GivesTask task rows
 no_workers rows none name (tasks.Autgroup task) is gives = none task.workers gives.workers
-no_workers rows none name (tasks.Gpaxioms task) is gives = none task.workers gives.workers
+no_workers rows none name (tasks.Gpaxioms task) is gives = none task.check.workers gives.check.workers
 no_workers rows none name (tasks.Gpminkb task) is gives = none task.workers gives.workers
 
 pub no_limits : (rows : List Row) → ((limits : Limits) → ¬ GivesLimits rows limits)
     → (task : StructuresTask) → name_of_task task ≡ names.Gpaxioms → ¬ GivesTask task rows
-no_limits rows none (tasks.Gpaxioms task) is gives = none task.limits gives.limits
+no_limits rows none (tasks.Gpaxioms task) is gives = none task.check.limits gives.check.limits
 no_limits rows none _ is gives = cc
 
 pub no_system_limits : (rows : List Row) → ((limits : Limits) → ¬ GivesLimits rows limits)

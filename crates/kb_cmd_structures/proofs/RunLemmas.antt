@@ -94,7 +94,7 @@ module _ (finding : Finding) where
       subst W parts.writes (subst T parts.stores (subst S parts.ends finds))
 
   -- the finding is what is found
-  show_found : (found : Found) {before after : Outside} {status : Status}
+  pub show_found : (found : Found) {before after : Outside} {status : Status}
       → found finding.status (texts_of finding.files.items) finding.line.items
       → ShowMeans (λ s t l. HasParts s t l finding) before after status → ShowMeans found before after status
   show_found found finds (shown parts holds unread written) = shown (found_by_parts found parts finds) holds unread written
@@ -153,7 +153,7 @@ module _ (found : Found) (one read : ShelfState) (input : SourceState) (output :
     others = λ other differs none. stops.others other differs none ∙ same.files other;
   }
 
-  answer-later : (status : Status) → ShowMeans found (outside read input output) after status
+  pub answer-later : (status : Status) → ShowMeans found (outside read input output) after status
       → ShowMeans found (outside one input output) after status
   answer-later status (shown finds holds unread written) = shown finds (holds-later holds) unread written
   answer-later status (output_failed finds holds unread front) = output_failed finds (holds-later holds) unread front

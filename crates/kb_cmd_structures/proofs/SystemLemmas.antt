@@ -18,7 +18,7 @@ use Rattle.kb_task.specs.declared.status.Construction.TheVariants.{Minred, Minkb
 use Rattle.kb_task.specs.declared.status.Status.{Status}
 use Rattle.kb_cmd_structures.specs.CanonicalForms.{AreCanonicalForms, IsCanonicalForm}
 use Rattle.kb_cmd_structures.specs.Findings.{HasParts}
-use Rattle.kb_cmd_structures.specs.Given.{GpaxiomsGiven}
+use Rattle.kb_cmd_structures.specs.Given.{CheckGiven}
 use Rattle.kb_cmd_structures.specs.Gpminkb.{AreOwnForms, FindsSystem, system, many_left_sides, many_rules}
 use Rattle.kb_cmd_structures.specs.Loaded.{AreAutomataOver}
 use Rattle.kb_cmd_structures.specs.ReducedSystem.{IsSystemOf}
@@ -59,7 +59,7 @@ module _ (forms : List Automaton) {presentation : Presentation} {acceptor form :
 
 -- ---- and the system is the group's
 
-module _ {given : GpaxiomsGiven} {presentation : Presentation} {acceptor form : Automaton} {multipliers forms : List Automaton}
+module _ {given : CheckGiven} {presentation : Presentation} {acceptor form : Automaton} {multipliers forms : List Automaton}
     (are_over : AreAutomataOver presentation acceptor multipliers)
     (own : AreOwnForms given presentation acceptor multipliers form forms) (automaton : IsAutomaton form) where
   abbrev relations : List Sides

@@ -4,7 +4,7 @@ use Rattle.kb_word.specs.declared.presentation.Presentation.{Presentation}
 use Rattle.kb_fsa.specs.Language.{Automaton}
 use Rattle.kb_task.specs.Stores.{Text, texts_of}
 use Rattle.kb_task.specs.declared.status.Status.{Status}
-use Rattle.kb_cmd_structures.specs.Given.{GpaxiomsGiven}
+use Rattle.kb_cmd_structures.specs.Given.{CheckGiven}
 use Rattle.kb_cmd_structures.specs.Gpaxioms.{Finds}
 use Rattle.kb_cmd_structures.specs.declared.finding.Finding.{Finding}
 
@@ -16,7 +16,7 @@ pub record HasParts (status : Status) (texts : List Text) (line : List ℕ) (fin
   pub writes : finding.line.items ≡ line
 
 -- this is found
-abbrev pub IsFound : GpaxiomsGiven → Presentation → Automaton → List Automaton → Finding → Type 0
+abbrev pub IsFound : CheckGiven → Presentation → Automaton → List Automaton → Finding → Type 0
 IsFound given presentation acceptor multipliers finding =
     Finds given presentation acceptor multipliers finding.status (texts_of finding.files.items)
     finding.line.items

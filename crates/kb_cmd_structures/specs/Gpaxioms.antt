@@ -1,4 +1,4 @@
--- What a run of `gpaxioms` means by its status.
+-- What a check of a group's automata finds, where a completion decides.
 use Rattle.std.specs.Prelude.{◌≡◌, ℕ, ◌<◌, ◌≤◌, List, [], codes}
 use Rattle.kb_io.specs.Outside.{Outside}
 use Rattle.kb_word.specs.Presentations.{parts_of}
@@ -16,8 +16,6 @@ use Rattle.kb_auto.specs.Deciding.{AreUnresolvedBy}
 use Rattle.kb_task.specs.Automata.{IsUnrefused}
 use Rattle.kb_task.specs.Limits.{undecided_line, undecided_words_line}
 use Rattle.kb_task.specs.Presentations.{IsGroupFault}
-use Rattle.kb_task.specs.Promises.{Promise}
-use Rattle.kb_task.specs.Statuses.{IsAnswer}
 use Rattle.kb_task.specs.Stores.{Text}
 use Rattle.kb_task.specs.declared.status.Cert.TheVariants.{Structure}
 use Rattle.kb_task.specs.declared.status.Construction.{Construction}
@@ -26,10 +24,9 @@ use Rattle.kb_task.specs.declared.status.Limit.TheVariants.{States}
 use Rattle.kb_task.specs.declared.status.Status.{Status}
 use Rattle.kb_task.specs.declared.status.Status.TheVariants.{Yes, Undecided, No}
 use Rattle.kb_evidence.specs.Files.{acceptor_file, multiplier_file, log_file, rules_file, halted_texts, limit_of}
-use Rattle.kb_cmd_structures.specs.Given.{GpaxiomsGiven}
+use Rattle.kb_cmd_structures.specs.Given.{CheckGiven}
 use Rattle.kb_cmd_structures.specs.Lines.{certificate_line}
 use Rattle.kb_cmd_structures.specs.Loaded.{HoldsGroup, IsAcceptorFault, IsMultiplierFault}
-use Rattle.kb_cmd_structures.specs.Shown.{StructureMeans}
 
 -- what is called after the count that was above the limit
 abbrev pub construction_of : Counted → Construction
@@ -37,12 +34,12 @@ construction_of (counted.Images x) = Images x
 construction_of (counted.Relation number) = Relation number
 
 -- what is checked: the automata, with the group's relations, and how many states a construction may have
-abbrev pub checked_by : GpaxiomsGiven → Presentation → Automaton → List Automaton → Checked
+abbrev pub checked_by : CheckGiven → Presentation → Automaton → List Automaton → Checked
 checked_by given presentation acceptor multipliers =
     checked_in presentation acceptor multipliers given.limits.states
 
 -- the completion halted, as its log shows, and its rules don't settle whether the automata are the group's own
-pub record IsUnsettled (given : GpaxiomsGiven) (presentation : Presentation) (acceptor : Automaton)
+pub record IsUnsettled (given : CheckGiven) (presentation : Presentation) (acceptor : Automaton)
     (multipliers : List Automaton) (halted : Halted) : Type 0 where
   pub passes : PassesRelations (checked_by given presentation acceptor multipliers)
   pub halts : ShowsHalt given.limits (parts_of presentation) halted
@@ -51,7 +48,7 @@ pub record IsUnsettled (given : GpaxiomsGiven) (presentation : Presentation) (ac
 -- What is found of the automata: the status, the files that are stored, and the line that is written. They are the
 -- group's own; or the first certificate shows that they aren't; or a count is above the limit, and no certificate comes
 -- before it; or the completion halted.
-pub data Finds (given : GpaxiomsGiven) (presentation : Presentation) (acceptor : Automaton)
+pub data Finds (given : CheckGiven) (presentation : Presentation) (acceptor : Automaton)
     (multipliers : List Automaton) : Status → List Text → List ℕ → Type 0 where
   own : PassesRelations (checked_by given presentation acceptor multipliers)
       → IsAutomaticStructure
@@ -74,18 +71,18 @@ pub data Finds (given : GpaxiomsGiven) (presentation : Presentation) (acceptor :
       halted.waiting.left halted.waiting.right)
 
 -- it may store the log of a completion that halted, and its rules
-pub data GpaxiomsMayStore (given : GpaxiomsGiven) (name : List ℕ) : Type 0 where
+pub data GpaxiomsMayStore (given : CheckGiven) (name : List ℕ) : Type 0 where
   stores_log : name ≡ log_file given.file → GpaxiomsMayStore given name
   stores_rules : name ≡ rules_file given.file → GpaxiomsMayStore given name
 
 -- it reads the files of the group, of the word acceptor, and of the generators' multipliers
-pub data GpaxiomsReads (given : GpaxiomsGiven) (name : List ℕ) : Type 0 where
+pub data GpaxiomsReads (given : CheckGiven) (name : List ℕ) : Type 0 where
   reads_group : name ≡ given.file → GpaxiomsReads given name
   reads_acceptor : name ≡ acceptor_file given.file → GpaxiomsReads given name
   reads_multiplier : (x : ℕ) → name ≡ multiplier_file given.file x → GpaxiomsReads given name
 
 -- none of the files is refused: not that of the group, nor those of the automata by the group that its file holds
-pub record IsGpaxiomsUnrefused (given : GpaxiomsGiven) (before : Outside) : Type 0 where
+pub record IsGpaxiomsUnrefused (given : CheckGiven) (before : Outside) : Type 0 where
   pub group : IsUnrefused (IsGroupFault before.shelf.holds given.file)
   pub acceptor : (presentation : Presentation)
       → HoldsGroup before.shelf.holds given.file presentation
@@ -99,17 +96,3 @@ abbrev pub GpaxiomsSettles : Status → Type 0
 GpaxiomsSettles Yes = Unit {0}
 GpaxiomsSettles (No cert) = Unit {0}
 GpaxiomsSettles _ = ⊥
-
--- Whether it comes to a limit may depend on the course of the completion. Another on the same file is the same but for
--- its workers and its limits.
-abbrev pub gpaxioms_promise : GpaxiomsGiven → Promise GpaxiomsGiven
-gpaxioms_promise given = record {
-  means = StructureMeans (Finds given) given.file;
-  may_store = GpaxiomsMayStore given;
-  settled_stores = GpaxiomsMayStore given;
-  reads = GpaxiomsReads given;
-  is_unrefused = IsGpaxiomsUnrefused given;
-  answers = IsAnswer;
-  settles = GpaxiomsSettles;
-  differs_in_options = λ other. given.file ≡ other.file;
-}

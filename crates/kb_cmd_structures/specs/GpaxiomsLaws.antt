@@ -1,18 +1,23 @@
--- The laws of what the statuses of `gpaxioms` mean.
-use Rattle.std.proofs.Common.{◌≡◌, ◌∙◌, ℕ, List, [], codes, refl, sym, subst}
+-- The laws of what the statuses of `gpaxioms` mean, by a completion or by the lines of a log.
+use Rattle.std.proofs.Common.{◌≡◌, ℕ, List, [], codes, refl}
+use Rattle.std.specs.Prelude.{Bool, true, false}
 use Rattle.kb_io.specs.Outside.{Outside}
 use Rattle.kb_word.specs.declared.presentation.Presentation.{Presentation}
 use Rattle.kb_fsa.specs.Language.{Automaton}
 use Rattle.kb_task.specs.Promises.{IsLawful}
-use Rattle.kb_task.specs.Statuses.{IsAnswer, IsYes}
+use Rattle.kb_task.specs.Runs.{HasSameEffect, ReadsSame}
+use Rattle.kb_task.specs.Statuses.{IsAnswer, IsFaultless, IsYes}
 use Rattle.kb_task.specs.Stores.{Text}
 use Rattle.kb_task.specs.declared.status.Status.{Status}
-use Rattle.kb_cmd_structures.specs.Given.{GpaxiomsGiven}
-use Rattle.kb_cmd_structures.specs.Gpaxioms.{Finds, own, refuted, too_many, unsettled, GpaxiomsMayStore, GpaxiomsSettles, checked_by, gpaxioms_promise, reads_group}
+use Rattle.kb_answering.specs.AnswerLaws.{texts_same}
+use Rattle.kb_cmd_structures.specs.ByLogLaws.{SaidYes, by_log_complete, by_log_said, by_log_settled, said_yes}
+use Rattle.kb_cmd_structures.specs.Given.{CheckGiven, GpaxiomsGiven}
+use Rattle.kb_cmd_structures.specs.Gpaxioms.{Finds, own, refuted, too_many, unsettled, GpaxiomsSettles, checked_by}
+use Rattle.kb_cmd_structures.specs.GpaxiomsPromise.{IsUnrefusedBy, MayStoreBy, MeansBy, ReadsBy, gpaxioms_promise}
 use Rattle.kb_cmd_structures.specs.Shown.{StructureMeans}
-use Rattle.kb_cmd_structures.specs.ShownLaws.{Answered, AreAnswers, FindsOne, complete, conclusive, one_effect, settled}
+use Rattle.kb_cmd_structures.specs.ShownLaws.{Answered, AreAnswers, complete, conclusive, loaded_yes, settled}
 
-module _ {given : GpaxiomsGiven} {presentation : Presentation} {accepts : Automaton}
+module _ {given : CheckGiven} {presentation : Presentation} {accepts : Automaton}
     {multipliers : List Automaton} where
   -- what is found is an answer
   pub found_answers : {status : Status} {texts : List Text} {line : List ℕ}
@@ -40,30 +45,78 @@ module _ {given : GpaxiomsGiven} {presentation : Presentation} {accepts : Automa
   found_yes (too_many first) is_yes = absurd is_yes
   found_yes (unsettled is) is_yes = absurd is_yes
 
-are_answers : (given : GpaxiomsGiven) → AreAnswers given (Finds given)
+are_answers : (given : CheckGiven) → AreAnswers given (Finds given)
 are_answers given = record {
   answers = λ presentation acceptor multipliers status texts line finds. found_answers finds;
   say = λ presentation acceptor multipliers status texts line finds settles. found_says finds settles;
 }
 
-finds_one : (given other : GpaxiomsGiven) → FindsOne (Finds given) (Finds other)
-finds_one given other one second acceptor accepts multipliers more status again texts others line
-    also parts finds is_yes finds_also is_also =
-    let here = found_yes finds is_yes in
-    let there = found_yes finds_also is_also in
-    (here.0 ∙ sym there.0, here.1 ∙ sym there.1)
+completion_said : (given : CheckGiven) (before after : Outside) (status : Status)
+    → StructureMeans (Finds given) given.file before after status → IsYes status
+    → SaidYes before after
+completion_said given before after status means is_yes =
+    said_yes (loaded_yes (Finds given) given.file before after status means is_yes).wrote
+    (λ ends texts line finds said. found_yes finds said)
+
+-- ---- whatever decides
+
+all_answer : (by_log : Bool) (check : CheckGiven) (before after : Outside) (status : Status)
+    → MeansBy by_log check before after status → IsUnrefusedBy by_log check before
+    → IsFaultless status → IsAnswer status
+all_answer true check before after status means unrefused faultless =
+    by_log_complete check before after status means unrefused faultless
+all_answer false check before after status means unrefused faultless =
+    complete (are_answers check) before after status means unrefused faultless
+
+all_settled : (by_log : Bool) (check : CheckGiven)
+    (before after other_before other_after : Outside) (status other : Status)
+    → MeansBy by_log check before after status → MeansBy by_log check other_before other_after other
+    → ReadsSame (ReadsBy by_log check) before other_before
+    → GpaxiomsSettles status → GpaxiomsSettles other → status ≡ other
+all_settled true check before after other_before other_after status other means others same settles
+    also =
+    by_log_settled check before after other_before other_after status other means others same
+    settles also
+all_settled false check before after other_before other_after status other means others same
+    settles also =
+    settled check (Finds check) (are_answers check) before after other_before other_after status
+    other means others same settles also
+
+-- what a yes wrote, whatever decides
+said : (by_log : Bool) (check : CheckGiven) (before after : Outside) (status : Status)
+    → MeansBy by_log check before after status → IsYes status → SaidYes before after
+said true check before after status means is_yes =
+    by_log_said check before after status means is_yes
+said false check before after status means is_yes =
+    completion_said check before after status means is_yes
+
+one_function : (given other_given : GpaxiomsGiven)
+    (before after other_before other_after : Outside) (status other : Status)
+    → MeansBy given.by_log given.check before after status
+    → MeansBy other_given.by_log other_given.check other_before other_after other
+    → IsYes status → IsYes other
+    → HasSameEffect (MayStoreBy given.by_log given.check) before after other_before other_after
+one_function given other_given before after other_before other_after status other means others
+    is_yes also =
+    let here = said given.by_log given.check before after status means is_yes in
+    let there =
+    said other_given.by_log other_given.check other_before other_after other others also in
+    record {
+      bytes = codes "yes\n";
+      written = here.written;
+      other_written = there.written;
+      stored = λ name may. texts_same [] before after other_before other_after here.holds
+          there.holds name;
+    }
 
 pub gpaxioms_lawful : (given : GpaxiomsGiven)
     → IsLawful gpaxioms_promise (gpaxioms_promise given)
 gpaxioms_lawful given = record {
-  complete = complete (are_answers given);
+  complete = all_answer given.by_log given.check;
   memory = tt;
-  settled = settled given (Finds given) (are_answers given);
+  settled = all_settled given.by_log given.check;
   conclusive = conclusive;
   one_function = λ other_given before after other_before other_after status other means others is_yes also file same input.
-      let Means : List ℕ → Type 0 =
-      λ name. StructureMeans (Finds other_given) name other_before other_after other in
-      one_effect (Finds given) (Finds other_given) given.file (GpaxiomsMayStore given) before after
-      other_before other_after status other (finds_one given other_given)
-      (same given.file (reads_group refl)) means (subst Means (sym file) others) is_yes also;
+      one_function given other_given before after other_before other_after status other means
+      others is_yes also;
 }

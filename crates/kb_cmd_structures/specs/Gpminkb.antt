@@ -16,13 +16,13 @@ use Rattle.kb_task.specs.declared.status.Status.{Status}
 use Rattle.kb_task.specs.declared.status.Status.TheVariants.{Yes, Undecided}
 use Rattle.kb_evidence.specs.Files.{minred_file, minkb_file}
 use Rattle.kb_cmd_structures.specs.CanonicalForms.{IsCanonicalForm, AreCanonicalForms}
-use Rattle.kb_cmd_structures.specs.Given.{GpaxiomsGiven}
+use Rattle.kb_cmd_structures.specs.Given.{CheckGiven}
 use Rattle.kb_cmd_structures.specs.Gpaxioms.{Finds, GpaxiomsMayStore, GpaxiomsReads, GpaxiomsSettles, IsGpaxiomsUnrefused, checked_by}
 use Rattle.kb_cmd_structures.specs.ReducedSystem.{IsSystemOf, system_texts}
 use Rattle.kb_cmd_structures.specs.Shown.{StructureMeans}
 
 -- the automata are the group's own structure, by `gpaxioms`, and these are their canonical forms
-pub record AreOwnForms (given : GpaxiomsGiven) (presentation : Presentation) (acceptor : Automaton)
+pub record AreOwnForms (given : CheckGiven) (presentation : Presentation) (acceptor : Automaton)
     (multipliers : List Automaton) (form : Automaton) (forms : List Automaton) : Type 0 where
   pub passes : PassesRelations (checked_by given presentation acceptor multipliers)
   pub own : IsAutomaticStructure
@@ -34,7 +34,7 @@ pub record AreOwnForms (given : GpaxiomsGiven) (presentation : Presentation) (ac
 -- and the reduced complete system was made of their canonical forms, with no count above the limit; or its left sides
 -- are counted above the limit; or its left sides aren't, but its rules are. Or else it is what `gpaxioms` finds, if that
 -- isn't yes.
-pub data FindsSystem (given : GpaxiomsGiven) (presentation : Presentation) (acceptor : Automaton)
+pub data FindsSystem (given : CheckGiven) (presentation : Presentation) (acceptor : Automaton)
     (multipliers : List Automaton) : Status → List Text → List ℕ → Type 0 where
   system : {form minred minkb : Automaton} {forms : List Automaton}
       → AreOwnForms given presentation acceptor multipliers form forms
@@ -59,13 +59,13 @@ pub data FindsSystem (given : GpaxiomsGiven) (presentation : Presentation) (acce
       → FindsSystem given presentation acceptor multipliers status texts line
 
 -- it may store what `gpaxioms` may, and the automata of the left sides and of the rules
-pub data GpminkbMayStore (given : GpaxiomsGiven) (name : List ℕ) : Type 0 where
+pub data GpminkbMayStore (given : CheckGiven) (name : List ℕ) : Type 0 where
   stores_evidence : GpaxiomsMayStore given name → GpminkbMayStore given name
   stores_left_sides : name ≡ minred_file given.file → GpminkbMayStore given name
   stores_system_rules : name ≡ minkb_file given.file → GpminkbMayStore given name
 
 -- It is given and reads what `gpaxioms` is given and reads, and the files settle as much.
-abbrev pub gpminkb_promise : GpaxiomsGiven → Promise GpaxiomsGiven
+abbrev pub gpminkb_promise : CheckGiven → Promise CheckGiven
 gpminkb_promise given = record {
   means = StructureMeans (FindsSystem given) given.file;
   may_store = GpminkbMayStore given;

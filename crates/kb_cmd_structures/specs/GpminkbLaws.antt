@@ -8,7 +8,7 @@ use Rattle.kb_task.specs.Promises.{IsLawful}
 use Rattle.kb_task.specs.Statuses.{IsAnswer, IsYes}
 use Rattle.kb_task.specs.Stores.{Text}
 use Rattle.kb_task.specs.declared.status.Status.{Status}
-use Rattle.kb_cmd_structures.specs.Given.{GpaxiomsGiven}
+use Rattle.kb_cmd_structures.specs.Given.{CheckGiven}
 use Rattle.kb_cmd_structures.specs.Gpaxioms.{GpaxiomsSettles, checked_by, reads_group}
 use Rattle.kb_cmd_structures.specs.GpaxiomsLaws.{found_answers, found_says}
 use Rattle.kb_cmd_structures.specs.Gpminkb.{FindsSystem, system, many_left_sides, many_rules, not_own, GpminkbMayStore, gpminkb_promise}
@@ -26,7 +26,7 @@ record HasSystem (file : List ℕ) (presentation : Presentation) (texts : List T
   stored : texts ≡ system_texts file presentation.names minred minkb
   written : line ≡ codes "yes\n"
 
-module _ {given : GpaxiomsGiven} {presentation : Presentation} {accepts : Automaton}
+module _ {given : CheckGiven} {presentation : Presentation} {accepts : Automaton}
     {multipliers : List Automaton} where
   -- what is found is an answer
   system_answers : {status : Status} {texts : List Text} {line : List ℕ}
@@ -60,7 +60,7 @@ module _ {given : GpaxiomsGiven} {presentation : Presentation} {accepts : Automa
   system_yes (many_rules own few many) is_yes = absurd is_yes
   system_yes (not_own finds not_yes) is_yes = absurd (not_yes is_yes)
 
-are_answers : (given : GpaxiomsGiven) → AreAnswers given (FindsSystem given)
+are_answers : (given : CheckGiven) → AreAnswers given (FindsSystem given)
 are_answers given = record {
   answers = λ presentation acceptor multipliers status texts line finds. system_answers finds;
   say = λ presentation acceptor multipliers status texts line finds settles. system_says finds settles;
@@ -85,14 +85,14 @@ same_files file other_file one second texts others line also same parts here the
     ∙ ap (λ (a : Automaton). system_texts other_file second.names there.minred a) automata.1 in
     (here.stored ∙ (named ∙ (made ∙ sym there.stored)), here.written ∙ sym there.written)
 
-finds_one : (given again : GpaxiomsGiven) → given.file ≡ again.file
+finds_one : (given again : CheckGiven) → given.file ≡ again.file
     → FindsOne (FindsSystem given) (FindsSystem again)
 finds_one given again same one second acceptor accepts multipliers more status also_status texts
     others line also parts finds is_yes finds_also is_also =
     same_files given.file again.file one second texts others line also same parts
     (system_yes finds is_yes) (system_yes finds_also is_also)
 
-pub gpminkb_lawful : (given : GpaxiomsGiven) → IsLawful gpminkb_promise (gpminkb_promise given)
+pub gpminkb_lawful : (given : CheckGiven) → IsLawful gpminkb_promise (gpminkb_promise given)
 gpminkb_lawful given = record {
   complete = complete (are_answers given);
   memory = tt;

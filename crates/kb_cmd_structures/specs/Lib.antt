@@ -12,8 +12,12 @@ pub mod AutgroupLaws
 pub mod Shown
 pub mod Gpaxioms
 pub mod ShownLaws
+pub mod ByLog
+pub mod GpaxiomsPromise
+pub mod ByLogLaws
 pub mod GpaxiomsLaws
 pub mod Findings
+pub mod Logged
 pub mod CanonicalForms
 pub mod ReducedSystem
 pub mod Gpminkb

@@ -1,10 +1,10 @@
 -- The commands on automatic structures on the command line, by clap's own definition of what a command takes.
 use Rattle.std.specs.Prelude.{◌≡◌, List, [], ◌∷◌, Option, Some, None, codes}
 use Rattle.clap.specs.Words.{App, Row, Text, new_app, with_rule, with_subcommand}
-use Rattle.kb_task.specs.Arguments.{Entered, IsEntered, GivesOption, GivesText, needed_rule}
+use Rattle.kb_task.specs.Arguments.{Entered, IsEntered, GivesFlag, GivesOption, GivesText, flag_rule, needed_rule}
 use Rattle.kb_task.specs.declared.arguments.NumberOption.TheVariants.{Workers}
 use Rattle.kb_options.specs.Options.{GivesAllLimits, GivesLimits, with_all_limits, with_limits}
-use Rattle.kb_cmd_structures.specs.Given.{AutgroupGiven, GpaxiomsGiven}
+use Rattle.kb_cmd_structures.specs.Given.{AutgroupGiven, CheckGiven, GpaxiomsGiven}
 use Rattle.kb_cmd_structures.specs.declared.line.name.Name.{Name}
 use Rattle.kb_cmd_structures.specs.declared.line.name.Name.TheVariants as names
 use Rattle.kb_cmd_structures.specs.declared.task.StructuresTask.{StructuresTask}
@@ -23,12 +23,14 @@ all_names = names.Autgroup ∷ names.Gpaxioms ∷ names.Gpminkb ∷ []
 
 -- ---- what the commands take
 
--- `autgroup FILE`, `gpaxioms FILE`, `gpminkb FILE`
+-- `autgroup FILE`, `gpaxioms FILE [--log]`, `gpminkb FILE`
 abbrev pub command_app : Name → App
 command_app names.Autgroup =
     with_all_limits (with_rule (new_app (name_text names.Autgroup)) (needed_rule (codes "file")))
 command_app names.Gpaxioms =
-    with_limits (with_rule (new_app (name_text names.Gpaxioms)) (needed_rule (codes "file")))
+    with_rule
+    (with_limits (with_rule (new_app (name_text names.Gpaxioms)) (needed_rule (codes "file"))))
+    (flag_rule (codes "log"))
 command_app names.Gpminkb =
     with_limits (with_rule (new_app (name_text names.Gpminkb)) (needed_rule (codes "file")))
 
@@ -50,11 +52,15 @@ pub record GivesAutgroup (rows : List Row) (given : AutgroupGiven) : Type 0 wher
   pub workers : GivesOption rows Workers given.workers
   pub limits : GivesAllLimits rows given.limits given.most
 
--- `gpminkb` is given what `gpaxioms` is given
-pub record GivesGpaxioms (rows : List Row) (given : GpaxiomsGiven) : Type 0 where
+-- a check of automata, by `gpaxioms` or by `gpminkb`
+pub record GivesCheck (rows : List Row) (given : CheckGiven) : Type 0 where
   pub file : GivesText rows (codes "file") given.file
   pub workers : GivesOption rows Workers given.workers
   pub limits : GivesLimits rows given.limits
+
+pub record GivesGpaxioms (rows : List Row) (given : GpaxiomsGiven) : Type 0 where
+  pub check : GivesCheck rows given.check
+  pub by_log : GivesFlag rows (codes "log") given.by_log
 
 -- the name of a command, and what its arguments and options give
 abbrev pub name_of_task : StructuresTask → Name
@@ -65,7 +71,7 @@ name_of_task (tasks.Gpminkb task) = names.Gpminkb
 abbrev pub GivesTask : StructuresTask → List Row → Type 0
 GivesTask (tasks.Autgroup task) rows = GivesAutgroup rows task
 GivesTask (tasks.Gpaxioms task) rows = GivesGpaxioms rows task
-GivesTask (tasks.Gpminkb task) rows = GivesGpaxioms rows task
+GivesTask (tasks.Gpminkb task) rows = GivesCheck rows task
 
 -- the subcommand that clap entered, with its arguments and options, is the command
 abbrev pub IsStructuresTask : Entered → StructuresTask → Type 0

@@ -78,15 +78,19 @@ pub record EndsAtMultiplier (files : Files) (file : List ℕ) (presentation : Pr
   pub ends : EndsAtLoad (IsMultiplierFault files file presentation (suc (length earlier)))
       (multiplier_file file (suc (length earlier))) status
 
--- The run ended at the load of a file: of the group's, of the word acceptor's, or of a multiplier's; the files before
--- it hold what they have to.
+-- The run ended at the load of the word acceptor or of a multiplier over this group's generators; the files before it
+-- hold what they have to.
+pub data EndsAtAutomata (files : Files) (file : List ℕ) (presentation : Presentation)
+    (status : Status) : Type 0 where
+  at_acceptor : EndsAtLoad (IsAcceptorFault files file presentation) (acceptor_file file) status
+      → EndsAtAutomata files file presentation status
+  at_multiplier : {acceptor : Automaton} → HoldsAcceptor files file presentation acceptor
+      → EndsAtMultiplier files file presentation status
+      → EndsAtAutomata files file presentation status
+
+-- The run ended at the load of a file: of the group's, or of one of the automata by the group that its file holds.
 pub data EndsAtFile (files : Files) (file : List ℕ) (status : Status) : Type 0 where
   at_group : EndsAtLoad (IsGroupFault files file) file status → EndsAtFile files file status
-  at_acceptor : {presentation : Presentation} → HoldsGroup files file presentation
-      → EndsAtLoad (IsAcceptorFault files file presentation) (acceptor_file file) status
-      → EndsAtFile files file status
-  at_multiplier : {presentation : Presentation} {acceptor : Automaton}
-      → HoldsGroup files file presentation
-      → HoldsAcceptor files file presentation acceptor
-      → EndsAtMultiplier files file presentation status
+  at_automata : {presentation : Presentation} → HoldsGroup files file presentation
+      → EndsAtAutomata files file presentation status
       → EndsAtFile files file status

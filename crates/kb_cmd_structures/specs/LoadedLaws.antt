@@ -16,21 +16,26 @@ use Rattle.kb_task.specs.Presentations.{IsGroupFault}
 use Rattle.kb_task.specs.declared.status.Status.{Status}
 use Rattle.kb_task.proofs.LoadEnds.{load_inconclusive, one_held, one_presentation_held}
 use Rattle.kb_evidence.specs.Files.{acceptor_file, multiplier_file}
-use Rattle.kb_cmd_structures.specs.Loaded.{EndsAtFile, HoldStructure, IsAcceptorFault, IsMultiplierFault, at_group, at_acceptor, at_multiplier}
+use Rattle.kb_cmd_structures.specs.Loaded.{EndsAtAutomata, EndsAtFile, HoldStructure, IsAcceptorFault, IsMultiplierFault, at_group, at_automata, at_acceptor, at_multiplier}
 
--- no answer comes before the files are loaded
+-- no answer comes before the automata are loaded
+pub automata_inconclusive : (files : Files) (file : List ℕ) (presentation : Presentation)
+    (status : Status) → EndsAtAutomata files file presentation status → ¬ IsConclusive status
+automata_inconclusive files file presentation status (at_acceptor ends) =
+    load_inconclusive (IsAcceptorFault files file presentation) (acceptor_file file) status ends
+automata_inconclusive files file presentation status (at_multiplier accepts ends) =
+    let x = suc (length ends.earlier) in
+    load_inconclusive (IsMultiplierFault files file presentation x) (multiplier_file file x) status
+    ends.ends
+
+-- nor before the files are loaded
 pub files_inconclusive : (files : Files) (file : List ℕ) (status : Status)
     → EndsAtFile files file status
     → ¬ IsConclusive status
 files_inconclusive files file status (at_group ends) =
     load_inconclusive (IsGroupFault files file) file status ends
-files_inconclusive files file status (at_acceptor {presentation = presentation} group ends) =
-    load_inconclusive (IsAcceptorFault files file presentation) (acceptor_file file) status ends
-files_inconclusive files file status
-    (at_multiplier {presentation = presentation} group accepts ends) =
-    let x = suc (length ends.earlier) in
-    load_inconclusive (IsMultiplierFault files file presentation x) (multiplier_file file x) status
-    ends.ends
+files_inconclusive files file status (at_automata {presentation = presentation} group ends) =
+    automata_inconclusive files file presentation status ends
 
 -- the relations of a group that is held are over the generators of the automata
 pub held_over : {files : Files} {file : List ℕ} {presentation : Presentation}

@@ -19,9 +19,9 @@ use Rattle.kb_task.proofs.LoadEnds.{memory_at_load, one_presentation_held}
 use Rattle.kb_evidence.specs.Files.{acceptor_file, multiplier_file}
 use Rattle.kb_answering.specs.AnswerLaws.{texts_same}
 use Rattle.kb_cmd_structures.specs.FirstCertificates.{one_certificate, own_has_none}
-use Rattle.kb_cmd_structures.specs.Given.{GpaxiomsGiven}
+use Rattle.kb_cmd_structures.specs.Given.{CheckGiven}
 use Rattle.kb_cmd_structures.specs.Gpaxioms.{GpaxiomsReads, reads_group, reads_acceptor, reads_multiplier, GpaxiomsSettles, IsGpaxiomsUnrefused, checked_by}
-use Rattle.kb_cmd_structures.specs.Loaded.{EndsAtFile, HoldStructure, IsAcceptorFault, IsMultiplierFault, at_group, at_acceptor, at_multiplier}
+use Rattle.kb_cmd_structures.specs.Loaded.{EndsAtAutomata, EndsAtFile, HoldsGroup, HoldStructure, IsAcceptorFault, IsMultiplierFault, at_group, at_automata, at_acceptor, at_multiplier}
 use Rattle.kb_cmd_structures.specs.LoadedLaws.{files_inconclusive, held_over, one_checked}
 use Rattle.kb_cmd_structures.specs.Shown.{Found, FoundOf, ShowMeans, shown, output_failed, store_failed, no_memory_stored, no_memory, StructureMeans, at_file, loaded}
 
@@ -37,7 +37,7 @@ Answered checked (No (Structure cert)) = IsFirstOfAll checked cert
 Answered checked _ = ⊥
 
 -- What is found of automata is an answer; yes and no say what they say of what is checked.
-pub record AreAnswers (given : GpaxiomsGiven) (found : FoundOf) : Type 0 where
+pub record AreAnswers (given : CheckGiven) (found : FoundOf) : Type 0 where
   pub answers : (presentation : Presentation) (acceptor : Automaton) (multipliers : List Automaton)
       (status : Status) (texts : List Text) (line : List ℕ)
       → found presentation acceptor multipliers status texts line → IsAnswer status
@@ -48,25 +48,34 @@ pub record AreAnswers (given : GpaxiomsGiven) (found : FoundOf) : Type 0 where
 
 -- ---- complete
 
-file_answers : (given : GpaxiomsGiven) (before : Outside) (status : Status)
-    → EndsAtFile before.shelf.holds given.file status → IsGpaxiomsUnrefused given before
+-- a run ends at the automata for want of memory only
+pub automata_answer : (given : CheckGiven) (before : Outside) (presentation : Presentation)
+    (status : Status) → IsGpaxiomsUnrefused given before
+    → HoldsGroup before.shelf.holds given.file presentation
+    → EndsAtAutomata before.shelf.holds given.file presentation status
     → IsFaultless status → status ≡ Memory
-file_answers given before status (at_group ends) unrefused faultless =
-    memory_at_load (IsGroupFault before.shelf.holds given.file) given.file status unrefused.group
-    faultless ends
-file_answers given before status (at_acceptor {presentation = presentation} held ends) unrefused
-    faultless =
+automata_answer given before presentation status unrefused held (at_acceptor ends) faultless =
     memory_at_load (IsAcceptorFault before.shelf.holds given.file presentation)
     (acceptor_file given.file) status (unrefused.acceptor presentation held) faultless ends
-file_answers given before status (at_multiplier {presentation = presentation} held accepts ends)
-    unrefused faultless =
+automata_answer given before presentation status unrefused held (at_multiplier accepts ends)
+    faultless =
     let x = suc (length ends.earlier) in
     memory_at_load (IsMultiplierFault before.shelf.holds given.file presentation x)
     (multiplier_file given.file x) status
     (unrefused.multipliers presentation x held (omega arith) (omega (arith, ends.within)))
     faultless ends.ends
 
-module _ {given : GpaxiomsGiven} {found : FoundOf} (are : AreAnswers given found) where
+file_answers : (given : CheckGiven) (before : Outside) (status : Status)
+    → EndsAtFile before.shelf.holds given.file status → IsGpaxiomsUnrefused given before
+    → IsFaultless status → status ≡ Memory
+file_answers given before status (at_group ends) unrefused faultless =
+    memory_at_load (IsGroupFault before.shelf.holds given.file) given.file status unrefused.group
+    faultless ends
+file_answers given before status (at_automata {presentation = presentation} held ends) unrefused
+    faultless =
+    automata_answer given before presentation status unrefused held ends faultless
+
+module _ {given : CheckGiven} {found : FoundOf} (are : AreAnswers given found) where
   module _ {presentation : Presentation} {accepts : Automaton} {multipliers : List Automaton} where
     loaded_answers : {before after : Outside} {status : Status}
         → ShowMeans (found presentation accepts multipliers) before after status
@@ -100,7 +109,7 @@ module _ {given : GpaxiomsGiven} {found : FoundOf} (are : AreAnswers given found
 -- ---- settled
 
 -- of what is checked there is one answer
-one_answer : (checked : Checked) → AreOverGenerators (own_structure checked)
+pub one_answer : (checked : Checked) → AreOverGenerators (own_structure checked)
     → (status other : Status) → Answered checked status → Answered checked other → status ≡ other
 one_answer checked over Yes Yes one also = refl
 one_answer checked over Yes (No (Structure cert)) one also =
@@ -113,7 +122,7 @@ one_answer checked over Yes _ one also = absurd also
 one_answer checked over (No (Structure cert)) _ one also = absurd also
 one_answer checked over _ _ one also = absurd one
 
-pub settled : (given : GpaxiomsGiven) (found : FoundOf) → AreAnswers given found
+pub settled : (given : CheckGiven) (found : FoundOf) → AreAnswers given found
     → (before after other_before other_after : Outside) (status other : Status)
     → StructureMeans found given.file before after status
     → StructureMeans found given.file other_before other_after other
@@ -141,16 +150,16 @@ settled given found are before after other_before other_after status other (load
 -- ---- one function
 
 -- what a yes stored and wrote, as it was found
-record WroteYes (found : Found) (before after : Outside) : Type 0 where
-  status : Status
-  is_yes : IsYes status
-  texts : List Text
-  line : List ℕ
-  finds : found status texts line
-  holds : HoldsTexts texts before.shelf after.shelf
-  written : after.output.written ≡ before.output.written ++ line
+pub record WroteYes (found : Found) (before after : Outside) : Type 0 where
+  pub status : Status
+  pub is_yes : IsYes status
+  pub texts : List Text
+  pub line : List ℕ
+  pub finds : found status texts line
+  pub holds : HoldsTexts texts before.shelf after.shelf
+  pub written : after.output.written ≡ before.output.written ++ line
 
-wrote_yes : {found : Found} {before after : Outside} {status : Status}
+pub wrote_yes : {found : Found} {before after : Outside} {status : Status}
     → ShowMeans found before after status → IsYes status → WroteYes found before after
 wrote_yes (shown {status = status} {texts = texts} {line = line} finds holds unread written) is_yes =
     record {
@@ -168,14 +177,14 @@ wrote_yes (no_memory_stored finds first) is_yes = absurd is_yes
 wrote_yes (no_memory unchanged) is_yes = absurd is_yes
 
 -- what was loaded before a yes
-record LoadedYes (found : FoundOf) (file : List ℕ) (before after : Outside) : Type 0 where
-  presentation : Presentation
-  acceptor : Automaton
-  multipliers : List Automaton
-  held : HoldStructure before.shelf.holds file presentation acceptor multipliers
-  wrote : WroteYes (found presentation acceptor multipliers) before after
+pub record LoadedYes (found : FoundOf) (file : List ℕ) (before after : Outside) : Type 0 where
+  pub presentation : Presentation
+  pub acceptor : Automaton
+  pub multipliers : List Automaton
+  pub held : HoldStructure before.shelf.holds file presentation acceptor multipliers
+  pub wrote : WroteYes (found presentation acceptor multipliers) before after
 
-loaded_yes : (found : FoundOf) (file : List ℕ) (before after : Outside) (status : Status)
+pub loaded_yes : (found : FoundOf) (file : List ℕ) (before after : Outside) (status : Status)
     → StructureMeans found file before after status → IsYes status
     → LoadedYes found file before after
 loaded_yes found file before after status (at_file ends unchanged) is_yes =

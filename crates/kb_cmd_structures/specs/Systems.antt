@@ -15,7 +15,7 @@ use Rattle.kb_task.specs.declared.status.Construction.TheVariants.{Minred, Minkb
 use Rattle.kb_task.specs.declared.status.Limit.TheVariants.{States}
 use Rattle.kb_task.specs.declared.status.Status.TheVariants.{Yes, Undecided}
 use Rattle.kb_cmd_structures.specs.Findings.{HasParts}
-use Rattle.kb_cmd_structures.specs.Given.{GpaxiomsGiven}
+use Rattle.kb_cmd_structures.specs.Given.{CheckGiven}
 use Rattle.kb_cmd_structures.specs.Gpminkb.{FindsSystem}
 use Rattle.kb_cmd_structures.specs.ReducedSystem.{system_texts}
 use Rattle.kb_cmd_structures.specs.declared.finding.Finding.{Finding}
@@ -23,7 +23,7 @@ use Rattle.kb_cmd_structures.specs.declared.system.Reduced.{Reduced}
 use Rattle.kb_cmd_structures.specs.declared.system.Reduced.TheVariants.{System, TooManyStates}
 
 -- this is found
-abbrev pub IsSystemFound : GpaxiomsGiven → Presentation → Automaton → List Automaton → Finding
+abbrev pub IsSystemFound : CheckGiven → Presentation → Automaton → List Automaton → Finding
     → Type 0
 IsSystemFound given presentation acceptor multipliers finding =
     FindsSystem given presentation acceptor multipliers finding.status

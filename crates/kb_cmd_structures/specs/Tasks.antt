@@ -1,7 +1,7 @@
 -- What each command on automatic structures promises.
 use Rattle.kb_task.specs.Promises.{Promise, in_family}
 use Rattle.kb_cmd_structures.specs.Autgroup.{autgroup_promise}
-use Rattle.kb_cmd_structures.specs.Gpaxioms.{gpaxioms_promise}
+use Rattle.kb_cmd_structures.specs.GpaxiomsPromise.{gpaxioms_promise}
 use Rattle.kb_cmd_structures.specs.Gpminkb.{gpminkb_promise}
 use Rattle.kb_cmd_structures.specs.declared.task.StructuresTask.{StructuresTask}
 use Rattle.kb_cmd_structures.specs.declared.task.StructuresTask.TheVariants.{Autgroup, Gpaxioms, Gpminkb}

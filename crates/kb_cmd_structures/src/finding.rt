@@ -20,8 +20,8 @@ ghost use Rattle.kb_cmd_structures.specs.Gpaxioms.{construction_of};
 ghost use Rattle.kb_cmd_structures.specs.Lines.{certificate_line};
 ghost use Rattle.kb_cmd_structures.specs.Shown.{ShowMeans};
 
+use crate::automata_check::AutomataCheck;
 use crate::certificates::certificate_line;
-use crate::gpaxioms::Gpaxioms;
 use kb_auto::Checked;
 use kb_axioms::Construction as Counted;
 use kb_evidence::Evidence;
@@ -80,7 +80,7 @@ pub(crate) fn show<F: Shelf, O: Sink, E: Sink>(
 /// What is stored and written where this is answered of automata.
 pub(crate) fn finding_of(
     alloc: Global,
-    task: &Gpaxioms,
+    task: &AutomataCheck,
     presentation: &Presentation,
     checked: Checked,
 ) -> Result<Finding, Memory>
@@ -97,7 +97,7 @@ pub(crate) fn finding_of(
 }
 
 /// The automata are the group's own.
-fn own(alloc: Global) -> Result<Finding, Memory>
+pub(crate) fn own(alloc: Global) -> Result<Finding, Memory>
     ensures { IfOk result (HasParts Yes [] (codes "yes\n")) }
 {
     Ok(Finding {
@@ -108,7 +108,7 @@ fn own(alloc: Global) -> Result<Finding, Memory>
 }
 
 /// A certificate shows that they aren't.
-fn refuted(alloc: Global, names: &Names, cert: StructureCert) -> Result<Finding, Memory>
+pub(crate) fn refuted(alloc: Global, names: &Names, cert: StructureCert) -> Result<Finding, Memory>
     ensures { IfOk result
         (HasParts (No (certs.Structure cert)) [] (certificate_line names.now cert)) }
 {
@@ -121,7 +121,7 @@ fn refuted(alloc: Global, names: &Names, cert: StructureCert) -> Result<Finding,
 }
 
 /// A count is above the limit.
-fn too_many(alloc: Global, names: &Names, which: Counted) -> Result<Finding, Memory>
+pub(crate) fn too_many(alloc: Global, names: &Names, which: Counted) -> Result<Finding, Memory>
     ensures { IfOk result (HasParts (Undecided (States (construction_of which))) []
         (undecided_line names.now (States (construction_of which)))) }
 {

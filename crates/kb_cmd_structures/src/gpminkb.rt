@@ -8,8 +8,8 @@ ghost use Rattle.kb_cmd_structures.specs.Gpminkb.{gpminkb_promise};
 ghost use Rattle.kb_cmd_structures.specs.Loaded.{AreAutomataOver};
 ghost use Rattle.kb_cmd_structures.specs.Systems.{IsSystemFound};
 
+use crate::automata_check::{AutomataCheck, find as find_structure};
 use crate::finding::{Finding, show};
-use crate::gpaxioms::{Gpaxioms, find as find_structure};
 use crate::loading::{Loaded, load_structure};
 use crate::system::system_finding;
 use kb_io::{Gate, Shelf, Sink, Source};
@@ -25,13 +25,13 @@ use std::thread::Threads;
 #[derive(Drop)]
 pub struct Gpminkb {
     /// The check whether they are.
-    pub(crate) check: Gpaxioms,
+    pub(crate) check: AutomataCheck,
 }
 
 impl Model for Gpminkb {
-    ghost use Rattle.kb_cmd_structures.specs.Given.{GpaxiomsGiven};
+    ghost use Rattle.kb_cmd_structures.specs.Given.{CheckGiven};
 
-    ghost Value = { GpaxiomsGiven };
+    ghost Value = { CheckGiven };
 
     ghost view = { λ task. task.check };
 }
@@ -71,7 +71,7 @@ fn make_system<T: Threads + Wait + Sync, G: Gate, F: Shelf, I: Source, O: Sink, 
     rt: &T,
     alloc: Global,
     gate: &G,
-    task: &Gpaxioms,
+    task: &AutomataCheck,
     shelf: &mut F,
     input: &mut I,
     out: &mut O,
@@ -99,7 +99,7 @@ fn find<T: Threads + Wait + Sync, G: Gate, E: Sink>(
     rt: &T,
     alloc: Global,
     gate: &G,
-    task: &Gpaxioms,
+    task: &AutomataCheck,
     loaded: &Loaded,
     progress: &mut Progress<'_, E>,
 ) -> Result<Finding, Memory>

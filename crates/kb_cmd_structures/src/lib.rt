@@ -2,8 +2,8 @@
 //! automata that may be it, and `gpminkb FILE`, which makes the reduced complete system of a group of it.
 //!
 //! The public contract is that of `kb_task::Task`, with what the statuses mean in `specs/Autgroup.antt`,
-//! `specs/Gpaxioms.antt` and `specs/Gpminkb.antt`. The commands are given a group by a presentation. No option changes an answer yes or no; whether
-//! a limit is reached may depend on the options, and on the course of the completion.
+//! `specs/Gpaxioms.antt` and `specs/Gpminkb.antt`. The commands are given a group by a presentation. No option but `--log`
+//! changes an answer yes or no; whether a limit is reached may depend on the options, and on the course of the completion.
 //!
 //! # What `autgroup` promises
 //!
@@ -23,6 +23,10 @@
 //! against automata that are the group's own (`specs/FirstCertificates.antt`). At a limit of the completion its log and its
 //! rules are stored: there is no certificate but perhaps of the last kind, and the rules don't settle that.
 //!
+//! With `--log` nothing is completed and no file is stored: the lines of the log beside the group's file decide, once it is
+//! justified (`specs/ByLog.antt`). A log that isn't is a no, with its first line that doesn't follow; one whose lines don't
+//! settle what the automata are is refused.
+//!
 //! # What `gpminkb` promises
 //!
 //! It does what `gpaxioms` does, and a no or a limit of that is its own. A yes means that the automata are the group's own, and
@@ -35,6 +39,8 @@
 //!
 //! - `autgroup`, `gpaxioms` and `gpminkb` are the commands, and `task` has the enum of the family.
 //! - `conclusion` makes what is stored and written of the search for a structure, and `evidence` what shows a limit of it.
+//! - `automata_check` is the check of automata that `gpaxioms` and `gpminkb` have in common, by a completion. `by_log` is that
+//!   by the lines of a log: `logged` loads it, `by_lines` decides, and `unresolved` says what the lines leave open.
 //! - `loading` loads a group and automata; `finding` makes what is stored and written of what is found of them, and
 //!   `certificates` the line of a certificate. `figures` says how a long run ended.
 //! - `system` makes the reduced complete system of a group's own structure.
@@ -42,12 +48,15 @@
 //!   them, and its laws, for `gpaxioms` and `gpminkb`.
 //! - `line` is what the command line says of the commands.
 //!
-//! Below are `kb_auto`, which searches and decides, `kb_answering`, which stores and answers, `kb_evidence`, with what shows
-//! a limit, `kb_diffprint`, which prints word differences, `kb_reduce` with least words, `kb_progress`, which shows how far
-//! a completion has come, and `kb_task`.
+//! Below are `kb_auto`, which searches and decides, `kb_bylog` with the lines of a log, `kb_answering`, which stores and
+//! answers, `kb_evidence`, with what shows a limit, `kb_diffprint`, which prints word differences, `kb_reduce` with least
+//! words, `kb_progress`, which shows how far a completion has come, and `kb_task`.
 #![tactic(auto)]
 
 mod autgroup;
+mod automata_check;
+mod by_lines;
+mod by_log;
 mod certificates;
 mod conclusion;
 mod evidence;
@@ -57,8 +66,10 @@ mod gpaxioms;
 mod gpminkb;
 mod line;
 mod loading;
+mod logged;
 mod system;
 mod task;
+mod unresolved;
 
 pub use autgroup::Autgroup;
 pub use gpaxioms::Gpaxioms;

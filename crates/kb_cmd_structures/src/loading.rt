@@ -8,7 +8,7 @@ ghost use Rattle.kb_axioms.specs.Truth.{AreMultipliers};
 ghost use Rattle.kb_task.specs.Loads.{EndsAtLoad, OnlyLoads};
 ghost use Rattle.kb_task.specs.Runs.{FaultIsCounted};
 ghost use Rattle.kb_evidence.specs.Files.{acceptor_file, multiplier_file};
-ghost use Rattle.kb_cmd_structures.specs.Loaded.{AreAutomataOver, EndsAtFile, EndsAtMultiplier, HoldsAcceptor, HoldsGroup, HoldsMultiplier, HoldMultipliers, HoldStructure, IsAcceptorFault, IsGroup, IsMultiplierFault};
+ghost use Rattle.kb_cmd_structures.specs.Loaded.{AreAutomataOver, EndsAtAutomata, EndsAtFile, EndsAtMultiplier, HoldsAcceptor, HoldsGroup, HoldsMultiplier, HoldMultipliers, HoldStructure, IsAcceptorFault, IsGroup, IsMultiplierFault};
 
 use kb_evidence::{acceptor_file, multiplier_file};
 use kb_fsa::Fsa;
@@ -57,7 +57,7 @@ pub(crate) fn load_structure<F: Shelf>(
 }
 
 /// A group with the word acceptor and the multipliers that the files beside its own hold.
-fn load_automata<F: Shelf>(
+pub(crate) fn load_automata<F: Shelf>(
     alloc: Global,
     file: &OwnedText,
     presentation: Presentation,
@@ -70,9 +70,9 @@ fn load_automata<F: Shelf>(
         loaded.presentation loaded.acceptor loaded.multipliers.items) }
     ensures over { IfOk result (λ loaded.
         AreAutomataOver loaded.presentation loaded.acceptor loaded.multipliers.items) }
+    ensures same { IfOk result (λ loaded. loaded.presentation ≡ presentation) }
     ensures ends { IsTrue (F.state shelf.old).told
-        → HoldsGroup (F.state shelf.old).holds file.now presentation
-        → IfErr result (EndsAtFile (F.state shelf.old).holds file.now) }
+        → IfErr result (EndsAtAutomata (F.state shelf.old).holds file.now presentation) }
     ensures fault { IfErr result (λ status. (input : SourceState) (output : SinkState)
         → FaultIsCounted (outside (F.state shelf.old) input output)
         (outside (F.state shelf.new) input output) status) }

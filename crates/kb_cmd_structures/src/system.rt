@@ -13,9 +13,9 @@ ghost use Rattle.kb_cmd_structures.specs.ReducedSystem.{system_texts};
 ghost use Rattle.kb_cmd_structures.specs.Systems.{CanBePrinted, IsPrintable, IsReducedFinding, IsSystemFound, IsTooManyStates, ReducedSays};
 ghost use Rattle.kb_cmd_structures.specs.declared.system.Reduced.TheVariants.{TooManyStates};
 
+use crate::automata_check::AutomataCheck;
 use crate::conclusion::automaton_file;
 use crate::finding::{Finding, states_counted};
-use crate::gpaxioms::Gpaxioms;
 use crate::loading::Loaded;
 use kb_evidence::{both, minkb_file, minred_file};
 use kb_fsa::Fsa;
@@ -38,7 +38,7 @@ pub(crate) enum Reduced {
 /// canonical forms.
 pub(crate) fn system_finding(
     alloc: Global,
-    task: &Gpaxioms,
+    task: &AutomataCheck,
     loaded: &Loaded,
 ) -> Result<Finding, Memory>
     requires over { AreAutomataOver loaded.now.presentation loaded.now.acceptor

@@ -3,14 +3,14 @@
 ghost use Rattle.std.specs.Prelude.{◌≡◌, IfOk, codes, false};
 ghost use Rattle.clap.specs.Words.{app_of, new_app, rule_of};
 ghost use Rattle.clap.specs.declared.builder.command.Command.TheViews.{out-Command as fields_of};
-ghost use Rattle.kb_task.specs.Arguments.{needed_rule};
+ghost use Rattle.kb_task.specs.Arguments.{flag_rule, needed_rule};
 ghost use Rattle.kb_cmd_structures.specs.Line.{command_app, name_text};
 ghost use Rattle.kb_cmd_structures.specs.declared.line.name.Name.TheVariants as names;
 
 use super::name::Name;
 use clap::{Arg, Command};
 use kb_options::{with_all_limits, with_limits};
-use kb_task::needed_argument;
+use kb_task::{flag_option, needed_argument};
 use std::alloc::{AllocError, Global};
 
 /// The definition of a command.
@@ -36,7 +36,7 @@ fn autgroup_definition<'a>(alloc: Global) -> Result<Command<'a>, AllocError>
     )
 }
 
-/// `gpaxioms FILE`.
+/// `gpaxioms FILE`, and whether the log decides.
 fn gpaxioms_definition<'a>(alloc: Global) -> Result<Command<'a>, AllocError>
     ensures app { IfOk result (λ command. app_of command ≡ command_app names.Gpaxioms) }
     ensures local { IfOk result (λ command. (fields_of command).has_globals ≡ false) }
@@ -44,7 +44,8 @@ fn gpaxioms_definition<'a>(alloc: Global) -> Result<Command<'a>, AllocError>
     with_limits(
         alloc,
         labelled(alloc, Name::Gpaxioms).arg(file_argument(alloc))?,
-    )
+    )?
+    .arg(log_option(alloc))
 }
 
 /// `gpminkb FILE`.
@@ -79,5 +80,17 @@ fn file_argument<'a>(alloc: Global) -> Arg<'a>
         "file",
         "FILE",
         "A presentation file (GAP record) of a group by shortlex",
+    )
+}
+
+/// The option by which the lines of the log decide.
+fn log_option<'a>(alloc: Global) -> Arg<'a>
+    ensures rule { rule_of result ≡ flag_rule (codes "log") }
+    ensures local { result.global ≡ false }
+{
+    flag_option(
+        alloc,
+        "log",
+        "Checks FILE.kblog, and decides by its lines in place of a completion",
     )
 }

@@ -68,7 +68,8 @@ impl Name {
                     "FILE, FILE.wa, and FILE.m1, FILE.m2, .., one for each generator, are read. Out has one line: `yes`; `no` and the",
                     "first certificate; or `undecided rules U V`, `undecided length U V`, `undecided states axiom N4 X` or",
                     "`undecided states axiom N8 I`. At a limit of rules or length FILE.kblog, the log, and FILE.kbprog, the rules so far,",
-                    "are stored; otherwise no file is. Standard input is not read.",
+                    "are stored; otherwise no file is. With --log nothing is completed: the lines of FILE.kblog are checked and decide; out",
+                    "may have `no log N WHY`, and no file is stored. Standard input is not read.",
                     "Example: kb gpaxioms examples/free-2"
                 ),
             },

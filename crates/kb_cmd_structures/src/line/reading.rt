@@ -7,12 +7,13 @@ ghost use Rattle.kb_cmd_structures.specs.declared.line.name.Name.TheVariants as 
 
 use super::name::Name;
 use crate::autgroup::Autgroup;
+use crate::automata_check::AutomataCheck;
 use crate::gpaxioms::Gpaxioms;
 use crate::gpminkb::Gpminkb;
 use crate::task::StructuresTask;
 use clap::ArgMatches;
 use kb_options::{all_limits_given, limits_given};
-use kb_task::{NumberOption, option_given, text_given};
+use kb_task::{NumberOption, flag_given, option_given, text_given};
 use kb_word::{Memory, OwnedText};
 use std::alloc::Global;
 
@@ -64,11 +65,13 @@ fn gpaxioms_given(alloc: Global, matches: &ArgMatches<'_>) -> Result<Option<Stru
     let Some(limits) = limits_given(matches) else {
         return Ok(None);
     };
-    Ok(Some(StructuresTask::Gpaxioms(Gpaxioms {
+    let check = AutomataCheck {
         file: OwnedText::from_str(alloc, file)?,
         workers,
         limits,
-    })))
+    };
+    let by_log = flag_given(matches, "log");
+    Ok(Some(StructuresTask::Gpaxioms(Gpaxioms { check, by_log })))
 }
 
 /// The command that the matches of `gpminkb` give.
@@ -84,7 +87,7 @@ fn gpminkb_given(alloc: Global, matches: &ArgMatches<'_>) -> Result<Option<Struc
     let Some(limits) = limits_given(matches) else {
         return Ok(None);
     };
-    let check = Gpaxioms {
+    let check = AutomataCheck {
         file: OwnedText::from_str(alloc, file)?,
         workers,
         limits,

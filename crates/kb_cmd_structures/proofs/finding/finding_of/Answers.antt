@@ -1,5 +1,5 @@
 use Rattle.std.proofs.Common.{ap}
-use Rattle.kb_cmd_structures.specs.Given.{GpaxiomsGiven}
+use Rattle.kb_cmd_structures.specs.Given.{CheckGiven}
 use Rattle.kb_task.proofs.ArgumentLemmas.{if_ok}
 use Rattle.kb_cmd_structures.proofs.FindingLemmas.{found-own, found-refuted, found-too_many, found-unsettled}
 use Rattle.kb_cmd_structures.proofs.finding.finding_of.Goals as goal
@@ -28,4 +28,4 @@ returns-in-Halted c =
     if_ok c.unsettled.result c.unsettled.ensures
     (λ finding parts acceptor multipliers says.
     found-unsettled c.args.task.now c.args.presentation.now acceptor multipliers finding c.in-Halted.halted c.task.inside.file
-    (ap (λ (given : GpaxiomsGiven). given.file) c.task.view_is) parts (rw c.in-Halted.is at says))
+    (ap (λ (given : CheckGiven). given.file) c.task.view_is) parts (rw c.in-Halted.is at says))

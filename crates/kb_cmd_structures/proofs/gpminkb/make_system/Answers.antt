@@ -1,7 +1,7 @@
 use Rattle.std.proofs.Common.{◌≡◌, ℕ, List, ap, subst}
 use Rattle.kb_io.specs.Outside.{Outside, outside}
 use Rattle.kb_io.specs.States.{ShelfState, SourceState, SinkState}
-use Rattle.kb_cmd_structures.specs.Given.{GpaxiomsGiven}
+use Rattle.kb_cmd_structures.specs.Given.{CheckGiven}
 use Rattle.kb_cmd_structures.specs.Gpminkb.{FindsSystem, GpminkbMayStore}
 use Rattle.kb_cmd_structures.specs.Loaded.{EndsAtFile, HoldStructure}
 use Rattle.kb_cmd_structures.proofs.FoundLemmas.{system_differ, system_faultless, system_may}
@@ -16,14 +16,14 @@ show-requires-clause-differ g c = system_differ c.in-Ok-find.ensures
 
 pub returns-in-Ok-find : goal.returns-in-Ok-find
 returns-in-Ok-find g c =
-    let given : GpaxiomsGiven = c.args.task.now in
+    let given : CheckGiven = c.args.task.now in
     let shelf : ShelfState = g.F.Shelf.state c.args.shelf.now in
     let read : ShelfState = g.F.Shelf.state c.load_structure.new.shelf in
     let input : SourceState = g.I.Source.state c.args.input.now in
     let output : SinkState = g.O.Sink.state c.args.out.now in
     let after : Outside = outside (g.F.Shelf.state c.show.new.shelf) input (g.O.Sink.state c.show.new.out) in
     let loaded = c.in-Ok.loaded in
-    let file : c.task.inside.file ≡ given.file = ap (λ (it : GpaxiomsGiven). it.file) c.task.view_is in
+    let file : c.task.inside.file ≡ given.file = ap (λ (it : CheckGiven). it.file) c.task.view_is in
     run-loaded (FindsSystem given) (GpminkbMayStore given) given.file shelf read input output c.load_structure.ensures.only_loads loaded.presentation
     loaded.acceptor loaded.multipliers.items after c.show.result
     (λ told. subst (λ (name : List ℕ). HoldStructure shelf.holds name loaded.presentation loaded.acceptor loaded.multipliers.items) file
@@ -33,13 +33,13 @@ returns-in-Ok-find g c =
 
 pub returns-in-Ok : goal.returns-in-Ok
 returns-in-Ok g c =
-    let given : GpaxiomsGiven = c.args.task.now in
+    let given : CheckGiven = c.args.task.now in
     let shelf : ShelfState = g.F.Shelf.state c.args.shelf.now in
     let read : ShelfState = g.F.Shelf.state c.load_structure.new.shelf in
     let input : SourceState = g.I.Source.state c.args.input.now in
     let output : SinkState = g.O.Sink.state c.args.out.now in
     let loaded = c.in-Ok.loaded in
-    let file : c.task.inside.file ≡ given.file = ap (λ (it : GpaxiomsGiven). it.file) c.task.view_is in
+    let file : c.task.inside.file ≡ given.file = ap (λ (it : CheckGiven). it.file) c.task.view_is in
     run-loaded (FindsSystem given) (GpminkbMayStore given) given.file shelf read input output c.load_structure.ensures.only_loads loaded.presentation
     loaded.acceptor loaded.multipliers.items (outside read input output) _
     (λ told. subst (λ (name : List ℕ). HoldStructure shelf.holds name loaded.presentation loaded.acceptor loaded.multipliers.items) file
@@ -48,12 +48,12 @@ returns-in-Ok g c =
 
 pub returns : goal.returns
 returns g c =
-    let given : GpaxiomsGiven = c.args.task.now in
+    let given : CheckGiven = c.args.task.now in
     let shelf : ShelfState = g.F.Shelf.state c.args.shelf.now in
     let read : ShelfState = g.F.Shelf.state c.load_structure.new.shelf in
     let input : SourceState = g.I.Source.state c.args.input.now in
     let output : SinkState = g.O.Sink.state c.args.out.now in
-    let file : c.task.inside.file ≡ given.file = ap (λ (it : GpaxiomsGiven). it.file) c.task.view_is in
+    let file : c.task.inside.file ≡ given.file = ap (λ (it : CheckGiven). it.file) c.task.view_is in
     run-at_file (FindsSystem given) (GpminkbMayStore given) given.file shelf read input output c.load_structure.ensures.only_loads c.in-Err.status
     (λ told. subst (λ (name : List ℕ). EndsAtFile shelf.holds name c.in-Err.status) file (c.in-Err.ensures.ends told))
     (c.in-Err.ensures.fault input output)

@@ -18,10 +18,10 @@ returns-in-Ok-multipliers_beside-clause-holds g c = λ told group.
     }
 
 pub returns-in-Err-multipliers_beside-clause-ends : goal.returns-in-Err-multipliers_beside-clause-ends
-returns-in-Err-multipliers_beside-clause-ends g c = λ told group.
+returns-in-Err-multipliers_beside-clause-ends g c = λ told.
     let loads = c.acceptor_beside.ensures.only_loads in
     let At : Files → Type 0 = λ files. EndsAtMultiplier files c.args.file.now c.args.presentation c.in-Err-multipliers_beside.status in
-    at_multiplier group (c.in-Ok.ensures.holds told)
+    at_multiplier (c.in-Ok.ensures.holds told)
     (subst At (same_files loads) (c.in-Err-multipliers_beside.ensures.ends (told_after loads told)))
 
 pub returns-in-Err-multipliers_beside-clause-fault : goal.returns-in-Err-multipliers_beside-clause-fault
@@ -31,4 +31,4 @@ returns-in-Err-multipliers_beside-clause-fault g c =
     c.in-Err-multipliers_beside.ensures.fault
 
 pub returns-in-Err-clause-ends : goal.returns-in-Err-clause-ends
-returns-in-Err-clause-ends g c = λ told group. at_acceptor group (c.in-Err.ensures.ends told)
+returns-in-Err-clause-ends g c = λ told. at_acceptor (c.in-Err.ensures.ends told)

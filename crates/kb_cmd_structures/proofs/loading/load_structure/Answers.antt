@@ -1,7 +1,7 @@
 use Rattle.std.proofs.Common.{◌≡◌, sym, subst}
 use Rattle.kb_task.specs.Loads.{Files}
 use Rattle.kb_task.proofs.LoadEnds.{same_files}
-use Rattle.kb_cmd_structures.specs.Loaded.{EndsAtFile, HoldsGroup, HoldStructure}
+use Rattle.kb_cmd_structures.specs.Loaded.{EndsAtAutomata, HoldsGroup, HoldStructure, at_automata}
 use Rattle.kb_cmd_structures.proofs.LoadRuns.{counted_along, err_with, held_group, ok_with, told_after}
 use Rattle.kb_cmd_structures.proofs.loading.load_structure.Goals as goal
 
@@ -26,10 +26,10 @@ returns-in-Ok-load_group-clause-ends g c = λ told.
     let named : c.in-Ok.name ≡ c.args.file.now = c.in-Ok.ensures in
     let presentation = c.in-Ok-load_group.presentation in
     let group = held_group named (c.in-Ok-load_group.ensures.holds told) c.in-Ok-load_group.ensures.shortlex c.in-Ok-load_group.ensures.group in
-    let Groups : Files → Type 0 = λ f. HoldsGroup f c.args.file.now presentation in
-    let there = subst Groups (sym files) group in
-    err_with c.load_automata.result (c.load_automata.ensures.ends (told_after loads told) there)
-    (λ status ends. let P : Files → Type 0 = λ f. EndsAtFile f c.args.file.now status in subst P files ends)
+    err_with c.load_automata.result (c.load_automata.ensures.ends (told_after loads told))
+    (λ status ends.
+    let P : Files → Type 0 = λ f. EndsAtAutomata f c.args.file.now presentation status in
+    at_automata group (subst P files ends))
 
 pub returns-in-Ok-load_group-clause-fault : goal.returns-in-Ok-load_group-clause-fault
 returns-in-Ok-load_group-clause-fault g c =

@@ -3,7 +3,7 @@ use Rattle.kb_fsa.specs.Language.{Automaton}
 use Rattle.kb_structure.specs.StructureOf.{FitTogether}
 use Rattle.kb_task.proofs.ArgumentLemmas.{if_ok}
 use Rattle.kb_cmd_structures.specs.CanonicalForms.{AreCanonicalForms, IsCanonicalForm}
-use Rattle.kb_cmd_structures.specs.Given.{GpaxiomsGiven}
+use Rattle.kb_cmd_structures.specs.Given.{CheckGiven}
 use Rattle.kb_cmd_structures.specs.Gpminkb.{AreOwnForms}
 use Rattle.kb_cmd_structures.specs.Systems.{IsReducedFinding, ReducedSays}
 use Rattle.kb_cmd_structures.specs.declared.system.Reduced.{Reduced}
@@ -27,7 +27,7 @@ reduced_system-requires c =
 
 pub returns : goal.returns
 returns c =
-    let given : GpaxiomsGiven = c.args.task.now in
+    let given : CheckGiven = c.args.task.now in
     let loaded = c.args.loaded.now in
     let form : Automaton = c.in_ok-form.form in
     let forms : List Automaton = c.in_ok-forms.forms.items in
@@ -43,8 +43,8 @@ returns c =
       };
       multiplier_forms = subst From c.deref.ensures.value c.in_ok-forms.ensures;
     } in
-    let file : c.task.inside.file ≡ given.file = ap (λ (it : GpaxiomsGiven). it.file) c.task.view_is in
-    let states : c.task.inside.limits.states ≡ given.limits.states = ap (λ (it : GpaxiomsGiven). it.limits.states) c.task.view_is in
+    let file : c.task.inside.file ≡ given.file = ap (λ (it : CheckGiven). it.file) c.task.view_is in
+    let states : c.task.inside.limits.states ≡ given.limits.states = ap (λ (it : CheckGiven). it.limits.states) c.task.view_is in
     let Of : List Automaton → Type 0 = λ l. ReducedSays form l c.task.inside.limits.states reduced in
     let Within : ℕ → Type 0 = λ most. ReducedSays form forms most reduced in
     let says : ReducedSays form forms given.limits.states reduced =

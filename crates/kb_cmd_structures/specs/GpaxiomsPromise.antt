@@ -1,0 +1,65 @@
+-- What a run of `gpaxioms` means by its status, by a completion or by the lines of a log.
+use Rattle.std.specs.Prelude.{◌≡◌, ◌⊎◌, ℕ, Bool, true, false, List}
+use Rattle.kb_io.specs.Outside.{Outside}
+use Rattle.kb_word.specs.Presentations.{parts_of}
+use Rattle.kb_word.specs.declared.presentation.Presentation.{Presentation}
+use Rattle.kb_fsa.specs.Language.{Automaton}
+use Rattle.kb_proof.specs.declared.log.Log.{Log}
+use Rattle.kb_bylog.specs.LogLines.{IsJustifiedBy}
+use Rattle.kb_task.specs.Automata.{IsUnrefused}
+use Rattle.kb_task.specs.Promises.{Promise}
+use Rattle.kb_task.specs.Statuses.{IsAnswer}
+use Rattle.kb_task.specs.declared.status.Status.{Status}
+use Rattle.kb_evidence.specs.Files.{log_file}
+use Rattle.kb_cmd_structures.specs.ByLog.{ByLogMeans, HoldsLogBeside, IsLogFaultBeside, IsUnresolvedFault}
+use Rattle.kb_cmd_structures.specs.Given.{CheckGiven, GpaxiomsGiven}
+use Rattle.kb_cmd_structures.specs.Gpaxioms.{Finds, GpaxiomsMayStore, GpaxiomsReads, GpaxiomsSettles, IsGpaxiomsUnrefused}
+use Rattle.kb_cmd_structures.specs.Loaded.{HoldsGroup, HoldStructure}
+use Rattle.kb_cmd_structures.specs.Shown.{StructureMeans}
+
+-- what each status means, where the lines of the log decide or a completion
+abbrev pub MeansBy : Bool → CheckGiven → Outside → Outside → Status → Type 0
+MeansBy true check = ByLogMeans check
+MeansBy false check = StructureMeans (Finds check) check.file
+
+-- by the log nothing is stored
+abbrev pub MayStoreBy : Bool → CheckGiven → List ℕ → Type 0
+MayStoreBy true check name = ⊥
+MayStoreBy false check name = GpaxiomsMayStore check name
+
+-- where the lines of the log decide, its file is read too
+abbrev pub ReadsBy : Bool → CheckGiven → List ℕ → Type 0
+ReadsBy true check name = (name ≡ log_file check.file) ⊎ GpaxiomsReads check name
+ReadsBy false check name = GpaxiomsReads check name
+
+-- None of the files is refused, nor that of the log: neither as it is loaded, nor because its lines don't settle what the
+-- automata are.
+pub record IsByLogUnrefused (check : CheckGiven) (before : Outside) : Type 0 where
+  pub files : IsGpaxiomsUnrefused check before
+  pub log_is : (presentation : Presentation)
+      → HoldsGroup before.shelf.holds check.file presentation
+      → IsUnrefused (IsLogFaultBeside before.shelf.holds check.file presentation)
+  pub resolved : (presentation : Presentation) (log : Log) (acceptor : Automaton)
+      (multipliers : List Automaton)
+      → HoldStructure before.shelf.holds check.file presentation acceptor multipliers
+      → HoldsLogBeside before.shelf.holds check.file presentation log
+      → IsJustifiedBy (parts_of presentation) log
+      → IsUnrefused (IsUnresolvedFault check presentation log acceptor multipliers)
+
+abbrev pub IsUnrefusedBy : Bool → CheckGiven → Outside → Type 0
+IsUnrefusedBy true check before = IsByLogUnrefused check before
+IsUnrefusedBy false check before = IsGpaxiomsUnrefused check before
+
+-- Whether it comes to a limit may depend on the course of the completion. Another on the same file is the same but for
+-- its workers, its limits, and what decides: a yes means the same of both.
+abbrev pub gpaxioms_promise : GpaxiomsGiven → Promise GpaxiomsGiven
+gpaxioms_promise given = record {
+  means = MeansBy given.by_log given.check;
+  may_store = MayStoreBy given.by_log given.check;
+  settled_stores = MayStoreBy given.by_log given.check;
+  reads = ReadsBy given.by_log given.check;
+  is_unrefused = IsUnrefusedBy given.by_log given.check;
+  answers = IsAnswer;
+  settles = GpaxiomsSettles;
+  differs_in_options = λ other. given.check.file ≡ other.check.file;
+}
