@@ -1,6 +1,9 @@
+pub mod BatchLemmas
+pub mod HoldingLemmas
 pub mod LineLemmas
 pub mod OverLemmas
 pub mod ProgressLemmas
 pub mod ReadingLemmas
+pub mod TogetherLemmas
 pub mod UniqueLemmas
 pub mod WiderLemmas

@@ -98,6 +98,20 @@ added-front parts Answers line pending middle a b adds front = record {
   goes_on = pending-front adds.given pending middle a b adds.added front;
 }
 
+-- nothing of the bytes was answered yet
+pub nothing-in : (parts : PresentationParts) (Answers : List ℕ → List ℕ → Type 0) (bytes : List ℕ) (progress : Progress) (a : SinkState)
+    → FrontIn parts Answers bytes progress a a
+nothing-in parts Answers bytes progress a = record {
+  lines = [];
+  each = tt;
+  rest = progress.line.items ++ bytes;
+  at_front = refl;
+  given = [];
+  answered = refl;
+  unsent = progress.pending.items;
+  pending = pending-stays progress.pending.items a;
+}
+
 -- where sending alone can stop
 pub send-stops : {T : Type 0} (P : Stop → Type 0) (Front : Type 0) (result : Result T Stop) → IfErr result (λ stop. stop ≡ Output)
     → OnErr result Front → (Front → P Output) → IfErr result P

@@ -57,7 +57,7 @@ stop-counted c Output goes_on counted = let before = goes_on.output.faults in om
 stop-counted c Input goes_on counted = absurd counted
 
 -- a list with no element
-no-length : {X : Type 0} (xs : List X) → length xs ≡ 0 → xs ≡ []
+pub no-length : {X : Type 0} (xs : List X) → length xs ≡ 0 → xs ≡ []
 no-length [] e = refl
 no-length (x ∷ xs) e = absurd (omega arith)
 

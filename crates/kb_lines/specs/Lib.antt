@@ -3,3 +3,4 @@ pub mod Streams
 pub mod Progress
 pub mod Reading
 pub mod Answered
+pub mod Batches

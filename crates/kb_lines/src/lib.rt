@@ -10,20 +10,36 @@
 //! the memory that one line is answered in, which serves for all lines: the word that is read becomes
 //! its answer. A line that lies in the buffer as a whole is read where it lies.
 //!
+//! [`answer_in_batches`] has the same contract. It takes lines until there are as many as [`Batches`] say, or none is
+//! to come, and then several workers answer those it took: each worker draws a line, reads the word on it, answers
+//! it and prints the answer, in memory for this line alone. The answers are sent in the order of the lines, up to
+//! the first line that is refused. So what is held is a batch of lines, and the answers to them. By batches of one
+//! line it is `answer_lines`, and no thread is started.
+//!
 //! - `answerer` is what answers a word, with the reader of words, and `stop` why the lines aren't answered to the end.
 //! - `line` is one line and the memory for it, `progress` what is held between two reads, and `lines` the reading.
+//! - `batches` is how many lines a batch has and who answers them, `together` the lines of a batch and their answers,
+//!   `batch` what is held between two reads where lines wait for their batch, and `batched` the reading.
 //!
-//! Below are `kb_word`, `kb_record`, `kb_wordreader` and `kb_io`.
+//! In `specs/Batches.antt` a batch goes on as `Progress` does, behind bytes that are held.
+//!
+//! Below are `kb_word`, `kb_record`, `kb_wordreader`, `kb_io`, and `kb_each`, by which workers share the lines of a batch.
 #![tactic(auto)]
 
 mod answerer;
+mod batch;
+mod batched;
+mod batches;
 mod laws;
 mod line;
 mod lines;
 mod progress;
 mod stop;
+mod together;
 
 pub use answerer::Answerer;
+pub use batched::answer_in_batches;
+pub use batches::Batches;
 pub use laws::{
     a_too_long_input_that_was_answered_has_no_refused_line, an_answered_input_has_no_refused_line,
     an_input_has_one_text_of_answers, lines_give_one_text, no_line_is_answered_and_refused,

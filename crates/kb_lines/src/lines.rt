@@ -13,10 +13,10 @@ use kb_word::Word;
 use std::alloc::Global;
 
 /// The most bytes of word lines that are read.
-const MOST_INPUT: usize = 67_108_864;
+pub(crate) const MOST_INPUT: usize = 67_108_864;
 
 /// The most bytes that are asked for at once.
-const BUFFER: usize = 65_536;
+pub(crate) const BUFFER: usize = 65_536;
 
 /// Answers the word lines of the input, up to its end.
 pub fn answer_lines<A: Answerer, I: Source, O: Sink>(

@@ -1,18 +1,25 @@
 //! What is held between two reads.
 
-ghost use Rattle.std.specs.Prelude.{◌≡◌, ◌<◌, ◌≤◌, ◌+◌, ◌^◌, [], ◌++◌, length, IsTrue, OnOk, OnErr, IfOk, IfErr};
+ghost use Rattle.std.specs.Prelude.{◌≡◌, ◌<◌, ◌≤◌, ◌+◌, ◌^◌, [], ◌++◌, ℕ, List, length, IsTrue, OnOk, OnErr, IfOk, IfErr};
+ghost use Rattle.std.specs.List.{AllByRecursion};
 ghost use Rattle.kb_io.specs.Bytes.{AppendsPrefix};
 ghost use Rattle.kb_io.specs.States.{SinkGoesOn};
+ghost use Rattle.kb_lines.specs.WordLines.{IsOneLine, ended, LineGives, LineHasFault};
 ghost use Rattle.kb_lines.specs.Progress.{IsFresh, IsReady, LineEnds, LineStops, Advances, StopsIn, LineStopIsCounted};
+ghost use Rattle.kb_lines.specs.Batches.{AreLineAnswers, IsLineAnswer};
 ghost use Rattle.kb_lines.specs.declared.stop.Stop.TheVariants as stops;
 
 use crate::answerer::Answerer;
+use crate::batches::Batches;
 use crate::line::{LineWorkspace, answer_line, split_line};
 use crate::stop::Stop;
-use kb_io::{Sink, write_all};
+use crate::together::{LineAnswer, TakenLine, answers_to};
+use kb_io::{Gate, Sink, write_all};
 use kb_record::WordError;
 use std::alloc::Global;
 use std::mem::replace;
+use std::sync::Wait;
+use std::thread::Threads;
 
 /// The line that has begun, how many lines ended before it, and the answers that aren't sent yet.
 #[derive(Drop)]
@@ -196,6 +203,170 @@ impl Progress {
                     fault,
                 })
             }
+        }
+    }
+
+    /// Begins a line, where none has begun.
+    pub(crate) fn begin(&mut self, line: Vec<u8>)
+        ensures line { self.new.line.items ≡ line.items }
+        ensures number { self.new.number ≡ self.old.number }
+        ensures pending { self.new.pending.items ≡ self.old.pending.items }
+    {
+        self.line = line;
+    }
+
+    /// Answers lines together, where no other has begun, and sends all answers.
+    pub(crate) fn answer_together<A: Answerer + Sync, G: Gate, T: Threads + Wait + Sync, O: Sink>(
+        &mut self,
+        rt: &T,
+        alloc: Global,
+        answerer: &A,
+        batches: &Batches<'_, G>,
+        lines: &[TakenLine],
+        out: &mut O,
+    ) -> Result<(), Stop>
+    where
+        A::Workspace: Send,
+        requires fresh { self.old.line.items ≡ [] }
+        requires room { self.old.number + length lines.now < 2 ^ 32 }
+        requires each { AllByRecursion IsOneLine lines.now }
+        ensures advances { IsTrue (O.state out.old).told → OnOk result
+            (Advances (A.parts answerer.now) (A.answers answerer.now) (ended lines.now) []
+            self.old self.new (O.state out.old) (O.state out.new)) }
+        ensures fresh { OnOk result (self.new.line.items ≡ []) }
+        ensures sent { OnOk result (self.new.pending.items ≡ []) }
+        ensures number { OnOk result (self.new.number ≡ self.old.number + length lines.now) }
+
+        // After a stop.
+        ensures stops { IsTrue (O.state out.old).told → IfErr result
+            (StopsIn (A.parts answerer.now) (A.answers answerer.now) (ended lines.now) self.old
+            (O.state out.old) (O.state out.new)) }
+        ensures counted { IfErr result (LineStopIsCounted (O.state out.old) (O.state out.new)) }
+        ensures goes_on { SinkGoesOn (O.state out.old) (O.state out.new) }
+    {
+        let answers = answers_to(rt, alloc, answerer, batches, lines)?;
+        self.add_all(answerer, answers, out)?;
+        self.send(out)
+    }
+
+    /// Adds the answers to lines in their order, where no other has begun.
+    fn add_all<A: Answerer, O: Sink>(
+        &mut self,
+        answerer: &A,
+        answers: Vec<LineAnswer>,
+        out: &mut O,
+    ) -> Result<(), Stop>
+        requires fresh { self.old.line.items ≡ [] }
+        requires room { self.old.number + length answers.items < 2 ^ 32 }
+        ensures advances { (lines : List (List ℕ)) → AllByRecursion IsOneLine lines
+            → AreLineAnswers (A.parts answerer.now) (A.answers answerer.now) lines answers.items
+            → IsTrue (O.state out.old).told → OnOk result
+            (Advances (A.parts answerer.now) (A.answers answerer.now) (ended lines) []
+            self.old self.new (O.state out.old) (O.state out.new)) }
+        ensures fresh { OnOk result (self.new.line.items ≡ []) }
+        ensures number { OnOk result (self.new.number ≡ self.old.number + length answers.items) }
+
+        // After a stop.
+        ensures stops { (lines : List (List ℕ)) → AllByRecursion IsOneLine lines
+            → AreLineAnswers (A.parts answerer.now) (A.answers answerer.now) lines answers.items
+            → IsTrue (O.state out.old).told → IfErr result
+            (StopsIn (A.parts answerer.now) (A.answers answerer.now) (ended lines) self.old
+            (O.state out.old) (O.state out.new)) }
+        ensures counted { IfErr result (LineStopIsCounted (O.state out.old) (O.state out.new)) }
+        ensures goes_on { SinkGoesOn (O.state out.old) (O.state out.new) }
+    {
+        for answer in answers {
+            self.add(answerer, answer, out)?;
+        }
+        Ok(())
+    }
+
+    /// Adds the answer to a line, where no other has begun.
+    fn add<A: Answerer, O: Sink>(
+        &mut self,
+        answerer: &A,
+        answer: LineAnswer,
+        out: &mut O,
+    ) -> Result<(), Stop>
+        requires fresh { self.old.line.items ≡ [] }
+        requires room { self.old.number + 1 < 2 ^ 32 }
+        ensures ends { (line : List ℕ)
+            → IsLineAnswer (A.parts answerer.now) (A.answers answerer.now) line answer
+            → IsTrue (O.state out.old).told → OnOk result
+            (LineEnds (A.parts answerer.now) (A.answers answerer.now) line self.old self.new
+            (O.state out.old) (O.state out.new)) }
+        ensures fresh { OnOk result (self.new.line.items ≡ []) }
+        ensures number { OnOk result (self.new.number ≡ self.old.number + 1) }
+
+        // After a stop.
+        ensures stops { (line : List ℕ)
+            → IsLineAnswer (A.parts answerer.now) (A.answers answerer.now) line answer
+            → IsTrue (O.state out.old).told → IfErr result
+            (LineStops (A.parts answerer.now) (A.answers answerer.now) line
+            self.old.number self.old.pending.items (O.state out.old) (O.state out.new)) }
+        ensures counted { IfErr result (LineStopIsCounted (O.state out.old) (O.state out.new)) }
+        ensures goes_on { SinkGoesOn (O.state out.old) (O.state out.new) }
+    {
+        match answer {
+            LineAnswer::Given(text) => self.add_text(answerer, &text, out),
+            LineAnswer::Faulty(fault) => Err(self.refuse(answerer, fault, out)),
+        }
+    }
+
+    /// Adds the text that a line gives, where no other has begun. Of the answerer nothing is read: it says what a line
+    /// gives.
+    fn add_text<A: Answerer, O: Sink>(
+        &mut self,
+        answerer: &A,
+        text: &[u8],
+        out: &mut O,
+    ) -> Result<(), Stop>
+        requires fresh { self.old.line.items ≡ [] }
+        requires room { self.old.number + 1 < 2 ^ 32 }
+        ensures ends { (line : List ℕ)
+            → LineGives (A.parts answerer.now) (A.answers answerer.now) line text.now
+            → IsTrue (O.state out.old).told → OnOk result
+            (LineEnds (A.parts answerer.now) (A.answers answerer.now) line self.old self.new
+            (O.state out.old) (O.state out.new)) }
+        ensures fresh { OnOk result (self.new.line.items ≡ []) }
+        ensures number { OnOk result (self.new.number ≡ self.old.number + 1) }
+
+        // After a stop.
+        ensures stops { (line : List ℕ)
+            → LineGives (A.parts answerer.now) (A.answers answerer.now) line text.now
+            → IsTrue (O.state out.old).told → IfErr result
+            (LineStops (A.parts answerer.now) (A.answers answerer.now) line
+            self.old.number self.old.pending.items (O.state out.old) (O.state out.new)) }
+        ensures counted { IfErr result (LineStopIsCounted (O.state out.old) (O.state out.new)) }
+        ensures goes_on { SinkGoesOn (O.state out.old) (O.state out.new) }
+    {
+        let _ = answerer;
+        self.pending.extend_from_slice(text)?;
+        self.number += 1;
+        if self.pending.len() < ENOUGH {
+            return Ok(());
+        }
+        self.send(out)
+    }
+
+    /// Why the answers stop at a line with a fault: first all answers before it are sent. Of the answerer nothing is
+    /// read: it says what a line gives.
+    fn refuse<A: Answerer, O: Sink>(&mut self, answerer: &A, fault: WordError, out: &mut O) -> Stop
+        requires room { self.old.number + 1 < 2 ^ 32 }
+        ensures stops { (line : List ℕ) → LineHasFault (A.parts answerer.now) line fault
+            → IsTrue (O.state out.old).told
+            → LineStops (A.parts answerer.now) (A.answers answerer.now) line
+            self.old.number self.old.pending.items (O.state out.old) (O.state out.new) result }
+        ensures counted { LineStopIsCounted (O.state out.old) (O.state out.new) result }
+        ensures goes_on { SinkGoesOn (O.state out.old) (O.state out.new) }
+    {
+        let _ = answerer;
+        match self.send(out) {
+            Ok(()) => Stop::Refused {
+                number: self.number + 1,
+                fault,
+            },
+            Err(stop) => stop,
         }
     }
 

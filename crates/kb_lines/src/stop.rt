@@ -40,3 +40,14 @@ impl<T: Drop> From<AllocFailed<T>> for Stop {
         Stop::Memory
     }
 }
+
+impl From<Memory> for Stop {
+    ghost use Rattle.std.specs.Prelude.{◌≡◌};
+    ghost use Rattle.kb_lines.specs.declared.stop.Stop.TheVariants as stops;
+
+    ghost from_gives = { λ _ stop. stop ≡ stops.Memory };
+
+    fn from(_: Memory) -> Stop {
+        Stop::Memory
+    }
+}

@@ -1,0 +1,22 @@
+use Rattle.std.proofs.Common.{◌≡◌, ◌+◌, ℕ, List, [], length}
+use Rattle.std.specs.Prelude.{IsTrue}
+use Rattle.std.specs.List.{AllByRecursion}
+use Rattle.kb_io.specs.States.{SinkGoesOn}
+use Rattle.kb_lines.specs.WordLines.{IsOneLine}
+use Rattle.kb_lines.specs.Batches.{AreLineAnswers}
+use Rattle.kb_lines.proofs.TogetherLemmas.{IsAdding}
+use Rattle.kb_lines.proofs.progress.Progress.add_all.Given as goal
+
+-- the answers before those that are left were added
+abbrev pub invariant-loop-answer : goal.invariant-loop-answer
+invariant-loop-answer g l = record {
+  counted : l.answer-iterator.rest.len ≡ length l.answer-iterator.rest.items;
+  adding : (lines : List (List ℕ)) → AllByRecursion IsOneLine lines
+      → AreLineAnswers (g.A.Answerer.parts l.answerer) (g.A.Answerer.answers l.answerer) lines l.fn.answers.items
+      → IsTrue (g.O.Sink.state l.fn.out).told
+      → IsAdding (g.A.Answerer.parts l.answerer) (g.A.Answerer.answers l.answerer) lines l.answer-iterator.rest.items l.fn.self l.self
+      (g.O.Sink.state l.fn.out) (g.O.Sink.state l.out);
+  fresh : l.self.line.items ≡ [];
+  number : l.self.number + length l.answer-iterator.rest.items ≡ l.fn.self.number + length l.fn.answers.items;
+  goes_on : SinkGoesOn (g.O.Sink.state l.fn.out) (g.O.Sink.state l.out);
+}

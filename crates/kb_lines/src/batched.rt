@@ -1,0 +1,110 @@
+//! Word lines that are answered in batches.
+
+ghost use Rattle.std.specs.Prelude.{IsTrue, OnOk, IfErr};
+ghost use Rattle.kb_lines.specs.Streams.{streams, AreTold, StreamsGoOn};
+ghost use Rattle.kb_lines.specs.Answered.{AllAnswered, Stops, StopIsCounted};
+
+use crate::answerer::Answerer;
+use crate::batch::Batch;
+use crate::batches::Batches;
+use crate::line::LineWorkspace;
+use crate::lines::{BUFFER, MOST_INPUT, answer_lines};
+use crate::stop::Stop;
+use kb_io::{Failed, Gate, Sink, Source};
+use kb_word::Word;
+use std::alloc::Global;
+use std::sync::Wait;
+use std::thread::Threads;
+
+/// Answers the word lines of the input, up to its end: lines are taken until they make a batch or none is to come, and
+/// those taken are then answered by workers, in their order.
+pub fn answer_in_batches<A: Answerer + Sync, G: Gate, T: Threads + Wait + Sync, I: Source, O: Sink>(
+    rt: &T,
+    alloc: Global,
+    answerer: &A,
+    batches: &Batches<'_, G>,
+    input: &mut I,
+    out: &mut O,
+) -> Result<(), Stop>
+where
+    A::Workspace: Send,
+    ensures answered { AreTold (streams (I.state input.old) (O.state out.old)) → OnOk result
+        (AllAnswered (A.parts answerer.now) (A.answers answerer.now)
+        (streams (I.state input.old) (O.state out.old))
+        (streams (I.state input.new) (O.state out.new))) }
+
+    // After a stop.
+    ensures stops { AreTold (streams (I.state input.old) (O.state out.old)) → IfErr result
+        (Stops (A.parts answerer.now) (A.answers answerer.now)
+        (streams (I.state input.old) (O.state out.old))
+        (streams (I.state input.new) (O.state out.new))) }
+    ensures counted { IfErr result (StopIsCounted
+        (streams (I.state input.old) (O.state out.old))
+        (streams (I.state input.new) (O.state out.new))) }
+    ensures goes_on { StreamsGoOn
+        (streams (I.state input.old) (O.state out.old))
+        (streams (I.state input.new) (O.state out.new)) }
+{
+    if batches.size < 2 {
+        return answer_lines(alloc, answerer, input, out);
+    }
+    answer_batches(rt, alloc, answerer, batches, input, out)
+}
+
+/// The same by batches of more than one line.
+fn answer_batches<A: Answerer + Sync, G: Gate, T: Threads + Wait + Sync, I: Source, O: Sink>(
+    rt: &T,
+    alloc: Global,
+    answerer: &A,
+    batches: &Batches<'_, G>,
+    input: &mut I,
+    out: &mut O,
+) -> Result<(), Stop>
+where
+    A::Workspace: Send,
+    ensures answered { AreTold (streams (I.state input.old) (O.state out.old)) → OnOk result
+        (AllAnswered (A.parts answerer.now) (A.answers answerer.now)
+        (streams (I.state input.old) (O.state out.old))
+        (streams (I.state input.new) (O.state out.new))) }
+
+    // After a stop.
+    ensures stops { AreTold (streams (I.state input.old) (O.state out.old)) → IfErr result
+        (Stops (A.parts answerer.now) (A.answers answerer.now)
+        (streams (I.state input.old) (O.state out.old))
+        (streams (I.state input.new) (O.state out.new))) }
+    ensures counted { IfErr result (StopIsCounted
+        (streams (I.state input.old) (O.state out.old))
+        (streams (I.state input.new) (O.state out.new))) }
+    ensures goes_on { StreamsGoOn
+        (streams (I.state input.old) (O.state out.old))
+        (streams (I.state input.new) (O.state out.new)) }
+{
+    let mut space = vec![in alloc; 0u8; BUFFER]?;
+    let buffer = space.as_mut_slice();
+    let mut work = LineWorkspace {
+        word: Word::new(alloc),
+        workspace: answerer.workspace(alloc),
+    };
+    let mut batch = Batch::new(alloc);
+    let mut count = 0;
+    loop {
+        let more = match input.read(buffer) {
+            Ok(more) => more,
+            Err(Failed) => {
+                batch.take_last(rt, alloc, answerer, batches, &[], out)?;
+                return Err(Stop::Input);
+            }
+        };
+        if more == 0 {
+            batch.take_last(rt, alloc, answerer, batches, &[], out)?;
+            return batch.progress.finish(alloc, answerer, &mut work, out);
+        }
+        let room = MOST_INPUT - count;
+        if room < more {
+            batch.take_last(rt, alloc, answerer, batches, &buffer[..room], out)?;
+            return Err(Stop::TooLong);
+        }
+        batch.take_bytes(rt, alloc, answerer, batches, &buffer[..more], out)?;
+        count += more;
+    }
+}

@@ -1,0 +1,28 @@
+//! How many lines are answered together.
+
+ghost use Rattle.std.specs.Prelude.{◌≤◌};
+
+use kb_io::Gate;
+
+/// So many lines are taken, and then they are answered by so many workers, who pass the gate.
+#[derive(Drop)]
+pub struct Batches<'g, G: Gate> {
+    pub(crate) size: u32,
+    pub(crate) workers: u32,
+    pub(crate) gate: &'g G,
+    ghost bounds: { (1 ≤ workers) × (workers ≤ 64) },
+}
+
+impl<'g, G: Gate> Batches<'g, G> {
+    /// Batches of so many lines, each of which so many workers answer. By 1, and by 0, each line is answered alone, in the
+    /// caller's thread.
+    pub fn of(size: u32, workers: u32, gate: &'g G) -> Batches<'g, G>
+        requires { (1 ≤ workers) × (workers ≤ 64) }
+    {
+        Batches {
+            size,
+            workers,
+            gate,
+        }
+    }
+}
