@@ -3,7 +3,7 @@ use Rattle.std.proofs.Common.{◌≡◌, ◌∙◌, ℕ, List, sym}
 use Rattle.clap.specs.Words.{Row}
 use Rattle.kb_system.specs.Evidence.{Limits}
 use Rattle.kb_task.specs.Arguments.{GivesOption}
-use Rattle.kb_task.specs.declared.arguments.NumberOption.TheVariants.{Workers, MaxRules, MaxLen, MaxDiffs, MaxStates}
+use Rattle.kb_task.specs.declared.arguments.NumberOption.TheVariants.{Workers, Batch, MaxRules, MaxLen, MaxDiffs, MaxStates}
 use Rattle.kb_task.proofs.ArgumentLemmas.{option_given-at}
 use Rattle.kb_options.specs.Options.{GivesAllLimits, GivesLimits}
 
@@ -33,3 +33,8 @@ pub same_workers : (rows : List Row) (workers other : ℕ) → GivesOption rows 
     → GivesOption rows Workers other → workers ≡ other
 same_workers rows workers other a b =
     option_given-at rows Workers workers a ∙ sym (option_given-at rows Workers other b)
+
+pub same_batch : (rows : List Row) (batch other : ℕ) → GivesOption rows Batch batch
+    → GivesOption rows Batch other → batch ≡ other
+same_batch rows batch other a b =
+    option_given-at rows Batch batch a ∙ sym (option_given-at rows Batch other b)

@@ -5,7 +5,7 @@ use Rattle.clap.specs.Words.{Row, Rule, Text, first_of, new_rule}
 use Rattle.clap.specs.declared.builder.action.ArgAction.TheVariants.{Set, SetTrue}
 use Rattle.clap.specs.declared.builder.value_parser.ValueParser.TheVariants.{Signed}
 use Rattle.kb_task.specs.declared.arguments.NumberOption.{NumberOption}
-use Rattle.kb_task.specs.declared.arguments.NumberOption.TheVariants.{Workers, MaxRules, MaxLen, MaxDiffs, MaxStates}
+use Rattle.kb_task.specs.declared.arguments.NumberOption.TheVariants.{Workers, Batch, MaxRules, MaxLen, MaxDiffs, MaxStates}
 
 -- an argument that must be there
 abbrev pub needed_rule : Text → Rule
@@ -14,6 +14,7 @@ needed_rule name = record (new_rule name) { value_names = 1; required = true; ac
 -- an option's name, the greatest number that it takes, and the number where it isn't given; the least is 1
 abbrev pub option_name : NumberOption → Text
 option_name Workers = codes "workers"
+option_name Batch = codes "batch"
 option_name MaxRules = codes "max-rules"
 option_name MaxLen = codes "max-len"
 option_name MaxDiffs = codes "max-diffs"
@@ -21,6 +22,7 @@ option_name MaxStates = codes "max-states"
 
 abbrev pub option_most : NumberOption → ℕ
 option_most Workers = 64
+option_most Batch = 4096
 option_most MaxRules = 1000000
 option_most MaxLen = 65535
 option_most MaxDiffs = 65535
@@ -28,6 +30,7 @@ option_most MaxStates = 4000000
 
 abbrev pub option_default : NumberOption → Text
 option_default Workers = codes "4"
+option_default Batch = codes "1"
 option_default MaxRules = codes "32767"
 option_default MaxLen = codes "1024"
 option_default MaxDiffs = codes "2048"

@@ -78,6 +78,8 @@ fn is_true(text: &str) -> bool
 pub enum NumberOption {
     /// `--workers N`
     Workers,
+    /// `--batch N`
+    Batch,
     /// `--max-rules N`
     MaxRules,
     /// `--max-len N`
@@ -117,6 +119,12 @@ impl NumberOption {
                 most: 64,
                 default: "4",
                 help: "Number of threads, 1 to 64; no answer depends on it",
+            },
+            NumberOption::Batch => OptionLabel {
+                name: "batch",
+                most: 4096,
+                default: "1",
+                help: "Number of words that are answered together, 1 to 4096; no answer depends on it",
             },
             NumberOption::MaxRules => OptionLabel {
                 name: "max-rules",
