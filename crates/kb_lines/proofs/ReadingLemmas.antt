@@ -56,6 +56,23 @@ stop-counted c Memory goes_on counted = tt
 stop-counted c Output goes_on counted = let before = goes_on.output.faults in omega (arith, before, counted)
 stop-counted c Input goes_on counted = absurd counted
 
+-- whatever the input was
+pub line_stop-counted : (input input' : SourceState) (a b : SinkState) (stop : Stop) → LineStopIsCounted a b stop
+    → StopIsCounted (streams input a) (streams input' b) stop
+line_stop-counted input input' a b (Refused number fault) counted = tt
+line_stop-counted input input' a b TooLong counted = tt
+line_stop-counted input input' a b Memory counted = tt
+line_stop-counted input input' a b Output counted = counted
+line_stop-counted input input' a b Input counted = absurd counted
+
+-- a stop is counted also from an earlier moment
+pub later-counted : {a b : Streams} (c : Streams) (stop : Stop) → StreamsGoOn a b → StopIsCounted b c stop → StopIsCounted a c stop
+later-counted c (Refused number fault) goes_on counted = tt
+later-counted c TooLong goes_on counted = tt
+later-counted c Memory goes_on counted = tt
+later-counted c Output goes_on counted = let before = goes_on.output.faults in omega (arith, before, counted)
+later-counted c Input goes_on counted = let before = goes_on.input.faults in omega (arith, before, counted)
+
 -- a list with no element
 pub no-length : {X : Type 0} (xs : List X) → length xs ≡ 0 → xs ≡ []
 no-length [] e = refl

@@ -7,11 +7,10 @@ ghost use Rattle.kb_lines.specs.Answered.{AllAnswered, Stops, StopIsCounted};
 use crate::answerer::Answerer;
 use crate::batch::Batch;
 use crate::batches::Batches;
-use crate::line::LineWorkspace;
+use crate::ending::{answer_to_the_end, stop_at_failure, stop_past_most};
 use crate::lines::{BUFFER, MOST_INPUT, answer_lines};
 use crate::stop::Stop;
 use kb_io::{Failed, Gate, Sink, Source};
-use kb_word::Word;
 use std::alloc::Global;
 use std::sync::Wait;
 use std::thread::Threads;
@@ -81,28 +80,22 @@ where
 {
     let mut space = vec![in alloc; 0u8; BUFFER]?;
     let buffer = space.as_mut_slice();
-    let mut work = LineWorkspace {
-        word: Word::new(alloc),
-        workspace: answerer.workspace(alloc),
-    };
     let mut batch = Batch::new(alloc);
     let mut count = 0;
     loop {
         let more = match input.read(buffer) {
             Ok(more) => more,
             Err(Failed) => {
-                batch.take_last(rt, alloc, answerer, batches, &[], out)?;
-                return Err(Stop::Input);
+                return Err(stop_at_failure(rt, alloc, answerer, batches, &mut batch, out));
             }
         };
         if more == 0 {
-            batch.take_last(rt, alloc, answerer, batches, &[], out)?;
-            return batch.progress.finish(alloc, answerer, &mut work, out);
+            return answer_to_the_end(rt, alloc, answerer, batches, &mut batch, out);
         }
         let room = MOST_INPUT - count;
         if room < more {
-            batch.take_last(rt, alloc, answerer, batches, &buffer[..room], out)?;
-            return Err(Stop::TooLong);
+            let bytes = &buffer[..room];
+            return Err(stop_past_most(rt, alloc, answerer, batches, &mut batch, bytes, out));
         }
         batch.take_bytes(rt, alloc, answerer, batches, &buffer[..more], out)?;
         count += more;

@@ -19,7 +19,8 @@
 //! - `answerer` is what answers a word, with the reader of words, and `stop` why the lines aren't answered to the end.
 //! - `line` is one line and the memory for it, `progress` what is held between two reads, and `lines` the reading.
 //! - `batches` is how many lines a batch has and who answers them, `together` the lines of a batch and their answers,
-//!   `batch` what is held between two reads where lines wait for their batch, and `batched` the reading.
+//!   `batch` what is held between two reads where lines wait for their batch, `ending` how the reading ends then, and
+//!   `batched` the reading.
 //!
 //! In `specs/Batches.antt` a batch goes on as `Progress` does, behind bytes that are held.
 //!
@@ -30,6 +31,7 @@ mod answerer;
 mod batch;
 mod batched;
 mod batches;
+mod ending;
 mod laws;
 mod line;
 mod lines;

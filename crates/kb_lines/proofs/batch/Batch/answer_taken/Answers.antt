@@ -8,7 +8,7 @@ use Rattle.kb_lines.proofs.batch.Batch.answer_taken.Goals as goal
 
 pub returns-then-is_empty-clause-advances : goal.returns-then-is_empty-clause-advances
 returns-then-is_empty-clause-advances g c = λ told.
-    let none : c.args.self.now.lines.items ≡ [] = no-length c.args.self.now.lines.items (eqb-true _ _ (sym c.if-is_empty.ensures)) in
+    let none : c.args.self.now.lines.items ≡ [] = no-length c.args.self.now.lines.items (omega (arith, eqb-true _ _ (sym c.if-is_empty.ensures), c.args.self.now.lines.ok)) in
     none-taken c.args.self.now (g.O.Sink.state c.args.out.now) told c.requires.ready none
 
 pub answer_together-requires-clause-fresh : goal.answer_together-requires-clause-fresh
