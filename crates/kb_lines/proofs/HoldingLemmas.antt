@@ -120,35 +120,36 @@ module _ {parts : PresentationParts} {Answers : List ℕ → List ℕ → Type 0
 
   -- ---- what was read is what may be taken, and the rest
 
+  held-moved : (batch : Batch) (read left left' : List ℕ) → left ≡ read ++ left' → held batch ++ left ≡ (held batch ++ read) ++ left'
+  held-moved batch read left left' moved = ap (λ l. held batch ++ l) moved ∙ sym (append_assoc (held batch) read left')
+
+  held-split : (batch : Batch) (read bytes extra : List ℕ) → read ≡ bytes ++ extra → held batch ++ read ≡ (held batch ++ bytes) ++ extra
+  held-split batch read bytes extra split = ap (λ r. held batch ++ r) split ∙ sym (append_assoc (held batch) bytes extra)
+
+  held-counted : {before now : Streams} {batch : Batch} {count : ℕ} (holding : IsHolding parts Answers before now batch count) (these : List ℕ)
+      → length holding.answered + length (held batch ++ these) ≡ count + length these
+  held-counted {batch = batch} holding these =
+      let taken = holding.counted in
+      omega (arith, taken, length-append holding.answered (held batch), length-append (held batch) these)
+
   module _ {before now after : Streams} {batch : Batch} {count : ℕ} (read bytes extra : List ℕ)
       (holding : IsHolding parts Answers before now batch count) (moved : now.input.left ≡ read ++ after.input.left)
       (split : read ≡ bytes ++ extra) where
-    held-moved : held batch ++ now.input.left ≡ (held batch ++ read) ++ after.input.left
-    held-moved = ap (λ l. held batch ++ l) moved ∙ sym (append_assoc (held batch) read after.input.left)
-
-    held-split : held batch ++ read ≡ (held batch ++ bytes) ++ extra
-    held-split = ap (λ r. held batch ++ r) split ∙ sym (append_assoc (held batch) bytes extra)
-
-    held-counted : (these : List ℕ) → length holding.answered + length (held batch ++ these) ≡ count + length these
-    held-counted these =
-        let taken = holding.counted in
-        omega (arith, taken, length-append holding.answered (held batch), length-append (held batch) these)
-
     -- the answers stop among these bytes
     pub holding-stops : (stop : Stop) → count + length bytes ≤ most_input
         → StopsIn parts Answers (held batch ++ bytes) batch.progress now.output after.output stop
         → Stops parts Answers before after stop
     holding-stops stop short stops =
-        let size = held-counted bytes in
-        took-stops {now = unread batch now} (held batch ++ read) (held batch ++ bytes) extra stop (holding-unread holding)
-        held-moved held-split (omega (arith, size, short)) stops
+        let size = held-counted holding bytes in
+        took-stops {now = unread batch now} {after = after} (held batch ++ read) (held batch ++ bytes) extra stop (holding-unread holding)
+        (held-moved batch read now.input.left after.input.left moved) (held-split batch read bytes extra split) (omega (arith, size, short)) stops
 
     -- more was read than may be
     pub holding-too_long : {progress : Progress} → count + length bytes ≡ most_input → most_input < count + length read
         → Advances parts Answers (held batch ++ bytes) [] batch.progress progress now.output after.output
         → progress.pending.items ≡ [] → Stops parts Answers before after TooLong
     holding-too_long full more advances none =
-        let size = held-counted bytes in
-        let whole = held-counted read in
-        reading-too_long {now = unread batch now} (held batch ++ read) (held batch ++ bytes) extra (holding-unread holding)
-        held-moved held-split (omega (arith, size, full)) (omega (arith, whole, more)) advances none
+        let size = held-counted holding bytes in
+        let whole = held-counted holding read in
+        reading-too_long {now = unread batch now} {after = after} (held batch ++ read) (held batch ++ bytes) extra (holding-unread holding)
+        (held-moved batch read now.input.left after.input.left moved) (held-split batch read bytes extra split) (omega (arith, size, full)) (omega (arith, whole, more)) advances none

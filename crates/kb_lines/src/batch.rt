@@ -109,9 +109,18 @@ impl Batch {
     {
         self.take_bytes(rt, alloc, answerer, batches, bytes, out)?;
         self.answer_taken(rt, alloc, answerer, batches, out)?;
+        self.hand_on(alloc);
+        Ok(())
+    }
+
+    /// Hands the line that has begun on to the progress.
+    fn hand_on(&mut self, alloc: Global)
+        ensures line { self.new.progress.line.items ≡ self.old.line.items }
+        ensures number { self.new.progress.number ≡ self.old.progress.number }
+        ensures pending { self.new.progress.pending.items ≡ self.old.progress.pending.items }
+    {
         let line = replace(&mut self.line, Vec::new(alloc));
         self.progress.begin(line);
-        Ok(())
     }
 
     /// Takes the line that has begun and ends with these bytes, and answers the lines that were taken if they make a

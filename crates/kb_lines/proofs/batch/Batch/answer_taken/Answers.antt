@@ -12,7 +12,7 @@ returns-then-is_empty-clause-advances g c = λ told.
     none-taken c.args.self.now (g.O.Sink.state c.args.out.now) told c.requires.ready none
 
 pub answer_together-requires-clause-fresh : goal.answer_together-requires-clause-fresh
-answer_together-requires-clause-fresh g c = c.requires.ready.fresh
+answer_together-requires-clause-fresh g c = λ κs lives. c.requires.ready.fresh
 
 pub answer_together-requires-clause-room : goal.answer_together-requires-clause-room
 answer_together-requires-clause-room g c =
@@ -23,7 +23,7 @@ answer_together-requires-clause-room g c =
     omega (arith, room, fit, size, length-append (ended batch.lines.items) batch.line.items)
 
 pub answer_together-requires-clause-each : goal.answer_together-requires-clause-each
-answer_together-requires-clause-each g c = rw c.deref.ensures.value c.requires.ready.each
+answer_together-requires-clause-each g c = rw c.deref.ensures.value (λ κs lives. c.requires.ready.each)
 
 pub returns-clause-advances : goal.returns-clause-advances
 returns-clause-advances g c = λ told. rw c.deref.ensures.value at (c.in_ok-answer_together.ensures.advances told)

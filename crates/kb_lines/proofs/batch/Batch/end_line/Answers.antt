@@ -34,7 +34,7 @@ returns-then-len-batches-clause-number g c =
 pub answer_taken-requires-clause-ready : goal.answer_taken-requires-clause-ready
 answer_taken-requires-clause-ready g c =
     let take = c.in_ok-take_line.ensures in
-    taken-held c.args.end.now c.args.self.now c.take_line.new.self take.taken take.line c.take_line.ensures.progress c.requires.ready
+    λ κs lives. taken-held c.args.end.now c.args.self.now c.take_line.new.self take.taken take.line c.take_line.ensures.progress c.requires.ready
     c.requires.one
 
 pub answer_taken-requires-clause-room : goal.answer_taken-requires-clause-room

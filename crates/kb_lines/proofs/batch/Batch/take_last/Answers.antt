@@ -18,8 +18,8 @@ returns-clause-advances g c = λ told.
     let answer = c.in_ok-answer_taken.ensures in
     let later : IsTrue (g.O.Sink.state c.take_bytes.new.out).told = rw c.take_bytes.ensures.goes_on.told told in
     let last : IsTrue (g.O.Sink.state c.answer_taken.new.out).told = rw c.answer_taken.ensures.goes_on.told later in
-    batch-last c.begin.new.self
+    batch-last c.hand_on.new.self.progress
     (batch-answered answered (g.O.Sink.state c.answer_taken.new.out) (c.in_ok-take_bytes.ensures.advances told) (answer.advances later)
     answer.none answer.line)
     last answer.ready answer.none
-    c.begin.ensures.line c.begin.ensures.number c.begin.ensures.pending
+    c.hand_on.ensures.line c.hand_on.ensures.number c.hand_on.ensures.pending
