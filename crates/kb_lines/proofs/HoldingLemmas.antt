@@ -21,6 +21,13 @@ abbrev unread : Batch → Streams → Streams
 unread batch now =
     streams (record { told = now.input.told; left = held batch ++ now.input.left; faults = now.input.faults }) now.output
 
+-- what was read, behind what is held
+held-moved : (batch : Batch) (read left left' : List ℕ) → left ≡ read ++ left' → held batch ++ left ≡ (held batch ++ read) ++ left'
+held-moved batch read left left' moved = ap (λ l. held batch ++ l) moved ∙ sym (append_assoc (held batch) read left')
+
+held-split : (batch : Batch) (read bytes extra : List ℕ) → read ≡ bytes ++ extra → held batch ++ read ≡ (held batch ++ bytes) ++ extra
+held-split batch read bytes extra split = ap (λ r. held batch ++ r) split ∙ sym (append_assoc (held batch) bytes extra)
+
 module _ {parts : PresentationParts} {Answers : List ℕ → List ℕ → Type 0} where
   -- nothing was read
   pub holding-start : (batch : Batch) (before : Streams) → IsNew batch → IsHolding parts Answers before before batch 0
@@ -119,12 +126,6 @@ module _ {parts : PresentationParts} {Answers : List ℕ → List ℕ → Type 0
       subst (λ (k : ℕ). IsReading parts Answers before after progress k) none (holding-last [] holding same advances)
 
   -- ---- what was read is what may be taken, and the rest
-
-  held-moved : (batch : Batch) (read left left' : List ℕ) → left ≡ read ++ left' → held batch ++ left ≡ (held batch ++ read) ++ left'
-  held-moved batch read left left' moved = ap (λ l. held batch ++ l) moved ∙ sym (append_assoc (held batch) read left')
-
-  held-split : (batch : Batch) (read bytes extra : List ℕ) → read ≡ bytes ++ extra → held batch ++ read ≡ (held batch ++ bytes) ++ extra
-  held-split batch read bytes extra split = ap (λ r. held batch ++ r) split ∙ sym (append_assoc (held batch) bytes extra)
 
   held-counted : {before now : Streams} {batch : Batch} {count : ℕ} (holding : IsHolding parts Answers before now batch count) (these : List ℕ)
       → length holding.answered + length (held batch ++ these) ≡ count + length these
