@@ -7,7 +7,7 @@ use Rattle.kb_task.specs.declared.loading.LoadStop.TheVariants as stops
 use Rattle.kb_task.specs.declared.status.FileFault.{FileFault}
 use Rattle.kb_task.specs.declared.status.FileFault.TheVariants.{NoDerivations}
 
-fault_kept : (names : List (List ℕ)) (files : Files) (name : List ℕ) (fault : FileFault) → IsLogFault names files name fault
+pub fault_kept : (names : List (List ℕ)) (files : Files) (name : List ℕ) (fault : FileFault) → IsLogFault names files name fault
     → IsDerivationsFault names files name fault
 fault_kept names files name NoDerivations h = absurd h
 fault_kept names files name fault h = h

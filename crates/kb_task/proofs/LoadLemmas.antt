@@ -4,12 +4,16 @@ use Rattle.std.proofs.lemmas.List.{ext_get_or}
 use Rattle.std.proofs.lemmas.Option.{unwrap_or-slice_get}
 use Rattle.kb_io.specs.States.{ShelfState, SourceState, SinkState}
 use Rattle.kb_io.specs.Outside.{outside}
+use Rattle.kb_word.specs.Presentations.{parts_of}
+use Rattle.kb_word.specs.declared.presentation.Presentation.{Presentation as SomePresentation}
+use Rattle.kb_word.specs.declared.word_order.WordOrder.TheVariants.{ShortLex}
+use Rattle.kb_diff.specs.Groups.{EachInverts}
 use Rattle.kb_fsa.specs.declared.alphabet.Alphabet.{Alphabet}
 use Rattle.kb_fsa.specs.declared.alphabet.Alphabet.TheVariants.{Plain, Pair}
 use Rattle.kb_fsa.specs.Language.{Automaton}
 use Rattle.kb_task.specs.Automata.{HoldsAutomaton, HasKind, IsAutomatonFault, IsSecondFault}
 use Rattle.kb_task.specs.Loads.{Files, IsCause, EndsAtLoad, LoadIsCounted, stopped_at}
-use Rattle.kb_task.specs.Presentations.{IsPresentationFault, IsGroupFault}
+use Rattle.kb_task.specs.Presentations.{HoldsGroup, HoldsPresentation, IsPresentationFault, IsGroupFault}
 use Rattle.kb_task.specs.Runs.{FaultIsCounted}
 use Rattle.kb_task.specs.declared.loading.LoadStop.{LoadStop}
 use Rattle.kb_task.specs.declared.loading.LoadStop.TheVariants as stops
@@ -115,3 +119,14 @@ pub group_cause : (files : Files) (name : List ℕ) (stop : LoadStop) → IsCaus
 group_cause files name (stops.Refused fault) cause = group_fault files name fault cause
 group_cause files name stops.Failed cause = tt
 group_cause files name stops.Memory cause = tt
+
+-- a presentation by shortlex that was read, in which each generator has an inverse, is a group's
+pub holds_group : (files : Files) (name : List ℕ) (presentation : SomePresentation) → HoldsPresentation files name (parts_of presentation)
+    → presentation.order ≡ ShortLex → EachInverts presentation.n presentation.inv → HoldsGroup files name (parts_of presentation)
+holds_group files name presentation holds shortlex inverses =
+    let P : ℕ → Type 0 = λ n. EachInverts n presentation.inv in
+    record {
+      holds = holds;
+      shortlex = shortlex;
+      inverses = subst P (sym presentation.is_presentation.one_name_each) inverses;
+    }

@@ -35,20 +35,20 @@ use Rattle.kb_task.proofs.LoadEnds.{same_bytes}
 -- ---- files
 
 -- the file isn't there, is too long, or its bytes are refused
-data IsReason (files : Files) (name : List ℕ) (IsRefused : List ℕ → FileFault → Type 0) (fault : FileFault) : Type 0 where
+pub data IsReason (files : Files) (name : List ℕ) (IsRefused : List ℕ → FileFault → Type 0) (fault : FileFault) : Type 0 where
   missing : fault ≡ Missing → files name ≡ None → IsReason files name IsRefused fault
   too_long : (bytes : List ℕ) → fault ≡ TooLong → files name ≡ Some bytes → most_file < length bytes → IsReason files name IsRefused fault
   refused : (bytes : List ℕ) → IsHeld files name bytes → IsRefused bytes fault → IsReason files name IsRefused fault
 
-none_there : (files : Files) (name bytes : List ℕ) → files name ≡ None → files name ≡ Some bytes → ⊥
+pub none_there : (files : Files) (name bytes : List ℕ) → files name ≡ None → files name ≡ Some bytes → ⊥
 none_there files name bytes absent there = none-some bytes (sym absent ∙ there)
 
-long_held : (files : Files) (name bytes more : List ℕ) → files name ≡ Some more → most_file < length more → IsHeld files name bytes → ⊥
+pub long_held : (files : Files) (name bytes more : List ℕ) → files name ≡ Some more → most_file < length more → IsHeld files name bytes → ⊥
 long_held files name bytes more there long held =
     let lengths = ap length (same_Some _ _ (sym there ∙ held.held)) in omega (arith, lengths, long, held.short)
 
 -- where bytes are refused for one reason, so is a file
-one_reason : (files : Files) (name : List ℕ) (IsRefused : List ℕ → FileFault → Type 0) → ((bytes : List ℕ) (one other : FileFault) → IsRefused bytes one → IsRefused bytes other → one ≡ other)
+pub one_reason : (files : Files) (name : List ℕ) (IsRefused : List ℕ → FileFault → Type 0) → ((bytes : List ℕ) (one other : FileFault) → IsRefused bytes one → IsRefused bytes other → one ≡ other)
     → (one other : FileFault) → IsReason files name IsRefused one → IsReason files name IsRefused other → one ≡ other
 one_reason files name IsRefused same one other (missing is absent) (missing again empty) = is ∙ sym again
 one_reason files name IsRefused same one other (missing is absent) (too_long bytes again there long) = absurd (none_there files name _ absent there)
@@ -65,13 +65,13 @@ one_reason files name IsRefused same one other (refused bytes held fault) (refus
 -- ---- presentations
 
 -- why bytes are no presentation
-record IsNoPresentation (bytes : List ℕ) (fault : FileFault) : Type 0 where
+pub record IsNoPresentation (bytes : List ℕ) (fault : FileFault) : Type 0 where
   pub error : PresError
   pub is : fault ≡ Presentation error
   pub has : HasPresFault bytes error
   pub named : error ≢ pres_errors.Memory
 
-presentation_reason : (files : Files) (name : List ℕ) (fault : FileFault) → IsPresentationFault files name fault → IsReason files name IsNoPresentation fault
+pub presentation_reason : (files : Files) (name : List ℕ) (fault : FileFault) → IsPresentationFault files name fault → IsReason files name IsNoPresentation fault
 presentation_reason files name Missing h = missing refl h
 presentation_reason files name TooLong h = too_long h.0 refl h.1 h.2
 presentation_reason files name (Presentation error) h = refused h.0 h.1 (record { error = error; is = refl; has = h.2; named = h.3 })
@@ -88,7 +88,7 @@ module _ (one_fault : (bytes : List ℕ) (one other : PresError) → HasPresFaul
 -- ---- groups
 
 -- why bytes are no group by shortlex
-data IsNoGroup (bytes : List ℕ) (fault : FileFault) : Type 0 where
+pub data IsNoGroup (bytes : List ℕ) (fault : FileFault) : Type 0 where
   no_presentation : IsNoPresentation bytes fault → IsNoGroup bytes fault
   other_order : (parts : PresentationParts) → fault ≡ NeedsShortlex → PresentationOf bytes parts → parts.order ≢ ShortLex → IsNoGroup bytes fault
   no_inverse : (parts : PresentationParts) (generator : List ℕ) → fault ≡ NotGroup generator → PresentationOf bytes parts → parts.order ≡ ShortLex
@@ -99,7 +99,7 @@ as_group files name fault (missing is absent) = missing is absent
 as_group files name fault (too_long bytes is there long) = too_long bytes is there long
 as_group files name fault (refused bytes held refusal) = refused bytes held (no_presentation refusal)
 
-group_reason : (files : Files) (name : List ℕ) (fault : FileFault) → IsGroupFault files name fault → IsReason files name IsNoGroup fault
+pub group_reason : (files : Files) (name : List ℕ) (fault : FileFault) → IsGroupFault files name fault → IsReason files name IsNoGroup fault
 group_reason files name NeedsShortlex h = refused h.holds.bytes h.holds.held (other_order h.parts refl h.holds.says h.other)
 group_reason files name (NotGroup generator) h = refused h.holds.bytes h.holds.held (no_inverse h.parts generator refl h.holds.says h.shortlex h.first)
 group_reason files name fault h = as_group files name fault (presentation_reason files name fault h)
@@ -161,11 +161,11 @@ kind_fault Words = NotPlain
 kind_fault Pairs = NotPairs
 
 -- why bytes are no automaton of the kind
-data IsNoAutomaton (kind : Kind) (bytes : List ℕ) (fault : FileFault) : Type 0 where
+pub data IsNoAutomaton (kind : Kind) (bytes : List ℕ) (fault : FileFault) : Type 0 where
   no_automaton : (error : FsaError) → fault ≡ NoAutomaton error → HasFsaFault bytes error → error ≢ fsa_errors.Memory → IsNoAutomaton kind bytes fault
   other_kind : (names : List (List ℕ)) (automaton : Automaton) → fault ≡ kind_fault kind → AutomatonOf bytes names automaton → ¬ HasKind kind automaton.alphabet → IsNoAutomaton kind bytes fault
 
-automaton_reason : (kind : Kind) (files : Files) (name : List ℕ) (fault : FileFault) → IsAutomatonFault kind files name fault → IsReason files name (IsNoAutomaton kind) fault
+pub automaton_reason : (kind : Kind) (files : Files) (name : List ℕ) (fault : FileFault) → IsAutomatonFault kind files name fault → IsReason files name (IsNoAutomaton kind) fault
 automaton_reason kind files name Missing h = missing refl h
 automaton_reason kind files name TooLong h = too_long h.0 refl h.1 h.2
 automaton_reason kind files name (NoAutomaton error) h = refused h.0 h.1 (no_automaton error refl h.2 h.3)

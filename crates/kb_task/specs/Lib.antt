@@ -1,5 +1,7 @@
 pub mod Statuses
 pub mod Runs
+pub mod OneReason
+pub mod Refusals
 pub mod Promises
 pub mod PromiseLaws
 pub mod Effects

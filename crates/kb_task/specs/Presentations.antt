@@ -1,9 +1,10 @@
 -- Files of presentations.
-use Rattle.std.specs.Prelude.{◌≡◌, ◌≢◌, ℕ, ◌<◌, List, Option, Some, None}
+use Rattle.std.specs.Prelude.{◌≡◌, ◌≢◌, ℕ, ◌<◌, List, length, Option, Some, None}
 use Rattle.kb_word.specs.Names.{name_of}
 use Rattle.kb_word.specs.Presentations.{PresentationParts}
 use Rattle.kb_word.specs.Relations.{inverse_letter}
 use Rattle.kb_word.specs.declared.word_order.WordOrder.TheVariants.{ShortLex}
+use Rattle.kb_diff.specs.Groups.{EachInverts}
 use Rattle.kb_presfile.specs.Holds.{PresentationOf}
 use Rattle.kb_presfile.specs.Faults.{HasPresFault}
 use Rattle.kb_presfile.specs.declared.error.PresError.TheVariants as pres_errors
@@ -37,6 +38,12 @@ pub record HoldsOtherOrder (files : Files) (name : List ℕ) : Type 0 where
 abbrev pub IsShortlexFault : Files → List ℕ → FileFault → Type 0
 IsShortlexFault files name NeedsShortlex = HoldsOtherOrder files name
 IsShortlexFault files name fault = IsPresentationFault files name fault
+
+-- the file holds a presentation of a group by shortlex: each generator has an inverse
+pub record HoldsGroup (files : Files) (name : List ℕ) (parts : PresentationParts) : Type 0 where
+  pub holds : HoldsPresentation files name parts
+  pub shortlex : parts.order ≡ ShortLex
+  pub inverses : EachInverts (length parts.names) parts.inverses
 
 -- the generator of this name is the first that has no inverse
 pub record IsFirstWithoutInverse (names : List (List ℕ)) (inverses : List (Option ℕ))

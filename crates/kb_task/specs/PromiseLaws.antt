@@ -27,6 +27,8 @@ pub in_family-lawful : {Task Family : Type 0} {promise : Task → Promise Task} 
 in_family-lawful {family = family} variant means_its lawful = record {
   complete = lawful.complete;
   memory = lawful.memory;
+  refused = lawful.refused;
+  exact = lawful.exact;
   settled = lawful.settled;
   conclusive = lawful.conclusive;
   one_function = λ other_task before after other_before other_after status other means others is_yes also differs.

@@ -1,10 +1,14 @@
 -- What a command promises of its runs, and the laws that its promise keeps.
 use Rattle.std.specs.Prelude.{◌≡◌, ℕ, List}
 use Rattle.kb_io.specs.Outside.{Outside}
+use Rattle.kb_task.specs.OneReason.{HaveOneReason}
+use Rattle.kb_task.specs.Refusals.{IsLoadFault, IsRefusalOrMemory}
 use Rattle.kb_task.specs.Runs.{IsRun, ReadsSame, HasSameEffect}
 use Rattle.kb_task.specs.Statuses.{IsConclusive, IsFaultless, IsYes}
+use Rattle.kb_task.specs.declared.status.FileFault.{FileFault}
+use Rattle.kb_task.specs.declared.status.Refusal.TheVariants.{File}
 use Rattle.kb_task.specs.declared.status.Status.{Status}
-use Rattle.kb_task.specs.declared.status.Status.TheVariants.{Memory}
+use Rattle.kb_task.specs.declared.status.Status.TheVariants.{Refused, Memory}
 
 -- what a command with its arguments promises
 pub record Promise (Task : Type 0) : Type 1 where
@@ -15,6 +19,9 @@ pub record Promise (Task : Type 0) : Type 1 where
   pub settled_stores : List ℕ → Type 0
   -- the names of the files that it reads
   pub reads : List ℕ → Type 0
+  -- the file of this name is the first that has a fault as it is loaded, of those that it reads in their order, and this
+  -- is the fault
+  pub refuses : Outside → List ℕ → FileFault → Type 0
   -- nothing of what it reads is refused; the statuses with which it then ends, where no device fails
   pub is_unrefused : Outside → Type 0
   pub answers : Status → Type 0
@@ -34,6 +41,7 @@ in_family {Task} variant promise = record {
   may_store = promise.may_store;
   settled_stores = promise.settled_stores;
   reads = promise.reads;
+  refuses = promise.refuses;
   is_unrefused = promise.is_unrefused;
   answers = promise.answers;
   settles = promise.settles;
@@ -50,6 +58,16 @@ pub record IsLawful {Task : Type 0} (promise : Task → Promise Task)
       → own.answers status
   -- want of memory is one of them
   pub memory : own.answers Memory
+  -- The file that is refused, if the fault is one that it has as it is loaded, is the first that has one.
+  pub refused : (before after : Outside) (name : List ℕ) (fault : FileFault)
+      → own.means before after (Refused (File name fault)) → IsLoadFault fault
+      → own.refuses before name fault
+  -- And where a file has a fault, the run ends with exactly that refusal, but where memory runs out or a device fails.
+  -- That needs of files that each has one fault at most, and none where it holds what it has to.
+  pub exact : HaveOneReason → (before after : Outside) (status : Status) (name : List ℕ)
+      (fault : FileFault)
+      → own.means before after status → own.refuses before name fault → IsFaultless status
+      → IsRefusalOrMemory name fault status
   -- The files that it reads settle the answer: two runs with statuses that the files settle have one status.
   pub settled : (before after other_before other_after : Outside) (status other : Status)
       → own.means before after status → own.means other_before other_after other

@@ -6,7 +6,7 @@ use Rattle.kb_subfile.specs.Holds.{GeneratorsOf}
 use Rattle.kb_subfile.specs.Faults.{HasSubFault}
 use Rattle.kb_subfile.specs.declared.error.SubError.TheVariants as sub_errors
 use Rattle.kb_task.specs.Loads.{Files, IsHeld, IsNoText}
-use Rattle.kb_task.specs.Presentations.{HoldsPresentation, IsGroupFault}
+use Rattle.kb_task.specs.Presentations.{HoldsGroup, IsGroupFault}
 use Rattle.kb_task.specs.declared.status.FileFault.{FileFault}
 use Rattle.kb_task.specs.declared.status.FileFault.TheVariants.{Missing, TooLong, Subgroup, NoRoom, MarkerTaken}
 
@@ -30,16 +30,22 @@ IsSubgroupFault parts files name _ = ⊥
 abbrev pub marker_name : List ℕ
 marker_name = codes "_H"
 
--- the file holds a presentation with as many generators as there may be
+-- the file holds a group by shortlex to which the marker can be added: there is room, and its name is free
+pub record HoldsMarkable (files : Files) (name : List ℕ) (parts : PresentationParts) : Type 0 where
+  pub group : HoldsGroup files name parts
+  pub room : length parts.names < most_generators
+  pub free : ¬ Contains parts.names marker_name
+
+-- the file holds a group by shortlex with as many generators as there may be
 pub record HasNoRoom (files : Files) (name : List ℕ) : Type 0 where
   pub parts : PresentationParts
-  pub holds : HoldsPresentation files name parts
+  pub group : HoldsGroup files name parts
   pub full : most_generators ≤ length parts.names
 
--- the file holds a presentation with fewer generators, of which one has the marker's name
+-- the file holds a group by shortlex with fewer generators, of which one has the marker's name
 pub record HasMarker (files : Files) (name : List ℕ) : Type 0 where
   pub parts : PresentationParts
-  pub holds : HoldsPresentation files name parts
+  pub group : HoldsGroup files name parts
   pub room : length parts.names < most_generators
   pub taken : Contains parts.names marker_name
 

@@ -6,6 +6,7 @@ ghost use Rattle.kb_task.specs.Automata.{IsAutomatonFault, IsSecondFault};
 ghost use Rattle.kb_proof.specs.Printable.{AreReadableNames};
 ghost use Rattle.kb_task.specs.Loads.{Files};
 ghost use Rattle.kb_task.specs.Logs.{IsDerivationsFault};
+ghost use Rattle.kb_task.specs.OneReason.{HaveOneReason};
 ghost use Rattle.kb_task.specs.Presentations.{IsGroupFault, IsPresentationFault};
 ghost use Rattle.kb_task.specs.declared.loading.automata.Kind.{Kind};
 ghost use Rattle.kb_task.specs.declared.status.FileFault.{FileFault};
@@ -17,7 +18,9 @@ use kb_presfile::{
     a_presentation_file_has_no_fault, a_presentation_file_has_one_fault,
     a_text_says_one_presentation,
 };
+use kb_presprint::a_presentation_that_is_read_can_be_written;
 use kb_proof::{a_printed_log_has_no_fault, bytes_have_one_log_fault};
+use kb_subfile::{a_subgroup_file_has_no_fault, a_subgroup_file_has_one_fault};
 
 /// A file is refused for one reason at most where a presentation is needed.
 pub fn a_presentation_is_refused_for_one_reason()
@@ -67,6 +70,23 @@ pub fn a_log_is_refused_for_one_reason()
         → IsDerivationsFault names files name one
         → IsDerivationsFault names files name other → one ≡ other }
 {
+    bytes_have_one_log_fault();
+    a_printed_log_has_no_fault();
+}
+
+/// A file is refused for one reason at most, whatever it has to hold, and for none where it holds that.
+pub fn files_are_refused_for_one_reason()
+    ensures { HaveOneReason }
+{
+    a_presentation_file_has_one_fault();
+    a_presentation_file_has_no_fault();
+    a_text_says_one_presentation();
+    a_presentation_that_is_read_can_be_written();
+    a_subgroup_file_has_one_fault();
+    a_subgroup_file_has_no_fault();
+    an_automaton_file_has_one_fault();
+    an_automaton_file_has_no_fault();
+    a_text_says_one_automaton();
     bytes_have_one_log_fault();
     a_printed_log_has_no_fault();
 }

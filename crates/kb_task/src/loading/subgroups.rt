@@ -10,7 +10,7 @@ ghost use Rattle.kb_diff.specs.Groups.{EachInverts};
 ghost use Rattle.kb_fields.specs.Generators.{most_generators};
 ghost use Rattle.kb_proof.specs.Printable.{AreReadableNames};
 ghost use Rattle.kb_task.specs.Loads.{Files, IsHeld, IsCause, EndsAtLoad, OnlyLoads, LoadIsCounted};
-ghost use Rattle.kb_task.specs.Presentations.{HoldsPresentation};
+ghost use Rattle.kb_task.specs.Presentations.{HoldsGroup, HoldsPresentation};
 ghost use Rattle.kb_task.specs.Runs.{FaultIsCounted};
 ghost use Rattle.kb_task.specs.Subgroups.{HoldsSubgroup, IsSubgroupFault, IsMarkableFault, marker_name};
 
@@ -149,12 +149,12 @@ fn markable_in<F: Shelf>(alloc: Global, name: &str, shelf: &mut F) -> Result<Pre
     }
 }
 
-/// Stops at a presentation with no room for the marker, and at one in which its name is taken.
+/// Stops at a group with no room for the marker, and at one in which its name is taken.
 fn look_for_marker(presentation: &Presentation) -> Result<(), LoadStop>
     ensures room { OnOk result (length presentation.now.names < most_generators) }
     ensures free { OnOk result (¬ Contains presentation.now.names marker_name) }
     ensures stops { (files : Files) (name : List ℕ)
-        → HoldsPresentation files name (parts_of presentation.now)
+        → HoldsGroup files name (parts_of presentation.now)
         → IfErr result (IsCause (IsMarkableFault files name)) }
     ensures unfailed { (a b : ShelfState) → IfErr result (LoadIsCounted a b) }
 {
