@@ -9,6 +9,6 @@ returns-in-Err-look_for_marker-clause-counted g c =
 pub returns-in-Err-look_for_marker-clause-stops : goal.returns-in-Err-look_for_marker-clause-stops
 returns-in-Err-look_for_marker-clause-stops g c = λ told.
     let shelf : ShelfState = g.F.Shelf.state c.args.shelf.now in
-    let loads = c.in-Ok-group_in.ensures in
+    let loads = c.in-Ok.ensures in
     c.in-Err-look_for_marker.ensures.stops shelf.holds c.args.name.now
-    (holds_group shelf.holds c.args.name.now c.in-Ok-group_in.presentation (loads.holds told) loads.shortlex loads.group)
+    (holds_group shelf.holds c.args.name.now c.in-Ok.presentation (loads.holds told) loads.shortlex loads.group)
