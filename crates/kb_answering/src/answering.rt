@@ -11,24 +11,39 @@ ghost use Rattle.kb_answering.specs.Answers.{AnswersMean, LinesMean};
 
 use crate::concludes::Concludes;
 use crate::storing::store_all;
-use kb_io::{Shelf, Sink, Source};
-use kb_lines::{Answerer, answer_lines};
+use kb_io::{Gate, Shelf, Sink, Source};
+use kb_lines::{Answerer, Batches, answer_in_batches};
 use kb_progress::Progress;
 use kb_task::{Status, TextFile, status_of};
 use std::alloc::Global;
+use std::sync::Wait;
+use std::thread::Threads;
 
-/// Stores the files that belong to a presentation, and answers the word lines with its least words. Of the command
-/// nothing is read: it says what the run means.
-pub fn store_and_answer<C: Concludes, A: Answerer, F: Shelf, I: Source, O: Sink, E: Sink>(
+/// Stores the files that belong to a presentation, and answers the word lines with its least words, in batches. Of the
+/// command nothing is read: it says what the run means.
+pub fn store_and_answer<
+    C: Concludes,
+    A: Answerer + Sync,
+    G: Gate,
+    T: Threads + Wait + Sync,
+    F: Shelf,
+    I: Source,
+    O: Sink,
+    E: Sink,
+>(
+    rt: &T,
     alloc: Global,
     command: &C,
     files: Vec<TextFile>,
     answerer: &A,
+    batches: &Batches<'_, G>,
     progress: &mut Progress<'_, E>,
     shelf: &mut F,
     input: &mut I,
     out: &mut O,
 ) -> Status
+where
+    A::Workspace: Send,
     requires differ { AllPairs (λ (one other : List ℕ). one ≢ other)
         (names_of (texts_of files.items)) }
     requires may { (name : List ℕ) → Contains (names_of (texts_of files.items)) name
@@ -44,26 +59,30 @@ pub fn store_and_answer<C: Concludes, A: Answerer, F: Shelf, I: Source, O: Sink,
     match store_all(alloc, files, shelf) {
         Ok(()) => {
             progress.finish();
-            answer_words(alloc, answerer, input, out)
+            answer_words(rt, alloc, answerer, batches, input, out)
         }
         Err(status) => status,
     }
 }
 
-/// Answers the word lines with least words.
-fn answer_words<A: Answerer, I: Source, O: Sink>(
+/// Answers the word lines with least words, in batches.
+fn answer_words<A: Answerer + Sync, G: Gate, T: Threads + Wait + Sync, I: Source, O: Sink>(
+    rt: &T,
     alloc: Global,
     answerer: &A,
+    batches: &Batches<'_, G>,
     input: &mut I,
     out: &mut O,
 ) -> Status
+where
+    A::Workspace: Send,
     requires { (w m : List ℕ) → A.answers answerer.now w m
         → IsLeastIn (A.parts answerer.now) w m }
     ensures { (shelf : ShelfState) → IsRun (LinesMean (A.parts answerer.now)) (λ name. ⊥)
         (outside shelf (I.state input.old) (O.state out.old))
         (outside shelf (I.state input.new) (O.state out.new)) result }
 {
-    match answer_lines(alloc, answerer, input, out) {
+    match answer_in_batches(rt, alloc, answerer, batches, input, out) {
         Ok(()) => Status::Yes,
         Err(stop) => status_of(stop),
     }
