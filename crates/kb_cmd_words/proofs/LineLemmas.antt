@@ -2,7 +2,7 @@
 use Rattle.std.proofs.Common.{◌≡◌, ◌∙◌, Option, Some, None, List, sym, codes}
 use Rattle.clap.specs.Words.{Row}
 use Rattle.kb_task.specs.Arguments.{Entered, ReadsAs}
-use Rattle.kb_task.specs.declared.arguments.NumberOption.TheVariants.{Workers}
+use Rattle.kb_task.specs.declared.arguments.NumberOption.TheVariants.{Workers, Batch}
 use Rattle.kb_task.proofs.ArgumentLemmas.{flag_given-at, text_given-at, option_given-at, own_rows}
 use Rattle.kb_cmd_words.specs.Given.{Given}
 use Rattle.kb_cmd_words.specs.Line.{GivesWordReduce, GivenAs, IsWordReduce}
@@ -12,8 +12,10 @@ same_given rows one other a b =
     let files : one.file ≡ other.file = text_given-at rows (codes "file") one.file a.file ∙ sym (text_given-at rows (codes "file") other.file b.file) in
     let workers : one.workers ≡ other.workers =
     option_given-at rows Workers one.workers a.workers ∙ sym (option_given-at rows Workers other.workers b.workers) in
+    let batches : one.batch ≡ other.batch =
+    option_given-at rows Batch one.batch a.batch ∙ sym (option_given-at rows Batch other.batch b.batch) in
     let by_log : one.by_log ≡ other.by_log = flag_given-at rows (codes "log") one.by_log other.by_log a.by_log b.by_log in
-    λ i. record { file = files i; workers = workers i; by_log = by_log i }
+    λ i. record { file = files i; workers = workers i; batch = batches i; by_log = by_log i }
 
 -- one entered subcommand is one command at most
 pub one_wordreduce : (entered : Entered) (one other : Given) → IsWordReduce entered one → IsWordReduce entered other → one ≡ other

@@ -2,14 +2,16 @@
 use Rattle.std.specs.Prelude.{List, codes, Option, Some, None}
 use Rattle.clap.specs.Words.{App, Row, new_app, with_rule, with_subcommand}
 use Rattle.kb_task.specs.Arguments.{Entered, IsEntered, GivesFlag, GivesOption, GivesText, flag_rule, needed_rule, option_rule}
-use Rattle.kb_task.specs.declared.arguments.NumberOption.TheVariants.{Workers}
+use Rattle.kb_task.specs.declared.arguments.NumberOption.TheVariants.{Workers, Batch}
 use Rattle.kb_cmd_words.specs.Given.{Given}
 
 -- `wordreduce FILE`
 abbrev pub wordreduce_app : App
 wordreduce_app =
-    with_rule (with_rule (with_rule (new_app (codes "wordreduce")) (needed_rule (codes "file")))
-    (option_rule Workers)) (flag_rule (codes "log"))
+    with_rule
+    (with_rule
+    (with_rule (with_rule (new_app (codes "wordreduce")) (needed_rule (codes "file")))
+    (option_rule Workers)) (option_rule Batch)) (flag_rule (codes "log"))
 
 -- a program with the command added
 abbrev pub with_wordreduce : App → App
@@ -19,6 +21,7 @@ with_wordreduce app = with_subcommand app wordreduce_app.top
 pub record GivesWordReduce (rows : List Row) (given : Given) : Type 0 where
   pub file : GivesText rows (codes "file") given.file
   pub workers : GivesOption rows Workers given.workers
+  pub batch : GivesOption rows Batch given.batch
   pub by_log : GivesFlag rows (codes "log") given.by_log
 
 -- the subcommand that was entered is the command

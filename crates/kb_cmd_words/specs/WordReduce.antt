@@ -37,8 +37,8 @@ pub record IsUnrefusedBy (by_log : Bool) (file : List ℕ) (before : Outside) : 
       → ¬ IsFirstRefused parts (IsLeastIn parts) before.input.left number fault
   pub short : length before.input.left ≤ most_input
 
--- One file is read, or two, and nothing is stored. Another is the same but for its workers and for what answers: both
--- answer with the least words of the presentation.
+-- One file is read, or two, and nothing is stored. Another is the same but for its workers, its batches and what answers:
+-- both answer with the least words of the presentation.
 abbrev pub wordreduce_promise : Given → Promise Given
 wordreduce_promise given = record {
   means = MeansBy given.by_log given.file;

@@ -19,8 +19,8 @@ use crate::objection::{Objection, print_objection};
 use kb_confluence::{Verdict, check};
 use kb_evidence::log_file;
 use kb_index::Index;
-use kb_io::{Shelf, Sink, Source};
-use kb_lines::answer_lines;
+use kb_io::{Gate, Shelf, Sink, Source};
+use kb_lines::{Batches, answer_in_batches};
 use kb_proof::{Log, Verified, verify};
 use kb_reduce::NormalForms;
 use kb_rules::Reducer;
@@ -31,12 +31,13 @@ use std::alloc::Global;
 use std::sync::Wait;
 use std::thread::Threads;
 
-/// Loads the presentation and its log, and answers the word lines by the log's lines.
-pub(crate) fn run_by_log<T: Threads + Wait + Sync, F: Shelf, I: Source, O: Sink>(
+/// Loads the presentation and its log, and answers the word lines by the log's lines, in batches.
+pub(crate) fn run_by_log<T: Threads + Wait + Sync, G: Gate, F: Shelf, I: Source, O: Sink>(
     rt: &T,
     alloc: Global,
     file: OwnedText,
     workers: u32,
+    batches: &Batches<'_, G>,
     shelf: &mut F,
     input: &mut I,
     out: &mut O,
@@ -54,18 +55,19 @@ pub(crate) fn run_by_log<T: Threads + Wait + Sync, F: Shelf, I: Source, O: Sink>
         Err(status) => return status,
     };
     match load_derivations(alloc, name, &presentation, shelf) {
-        Ok(log) => check_log(rt, alloc, presentation, &log, workers, input, out),
+        Ok(log) => check_log(rt, alloc, presentation, &log, workers, batches, input, out),
         Err(status) => status,
     }
 }
 
 /// Checks the log, and answers the word lines by its lines.
-fn check_log<T: Threads + Wait + Sync, I: Source, O: Sink>(
+fn check_log<T: Threads + Wait + Sync, G: Gate, I: Source, O: Sink>(
     rt: &T,
     alloc: Global,
     presentation: Presentation,
     log: &Log,
     workers: u32,
+    batches: &Batches<'_, G>,
     input: &mut I,
     out: &mut O,
 ) -> Status
@@ -75,19 +77,30 @@ fn check_log<T: Threads + Wait + Sync, I: Source, O: Sink>(
         (outside shelf (I.state input.new) (O.state out.new)) result }
 {
     match verify(alloc, &presentation, log) {
-        Ok(answer) => go_on(rt, alloc, presentation, log, answer, workers, input, out),
+        Ok(answer) => go_on(
+            rt,
+            alloc,
+            presentation,
+            log,
+            answer,
+            workers,
+            batches,
+            input,
+            out,
+        ),
         Err(Memory) => Status::Memory,
     }
 }
 
 /// Answers the word lines by the lines of the log, where the answer of its check is yes.
-fn go_on<T: Threads + Wait + Sync, I: Source, O: Sink>(
+fn go_on<T: Threads + Wait + Sync, G: Gate, I: Source, O: Sink>(
     rt: &T,
     alloc: Global,
     presentation: Presentation,
     log: &Log,
     answer: Verified,
     workers: u32,
+    batches: &Batches<'_, G>,
     input: &mut I,
     out: &mut O,
 ) -> Status
@@ -99,7 +112,16 @@ fn go_on<T: Threads + Wait + Sync, I: Source, O: Sink>(
         (outside shelf (I.state input.new) (O.state out.new)) result }
 {
     match answer {
-        Verified::Yes => check_relations(rt, alloc, presentation, log, workers, input, out),
+        Verified::Yes => check_relations(
+            rt,
+            alloc,
+            presentation,
+            log,
+            workers,
+            batches,
+            input,
+            out,
+        ),
         Verified::No { line, why } => {
             let objection = Objection::Unjustified { line, why };
             print_objection(alloc, &presentation, objection, out)
@@ -108,12 +130,13 @@ fn go_on<T: Threads + Wait + Sync, I: Source, O: Sink>(
 }
 
 /// Checks that the relations follow from the lines of a justified log, and answers the word lines by these.
-fn check_relations<T: Threads + Wait + Sync, I: Source, O: Sink>(
+fn check_relations<T: Threads + Wait + Sync, G: Gate, I: Source, O: Sink>(
     rt: &T,
     alloc: Global,
     presentation: Presentation,
     log: &Log,
     workers: u32,
+    batches: &Batches<'_, G>,
     input: &mut I,
     out: &mut O,
 ) -> Status
@@ -124,19 +147,30 @@ fn check_relations<T: Threads + Wait + Sync, I: Source, O: Sink>(
         (outside shelf (I.state input.new) (O.state out.new)) result }
 {
     match index_of(alloc, &presentation, log) {
-        Ok(index) => check_joined(rt, alloc, presentation, log, index, workers, input, out),
+        Ok(index) => check_joined(
+            rt,
+            alloc,
+            presentation,
+            log,
+            index,
+            workers,
+            batches,
+            input,
+            out,
+        ),
         Err(Memory) => Status::Memory,
     }
 }
 
 /// Checks the relations by the index of the lines, and answers the word lines by it.
-fn check_joined<T: Threads + Wait + Sync, I: Source, O: Sink>(
+fn check_joined<T: Threads + Wait + Sync, G: Gate, I: Source, O: Sink>(
     rt: &T,
     alloc: Global,
     presentation: Presentation,
     log: &Log,
     index: Index,
     workers: u32,
+    batches: &Batches<'_, G>,
     input: &mut I,
     out: &mut O,
 ) -> Status
@@ -149,20 +183,31 @@ fn check_joined<T: Threads + Wait + Sync, I: Source, O: Sink>(
         (outside shelf (I.state input.new) (O.state out.new)) result }
 {
     match relation_apart(alloc, &presentation, &index) {
-        Ok(None) => check_confluence(rt, alloc, presentation, log, index, workers, input, out),
+        Ok(None) => check_confluence(
+            rt,
+            alloc,
+            presentation,
+            log,
+            index,
+            workers,
+            batches,
+            input,
+            out,
+        ),
         Ok(Some(objection)) => print_objection(alloc, &presentation, objection, out),
         Err(Memory) => Status::Memory,
     }
 }
 
 /// Checks that the lines are confluent, and answers the word lines by them.
-fn check_confluence<T: Threads + Wait + Sync, I: Source, O: Sink>(
+fn check_confluence<T: Threads + Wait + Sync, G: Gate, I: Source, O: Sink>(
     rt: &T,
     alloc: Global,
     presentation: Presentation,
     log: &Log,
     index: Index,
     workers: u32,
+    batches: &Batches<'_, G>,
     input: &mut I,
     out: &mut O,
 ) -> Status
@@ -176,7 +221,7 @@ fn check_confluence<T: Threads + Wait + Sync, I: Source, O: Sink>(
         (outside shelf (I.state input.new) (O.state out.new)) result }
 {
     match check(rt, alloc, index.list(), &index, workers) {
-        Ok(Verdict::Yes) => answer_all(alloc, presentation, index, input, out),
+        Ok(Verdict::Yes) => answer_all(rt, alloc, presentation, index, batches, input, out),
         Ok(Verdict::No { u, v, .. }) => {
             print_objection(alloc, &presentation, Objection::NotConfluent { u, v }, out)
         }
@@ -184,11 +229,13 @@ fn check_confluence<T: Threads + Wait + Sync, I: Source, O: Sink>(
     }
 }
 
-/// Answers the word lines by the lines of a log that decide.
-fn answer_all<I: Source, O: Sink>(
+/// Answers the word lines by the lines of a log that decide, in batches.
+fn answer_all<T: Threads + Wait + Sync, G: Gate, I: Source, O: Sink>(
+    rt: &T,
     alloc: Global,
     presentation: Presentation,
     index: Index,
+    batches: &Batches<'_, G>,
     input: &mut I,
     out: &mut O,
 ) -> Status
@@ -203,7 +250,7 @@ fn answer_all<I: Source, O: Sink>(
         return Status::Memory;
     };
     let normal_forms = NormalForms { reader, index };
-    match answer_lines(alloc, &normal_forms, input, out) {
+    match answer_in_batches(rt, alloc, &normal_forms, batches, input, out) {
         Ok(()) => Status::Yes,
         Err(stop) => status_of(stop),
     }

@@ -56,9 +56,13 @@ fn wordreduce_given(alloc: Global, matches: &ArgMatches<'_>) -> Result<Option<Wo
     let Some(workers) = option_given(matches, NumberOption::Workers) else {
         return Ok(None);
     };
+    let Some(batch) = option_given(matches, NumberOption::Batch) else {
+        return Ok(None);
+    };
     Ok(Some(WordReduce {
         file: OwnedText::from_str(alloc, file)?,
         workers,
+        batch,
         by_log: flag_given(matches, "log"),
     }))
 }
@@ -88,5 +92,6 @@ fn definition<'a>(alloc: Global) -> Result<Command<'a>, AllocError>
         ))
         .arg(file)?
         .arg(number_option(alloc, NumberOption::Workers))?
+        .arg(number_option(alloc, NumberOption::Batch))?
         .arg(log)
 }

@@ -19,8 +19,8 @@ use kb_confluence::{
     Verdict, check, least_by_the_same_congruence, normal_forms_by_confluent_rules_are_least,
 };
 use kb_index::Index;
-use kb_io::{Shelf, Sink, Source};
-use kb_lines::answer_lines;
+use kb_io::{Gate, Shelf, Sink, Source};
+use kb_lines::{Batches, answer_in_batches};
 use kb_reduce::NormalForms;
 use kb_rules::{Reducer, Rules};
 use kb_task::{Cert, Status, Task, load_presentation, print_line, status_of};
@@ -43,11 +43,13 @@ impl WordReduce {
     ghost use Rattle.kb_task.specs.Promises.{Keeps};
     ghost use Rattle.kb_cmd_words.specs.WordReduce.{wordreduce_promise};
 
-    /// Runs the command. What it writes to `err` only shows that it lives. Workers are threads of `rt`.
-    pub fn run<T: Threads + Wait + Sync, F: Shelf, I: Source, O: Sink, E: Sink>(
+    /// Runs the command. What it writes to `err` only shows that it lives. Workers are threads of `rt`, and pass the gate
+    /// where they answer words.
+    pub fn run<T: Threads + Wait + Sync, G: Gate, F: Shelf, I: Source, O: Sink, E: Sink>(
         self,
         rt: &T,
         alloc: Global,
+        gate: &G,
         shelf: &mut F,
         input: &mut I,
         out: &mut O,
@@ -60,21 +62,23 @@ impl WordReduce {
         let _ = err;
         let by_log = self.by_log;
         let workers = self.workers;
+        let batches = Batches::of(self.batch, workers, gate);
         let file = self.file;
         if by_log {
-            run_by_log(rt, alloc, file, workers, shelf, input, out)
+            run_by_log(rt, alloc, file, workers, &batches, shelf, input, out)
         } else {
-            run_by_relations(rt, alloc, file, workers, shelf, input, out)
+            run_by_relations(rt, alloc, file, workers, &batches, shelf, input, out)
         }
     }
 }
 
 /// Loads the presentation, and answers the word lines by its relations.
-fn run_by_relations<T: Threads + Wait + Sync, F: Shelf, I: Source, O: Sink>(
+fn run_by_relations<T: Threads + Wait + Sync, G: Gate, F: Shelf, I: Source, O: Sink>(
     rt: &T,
     alloc: Global,
     file: OwnedText,
     workers: u32,
+    batches: &Batches<'_, G>,
     shelf: &mut F,
     input: &mut I,
     out: &mut O,
@@ -85,17 +89,18 @@ fn run_by_relations<T: Threads + Wait + Sync, F: Shelf, I: Source, O: Sink>(
         (outside (F.state shelf.new) (I.state input.new) (O.state out.new)) result }
 {
     match load_presentation(alloc, file, shelf) {
-        Ok(presentation) => answer_by(rt, alloc, presentation, workers, input, out),
+        Ok(presentation) => answer_by(rt, alloc, presentation, workers, batches, input, out),
         Err(status) => status,
     }
 }
 
 /// Checks the oriented relations, and answers the word lines by them.
-fn answer_by<T: Threads + Wait + Sync, I: Source, O: Sink>(
+fn answer_by<T: Threads + Wait + Sync, G: Gate, I: Source, O: Sink>(
     rt: &T,
     alloc: Global,
     presentation: Presentation,
     workers: u32,
+    batches: &Batches<'_, G>,
     input: &mut I,
     out: &mut O,
 ) -> Status
@@ -115,7 +120,9 @@ fn answer_by<T: Threads + Wait + Sync, I: Source, O: Sink>(
     };
     rules_are_few(&presentation, &rules);
     match check(rt, alloc, &rules, &index, workers) {
-        Ok(Verdict::Yes) => answer_all(alloc, presentation, &rules, index, input, out),
+        Ok(Verdict::Yes) => {
+            answer_all(rt, alloc, presentation, &rules, index, batches, input, out)
+        }
         Ok(Verdict::No { u, v, .. }) => print_no(alloc, &presentation, u, v, out),
         Err(Memory) => Status::Memory,
     }
@@ -132,12 +139,14 @@ fn rules_are_few(presentation: &Presentation, rules: &Rules)
     let _generators = presentation.n;
 }
 
-/// Answers the word lines by rules that are confluent.
-fn answer_all<I: Source, O: Sink>(
+/// Answers the word lines by rules that are confluent, in batches.
+fn answer_all<T: Threads + Wait + Sync, G: Gate, I: Source, O: Sink>(
+    rt: &T,
     alloc: Global,
     presentation: Presentation,
     rules: &Rules,
     index: Index,
+    batches: &Batches<'_, G>,
     input: &mut I,
     out: &mut O,
 ) -> Status
@@ -157,7 +166,7 @@ fn answer_all<I: Source, O: Sink>(
         return Status::Memory;
     };
     let normal_forms = NormalForms { reader, index };
-    match answer_lines(alloc, &normal_forms, input, out) {
+    match answer_in_batches(rt, alloc, &normal_forms, batches, input, out) {
         Ok(()) => Status::Yes,
         Err(stop) => status_of(stop),
     }

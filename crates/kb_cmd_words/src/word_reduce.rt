@@ -12,6 +12,8 @@ pub struct WordReduce {
     pub file: OwnedText,
     /// How many threads may work side by side.
     pub workers: u32,
+    /// How many words are answered together.
+    pub batch: u32,
     /// Whether the lines of the presentation's log answer in place of its relations.
     pub by_log: bool,
 }
@@ -25,6 +27,7 @@ impl Model for WordReduce {
     ghost view = { λ task. record {
       file = task.file;
       workers = task.workers;
+      batch = task.batch;
       by_log = task.by_log;
     } };
 

@@ -13,20 +13,20 @@ pub returns-in_default : goal.returns-in_default
 returns-in_default g c = λ log shelf decides is.
     run-nothing (parts_of c.args.presentation) log shelf (g.I.Source.state c.args.input.now) (g.O.Sink.state c.args.out.now)
 
-pub returns-in-Ok-answer_lines : goal.returns-in-Ok-answer_lines
-returns-in-Ok-answer_lines g c = λ log shelf decides is.
+pub returns-in-Ok-answer_in_batches : goal.returns-in-Ok-answer_in_batches
+returns-in-Ok-answer_in_batches g c = λ log shelf decides is.
     let parts : PresentationParts = parts_of c.args.presentation in
     let rules : List Pair = c.args.index.rules in
     let among : (w m : List ℕ) → NormalForm rules w m → IsLeastIn parts w m = λ w m normal.
     let By : List Pair → Type 0 = λ r. NormalForm r w m in
     c.lines_that_decide_give_least_words.ensures parts log w m decides (subst By is normal) in
     let before : Streams = streams (g.I.Source.state c.args.input.now) (g.O.Sink.state c.args.out.now) in
-    let after : Streams = streams (g.I.Source.state c.answer_lines.new.input) (g.O.Sink.state c.answer_lines.new.out) in
+    let after : Streams = streams (g.I.Source.state c.answer_in_batches.new.input) (g.O.Sink.state c.answer_in_batches.new.out) in
     let same : parts_of c.in-Ok.reader.presentation ≡ parts = ap parts_of c.in-Ok.ensures in
     let Of : PresentationParts → Type 0 = λ p. AllAnswered p (NormalForm rules) before after in
-    run-answered parts log shelf before after decides c.answer_lines.ensures.goes_on
+    run-answered parts log shelf before after decides c.answer_in_batches.ensures.goes_on
     (λ told. answered-wider parts (NormalForm rules) (IsLeastIn parts) among {before = before} {after = after}
-    (subst Of same (c.in-Ok-answer_lines.ensures.answered told)))
+    (subst Of same (c.in-Ok-answer_in_batches.ensures.answered told)))
 
 pub returns : goal.returns
 returns g c = λ log shelf decides is.
@@ -36,10 +36,10 @@ returns g c = λ log shelf decides is.
     let By : List Pair → Type 0 = λ r. NormalForm r w m in
     c.lines_that_decide_give_least_words.ensures parts log w m decides (subst By is normal) in
     let before : Streams = streams (g.I.Source.state c.args.input.now) (g.O.Sink.state c.args.out.now) in
-    let after : Streams = streams (g.I.Source.state c.answer_lines.new.input) (g.O.Sink.state c.answer_lines.new.out) in
+    let after : Streams = streams (g.I.Source.state c.answer_in_batches.new.input) (g.O.Sink.state c.answer_in_batches.new.out) in
     let same : parts_of c.in-Ok.reader.presentation ≡ parts = ap parts_of c.in-Ok.ensures in
     let Of : PresentationParts → Type 0 = λ p. Stops p (NormalForm rules) before after c.in-Err.stop in
     run-stopped parts log shelf before after c.in-Err.stop c.status_of.result c.status_of.ensures decides
-    c.answer_lines.ensures.goes_on c.in-Err.ensures.counted
+    c.answer_in_batches.ensures.goes_on c.in-Err.ensures.counted
     (λ told. stops-wider parts (NormalForm rules) (IsLeastIn parts) among {before = before} {after = after}
     (subst Of same (c.in-Err.ensures.stops told)))
