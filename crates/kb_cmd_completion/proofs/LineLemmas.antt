@@ -8,10 +8,10 @@ use Rattle.clap.specs.declared.builder.command.Command.{Command}
 use Rattle.clap.specs.declared.builder.command.Command.TheViews.{out-Command}
 use Rattle.kb_system.specs.Evidence.{Limits}
 use Rattle.kb_task.specs.Arguments.{Entered, GivesNumber, GivesOption, ReadsAs}
-use Rattle.kb_task.specs.declared.arguments.NumberOption.TheVariants.{Workers}
+use Rattle.kb_task.specs.declared.arguments.NumberOption.TheVariants.{Workers, Batch}
 use Rattle.kb_task.proofs.ArgumentLemmas.{added, text_given-at, number_given-at, own_name, own_rows}
 use Rattle.kb_options.specs.Options.{GivesLimits}
-use Rattle.kb_options.proofs.OptionLemmas.{same_limits, same_workers}
+use Rattle.kb_options.proofs.OptionLemmas.{same_batch, same_limits, same_workers}
 use Rattle.kb_cmd_completion.specs.Given.{KbprogGiven, LogreadGiven, SelfTestGiven}
 use Rattle.kb_cmd_completion.specs.Line.{name_text, command_app, with_commands, all_names, name_of_task, GivesTask, GivesKbprog, GivesLogread, GivesSelfTest, IsCompletionTask, IsRead}
 use Rattle.kb_cmd_completion.specs.declared.line.name.Name.{Name}
@@ -48,7 +48,8 @@ same_kbprog rows given other a b =
     let files : given.file ≡ other.file = same_file rows given.file other.file (record { file = a.file }) (record { file = b.file }) in
     let threads : given.workers ≡ other.workers = same_workers rows given.workers other.workers a.workers b.workers in
     let bounds : given.limits ≡ other.limits = same_limits rows given.limits other.limits a.limits b.limits in
-    λ i. record { file = files i; workers = threads i; limits = bounds i }
+    let words : given.batch ≡ other.batch = same_batch rows given.batch other.batch a.batch b.batch in
+    λ i. record { file = files i; workers = threads i; limits = bounds i; batch = words i }
 
 same_logread : (rows : List Row) (given other : LogreadGiven) → GivesLogread rows given → GivesLogread rows other → given ≡ other
 same_logread rows given other a b =
@@ -98,6 +99,11 @@ pub no_limits : (rows : List Row) → ((limits : Limits) → ¬ GivesLimits rows
     → (task : CompletionTask) → name_of_task task ≡ names.Kbprog → ¬ GivesTask task rows
 no_limits rows none (tasks.Kbprog task) is gives = none task.limits gives.limits
 no_limits rows none _ is gives = cc
+
+pub no_batch : (rows : List Row) → ((n : ℕ) → ¬ GivesOption rows Batch n)
+    → (task : CompletionTask) → name_of_task task ≡ names.Kbprog → ¬ GivesTask task rows
+no_batch rows none (tasks.Kbprog task) is gives = none task.batch gives.batch
+no_batch rows none _ is gives = cc
 
 -- ---- arguments that give no `selftest`
 

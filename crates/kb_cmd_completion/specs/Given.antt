@@ -7,6 +7,7 @@ pub record KbprogGiven : Type 0 where
   pub file : List ℕ
   pub workers : ℕ
   pub limits : Limits
+  pub batch : ℕ
 
 pub record LogreadGiven : Type 0 where
   pub file : List ℕ

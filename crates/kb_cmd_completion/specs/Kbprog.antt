@@ -48,7 +48,7 @@ pub record IsKbprogUnrefused (given : KbprogGiven) (before : Outside) : Type 0 w
   pub short : length before.input.left ≤ most_input
 
 -- Which limit is reached may depend on the course of the completion. Another on the same file is the same but for
--- its workers and its limits.
+-- its workers, its limits and its batches.
 abbrev pub kbprog_promise : KbprogGiven → Promise KbprogGiven
 kbprog_promise given = record {
   means = KbprogMeans given;

@@ -2,8 +2,8 @@
 use Rattle.std.specs.Prelude.{◌≡◌, List, [], ◌∷◌, pos, Option, Some, None, codes}
 use Rattle.clap.specs.Words.{App, Row, Rule, Text, new_app, with_rule, with_subcommand}
 use Rattle.clap.specs.declared.builder.value_parser.ValueParser.TheVariants.{Signed}
-use Rattle.kb_task.specs.Arguments.{Entered, IsEntered, GivesNumber, GivesOption, GivesText, needed_rule}
-use Rattle.kb_task.specs.declared.arguments.NumberOption.TheVariants.{Workers}
+use Rattle.kb_task.specs.Arguments.{Entered, IsEntered, GivesNumber, GivesOption, GivesText, needed_rule, option_rule}
+use Rattle.kb_task.specs.declared.arguments.NumberOption.TheVariants.{Workers, Batch}
 use Rattle.kb_options.specs.Options.{GivesLimits, with_limits}
 use Rattle.kb_cmd_completion.specs.Given.{KbprogGiven, LogreadGiven, SelfTestGiven}
 use Rattle.kb_cmd_completion.specs.declared.line.name.Name.{Name}
@@ -34,7 +34,8 @@ rank_rule = record (needed_rule (codes "rank")) { parser = Some (Signed (pos 1) 
 
 -- `kbprog FILE`, `logread FILE` and `selftest N`
 abbrev pub command_app : Name → App
-command_app names.Kbprog = with_limits (with_file (new_app (name_text names.Kbprog)))
+command_app names.Kbprog =
+    with_rule (with_limits (with_file (new_app (name_text names.Kbprog)))) (option_rule Batch)
 command_app names.Logread = with_file (new_app (name_text names.Logread))
 command_app names.SelfTest = with_limits (with_rule (new_app (name_text names.SelfTest)) rank_rule)
 
@@ -55,6 +56,7 @@ pub record GivesKbprog (rows : List Row) (given : KbprogGiven) : Type 0 where
   pub file : GivesText rows (codes "file") given.file
   pub workers : GivesOption rows Workers given.workers
   pub limits : GivesLimits rows given.limits
+  pub batch : GivesOption rows Batch given.batch
 
 pub record GivesLogread (rows : List Row) (given : LogreadGiven) : Type 0 where
   pub file : GivesText rows (codes "file") given.file

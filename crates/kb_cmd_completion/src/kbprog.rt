@@ -13,6 +13,7 @@ use crate::conclusion::{Conclusion, conclusion_of};
 use kb_answering::{Concludes, figures_of, show_limit, store_and_answer};
 use kb_book::Limits;
 use kb_io::{Gate, Shelf, Sink, Source};
+use kb_lines::Batches;
 use kb_progress::Progress;
 use kb_reduced::reduced_complete_systems_are_complete;
 use kb_system::complete_presentation;
@@ -33,6 +34,8 @@ pub struct Kbprog {
     pub(crate) workers: u32,
     /// The limits of the completion.
     pub(crate) limits: Limits,
+    /// How many words are answered together.
+    pub(crate) batch: u32,
 }
 
 impl Model for Kbprog {
@@ -45,6 +48,7 @@ impl Model for Kbprog {
       file = task.file;
       workers = task.workers;
       limits = limits_of task.limits;
+      batch = task.batch;
     } };
 
     ghost invariant = { λ task. (1 ≤ task.workers) × (task.workers ≤ 64) };
@@ -96,9 +100,17 @@ impl Kbprog {
             Ok(presentation) => {
                 let mut progress = Progress::on(err, Some(&self.file));
                 match complete(rt, alloc, gate, &self, presentation, &mut progress) {
-                    Ok(conclusion) => {
-                        conclude(alloc, &self, conclusion, &mut progress, shelf, input, out)
-                    }
+                    Ok(conclusion) => conclude(
+                        rt,
+                        alloc,
+                        gate,
+                        &self,
+                        conclusion,
+                        &mut progress,
+                        shelf,
+                        input,
+                        out,
+                    ),
                     Err(Memory) => Status::Memory,
                 }
             }
@@ -126,8 +138,10 @@ fn complete<T: Threads + Wait + Sync, G: Gate, E: Sink>(
 }
 
 /// Stores and writes what is to be stored and written.
-fn conclude<F: Shelf, I: Source, O: Sink, E: Sink>(
+fn conclude<T: Threads + Wait + Sync, G: Gate, F: Shelf, I: Source, O: Sink, E: Sink>(
+    rt: &T,
     alloc: Global,
+    gate: &G,
     task: &Kbprog,
     conclusion: Conclusion,
     progress: &mut Progress<'_, E>,
@@ -148,11 +162,14 @@ fn conclude<F: Shelf, I: Source, O: Sink, E: Sink>(
             normal_forms,
         } => {
             reduced_complete_systems_are_complete();
+            let batches = Batches::of(task.batch, task.workers, gate);
             store_and_answer(
+                rt,
                 alloc,
                 task,
                 files,
                 &normal_forms,
+                &batches,
                 progress,
                 shelf,
                 input,

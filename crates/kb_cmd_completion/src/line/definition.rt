@@ -10,7 +10,7 @@ ghost use Rattle.kb_cmd_completion.specs.declared.line.name.Name.TheVariants as 
 use super::name::Name;
 use clap::{Arg, Command, value_parser};
 use kb_options::with_limits;
-use kb_task::needed_argument;
+use kb_task::{NumberOption, needed_argument, number_option};
 use std::alloc::{AllocError, Global};
 
 /// The place of `selftest` in the program's list of commands: behind those of all families.
@@ -36,7 +36,8 @@ fn kbprog_definition<'a>(alloc: Global) -> Result<Command<'a>, AllocError>
     with_limits(
         alloc,
         labelled(alloc, Name::Kbprog).arg(file_argument(alloc))?,
-    )
+    )?
+    .arg(number_option(alloc, NumberOption::Batch))
 }
 
 /// `logread FILE`.

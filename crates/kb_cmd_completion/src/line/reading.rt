@@ -45,10 +45,14 @@ fn kbprog_given(alloc: Global, matches: &ArgMatches<'_>) -> Result<Option<Comple
     let Some(limits) = limits_given(matches) else {
         return Ok(None);
     };
+    let Some(batch) = option_given(matches, NumberOption::Batch) else {
+        return Ok(None);
+    };
     Ok(Some(CompletionTask::Kbprog(Kbprog {
         file: OwnedText::from_str(alloc, file)?,
         workers,
         limits,
+        batch,
     })))
 }
 

@@ -16,21 +16,21 @@ use Rattle.kb_cmd_completion.proofs.LimitLemmas.{completed_differ, completed_may
 use Rattle.kb_cmd_completion.proofs.kbprog.conclude.Goals as goal
 
 pub store_and_answer-requires-clause-differ : goal.store_and_answer-requires-clause-differ
-store_and_answer-requires-clause-differ g c =
+store_and_answer-requires-clause-differ g c κs within =
     let given : KbprogGiven = c.args.task.now in
     let parts : PresentationParts = c.requires.0 in
     let says = subst (λ (it : Conclusion). ConcludesAs given parts it) c.in-Completed.is c.requires.1 in
     completed_differ given.file parts (texts_of c.in-Completed.files.items) says.0
 
 pub store_and_answer-requires-clause-may : goal.store_and_answer-requires-clause-may
-store_and_answer-requires-clause-may g c =
+store_and_answer-requires-clause-may g c κs within =
     let given : KbprogGiven = c.args.task.now in
     let parts : PresentationParts = c.requires.0 in
     let says = subst (λ (it : Conclusion). ConcludesAs given parts it) c.in-Completed.is c.requires.1 in
     completed_may given parts (texts_of c.in-Completed.files.items) says.0
 
 pub store_and_answer-requires-clause-own : goal.store_and_answer-requires-clause-own
-store_and_answer-requires-clause-own g c =
+store_and_answer-requires-clause-own g c κs within =
     let given : KbprogGiven = c.args.task.now in
     let parts : PresentationParts = c.requires.0 in
     let says = subst (λ (it : Conclusion). ConcludesAs given parts it) c.in-Completed.is c.requires.1 in
@@ -38,7 +38,7 @@ store_and_answer-requires-clause-own g c =
     subst P (sym says.1) says.0
 
 pub store_and_answer-requires-clause-least : goal.store_and_answer-requires-clause-least
-store_and_answer-requires-clause-least g c = λ w m normal.
+store_and_answer-requires-clause-least g c κs within = λ w m normal.
     let given : KbprogGiven = c.args.task.now in
     let parts : PresentationParts = c.requires.0 in
     let own : PresentationParts = parts_of c.in-Completed.normal_forms.reader.presentation in
