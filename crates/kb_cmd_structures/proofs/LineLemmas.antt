@@ -8,10 +8,10 @@ use Rattle.clap.specs.declared.builder.command.Command.{Command}
 use Rattle.clap.specs.declared.builder.command.Command.TheViews.{out-Command}
 use Rattle.kb_system.specs.Evidence.{Limits}
 use Rattle.kb_task.specs.Arguments.{Entered, GivesOption, GivesText, ReadsAs}
-use Rattle.kb_task.specs.declared.arguments.NumberOption.TheVariants.{Workers}
+use Rattle.kb_task.specs.declared.arguments.NumberOption.TheVariants.{Workers, Batch}
 use Rattle.kb_task.proofs.ArgumentLemmas.{added, flag_given-at, text_given-at, own_name, own_rows}
 use Rattle.kb_options.specs.Options.{GivesAllLimits, GivesLimits}
-use Rattle.kb_options.proofs.OptionLemmas.{same_all_limits, same_limits, same_most, same_workers}
+use Rattle.kb_options.proofs.OptionLemmas.{same_all_limits, same_batch, same_limits, same_most, same_workers}
 use Rattle.kb_cmd_structures.specs.Given.{AutgroupGiven, CheckGiven, GpaxiomsGiven}
 use Rattle.kb_cmd_structures.specs.Line.{name_text, command_app, with_commands, all_names, name_of_task, GivesTask, GivesAutgroup, GivesCheck, GivesGpaxioms, IsStructuresTask, IsRead}
 use Rattle.kb_cmd_structures.specs.declared.line.name.Name.{Name}
@@ -48,7 +48,8 @@ same_autgroup rows given other a b =
     let bounds : given.limits ≡ other.limits =
     same_all_limits rows given.limits other.limits given.most other.most a.limits b.limits in
     let kept : given.most ≡ other.most = same_most rows given.limits other.limits given.most other.most a.limits b.limits in
-    λ i. record { file = files i; workers = threads i; limits = bounds i; most = kept i }
+    let words : given.batch ≡ other.batch = same_batch rows given.batch other.batch a.batch b.batch in
+    λ i. record { file = files i; workers = threads i; limits = bounds i; most = kept i; batch = words i }
 
 same_check : (rows : List Row) (given other : CheckGiven) → GivesCheck rows given → GivesCheck rows other → given ≡ other
 same_check rows given other a b =
@@ -111,6 +112,11 @@ pub no_bounds : (rows : List Row) → ((limits : Limits) (most : ℕ) → ¬ Giv
     → (task : StructuresTask) → name_of_task task ≡ names.Autgroup → ¬ GivesTask task rows
 no_bounds rows none (tasks.Autgroup task) is gives = none task.limits task.most gives.limits
 no_bounds rows none _ is gives = cc
+
+pub no_batch : (rows : List Row) → ((n : ℕ) → ¬ GivesOption rows Batch n)
+    → (task : StructuresTask) → name_of_task task ≡ names.Autgroup → ¬ GivesTask task rows
+no_batch rows none (tasks.Autgroup task) is gives = none task.batch gives.batch
+no_batch rows none _ is gives = cc
 
 -- ---- commands that are added one after another
 

@@ -56,7 +56,7 @@ pub record IsAutgroupUnrefused (given : AutgroupGiven) (before : Outside) : Type
   pub short : length before.input.left ≤ most_input
 
 -- Which limit is reached may depend on the course of the completion. Another on the same file is the same but for its
--- workers and its limits.
+-- workers, its limits and its batches.
 abbrev pub autgroup_promise : AutgroupGiven → Promise AutgroupGiven
 autgroup_promise given = record {
   means = AutgroupMeans given;

@@ -9,6 +9,7 @@ pub record AutgroupGiven : Type 0 where
   pub limits : Limits
   -- how many word differences may be kept
   pub most : ℕ
+  pub batch : ℕ
 
 -- a check of automata, by `gpaxioms` and by `gpminkb`
 pub record CheckGiven : Type 0 where

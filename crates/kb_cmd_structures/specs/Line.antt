@@ -1,8 +1,8 @@
 -- The commands on automatic structures on the command line, by clap's own definition of what a command takes.
 use Rattle.std.specs.Prelude.{◌≡◌, List, [], ◌∷◌, Option, Some, None, codes}
 use Rattle.clap.specs.Words.{App, Row, Text, new_app, with_rule, with_subcommand}
-use Rattle.kb_task.specs.Arguments.{Entered, IsEntered, GivesFlag, GivesOption, GivesText, flag_rule, needed_rule}
-use Rattle.kb_task.specs.declared.arguments.NumberOption.TheVariants.{Workers}
+use Rattle.kb_task.specs.Arguments.{Entered, IsEntered, GivesFlag, GivesOption, GivesText, flag_rule, needed_rule, option_rule}
+use Rattle.kb_task.specs.declared.arguments.NumberOption.TheVariants.{Workers, Batch}
 use Rattle.kb_options.specs.Options.{GivesAllLimits, GivesLimits, with_all_limits, with_limits}
 use Rattle.kb_cmd_structures.specs.Given.{AutgroupGiven, CheckGiven, GpaxiomsGiven}
 use Rattle.kb_cmd_structures.specs.declared.line.name.Name.{Name}
@@ -26,7 +26,9 @@ all_names = names.Autgroup ∷ names.Gpaxioms ∷ names.Gpminkb ∷ []
 -- `autgroup FILE`, `gpaxioms FILE [--log]`, `gpminkb FILE`
 abbrev pub command_app : Name → App
 command_app names.Autgroup =
-    with_all_limits (with_rule (new_app (name_text names.Autgroup)) (needed_rule (codes "file")))
+    with_rule
+    (with_all_limits (with_rule (new_app (name_text names.Autgroup)) (needed_rule (codes "file"))))
+    (option_rule Batch)
 command_app names.Gpaxioms =
     with_rule
     (with_limits (with_rule (new_app (name_text names.Gpaxioms)) (needed_rule (codes "file"))))
@@ -51,6 +53,7 @@ pub record GivesAutgroup (rows : List Row) (given : AutgroupGiven) : Type 0 wher
   pub file : GivesText rows (codes "file") given.file
   pub workers : GivesOption rows Workers given.workers
   pub limits : GivesAllLimits rows given.limits given.most
+  pub batch : GivesOption rows Batch given.batch
 
 -- a check of automata, by `gpaxioms` or by `gpminkb`
 pub record GivesCheck (rows : List Row) (given : CheckGiven) : Type 0 where

@@ -18,6 +18,7 @@ use kb_answering::{Concludes, show_limit, store_and_answer};
 use kb_auto::autgroup;
 use kb_book::Limits;
 use kb_io::{Gate, Shelf, Sink, Source};
+use kb_lines::Batches;
 use kb_progress::Progress;
 use kb_task::{Status, Task, load_group};
 use kb_threads::Workers;
@@ -36,6 +37,8 @@ pub struct Autgroup {
     pub(crate) workers: u32,
     /// The limits of the completion, of word differences and of the constructions.
     pub(crate) limits: Limits,
+    /// How many words are answered together.
+    pub(crate) batch: u32,
 }
 
 impl Model for Autgroup {
@@ -49,6 +52,7 @@ impl Model for Autgroup {
       workers = task.workers;
       limits = limits_of task.limits;
       most = task.limits.diffs;
+      batch = task.batch;
     } };
 
     ghost invariant = { λ task. (1 ≤ task.workers) × (task.workers ≤ 64) };
@@ -100,7 +104,17 @@ impl Autgroup {
             Ok(presentation) => {
                 let mut progress = Progress::on(err, Some(&self.file));
                 match find(rt, alloc, gate, &self, presentation, &mut progress) {
-                    Ok(found) => conclude(alloc, &self, found, &mut progress, shelf, input, out),
+                    Ok(found) => conclude(
+                        rt,
+                        alloc,
+                        gate,
+                        &self,
+                        found,
+                        &mut progress,
+                        shelf,
+                        input,
+                        out,
+                    ),
                     Err(Memory) => Status::Memory,
                 }
             }
@@ -130,8 +144,10 @@ fn find<T: Threads + Wait + Sync, G: Gate, E: Sink>(
 }
 
 /// Stores and writes what is to be stored and written.
-fn conclude<F: Shelf, I: Source, O: Sink, E: Sink>(
+fn conclude<T: Threads + Wait + Sync, G: Gate, F: Shelf, I: Source, O: Sink, E: Sink>(
+    rt: &T,
     alloc: Global,
+    gate: &G,
     task: &Autgroup,
     conclusion: Conclusion,
     progress: &mut Progress<'_, E>,
@@ -148,11 +164,14 @@ fn conclude<F: Shelf, I: Source, O: Sink, E: Sink>(
 {
     match conclusion {
         Conclusion::Made { files, least_words } => {
+            let batches = Batches::of(task.batch, task.workers, gate);
             store_and_answer(
+                rt,
                 alloc,
                 task,
                 files,
                 &least_words,
+                &batches,
                 progress,
                 shelf,
                 input,

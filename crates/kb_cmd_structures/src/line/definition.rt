@@ -10,7 +10,7 @@ ghost use Rattle.kb_cmd_structures.specs.declared.line.name.Name.TheVariants as 
 use super::name::Name;
 use clap::{Arg, Command};
 use kb_options::{with_all_limits, with_limits};
-use kb_task::{flag_option, needed_argument};
+use kb_task::{NumberOption, flag_option, needed_argument, number_option};
 use std::alloc::{AllocError, Global};
 
 /// The definition of a command.
@@ -33,7 +33,8 @@ fn autgroup_definition<'a>(alloc: Global) -> Result<Command<'a>, AllocError>
     with_all_limits(
         alloc,
         labelled(alloc, Name::Autgroup).arg(file_argument(alloc))?,
-    )
+    )?
+    .arg(number_option(alloc, NumberOption::Batch))
 }
 
 /// `gpaxioms FILE`, and whether the log decides.

@@ -45,10 +45,14 @@ fn autgroup_given(alloc: Global, matches: &ArgMatches<'_>) -> Result<Option<Stru
     let Some(limits) = all_limits_given(matches) else {
         return Ok(None);
     };
+    let Some(batch) = option_given(matches, NumberOption::Batch) else {
+        return Ok(None);
+    };
     Ok(Some(StructuresTask::Autgroup(Autgroup {
         file: OwnedText::from_str(alloc, file)?,
         workers,
         limits,
+        batch,
     })))
 }
 

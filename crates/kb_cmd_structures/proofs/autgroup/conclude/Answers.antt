@@ -12,21 +12,21 @@ use Rattle.kb_cmd_structures.proofs.AutgroupNames.{made_differ, made_may, shows_
 use Rattle.kb_cmd_structures.proofs.autgroup.conclude.Goals as goal
 
 pub store_and_answer-requires-clause-differ : goal.store_and_answer-requires-clause-differ
-store_and_answer-requires-clause-differ g c =
+store_and_answer-requires-clause-differ g c κs within =
     let given : AutgroupGiven = c.args.task.now in
     let parts : PresentationParts = c.requires.0 in
     let says = subst (λ (it : Conclusion). ConcludesAs given parts it) c.in-Made.is c.requires.1 in
     made_differ says.0
 
 pub store_and_answer-requires-clause-may : goal.store_and_answer-requires-clause-may
-store_and_answer-requires-clause-may g c =
+store_and_answer-requires-clause-may g c κs within =
     let given : AutgroupGiven = c.args.task.now in
     let parts : PresentationParts = c.requires.0 in
     let says = subst (λ (it : Conclusion). ConcludesAs given parts it) c.in-Made.is c.requires.1 in
     made_may given says.0
 
 pub store_and_answer-requires-clause-own : goal.store_and_answer-requires-clause-own
-store_and_answer-requires-clause-own g c =
+store_and_answer-requires-clause-own g c κs within =
     let given : AutgroupGiven = c.args.task.now in
     let parts : PresentationParts = c.requires.0 in
     let says = subst (λ (it : Conclusion). ConcludesAs given parts it) c.in-Made.is c.requires.1 in
@@ -34,7 +34,7 @@ store_and_answer-requires-clause-own g c =
     subst P (sym says.1) says.0
 
 pub store_and_answer-requires-clause-least : goal.store_and_answer-requires-clause-least
-store_and_answer-requires-clause-least g c = λ w m least. least
+store_and_answer-requires-clause-least g c κs within = λ w m least. least
 
 pub show_limit-requires-clause-differ : goal.show_limit-requires-clause-differ
 show_limit-requires-clause-differ g c =

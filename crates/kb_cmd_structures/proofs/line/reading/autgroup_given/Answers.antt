@@ -1,7 +1,7 @@
 use Rattle.std.proofs.Common.{rules, ◌≡◌, None}
 use Rattle.clap.specs.Words.{found_of, rows_of}
 use Rattle.kb_cmd_structures.specs.declared.line.name.Name.TheVariants as names
-use Rattle.kb_cmd_structures.proofs.LineLemmas.{no_workers, no_bounds}
+use Rattle.kb_cmd_structures.proofs.LineLemmas.{no_workers, no_bounds, no_batch}
 use Rattle.kb_cmd_structures.proofs.line.reading.autgroup_given.Goals as goal
 
 pub returns-in_default-option_given : goal.returns-in_default-option_given
@@ -13,3 +13,8 @@ pub returns-in_default-all_limits_given : goal.returns-in_default-all_limits_giv
 returns-in_default-all_limits_given c =
     let none : c.all_limits_given.result ≡ None = search rules in
     no_bounds (rows_of (found_of c.args.matches.now)) (c.all_limits_given.ensures.none none)
+
+pub returns-in_default-option_given-2 : goal.returns-in_default-option_given-2
+returns-in_default-option_given-2 c =
+    let none : c.option_given-2.result ≡ None = search rules in
+    no_batch (rows_of (found_of c.args.matches.now)) (c.option_given-2.ensures.none none)
