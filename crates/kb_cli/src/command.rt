@@ -60,7 +60,7 @@ impl Command {
             (outside (F.state shelf.new) (I.state input.new) (O.state out.new)) result }
     {
         match self {
-            Command::WordReduce(task) => task.run(rt, alloc, shelf, input, out, err),
+            Command::WordReduce(task) => task.run(rt, alloc, gate, shelf, input, out, err),
             Command::Automata(task) => task.run(alloc, shelf, input, out),
             Command::Completion(task) => task.run(rt, alloc, gate, shelf, input, out, err),
             Command::Elements(task) => task.run(rt, alloc, gate, shelf, input, out, err),
