@@ -5,13 +5,19 @@ use Rattle.kb_task.specs.Arguments.{Entered, IsEntered, GivesFlag, GivesOption, 
 use Rattle.kb_task.specs.declared.arguments.NumberOption.TheVariants.{Workers, Batch}
 use Rattle.kb_cmd_words.specs.Given.{Given}
 
+-- `wordreduce FILE` without its options
+abbrev pub file_app : App
+file_app = with_rule (new_app (codes "wordreduce")) (needed_rule (codes "file"))
+
+-- a command with the options of `wordreduce` added
+abbrev pub with_options : App → App
+with_options app =
+    with_rule (with_rule (with_rule app (option_rule Workers)) (option_rule Batch))
+    (flag_rule (codes "log"))
+
 -- `wordreduce FILE`
 abbrev pub wordreduce_app : App
-wordreduce_app =
-    with_rule
-    (with_rule
-    (with_rule (with_rule (new_app (codes "wordreduce")) (needed_rule (codes "file")))
-    (option_rule Workers)) (option_rule Batch)) (flag_rule (codes "log"))
+wordreduce_app = with_options file_app
 
 -- a program with the command added
 abbrev pub with_wordreduce : App → App

@@ -4,7 +4,7 @@ ghost use Rattle.std.specs.Prelude.{◌≡◌, IfOk, false};
 ghost use Rattle.clap.specs.Words.{app_of, found_of, rows_of, subcommand_rows_of};
 ghost use Rattle.clap.specs.declared.builder.command.Command.TheViews.{out-Command as fields_of};
 ghost use Rattle.kb_task.specs.Arguments.{ReadsAs};
-ghost use Rattle.kb_cmd_words.specs.Line.{with_wordreduce, wordreduce_app, IsWordReduce, GivenAs};
+ghost use Rattle.kb_cmd_words.specs.Line.{file_app, with_options, with_wordreduce, wordreduce_app, IsWordReduce, GivenAs};
 
 use crate::word_reduce::WordReduce;
 use clap::{ArgMatches, Command};
@@ -67,9 +67,17 @@ fn wordreduce_given(alloc: Global, matches: &ArgMatches<'_>) -> Result<Option<Wo
     }))
 }
 
-/// `wordreduce FILE`, its number of workers, and whether the log answers.
+/// `wordreduce FILE`, its number of workers, how many words are answered together, and whether the log answers.
 fn definition<'a>(alloc: Global) -> Result<Command<'a>, AllocError>
     ensures app { IfOk result (λ command. app_of command ≡ wordreduce_app) }
+    ensures local { IfOk result (λ command. (fields_of command).has_globals ≡ false) }
+{
+    with_options(alloc, file_definition(alloc)?)
+}
+
+/// `wordreduce FILE` without its options.
+fn file_definition<'a>(alloc: Global) -> Result<Command<'a>, AllocError>
+    ensures app { IfOk result (λ command. app_of command ≡ file_app) }
     ensures local { IfOk result (λ command. (fields_of command).has_globals ≡ false) }
 {
     let file = needed_argument(
@@ -78,11 +86,6 @@ fn definition<'a>(alloc: Global) -> Result<Command<'a>, AllocError>
         "FILE",
         "A presentation file (GAP record); its relations must be confluent as rules",
     );
-    let log = flag_option(
-        alloc,
-        "log",
-        "Checks FILE.kblog, and answers by its lines in place of FILE's relations",
-    );
     Command::new(alloc, "wordreduce")
         .about("Prints, for the word on each line of standard input, the least word that equals it")
         .after_help(help_end!(
@@ -90,7 +93,21 @@ fn definition<'a>(alloc: Global) -> Result<Command<'a>, AllocError>
             "No file is stored. With --log the lines of FILE.kblog must prove FILE's relations, and be confluent.",
             "Example: echo 'a*b*a*b' | kb wordreduce examples/symmetric-3"
         ))
-        .arg(file)?
+        .arg(file)
+}
+
+/// A command with the options of `wordreduce` added.
+fn with_options<'a>(alloc: Global, command: Command<'a>) -> Result<Command<'a>, AllocError>
+    requires { (fields_of command).has_globals ≡ false }
+    ensures app { IfOk result (λ added. app_of added ≡ with_options (app_of command.entry)) }
+    ensures local { IfOk result (λ added. (fields_of added).has_globals ≡ false) }
+{
+    let log = flag_option(
+        alloc,
+        "log",
+        "Checks FILE.kblog, and answers by its lines in place of FILE's relations",
+    );
+    command
         .arg(number_option(alloc, NumberOption::Workers))?
         .arg(number_option(alloc, NumberOption::Batch))?
         .arg(log)
