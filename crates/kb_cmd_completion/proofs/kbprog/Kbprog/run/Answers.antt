@@ -17,7 +17,9 @@ returns-in_default g c =
     run-unloaded c.args.self (g.F.Shelf.state c.args.shelf.now) (g.I.Source.state c.args.input.now) (g.O.Sink.state c.args.out.now)
 
 pub conclude-requires : goal.conclude-requires
-conclude-requires g c = (parts_of c.in-Ok-load_presentation.presentation, c.in-Ok-complete.ensures)
+conclude-requires g c =
+    let bounds = c.type_bounds in
+    (bounds.sync-T, (bounds.sync-G, (parts_of c.in-Ok-load_presentation.presentation, c.in-Ok-complete.ensures)))
 
 pub returns-in-Ok-complete : goal.returns-in-Ok-complete
 returns-in-Ok-complete g c =
