@@ -16,7 +16,9 @@ returns-in_default g c =
     run-unloaded c.args.self (g.F.Shelf.state c.args.shelf.now) (g.I.Source.state c.args.input.now) (g.O.Sink.state c.args.out.now)
 
 pub conclude-requires : goal.conclude-requires
-conclude-requires g c = (parts_of c.in-Ok-load_group.presentation, c.in-Ok-find.ensures)
+conclude-requires g c =
+    let bounds = c.type_bounds in
+    (bounds.sync-T, (bounds.sync-G, (parts_of c.in-Ok-load_group.presentation, c.in-Ok-find.ensures)))
 
 pub returns-in-Ok-find : goal.returns-in-Ok-find
 returns-in-Ok-find g c =
