@@ -18,7 +18,7 @@ use Rattle.kb_task.specs.declared.status.Limit.TheVariants.{States}
 use Rattle.kb_task.specs.declared.status.Status.{Status}
 use Rattle.kb_task.specs.declared.status.Status.TheVariants.{Yes, Undecided, No, Memory, Fault}
 use Rattle.kb_task.specs.declared.status.Which.TheVariants.{Output}
-use Rattle.kb_cmd_automata.specs.Loaded.{TwoMean, AreBothUnrefused}
+use Rattle.kb_cmd_automata.specs.Loaded.{TwoMean, AreBothUnrefused, RefusesOfTwo}
 use Rattle.kb_listing.specs.Printing.{OnlyPrints}
 use Rattle.kb_cmd_automata.specs.declared.compare.Compare.{Compare}
 
@@ -74,6 +74,7 @@ compare_promise task = record {
   may_store = λ name. ⊥;
   settled_stores = λ name. ⊥;
   reads = λ name. (name ≡ task.one) ⊎ (name ≡ task.two);
+  refuses = RefusesOfTwo WordsOrPairs task.one task.two;
   is_unrefused = AreBothUnrefused WordsOrPairs task.one task.two;
   answers = IsAnswer;
   settles = IsConclusive;

@@ -5,6 +5,7 @@ use Rattle.kb_fsa.specs.Language.{Automaton, SameLanguage}
 use Rattle.kb_fsabool.specs.Answers.{IsInOne, IsLeastDifference}
 use Rattle.kb_task.specs.PromiseLaws.{yes-conclusive}
 use Rattle.kb_task.specs.Promises.{IsLawful}
+use Rattle.kb_task.specs.Refusals.{RefusesNone}
 use Rattle.kb_task.specs.Runs.{HasSameEffect}
 use Rattle.kb_task.specs.Statuses.{IsAnswer, IsConclusive, IsFaultless, IsYes}
 use Rattle.kb_task.specs.declared.loading.automata.Kind.TheVariants.{WordsOrPairs}
@@ -12,7 +13,7 @@ use Rattle.kb_task.specs.declared.status.Cert.TheVariants.{NotEqual}
 use Rattle.kb_task.specs.declared.status.Status.{Status}
 use Rattle.kb_task.specs.declared.status.Status.TheVariants.{No}
 use Rattle.kb_cmd_automata.specs.Compare.{IsComparisonLine, same, differ, undecided, ComparisonIsPrinted, printed, failed, no_memory, compare_promise}
-use Rattle.kb_cmd_automata.specs.LoadedLaws.{two_answer, over_two}
+use Rattle.kb_cmd_automata.specs.LoadedLaws.{two_answer, two_exact, two_refused, over_two}
 use Rattle.kb_cmd_automata.specs.declared.compare.Compare.{Compare}
 
 -- what is in exactly one of two languages refutes that they are the same
@@ -68,6 +69,12 @@ module _ (names : List (List ℕ)) (one two : Automaton) where
   line_answers most line status (differ least few is_line) = tt
   line_answers most line status (undecided many) = tt
 
+  line_refuses_none : (most : ℕ) (line : List ℕ) (status : Status)
+      → IsComparisonLine names one two most line status → RefusesNone status
+  line_refuses_none most line status (same language few) = tt
+  line_refuses_none most line status (differ least few is_line) = tt
+  line_refuses_none most line status (undecided many) = tt
+
   -- where no device failed there is an answer
   comparison_answers : (most : ℕ) (before after : List ℕ) (status : Status) → IsFaultless status
       → ComparisonIsPrinted names one two most before after status → IsAnswer status
@@ -75,6 +82,14 @@ module _ (names : List (List ℕ)) (one two : Automaton) where
       line_answers most line status is_line
   comparison_answers most before after status faultless (failed is_line front) = cc
   comparison_answers most before after status faultless (no_memory unwritten) = tt
+
+  -- a comparison refuses no file
+  comparison_refuses_none : (most : ℕ) (before after : List ℕ) (status : Status)
+      → ComparisonIsPrinted names one two most before after status → RefusesNone status
+  comparison_refuses_none most before after status (printed {line = line} is_line is) =
+      line_refuses_none most line status is_line
+  comparison_refuses_none most before after status (failed is_line front) = tt
+  comparison_refuses_none most before after status (no_memory unwritten) = tt
 
   -- an answer has its line
   comparison_line : (most : ℕ) (before after : List ℕ) (status : Status) → IsConclusive status
@@ -102,6 +117,16 @@ compare_lawful task = record {
       before.output.written after.output.written status faultless prints.so)
       unrefused means;
   memory = tt;
+  refused = λ before after name fault means at_load.
+      two_refused WordsOrPairs task.one task.two _
+      (λ names one two moment later status prints. comparison_refuses_none names one two
+      task.max_states moment.output.written later.output.written status prints.so)
+      before after name fault means at_load;
+  exact = λ have before after status name fault means refuses faultless.
+      two_exact WordsOrPairs task.one task.two _
+      (λ names one two moment later ends prints. comparison_refuses_none names one two
+      task.max_states moment.output.written later.output.written ends prints.so)
+      have before after status name fault means refuses faultless;
   settled = λ before after other_before other_after status other means others alike conclusive also.
       over_two before after other_before other_after status other conclusive also
       (status ≡ other) WordsOrPairs

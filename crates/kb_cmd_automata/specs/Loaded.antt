@@ -4,7 +4,10 @@ use Rattle.kb_io.specs.Outside.{Outside, IsUnchanged}
 use Rattle.kb_fsa.specs.Language.{Automaton}
 use Rattle.kb_task.specs.Automata.{HoldsAutomaton, HasKind, IsAutomatonFault, IsSecondFault, IsUnrefused}
 use Rattle.kb_task.specs.Loads.{EndsAtLoad}
+use Rattle.kb_task.specs.OneReason.{HoldsOfKind}
+use Rattle.kb_task.specs.Refusals.{IsRefusedFor, IsRefusedOfTwo}
 use Rattle.kb_task.specs.declared.loading.automata.Kind.{Kind}
+use Rattle.kb_task.specs.declared.status.FileFault.{FileFault}
 use Rattle.kb_task.specs.declared.status.Status.{Status}
 
 -- What a run means of an automaton over letters with these names, and of two over the same letters.
@@ -41,6 +44,17 @@ pub data TwoMean (kind : Kind) (one two : List ℕ) (Mean : MeaningOfTwo) (befor
       → HasKind kind first.alphabet → HoldsAutomaton before.shelf.holds two names second
       → second.alphabet ≡ first.alphabet
       → Mean names first second before after status → TwoMean kind one two Mean before after status
+
+-- the file has a fault where an automaton of the kind is needed
+abbrev pub RefusesAs : Kind → List ℕ → Outside → List ℕ → FileFault → Type 0
+RefusesAs kind file before = IsRefusedFor (IsAutomatonFault kind before.shelf.holds file) file
+
+-- so has the first file; or, where that holds one of the kind, the second, where one over the same alphabet is needed
+abbrev pub RefusesOfTwo : Kind → List ℕ → List ℕ → Outside → List ℕ → FileFault → Type 0
+RefusesOfTwo kind one two before =
+    IsRefusedOfTwo (IsAutomatonFault kind before.shelf.holds one) one
+    (HoldsOfKind kind before.shelf.holds one)
+    (λ held. IsSecondFault kind held.0 held.1.alphabet before.shelf.holds two) two
 
 -- the file isn't refused where an automaton of the kind is needed
 abbrev pub IsUnrefusedAs : Kind → List ℕ → Outside → Type 0

@@ -23,7 +23,7 @@ use Rattle.kb_task.specs.declared.status.Limit.TheVariants.{States}
 use Rattle.kb_task.specs.declared.status.Status.{Status}
 use Rattle.kb_task.specs.declared.status.Status.TheVariants.{Yes, Undecided, Memory, Fault}
 use Rattle.kb_task.specs.declared.status.Which.TheVariants.{Store, Output}
-use Rattle.kb_cmd_automata.specs.Loaded.{OneMeans, TwoMean, IsUnrefusedAs, AreBothUnrefused}
+use Rattle.kb_cmd_automata.specs.Loaded.{OneMeans, TwoMean, IsUnrefusedAs, AreBothUnrefused, RefusesAs, RefusesOfTwo}
 use Rattle.kb_cmd_automata.specs.declared.combine.Combination.{Combination}
 use Rattle.kb_cmd_automata.specs.declared.combine.Combination.TheVariants as combinations
 use Rattle.kb_cmd_automata.specs.declared.combine.Combine.{Combine}
@@ -89,6 +89,7 @@ make_promise making Exceeds Answers DiffersInOptions = record {
   may_store = λ name. name ≡ making.out;
   settled_stores = λ name. name ≡ making.out;
   reads = λ name. name ≡ making.file;
+  refuses = RefusesAs making.kind making.file;
   is_unrefused = IsUnrefusedAs making.kind making.file;
   answers = Answers;
   settles = IsConclusive;
@@ -145,6 +146,7 @@ combine_promise task = record {
   may_store = λ name. name ≡ task.out;
   settled_stores = λ name. name ≡ task.out;
   reads = λ name. (name ≡ task.one) ⊎ (name ≡ task.two);
+  refuses = RefusesOfTwo (combined_kind task.operation) task.one task.two;
   is_unrefused = AreBothUnrefused (combined_kind task.operation) task.one task.two;
   answers = AnswersYesOrLimit;
   settles = IsConclusive;

@@ -11,12 +11,13 @@ use Rattle.kb_fsamin.proofs.Uniqueness.{one_canonical}
 use Rattle.kb_fsarat.specs.Products.{IsSplit}
 use Rattle.kb_task.specs.PromiseLaws.{yes-conclusive}
 use Rattle.kb_task.specs.Promises.{Promise, IsLawful}
+use Rattle.kb_task.specs.Refusals.{RefusesNone}
 use Rattle.kb_task.specs.Runs.{HasSameEffect}
 use Rattle.kb_task.specs.Statuses.{AnswersYes, AnswersYesOrLimit, IsConclusive, IsFaultless, IsYes}
 use Rattle.kb_task.specs.declared.status.Limit.{Limit}
 use Rattle.kb_task.specs.declared.status.Status.{Status}
-use Rattle.kb_task.specs.declared.status.Status.TheVariants.{Yes, Undecided, No, Memory, Fault}
-use Rattle.kb_cmd_automata.specs.LoadedLaws.{one_answers, two_answer, over_one, over_two}
+use Rattle.kb_task.specs.declared.status.Status.TheVariants.{Yes, Refused, Undecided, No, Memory, Fault}
+use Rattle.kb_cmd_automata.specs.LoadedLaws.{one_answers, one_exact, one_refused, two_answer, two_exact, two_refused, over_one, over_two}
 use Rattle.kb_cmd_automata.specs.Make.{MakeMeans, StoresMade, Making, IsMadeOf, MakingMeans, make_promise, unlimited_promise, IsMadeOfTwo, ExceedsCombined, IsTransformed, ExceedsTransformed, combined_kind, combine_promise, transform_making, transform_promise, minimise_making, minimise_promise}
 use Rattle.kb_cmd_automata.specs.declared.combine.Combination.{Combination}
 use Rattle.kb_cmd_automata.specs.declared.combine.Combination.TheVariants as combinations
@@ -90,6 +91,12 @@ module _ (IsMade : Automaton → Type 0) (out : List ℕ) (names : List (List �
   make_answers Exceeds Answers on_yes on_memory limits before after Memory faultless means = on_memory
   make_answers Exceeds Answers on_yes on_memory limits before after (Fault which) faultless means = cc
   make_answers Exceeds Answers on_yes on_memory limits before after _ faultless means = absurd means
+
+  -- it refuses no file
+  make_refuses_none : (Exceeds : Limit → Type 0) (before after : Outside) (status : Status)
+      → MakeMeans IsMade Exceeds out names before after status → RefusesNone status
+  make_refuses_none Exceeds before after (Refused refusal) means = absurd means
+  make_refuses_none Exceeds before after _ means = tt
 
   -- one status answers
   make_settled : (Exceeds : Limit → Type 0)
@@ -190,6 +197,14 @@ module _ {Task : Type 0} (making : Task → Making) (Exceeds : Task → Automato
             on_yes on_memory (limits.answers task one) before after status faultless made)
             unrefused means;
         memory = on_memory;
+        refused = λ before after name fault means at_load.
+            one_refused own.kind own.file _
+            (λ names one. make_refuses_none (own.IsMade one) own.out names (Exceeds task one))
+            before after name fault means at_load;
+        exact = λ have before after status name fault means refuses faultless.
+            one_exact own.kind own.file _
+            (λ names one. make_refuses_none (own.IsMade one) own.out names (Exceeds task one))
+            have before after status name fault means refuses faultless;
         settled = λ before after other_before other_after status other means others same_files conclusive also.
             over_one before after other_before other_after status other conclusive also
             (status ≡ other) own.kind own.file _ _
@@ -251,6 +266,16 @@ combine_lawful task = record {
       (λ limit exceeds. tt) before after status faultless made)
       unrefused means;
   memory = tt;
+  refused = λ before after name fault means at_load.
+      two_refused (combined_kind task.operation) task.one task.two _
+      (λ names one two. make_refuses_none (IsMadeOfTwo task.operation one two) task.out names
+      (ExceedsCombined task.operation task.max_states one two))
+      before after name fault means at_load;
+  exact = λ have before after status name fault means refuses faultless.
+      two_exact (combined_kind task.operation) task.one task.two _
+      (λ names one two. make_refuses_none (IsMadeOfTwo task.operation one two) task.out names
+      (ExceedsCombined task.operation task.max_states one two))
+      have before after status name fault means refuses faultless;
   settled = λ before after other_before other_after status other means others same conclusive also.
       over_two before after other_before other_after status other conclusive also (status ≡ other)
       (combined_kind task.operation) task.one task.two _ _
