@@ -7,6 +7,7 @@ use Rattle.kb_proof.specs.declared.log.Log.{Log}
 use Rattle.kb_task.specs.Logs.{HoldsDerivations, IsDerivationsFault}
 use Rattle.kb_task.specs.Presentations.{HoldsPresentation, IsPresentationFault}
 use Rattle.kb_task.specs.PromiseLaws.{yes-conclusive}
+use Rattle.kb_task.specs.Refusals.{RefusesNone}
 use Rattle.kb_task.specs.Statuses.{AnswersYesOrNo, IsConclusive, IsFaultless, IsYes}
 use Rattle.kb_task.specs.Stops.{stop_status}
 use Rattle.kb_task.specs.declared.status.Status.{Status}
@@ -14,6 +15,7 @@ use Rattle.kb_task.specs.declared.status.Status.TheVariants.{Yes, Fault}
 use Rattle.kb_task.specs.declared.status.Which.TheVariants.{Output}
 use Rattle.kb_task.proofs.HeldLogs.{one_log_held}
 use Rattle.kb_task.proofs.LoadEnds.{memory_at_load, load_inconclusive, one_presentation_held}
+use Rattle.kb_task.proofs.RefusalLemmas.{ReadsTwo, ends_first, ends_next, reads_both}
 use Rattle.kb_task.proofs.StoredLogs.{names_apart}
 use Rattle.kb_lines.specs.Answered.{Stops}
 use Rattle.kb_lines.specs.declared.stop.Stop.{Stop}
@@ -110,6 +112,46 @@ log_complete file before after status (inl ends) unrefused faultless =
     subst AnswersYesOrNo (sym is_memory) tt
 log_complete file before after status (inr read) unrefused faultless =
     file_answers file read.0 before after status read.1 unrefused faultless read.2
+
+-- ---- refused files
+
+objection_refuses_none : (objection : Objection) → RefusesNone (objection_status objection)
+objection_refuses_none (objections.Unjustified number why) = tt
+objection_refuses_none (objections.RelationApart number u v) = tt
+objection_refuses_none (objections.NotConfluent u v) = tt
+
+stop_refuses_none : (stop : Stop) → RefusesNone (stop_status stop)
+stop_refuses_none (stops.Refused number fault) = tt
+stop_refuses_none stops.TooLong = tt
+stop_refuses_none stops.Input = tt
+stop_refuses_none stops.Output = tt
+stop_refuses_none stops.Memory = tt
+
+lines_refuse_none : (parts : PresentationParts) (log : Log) (before after : Outside)
+    (status : Status) → LogMeans parts log before after status → RefusesNone status
+lines_refuse_none parts log before after status (answered is decides all) =
+    subst RefusesNone (sym is) tt
+lines_refuse_none parts log before after status (stopped stop is decides how) =
+    subst RefusesNone (sym is) (stop_refuses_none stop)
+lines_refuse_none parts log before after status (objected objection is says writes) =
+    subst RefusesNone (sym is) (objection_refuses_none objection)
+lines_refuse_none parts log before after status (cut_off objection is says front) =
+    subst RefusesNone (sym is) tt
+lines_refuse_none parts log before after status (no_memory is unchanged) =
+    subst RefusesNone (sym is) tt
+
+-- how far a run came with its files
+pub log_read : (file : List ℕ) (before after : Outside) (status : Status)
+    → ByLogMeans file before after status
+    → ReadsTwo (IsPresentationFault before.shelf.holds file) file
+    (HoldsPresentation before.shelf.holds file)
+    (λ parts. IsDerivationsFault parts.names before.shelf.holds (log_file file)) (log_file file)
+    (λ parts. (log : Log) × HoldsDerivations before.shelf.holds (log_file file) parts.names log)
+    status
+log_read file before after status (inl ends) = ends_first ends.0
+log_read file before after status (inr (parts, holds, inl ends)) = ends_next parts holds ends.0
+log_read file before after status (inr (parts, holds, inr (log, held, means))) =
+    reads_both parts holds (log, held) (lines_refuse_none parts log before after status means)
 
 -- ---- one answer
 

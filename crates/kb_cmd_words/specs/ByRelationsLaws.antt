@@ -11,12 +11,14 @@ use Rattle.kb_rules.proofs.Unique.{normal_form_unique}
 use Rattle.kb_confluence.specs.FirstApart.{ComesBefore, IsFirstApart}
 use Rattle.kb_task.specs.Presentations.{HoldsPresentation, IsPresentationFault}
 use Rattle.kb_task.specs.PromiseLaws.{yes-conclusive}
+use Rattle.kb_task.specs.Refusals.{RefusesNone}
 use Rattle.kb_task.specs.Statuses.{AnswersYesOrNo, IsConclusive, IsFaultless, IsYes}
 use Rattle.kb_task.specs.declared.status.Cert.TheVariants.{NotConfluent}
 use Rattle.kb_task.specs.declared.status.Refusal.TheVariants.{File, Line, InputTooLong}
 use Rattle.kb_task.specs.declared.status.Status.{Status}
 use Rattle.kb_task.specs.declared.status.Status.TheVariants.{Yes, Refused, Undecided, No, Memory, Fault, Usage}
 use Rattle.kb_task.proofs.LoadEnds.{memory_at_load, load_inconclusive, one_presentation_held}
+use Rattle.kb_task.proofs.RefusalLemmas.{ReadsOne, ends_there, reads_it}
 use Rattle.kb_cmd_words.specs.Confluence.{OrientedAreConfluent, OrientedAreNotConfluent}
 use Rattle.kb_cmd_words.specs.ByRelations.{AnswersMean, ByRelationsMean}
 use Rattle.kb_cmd_words.specs.WordReduce.{IsUnrefusedBy}
@@ -136,6 +138,22 @@ relations_complete file before after status (inl means) unrefused faultless =
     faultless means.0)) tt
 relations_complete file before after status (inr means) unrefused faultless =
     lines_answer file means.0 before after status means.1 unrefused faultless means.2
+
+-- ---- refused files
+
+lines_refuse_none : (parts : PresentationParts) (before after : Outside) (status : Status)
+    → AnswersMean parts before after status → RefusesNone status
+lines_refuse_none parts before after (Refused (File name fault)) means = absurd means
+lines_refuse_none parts before after _ means = tt
+
+-- how far a run came with its file
+pub relations_read : (file : List ℕ) (before after : Outside) (status : Status)
+    → ByRelationsMean file before after status
+    → ReadsOne (IsPresentationFault before.shelf.holds file) file
+    ((parts : PresentationParts) × HoldsPresentation before.shelf.holds file parts) status
+relations_read file before after status (inl means) = ends_there means.0
+relations_read file before after status (inr means) =
+    reads_it (means.0, means.1) (lines_refuse_none means.0 before after status means.2)
 
 -- ---- one answer
 

@@ -7,7 +7,9 @@ use Rattle.kb_task.specs.Automata.{IsUnrefused}
 use Rattle.kb_task.specs.Logs.{IsDerivationsFault}
 use Rattle.kb_task.specs.Presentations.{HoldsPresentation, IsPresentationFault}
 use Rattle.kb_task.specs.Promises.{Promise}
+use Rattle.kb_task.specs.Refusals.{IsRefusedFor, IsRefusedOfTwo}
 use Rattle.kb_task.specs.Statuses.{AnswersYesOrNo, IsConclusive}
+use Rattle.kb_task.specs.declared.status.FileFault.{FileFault}
 use Rattle.kb_task.specs.declared.status.Status.{Status}
 use Rattle.kb_lines.specs.WordLines.{most_input, IsFirstRefused}
 use Rattle.kb_evidence.specs.Files.{log_file}
@@ -24,6 +26,14 @@ MeansBy false file = ByRelationsMean file
 -- the file of the presentation is read, and that of its log where its lines answer
 abbrev pub ReadsBy : Bool → List ℕ → List ℕ → Type 0
 ReadsBy by_log file name = (name ≡ file) ⊎ (IsTrue by_log × (name ≡ log_file file))
+
+-- the file of the presentation has a fault; or, where it holds one and the lines of its log answer, that of the log has
+abbrev pub RefusesBy : Bool → List ℕ → Outside → List ℕ → FileFault → Type 0
+RefusesBy true file before =
+    IsRefusedOfTwo (IsPresentationFault before.shelf.holds file) file
+    (HoldsPresentation before.shelf.holds file)
+    (λ parts. IsDerivationsFault parts.names before.shelf.holds (log_file file)) (log_file file)
+RefusesBy false file before = IsRefusedFor (IsPresentationFault before.shelf.holds file) file
 
 -- The file of the presentation isn't refused, nor that of its log where its lines answer, nor a line of the input by the
 -- presentation that the file holds, and the input isn't too long.
@@ -45,6 +55,7 @@ wordreduce_promise given = record {
   may_store = StoresNothing;
   settled_stores = StoresNothing;
   reads = ReadsBy given.by_log given.file;
+  refuses = RefusesBy given.by_log given.file;
   is_unrefused = IsUnrefusedBy given.by_log given.file;
   answers = AnswersYesOrNo;
   settles = IsConclusive;
