@@ -6,6 +6,7 @@ use Rattle.kb_task.specs.Automata.{IsUnrefused}
 use Rattle.kb_task.specs.Loads.{EndsAtLoad}
 use Rattle.kb_task.specs.Presentations.{HoldsPresentation, IsPresentationFault}
 use Rattle.kb_task.specs.Promises.{Promise}
+use Rattle.kb_task.specs.Refusals.{IsRefusedFor}
 use Rattle.kb_task.specs.Statuses.{AnswersYesOrLimit, IsYes}
 use Rattle.kb_task.specs.Stores.{Text, texts_of}
 use Rattle.kb_task.specs.declared.status.Limit.{Limit}
@@ -70,6 +71,7 @@ kbcertify_promise given = record {
   may_store = kbcertify_may_store given;
   settled_stores = kbcertify_settled_stores given;
   reads = λ name. name ≡ given.file;
+  refuses = λ before. IsRefusedFor (IsPresentationFault before.shelf.holds given.file) given.file;
   is_unrefused = IsKbcertifyUnrefused given;
   answers = AnswersYesOrLimit;
   settles = IsYes;

@@ -12,11 +12,15 @@ use Rattle.kb_logged.specs.OneCompletion.{one_acceptor, one_rules}
 use Rattle.kb_task.specs.Presentations.{HoldsPresentation, IsPresentationFault}
 use Rattle.kb_task.specs.PromiseLaws.{one_yes, yes-conclusive}
 use Rattle.kb_task.specs.Promises.{IsLawful}
+use Rattle.kb_task.specs.Refusals.{RefusesNone}
 use Rattle.kb_task.specs.Runs.{HasSameEffect, LeavesSame, ReadsSame}
 use Rattle.kb_task.specs.Statuses.{AnswersYesOrLimit, IsFaultless, IsYes}
 use Rattle.kb_task.specs.Stores.{HoldsTexts, Text}
+use Rattle.kb_task.specs.declared.status.Refusal.TheVariants.{File}
 use Rattle.kb_task.specs.declared.status.Status.{Status}
+use Rattle.kb_task.specs.declared.status.Status.TheVariants.{Refused}
 use Rattle.kb_task.proofs.LoadEnds.{memory_at_load, load_inconclusive, one_presentation_held}
+use Rattle.kb_task.proofs.RefusalLemmas.{ReadsOne, ends_there, reads_it, exact_of_one, refused_of_one}
 use Rattle.kb_evidence.specs.FileLaws.{second_contained}
 use Rattle.kb_evidence.specs.Files.{acceptor_file, log_file, log_text, rules_file}
 use Rattle.kb_cmd_proofs.specs.Certified.{AreCertified, acceptor_text}
@@ -52,6 +56,31 @@ certify_complete given before after status (inl means) unrefused faultless =
     status unrefused faultless means.0)) tt
 certify_complete given before after status (inr means) unrefused faultless =
     shown_answers means.2 faultless
+
+-- ---- refused files
+
+module _ {given : KbcertifyGiven} {parts : PresentationParts} where
+  found_refuses_none : {status : Status} {texts : List Text} {line : List ℕ}
+      → FindsCertified given parts status texts line → RefusesNone status
+  found_refuses_none (certified are) = tt
+  found_refuses_none (limited shows) = tt
+
+  shown_refuses_none : {before after : Outside} {status : Status}
+      → ShowMeans (FindsCertified given parts) before after status → RefusesNone status
+  shown_refuses_none (shown finds holds unread written) = found_refuses_none finds
+  shown_refuses_none (output_failed finds holds unread front) = tt
+  shown_refuses_none (store_failed finds stops) = tt
+  shown_refuses_none (no_memory_stored finds first) = tt
+  shown_refuses_none (no_memory unchanged) = tt
+
+-- how far a run came with its file
+certify_reads : (given : KbcertifyGiven) (before after : Outside) (status : Status)
+    → KbcertifyMeans given before after status
+    → ReadsOne (IsPresentationFault before.shelf.holds given.file) given.file
+    ((parts : PresentationParts) × HoldsPresentation before.shelf.holds given.file parts) status
+certify_reads given before after status (inl means) = ends_there means.0
+certify_reads given before after status (inr means) =
+    reads_it (means.0, means.1) (shown_refuses_none means.2)
 
 -- ---- one function
 
@@ -171,6 +200,12 @@ pub kbcertify_lawful : (given : KbcertifyGiven)
 kbcertify_lawful given = record {
   complete = certify_complete given;
   memory = tt;
+  refused = λ before after name fault means at_load.
+      refused_of_one name fault (certify_reads given before after (Refused (File name fault)) means)
+      at_load;
+  exact = λ have before after status name fault means refuses faultless.
+      exact_of_one name fault (have.presentation before.shelf.holds given.file) status
+      (certify_reads given before after status means) refuses faultless;
   settled = λ before after other_before other_after status other means others same one also.
       one_yes status other one also;
   conclusive = yes-conclusive;

@@ -16,8 +16,10 @@ use Rattle.kb_task.specs.Logs.{HoldsDerivations, IsDerivationsFault}
 use Rattle.kb_task.specs.Presentations.{HoldsPresentation, IsPresentationFault}
 use Rattle.kb_task.specs.Promises.{Promise}
 use Rattle.kb_task.specs.Reasons.{unjustified_line}
+use Rattle.kb_task.specs.Refusals.{IsRefusedOfTwo}
 use Rattle.kb_task.specs.Statuses.{AnswersYesOrNo, IsConclusive}
 use Rattle.kb_task.specs.declared.status.Cert.TheVariants.{NotJustified}
+use Rattle.kb_task.specs.declared.status.FileFault.{FileFault}
 use Rattle.kb_task.specs.declared.status.Status.{Status}
 use Rattle.kb_task.specs.declared.status.Status.TheVariants.{Yes, No, Memory, Fault}
 use Rattle.kb_task.specs.declared.status.Which.TheVariants.{Output}
@@ -76,6 +78,14 @@ KbverifyMeans given before after status =
     ⊎ ((parts : PresentationParts) × HoldsPresentation before.shelf.holds given.file parts
     × LogFileMeans given parts before after status)
 
+-- the file of the presentation has a fault; or, where it holds one, that of the log has
+abbrev pub KbverifyRefuses : KbverifyGiven → Outside → List ℕ → FileFault → Type 0
+KbverifyRefuses given before =
+    IsRefusedOfTwo (IsPresentationFault before.shelf.holds given.file) given.file
+    (HoldsPresentation before.shelf.holds given.file)
+    (λ parts. IsDerivationsFault parts.names before.shelf.holds (log_file given.file))
+    (log_file given.file)
+
 -- neither the presentation nor the log is refused
 pub record IsKbverifyUnrefused (given : KbverifyGiven) (before : Outside) : Type 0 where
   pub file : IsUnrefused (IsPresentationFault before.shelf.holds given.file)
@@ -89,6 +99,7 @@ kbverify_promise given = record {
   may_store = StoresNothing;
   settled_stores = StoresNothing;
   reads = λ name. (name ≡ given.file) ⊎ (name ≡ log_file given.file);
+  refuses = KbverifyRefuses given;
   is_unrefused = IsKbverifyUnrefused given;
   answers = AnswersYesOrNo;
   settles = IsConclusive;

@@ -13,13 +13,16 @@ use Rattle.kb_task.specs.Logs.{HoldsDerivations, IsDerivationsFault}
 use Rattle.kb_task.specs.Presentations.{HoldsPresentation, IsPresentationFault}
 use Rattle.kb_task.specs.PromiseLaws.{yes-conclusive}
 use Rattle.kb_task.specs.Promises.{IsLawful}
+use Rattle.kb_task.specs.Refusals.{RefusesNone}
 use Rattle.kb_task.specs.Runs.{HasSameEffect}
 use Rattle.kb_task.specs.Statuses.{AnswersYesOrNo, IsConclusive, IsFaultless}
+use Rattle.kb_task.specs.declared.status.Refusal.TheVariants.{File}
 use Rattle.kb_task.specs.declared.status.Status.{Status}
-use Rattle.kb_task.specs.declared.status.Status.TheVariants.{Fault}
+use Rattle.kb_task.specs.declared.status.Status.TheVariants.{Refused, Fault}
 use Rattle.kb_task.specs.declared.status.Which.TheVariants.{Output}
 use Rattle.kb_task.proofs.HeldLogs.{one_log_held}
 use Rattle.kb_task.proofs.LoadEnds.{memory_at_load, load_inconclusive, one_presentation_held}
+use Rattle.kb_task.proofs.RefusalLemmas.{ReadsTwo, ends_first, ends_next, reads_both, exact_of_two, refused_of_two}
 use Rattle.kb_task.proofs.StoredLogs.{names_apart}
 use Rattle.kb_evidence.specs.Files.{log_file}
 use Rattle.kb_cmd_proofs.specs.Given.{KbverifyGiven}
@@ -70,6 +73,35 @@ answers_all given before after status (inl ends) unrefused faultless =
     subst AnswersYesOrNo (sym is_memory) tt
 answers_all given before after status (inr read) unrefused faultless =
     file_answers given read.0 before after status read.1 unrefused faultless read.2
+
+-- ---- refused files
+
+answer_refuses_none : (answer : Verified) → RefusesNone (answer_status answer)
+answer_refuses_none verdicts.Yes = tt
+answer_refuses_none (verdicts.No number why) = tt
+
+check_refuses_none : (parts : PresentationParts) (log : Log) (before after : Outside)
+    (status : Status) → CheckMeans parts log before after status → RefusesNone status
+check_refuses_none parts log before after status (answered answer says is writes) =
+    subst RefusesNone (sym is) (answer_refuses_none answer)
+check_refuses_none parts log before after status (cut_off answer says is front) =
+    subst RefusesNone (sym is) tt
+check_refuses_none parts log before after status (no_memory is unchanged) =
+    subst RefusesNone (sym is) tt
+
+-- how far a run came with its files
+reads : (given : KbverifyGiven) (before after : Outside) (status : Status)
+    → KbverifyMeans given before after status
+    → ReadsTwo (IsPresentationFault before.shelf.holds given.file) given.file
+    (HoldsPresentation before.shelf.holds given.file)
+    (λ parts. IsDerivationsFault parts.names before.shelf.holds (log_file given.file))
+    (log_file given.file)
+    (λ parts. (log : Log)
+    × HoldsDerivations before.shelf.holds (log_file given.file) parts.names log) status
+reads given before after status (inl ends) = ends_first ends.0
+reads given before after status (inr (parts, holds, inl ends)) = ends_next parts holds ends.0
+reads given before after status (inr (parts, holds, inr (log, held, means))) =
+    reads_both parts holds (log, held) (check_refuses_none parts log before after status means)
 
 -- ---- one answer
 
@@ -191,6 +223,13 @@ pub kbverify_lawful : (given : KbverifyGiven) → IsLawful kbverify_promise (kbv
 kbverify_lawful given = record {
   complete = answers_all given;
   memory = tt;
+  refused = λ before after name fault means at_load.
+      refused_of_two name fault (reads given before after (Refused (File name fault)) means) at_load;
+  exact = λ have before after status name fault means refuses faultless.
+      exact_of_two name fault status (reads given before after status means)
+      (have.presentation before.shelf.holds given.file)
+      (λ one other held again. one_presentation_held refl held again)
+      (λ parts held. have.derivations before.shelf.holds given.file (log_file given.file) parts held) refuses faultless;
   settled = λ before after other_before other_after status other means others same settles also.
       one_status given before after other_before other_after status other
       (checked_both given before after status settles means)
