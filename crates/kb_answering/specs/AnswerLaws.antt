@@ -7,6 +7,7 @@ use Rattle.kb_word.specs.WordOrderLaws.{word_orders}
 use Rattle.kb_record.specs.declared.error.WordError.{WordError}
 use Rattle.kb_lines.specs.WordLines.{most_input, IsFirstRefused}
 use Rattle.kb_lines.proofs.UniqueLemmas.{one-answered}
+use Rattle.kb_task.specs.Refusals.{RefusesNone}
 use Rattle.kb_task.specs.Runs.{HasSameEffect, LeavesSame}
 use Rattle.kb_task.specs.Statuses.{AnswersYesOrLimit, IsFaultless, IsYes}
 use Rattle.kb_task.specs.Stores.{Text, HoldsTexts, StoresFirst, StopsAtText}
@@ -61,6 +62,13 @@ answers-complete own shows parts before after (Refused (File name fault)) lines 
 answers-complete own shows parts before after (Fault which) lines short faultless means = cc
 answers-complete own shows parts before after (No cert) lines short faultless means = means
 answers-complete own shows parts before after (Usage kind) lines short faultless means = means
+
+-- the run refuses no file
+pub answers-refuse_none : (own : Own) (shows : Shows) (parts : PresentationParts)
+    (before after : Outside) (status : Status)
+    → AnswersMean own shows parts before after status → RefusesNone status
+answers-refuse_none own shows parts before after (Refused (File name fault)) means = absurd means
+answers-refuse_none own shows parts before after _ means = tt
 
 -- ---- one function
 

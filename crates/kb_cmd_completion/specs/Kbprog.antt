@@ -8,6 +8,7 @@ use Rattle.kb_task.specs.Automata.{IsUnrefused}
 use Rattle.kb_task.specs.Loads.{EndsAtLoad}
 use Rattle.kb_task.specs.Presentations.{HoldsPresentation, IsPresentationFault}
 use Rattle.kb_task.specs.Promises.{Promise}
+use Rattle.kb_task.specs.Refusals.{IsRefusedFor}
 use Rattle.kb_task.specs.Statuses.{AnswersYesOrLimit, IsYes}
 use Rattle.kb_task.specs.declared.status.Status.{Status}
 use Rattle.kb_system.specs.Completed.{IsLeastIn}
@@ -55,6 +56,7 @@ kbprog_promise given = record {
   may_store = kbprog_may_store given;
   settled_stores = kbprog_may_store given;
   reads = λ name. name ≡ given.file;
+  refuses = λ before. IsRefusedFor (IsPresentationFault before.shelf.holds given.file) given.file;
   is_unrefused = IsKbprogUnrefused given;
   answers = AnswersYesOrLimit;
   settles = IsYes;

@@ -8,10 +8,13 @@ use Rattle.kb_task.specs.Promises.{IsLawful}
 use Rattle.kb_task.specs.Runs.{HasSameEffect, ReadsSame}
 use Rattle.kb_task.specs.Statuses.{AnswersYesOrLimit, IsFaultless, IsYes}
 use Rattle.kb_task.specs.Stores.{Text}
+use Rattle.kb_task.specs.declared.status.Refusal.TheVariants.{File}
 use Rattle.kb_task.specs.declared.status.Status.{Status}
+use Rattle.kb_task.specs.declared.status.Status.TheVariants.{Refused}
 use Rattle.kb_task.proofs.LoadEnds.{memory_at_load, load_inconclusive, one_presentation_held}
+use Rattle.kb_task.proofs.RefusalLemmas.{ReadsOne, ends_there, reads_it, exact_of_one, refused_of_one}
 use Rattle.kb_answering.specs.Answers.{AnswersMean}
-use Rattle.kb_answering.specs.AnswerLaws.{answers-complete, answers-same}
+use Rattle.kb_answering.specs.AnswerLaws.{answers-complete, answers-refuse_none, answers-same}
 use Rattle.kb_cmd_completion.specs.CompletionLaws.{one_rules, one_acceptor}
 use Rattle.kb_cmd_completion.specs.Files.{completed_texts, AreCompleted}
 use Rattle.kb_cmd_completion.specs.Given.{KbprogGiven}
@@ -45,6 +48,17 @@ complete given before after status (inr means) unrefused faultless =
     answers-complete (kbprog_own given) (kbprog_shows given) means.0 before after status
     (λ number fault. unrefused.lines means.0 number fault means.1) unrefused.short faultless
     means.2
+
+-- ---- refused files
+
+reads : (given : KbprogGiven) (before after : Outside) (status : Status)
+    → KbprogMeans given before after status
+    → ReadsOne (IsPresentationFault before.shelf.holds given.file) given.file
+    ((parts : PresentationParts) × HoldsPresentation before.shelf.holds given.file parts) status
+reads given before after status (inl means) = ends_there means.0
+reads given before after status (inr means) =
+    reads_it (means.0, means.1)
+    (answers-refuse_none (kbprog_own given) (kbprog_shows given) means.0 before after status means.2)
 
 -- ---- one function
 
@@ -82,6 +96,11 @@ pub kbprog_lawful : (given : KbprogGiven) → IsLawful kbprog_promise (kbprog_pr
 kbprog_lawful given = record {
   complete = complete given;
   memory = tt;
+  refused = λ before after name fault means at_load.
+      refused_of_one name fault (reads given before after (Refused (File name fault)) means) at_load;
+  exact = λ have before after status name fault means refuses faultless.
+      exact_of_one name fault (have.presentation before.shelf.holds given.file) status
+      (reads given before after status means) refuses faultless;
   settled = λ before after other_before other_after status other means others same one also.
       one_yes status other one also;
   conclusive = yes-conclusive;

@@ -14,7 +14,9 @@ use Rattle.kb_task.specs.Loads.{EndsAtLoad}
 use Rattle.kb_task.specs.Logs.{HoldsLog, IsLogFault}
 use Rattle.kb_task.specs.Presentations.{HoldsPresentation, IsPresentationFault}
 use Rattle.kb_task.specs.Promises.{Promise}
+use Rattle.kb_task.specs.Refusals.{IsRefusedOfTwo}
 use Rattle.kb_task.specs.Statuses.{AnswersYes, IsYes}
+use Rattle.kb_task.specs.declared.status.FileFault.{FileFault}
 use Rattle.kb_task.specs.declared.status.Status.{Status}
 use Rattle.kb_task.specs.declared.status.Status.TheVariants.{Yes, Memory, Fault}
 use Rattle.kb_task.specs.declared.status.Which.TheVariants.{Output}
@@ -67,6 +69,14 @@ LogreadMeans given before after status =
     ⊎ ((parts : PresentationParts) × HoldsPresentation before.shelf.holds given.file parts
     × LogFileMeans given parts before after status)
 
+-- the file of the presentation has a fault; or, where it holds one, that of the log has
+abbrev pub LogreadRefuses : LogreadGiven → Outside → List ℕ → FileFault → Type 0
+LogreadRefuses given before =
+    IsRefusedOfTwo (IsPresentationFault before.shelf.holds given.file) given.file
+    (HoldsPresentation before.shelf.holds given.file)
+    (λ parts. IsLogFault parts.names before.shelf.holds (log_file given.file))
+    (log_file given.file)
+
 -- neither the presentation nor the log is refused
 pub record IsLogreadUnrefused (given : LogreadGiven) (before : Outside) : Type 0 where
   pub file : IsUnrefused (IsPresentationFault before.shelf.holds given.file)
@@ -80,6 +90,7 @@ logread_promise given = record {
   may_store = StoresNothing;
   settled_stores = StoresNothing;
   reads = λ name. (name ≡ given.file) ⊎ (name ≡ log_file given.file);
+  refuses = LogreadRefuses given;
   is_unrefused = IsLogreadUnrefused given;
   answers = AnswersYes;
   settles = IsYes;

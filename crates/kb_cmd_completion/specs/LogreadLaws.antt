@@ -7,11 +7,14 @@ use Rattle.kb_task.specs.Logs.{HoldsLog, IsLogFault}
 use Rattle.kb_task.specs.Presentations.{HoldsPresentation, IsPresentationFault}
 use Rattle.kb_task.specs.PromiseLaws.{one_yes, yes-conclusive}
 use Rattle.kb_task.specs.Promises.{IsLawful}
+use Rattle.kb_task.specs.Refusals.{RefusesNone}
 use Rattle.kb_task.specs.Runs.{HasSameEffect}
 use Rattle.kb_task.specs.Statuses.{AnswersYes, IsFaultless, IsYes}
+use Rattle.kb_task.specs.declared.status.Refusal.TheVariants.{File}
 use Rattle.kb_task.specs.declared.status.Status.{Status}
 use Rattle.kb_task.specs.declared.status.Status.TheVariants.{Yes, Refused, Undecided, No, Memory, Fault, Usage}
 use Rattle.kb_task.proofs.LoadEnds.{memory_at_load, load_inconclusive, one_presentation_held}
+use Rattle.kb_task.proofs.RefusalLemmas.{ReadsTwo, ends_first, ends_next, reads_both, exact_of_two, refused_of_two}
 use Rattle.kb_evidence.specs.Files.{log_file}
 use Rattle.kb_cmd_completion.specs.Given.{LogreadGiven}
 use Rattle.kb_cmd_completion.specs.Logread.{LogMeans, LogFileMeans, LogreadMeans, IsLogreadUnrefused, StoresNothing, logread_line, logread_promise}
@@ -54,6 +57,26 @@ answers given before after status (inl ends) unrefused faultless =
     subst AnswersYes (sym is_memory) tt
 answers given before after status (inr read) unrefused faultless =
     file_answers given read.0 before after status read.1 unrefused faultless read.2
+
+-- ---- refused files
+
+log_refuses_none : (log : Log) (before after : Outside) (status : Status)
+    → LogMeans log before after status → RefusesNone status
+log_refuses_none log before after (Refused refusal) means = absurd means
+log_refuses_none log before after _ means = tt
+
+-- how far a run came with its files
+reads : (given : LogreadGiven) (before after : Outside) (status : Status)
+    → LogreadMeans given before after status
+    → ReadsTwo (IsPresentationFault before.shelf.holds given.file) given.file
+    (HoldsPresentation before.shelf.holds given.file)
+    (λ parts. IsLogFault parts.names before.shelf.holds (log_file given.file))
+    (log_file given.file)
+    (λ parts. (log : Log) × HoldsLog before.shelf.holds (log_file given.file) parts.names log) status
+reads given before after status (inl means) = ends_first means.0
+reads given before after status (inr (parts, holds, inl means)) = ends_next parts holds means.0
+reads given before after status (inr (parts, holds, inr (log, held, means))) =
+    reads_both parts holds (log, held) (log_refuses_none log before after status means)
 
 -- ---- one line
 
@@ -131,6 +154,13 @@ pub logread_lawful : (given : LogreadGiven) → IsLawful logread_promise (logrea
 logread_lawful given = record {
   complete = answers given;
   memory = tt;
+  refused = λ before after name fault means at_load.
+      refused_of_two name fault (reads given before after (Refused (File name fault)) means) at_load;
+  exact = λ have before after status name fault means refuses faultless.
+      exact_of_two name fault status (reads given before after status means)
+      (have.presentation before.shelf.holds given.file)
+      (λ one other held again. one_presentation_held refl held again)
+      (λ parts held. have.log before.shelf.holds given.file (log_file given.file) parts held) refuses faultless;
   settled = λ before after other_before other_after status other means others same is_yes also.
       one_yes status other is_yes also;
   conclusive = yes-conclusive;

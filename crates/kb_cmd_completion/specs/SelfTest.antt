@@ -90,6 +90,7 @@ selftest_promise given = record {
   may_store = λ name. ⊥;
   settled_stores = λ name. ⊥;
   reads = λ name. ⊥;
+  refuses = λ before name fault. ⊥;
   is_unrefused = λ before. Unit {0};
   answers = AnswersYesOrLimit;
   settles = IsYes;

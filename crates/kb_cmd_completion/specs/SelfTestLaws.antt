@@ -90,6 +90,8 @@ pub selftest_lawful : (given : SelfTestGiven) → IsLawful selftest_promise (sel
 selftest_lawful given = record {
   complete = answers given;
   memory = tt;
+  refused = λ before after name fault means at_load. means;
+  exact = λ have before after status name fault means never faultless. absurd never;
   settled = λ before after other_before other_after status other means others same is_yes also.
       one_yes status other is_yes also;
   conclusive = yes-conclusive;
