@@ -18,34 +18,31 @@ use Rattle.kb_task.specs.Loads.{Files, EndsAtLoad, OnlyLoads}
 use Rattle.kb_task.specs.Presentations.{HoldsPresentation}
 use Rattle.kb_task.specs.Runs.{FaultIsCounted, IsRun}
 use Rattle.kb_task.specs.Stores.{Text, names_of}
-use Rattle.kb_task.specs.Subgroups.{HoldsSubgroup, IsSubgroupFault, marker_name}
+use Rattle.kb_task.specs.Subgroups.{HoldsMarkable, HoldsSubgroup, IsSubgroupFault, marker_name}
 use Rattle.kb_task.specs.declared.loading.LoadStop.TheVariants as load_stops
 use Rattle.kb_task.specs.declared.status.Limit.{Limit}
 use Rattle.kb_task.specs.declared.status.Status.{Status}
 use Rattle.kb_task.specs.declared.status.Status.TheVariants.{Memory}
 use Rattle.kb_task.proofs.EffectLemmas.{unchanged-later, unchanged-printed}
 use Rattle.kb_task.proofs.LoadEnds.{same_files}
+use Rattle.kb_task.proofs.LoadLemmas.{holds_group}
 use Rattle.kb_task.proofs.RunLemmas.{run-prints, run-after_loads, run-ends, unchanged-loads}
 use Rattle.kb_cmd_elements.specs.Ball.{no_files}
 use Rattle.kb_cmd_elements.specs.CosetAnswers.{CosetsMean, marked_of, subgroup_file}
 use Rattle.kb_cmd_elements.specs.CosetsTold.{TellCosets}
 use Rattle.kb_cmd_elements.specs.Given.{KbcosGiven}
-use Rattle.kb_cmd_elements.specs.Kbcos.{AnswersCosets, GroupMeans, HoldsMarkable, KbcosMeans, kbcos_limits, kbcos_may_store, kbcos_shows}
+use Rattle.kb_cmd_elements.specs.Kbcos.{AnswersCosets, GroupMeans, KbcosMeans, kbcos_limits, kbcos_may_store, kbcos_shows}
 use Rattle.kb_cmd_elements.proofs.CosetRuns.{cosets-later}
 
 -- what was loaded is a group to which the marker can be added
 pub held_markable : (files : Files) (name : List ℕ) (presentation : Presentation) → HoldsPresentation files name (parts_of presentation)
     → presentation.order ≡ ShortLex → EachInverts presentation.n presentation.inv → length presentation.names < most_generators
     → (¬ Contains presentation.names marker_name) → HoldsMarkable files name (parts_of presentation)
-held_markable files name presentation holds shortlex group room free =
-    let P : ℕ → Type 0 = λ n. EachInverts n presentation.inv in
-    record {
-      holds = holds;
-      shortlex = shortlex;
-      group = subst P (sym presentation.is_presentation.one_name_each) group;
-      room = room;
-      free = free;
-    }
+held_markable files name presentation holds shortlex inverses room free = record {
+  group = holds_group files name presentation holds shortlex inverses;
+  room = room;
+  free = free;
+}
 
 module _ (given : KbcosGiven) where
   -- memory ran out before the group was loaded

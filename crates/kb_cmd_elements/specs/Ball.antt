@@ -7,6 +7,7 @@ use Rattle.kb_task.specs.Automata.{IsUnrefused}
 use Rattle.kb_task.specs.Loads.{EndsAtLoad}
 use Rattle.kb_task.specs.Presentations.{HoldsPresentation, IsShortlexFault}
 use Rattle.kb_task.specs.Promises.{Promise}
+use Rattle.kb_task.specs.Refusals.{IsRefusedFor}
 use Rattle.kb_task.specs.Statuses.{AnswersYesOrLimit, IsYes}
 use Rattle.kb_task.specs.declared.status.Status.{Status}
 use Rattle.kb_evidence.specs.Files.{rules_file, log_file}
@@ -49,6 +50,7 @@ ball_promise given = record {
   may_store = ball_may_store given;
   settled_stores = ball_may_store given;
   reads = λ name. name ≡ given.file;
+  refuses = λ before. IsRefusedFor (IsShortlexFault before.shelf.holds given.file) given.file;
   is_unrefused = λ before. IsUnrefused (IsShortlexFault before.shelf.holds given.file);
   answers = AnswersYesOrLimit;
   settles = IsYes;

@@ -3,9 +3,11 @@ use Rattle.std.proofs.Common.{◌≡◌, ◌∙◌, inl, inr, ℕ, List, ◌++�
 use Rattle.std.specs.List.{Contains}
 use Rattle.kb_io.specs.Outside.{Outside}
 use Rattle.kb_word.specs.Presentations.{PresentationParts}
+use Rattle.kb_task.specs.OneReason.{HoldsShortlex}
 use Rattle.kb_task.specs.Presentations.{HoldsPresentation, IsShortlexFault}
 use Rattle.kb_task.specs.PromiseLaws.{one_yes, yes-conclusive}
 use Rattle.kb_task.specs.Promises.{IsLawful}
+use Rattle.kb_task.specs.Refusals.{RefusesNone}
 use Rattle.kb_task.specs.Runs.{HasSameEffect, ReadsSame}
 use Rattle.kb_task.specs.Automata.{IsUnrefused}
 use Rattle.kb_task.specs.Statuses.{AnswersYesOrLimit, IsFaultless, IsYes}
@@ -13,8 +15,9 @@ use Rattle.kb_task.specs.declared.status.Refusal.TheVariants.{File, Line as Refu
 use Rattle.kb_task.specs.declared.status.Status.{Status}
 use Rattle.kb_task.specs.declared.status.Status.TheVariants.{Yes, Refused, Undecided, No, Memory, Fault, Usage}
 use Rattle.kb_task.proofs.LoadEnds.{memory_at_load, load_inconclusive, one_presentation_held}
+use Rattle.kb_task.proofs.RefusalLemmas.{ReadsOne, ends_there, reads_it, exact_of_one, refused_of_one}
 use Rattle.kb_answering.specs.Answers.{AnswersMean}
-use Rattle.kb_answering.specs.AnswerLaws.{one_least}
+use Rattle.kb_answering.specs.AnswerLaws.{answers-refuse_none, one_least}
 use Rattle.kb_listing.specs.Asked.{lines_of_words}
 use Rattle.kb_listing.specs.AskedLaws.{AreAmong, one_ascending}
 use Rattle.kb_listing.specs.Printing.{OnlyPrints}
@@ -60,6 +63,12 @@ module _ (parts : PresentationParts) (radius : ℕ) where
   printed_answers before after status faultless (failed front) = cc
   printed_answers before after status faultless (no_memory front) = tt
 
+  printed_refuses_none : (before after : List ℕ) (status : Status)
+      → BallIsPrinted parts radius before after status → RefusesNone status
+  printed_refuses_none before after status (printed ball is) = tt
+  printed_refuses_none before after status (failed front) = tt
+  printed_refuses_none before after status (no_memory front) = tt
+
 module _ (given : BallGiven) (parts : PresentationParts) (before after : Outside) where
   -- where a limit was shown, that is the answer
   limit_answers : (status : Status) → IsFaultless status
@@ -81,6 +90,15 @@ module _ (given : BallGiven) (parts : PresentationParts) (before after : Outside
       prints.so
   ball_answers status faultless (inr limit) = limit_answers status faultless limit
 
+  -- no file is refused
+  ball_refuses_none : (status : Status) → BallAnswers given parts before after status
+      → RefusesNone status
+  ball_refuses_none status (inl prints) =
+      printed_refuses_none parts given.radius before.output.written after.output.written status
+      prints.so
+  ball_refuses_none status (inr limit) =
+      answers-refuse_none no_files (ball_shows given) parts before after status limit
+
   -- a yes printed the ball
   yes_prints : (status : Status) → IsYes status → BallAnswers given parts before after status
       → OnlyPrints (BallIsPrinted parts given.radius) before after status
@@ -100,6 +118,17 @@ complete given before after status (inl means) unrefused faultless =
     faultless means.0)) tt
 complete given before after status (inr means) unrefused faultless =
     ball_answers given means.0 before after status faultless means.3
+
+-- ---- refused files
+
+reads : (given : BallGiven) (before after : Outside) (status : Status)
+    → BallMeans given before after status
+    → ReadsOne (IsShortlexFault before.shelf.holds given.file) given.file
+    ((parts : PresentationParts) × HoldsShortlex before.shelf.holds given.file parts) status
+reads given before after status (inl means) = ends_there means.0
+reads given before after status (inr means) =
+    reads_it (means.0, (means.1, means.2))
+    (ball_refuses_none given means.0 before after status means.3)
 
 -- ---- one function
 
@@ -146,6 +175,11 @@ pub ball_lawful : (given : BallGiven) → IsLawful ball_promise (ball_promise gi
 ball_lawful given = record {
   complete = complete given;
   memory = tt;
+  refused = λ before after name fault means at_load.
+      refused_of_one name fault (reads given before after (Refused (File name fault)) means) at_load;
+  exact = λ have before after status name fault means refuses faultless.
+      exact_of_one name fault (have.shortlex before.shelf.holds given.file) status
+      (reads given before after status means) refuses faultless;
   settled = λ before after other_before other_after status other means others same one also.
       one_yes status other one also;
   conclusive = yes-conclusive;

@@ -1,11 +1,8 @@
 -- What a run of `kbcos` means by its status.
-use Rattle.std.specs.Prelude.{◌≡◌, ◌≢◌, ℕ, ◌<◌, ◌≤◌, ◌⊎◌, List, length, Contains}
+use Rattle.std.specs.Prelude.{◌≡◌, ◌≢◌, ℕ, ◌≤◌, ◌⊎◌, List, length}
 use Rattle.kb_io.specs.Outside.{Outside, IsUnchanged}
 use Rattle.kb_word.specs.Presentations.{PresentationParts}
-use Rattle.kb_word.specs.declared.word_order.WordOrder.TheVariants.{ShortLex}
 use Rattle.kb_cosetwords.specs.Cosets.{Cosets, IsLeastOf}
-use Rattle.kb_diff.specs.Groups.{EachInverts}
-use Rattle.kb_fields.specs.Generators.{most_generators}
 use Rattle.kb_record.specs.declared.error.WordError.{WordError}
 use Rattle.kb_lines.specs.WordLines.{most_input, IsFirstRefused}
 use Rattle.kb_system.specs.Evidence.{Limits}
@@ -13,13 +10,15 @@ use Rattle.kb_evidence.specs.Files.{rules_file, log_file}
 use Rattle.kb_evidence.specs.Shown.{ShowsLimit}
 use Rattle.kb_answering.specs.Answers.{Shows, AnswersMean}
 use Rattle.kb_task.specs.Automata.{IsUnrefused}
-use Rattle.kb_task.specs.Loads.{Files, EndsAtLoad}
+use Rattle.kb_task.specs.Loads.{EndsAtLoad}
 use Rattle.kb_task.specs.Presentations.{HoldsPresentation}
 use Rattle.kb_task.specs.Promises.{Promise}
+use Rattle.kb_task.specs.Refusals.{IsRefusedOfTwo}
 use Rattle.kb_task.specs.Statuses.{AnswersYesOrLimit, IsYes}
-use Rattle.kb_task.specs.Subgroups.{HoldsSubgroup, IsMarkableFault, IsSubgroupFault, marker_name}
+use Rattle.kb_task.specs.Subgroups.{HoldsMarkable, HoldsSubgroup, IsMarkableFault, IsSubgroupFault}
 use Rattle.kb_task.specs.declared.status.Construction.TheVariants.{Acceptor}
 use Rattle.kb_task.specs.declared.status.Limit.TheVariants.{States}
+use Rattle.kb_task.specs.declared.status.FileFault.{FileFault}
 use Rattle.kb_task.specs.declared.status.Status.{Status}
 use Rattle.kb_cmd_elements.specs.Ball.{no_files}
 use Rattle.kb_cmd_elements.specs.CosetAnswers.{CosetsMean, marked_of, subgroup_file}
@@ -53,14 +52,6 @@ GroupMeans given parts before after status =
     × TellCosets (record { parts = parts; generators = generators })
     × AnswersCosets given (record { parts = parts; generators = generators }) before after status)
 
--- The file holds a group by shortlex to which the marker can be added.
-pub record HoldsMarkable (files : Files) (name : List ℕ) (parts : PresentationParts) : Type 0 where
-  pub holds : HoldsPresentation files name parts
-  pub shortlex : parts.order ≡ ShortLex
-  pub group : EachInverts (length parts.names) parts.inverses
-  pub room : length parts.names < most_generators
-  pub free : ¬ Contains parts.names marker_name
-
 -- What each status means: the run ended at the load of the group, or it was read.
 abbrev pub KbcosMeans : KbcosGiven → Outside → Outside → Status → Type 0
 KbcosMeans given before after status =
@@ -72,6 +63,14 @@ KbcosMeans given before after status =
 abbrev pub kbcos_may_store : KbcosGiven → List ℕ → Type 0
 kbcos_may_store given name =
     (name ≡ rules_file (subgroup_file given.file)) ⊎ (name ≡ log_file (subgroup_file given.file))
+
+-- the file of the group has a fault; or, where it holds a group to which the marker can be added, that of the words has
+abbrev pub KbcosRefuses : KbcosGiven → Outside → List ℕ → FileFault → Type 0
+KbcosRefuses given before =
+    IsRefusedOfTwo (IsMarkableFault before.shelf.holds given.file) given.file
+    (HoldsMarkable before.shelf.holds given.file)
+    (λ parts. IsSubgroupFault parts before.shelf.holds (subgroup_file given.file))
+    (subgroup_file given.file)
 
 -- Neither file is refused, nor a line of the input by the presentation that the first holds, and the input isn't too long.
 pub record IsKbcosUnrefused (given : KbcosGiven) (before : Outside) : Type 0 where
@@ -93,6 +92,7 @@ kbcos_promise given = record {
   may_store = kbcos_may_store given;
   settled_stores = kbcos_may_store given;
   reads = λ name. (name ≡ given.file) ⊎ (name ≡ subgroup_file given.file);
+  refuses = KbcosRefuses given;
   is_unrefused = IsKbcosUnrefused given;
   answers = AnswersYesOrLimit;
   settles = IsYes;

@@ -20,16 +20,18 @@ use Rattle.kb_task.specs.Loads.{Files}
 use Rattle.kb_task.specs.Presentations.{HoldsPresentation}
 use Rattle.kb_task.specs.PromiseLaws.{one_yes, yes-conclusive}
 use Rattle.kb_task.specs.Promises.{IsLawful}
+use Rattle.kb_task.specs.Refusals.{RefusesNone}
 use Rattle.kb_task.specs.Runs.{HasSameEffect, LeavesSame, ReadsSame}
 use Rattle.kb_task.specs.Statuses.{AnswersYesOrLimit, IsFaultless, IsYes}
 use Rattle.kb_task.specs.Stores.{Text, HoldsTexts}
-use Rattle.kb_task.specs.Subgroups.{HoldsSubgroup, IsMarkableFault, IsSubgroupFault}
+use Rattle.kb_task.specs.Subgroups.{HoldsMarkable, HoldsSubgroup, IsMarkableFault, IsSubgroupFault}
 use Rattle.kb_task.specs.declared.status.Refusal.TheVariants.{File, Line as RefusedLine, InputTooLong}
 use Rattle.kb_task.specs.declared.status.Status.{Status}
 use Rattle.kb_task.specs.declared.status.Status.TheVariants.{Yes, Refused, Undecided, No, Memory, Fault, Usage}
 use Rattle.kb_task.proofs.LoadEnds.{memory_at_load, load_inconclusive, one_presentation_held, one_tree, same_bytes}
+use Rattle.kb_task.proofs.RefusalLemmas.{ReadsTwo, ends_first, ends_next, reads_both, exact_of_two, refused_of_two}
 use Rattle.kb_answering.specs.Answers.{AnswersMean, streams_of}
-use Rattle.kb_answering.specs.AnswerLaws.{texts_same}
+use Rattle.kb_answering.specs.AnswerLaws.{answers-refuse_none, texts_same}
 use Rattle.kb_cmd_elements.specs.Ball.{no_files}
 use Rattle.kb_cmd_elements.specs.CosetAnswers.{AreCosetTexts, CosetsMean, HasStoredRules, coset_texts, marked_of, subgroup_file}
 use Rattle.kb_cmd_elements.specs.Given.{KbcosGiven}
@@ -122,17 +124,44 @@ complete given before after status (inl means) unrefused faultless =
 complete given before after status (inr (parts, group, inl means)) unrefused faultless =
     memory_answers status (memory_at_load
     (IsSubgroupFault parts before.shelf.holds (subgroup_file given.file)) (subgroup_file given.file)
-    status (unrefused.generators parts group.holds) faultless means.0)
+    status (unrefused.generators parts group.group.holds) faultless means.0)
 complete given before after status (inr (parts, group, inr (generators, words, tell, inl means)))
     unrefused faultless =
     let cosets : Cosets = record { parts = parts; generators = generators } in
     cosets_answer given cosets before after
-    (λ number fault. unrefused.lines cosets number fault group.holds words) unrefused.short status
+    (λ number fault. unrefused.lines cosets number fault group.group.holds words) unrefused.short status
     faultless means
 complete given before after status (inr (parts, group, inr (generators, words, tell, inr means)))
     unrefused faultless =
     limit_answers given (record { parts = parts; generators = generators }) before after status
     faultless means
+
+-- ---- refused files
+
+cosets_refuse_none : (given : KbcosGiven) (cosets : Cosets) (before after : Outside)
+    (status : Status) → CosetsMean given.file cosets before after status → RefusesNone status
+cosets_refuse_none given cosets before after (Refused (File name fault)) means = absurd means
+cosets_refuse_none given cosets before after _ means = tt
+
+-- how far a run came with its files
+reads : (given : KbcosGiven) (before after : Outside) (status : Status)
+    → KbcosMeans given before after status
+    → ReadsTwo (IsMarkableFault before.shelf.holds given.file) given.file
+    (HoldsMarkable before.shelf.holds given.file)
+    (λ parts. IsSubgroupFault parts before.shelf.holds (subgroup_file given.file))
+    (subgroup_file given.file)
+    (λ parts. (generators : List (List ℕ))
+    × HoldsSubgroup parts before.shelf.holds (subgroup_file given.file) generators) status
+reads given before after status (inl means) = ends_first means.0
+reads given before after status (inr (parts, group, inl means)) = ends_next parts group means.0
+reads given before after status (inr (parts, group, inr (generators, words, tell, inl means))) =
+    let cosets : Cosets = record { parts = parts; generators = generators } in
+    reads_both parts group (generators, words)
+    (cosets_refuse_none given cosets before after status means)
+reads given before after status (inr (parts, group, inr (generators, words, tell, inr means))) =
+    let cosets : Cosets = record { parts = parts; generators = generators } in
+    reads_both parts group (generators, words)
+    (answers-refuse_none no_files (kbcos_shows given) (marked_of cosets) before after status means)
 
 -- ---- one function
 
@@ -165,7 +194,7 @@ yes_run given before after status is_yes (inr (parts, group, inr (generators, wo
     record {
       parts = parts;
       generators = generators;
-      held = group.holds;
+      held = group.group.holds;
       words = words;
       told = yes_told given (record { parts = parts; generators = generators }) before after status
           is_yes answers;
@@ -231,6 +260,13 @@ pub kbcos_lawful : (given : KbcosGiven) → IsLawful kbcos_promise (kbcos_promis
 kbcos_lawful given = record {
   complete = complete given;
   memory = tt;
+  refused = λ before after name fault means at_load.
+      refused_of_two name fault (reads given before after (Refused (File name fault)) means) at_load;
+  exact = λ have before after status name fault means refuses faultless.
+      exact_of_two name fault status (reads given before after status means)
+      (have.markable before.shelf.holds given.file)
+      (λ one other held again. one_presentation_held refl held.group.holds again.group.holds)
+      (λ parts held. have.subgroup parts before.shelf.holds (subgroup_file given.file)) refuses faultless;
   settled = λ before after other_before other_after status other means others same one also.
       one_yes status other one also;
   conclusive = yes-conclusive;
