@@ -6,7 +6,7 @@ use Rattle.kb_io.specs.States.{ShelfState, SourceState, SinkState}
 use Rattle.kb_word.specs.Presentations.{PresentationParts}
 use Rattle.kb_task.specs.declared.loading.LoadStop.TheVariants as load_stops
 use Rattle.kb_task.specs.Loads.{EndsAtLoad, OnlyLoads}
-use Rattle.kb_task.specs.Presentations.{HoldsPresentation, IsGroupFault}
+use Rattle.kb_task.specs.Presentations.{HoldsGroup, IsGroupFault}
 use Rattle.kb_task.specs.Runs.{FaultIsCounted, IsRun}
 use Rattle.kb_task.specs.declared.status.Status.{Status}
 use Rattle.kb_task.specs.declared.status.Status.TheVariants.{Memory}
@@ -27,7 +27,7 @@ run-unloaded given shelf input output =
 module _ (given : AutgroupGiven) (shelf read : ShelfState) (input : SourceState) (output : SinkState) (loads : OnlyLoads shelf read) where
   -- the file was loaded, and holds this group
   pub run-held : (parts : PresentationParts) (after : Outside) (status : Status)
-      → (IsTrue shelf.told → HoldsPresentation shelf.holds given.file parts)
+      → (IsTrue shelf.told → HoldsGroup shelf.holds given.file parts)
       → IsRun (AnswersMean (autgroup_own given) (autgroup_shows given) parts) (AutgroupMayStore given) (outside read input output) after status
       → IsRun (AutgroupMeans given) (AutgroupMayStore given) (outside shelf input output) after status
   run-held parts after status holds run =

@@ -7,8 +7,9 @@ use Rattle.kb_lines.specs.WordLines.{most_input, IsFirstRefused}
 use Rattle.kb_system.specs.Completed.{IsLeastIn}
 use Rattle.kb_task.specs.Automata.{IsUnrefused}
 use Rattle.kb_task.specs.Loads.{EndsAtLoad}
-use Rattle.kb_task.specs.Presentations.{HoldsPresentation, IsGroupFault}
+use Rattle.kb_task.specs.Presentations.{HoldsGroup, HoldsPresentation, IsGroupFault}
 use Rattle.kb_task.specs.Promises.{Promise}
+use Rattle.kb_task.specs.Refusals.{IsRefusedFor}
 use Rattle.kb_task.specs.Statuses.{AnswersYesOrLimit, IsYes}
 use Rattle.kb_task.specs.Stores.{Text}
 use Rattle.kb_task.specs.declared.status.Limit.{Limit}
@@ -34,7 +35,7 @@ pub data AutgroupMeans (given : AutgroupGiven) (before after : Outside) (status 
   at_file : EndsAtLoad (IsGroupFault before.shelf.holds given.file) given.file status
       → IsUnchanged before after
       → AutgroupMeans given before after status
-  loaded : {parts : PresentationParts} → HoldsPresentation before.shelf.holds given.file parts
+  loaded : {parts : PresentationParts} → HoldsGroup before.shelf.holds given.file parts
       → AnswersMean (autgroup_own given) (autgroup_shows given) parts before after status
       → AutgroupMeans given before after status
 
@@ -63,6 +64,7 @@ autgroup_promise given = record {
   may_store = AutgroupMayStore given;
   settled_stores = AutgroupMayStore given;
   reads = λ name. name ≡ given.file;
+  refuses = λ before. IsRefusedFor (IsGroupFault before.shelf.holds given.file) given.file;
   is_unrefused = IsAutgroupUnrefused given;
   answers = AnswersYesOrLimit;
   settles = IsYes;

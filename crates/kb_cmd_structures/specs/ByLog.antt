@@ -19,6 +19,7 @@ use Rattle.kb_task.specs.Loads.{Files, EndsAtLoad}
 use Rattle.kb_task.specs.Logs.{HoldsDerivations, IsDerivationsFault}
 use Rattle.kb_task.specs.Presentations.{IsGroupFault}
 use Rattle.kb_task.specs.Reasons.{unjustified_line}
+use Rattle.kb_task.specs.Refusals.{IsRefusedFor}
 use Rattle.kb_task.specs.Stores.{Text}
 use Rattle.kb_task.specs.declared.status.Cert.TheVariants.{NotJustified, Structure}
 use Rattle.kb_task.specs.declared.status.FileFault.{FileFault}
@@ -31,7 +32,7 @@ use Rattle.kb_evidence.specs.Files.{log_file}
 use Rattle.kb_cmd_structures.specs.Given.{CheckGiven}
 use Rattle.kb_cmd_structures.specs.Gpaxioms.{checked_by, construction_of}
 use Rattle.kb_cmd_structures.specs.Lines.{certificate_line}
-use Rattle.kb_cmd_structures.specs.Loaded.{EndsAtAutomata, HoldsGroup, HoldStructure}
+use Rattle.kb_cmd_structures.specs.Loaded.{EndsAtAutomata, HoldsGroup, HoldStructure, IsAutomatonRefused}
 use Rattle.kb_cmd_structures.specs.Shown.{ShowMeans}
 
 -- ---- files
@@ -64,6 +65,21 @@ pub data EndsAtLogged (files : Files) (file : List ℕ) (status : Status) : Type
       → IsJustifiedBy (parts_of presentation) log
       → EndsAtAutomata files file presentation status
       → EndsAtLogged files file status
+
+-- The file of the group has a fault; or, where it holds one, that of the log has; or, where the log is justified, that of
+-- one of the automata. That the lines of the log leave open what the automata are is no fault that its file has as it is
+-- loaded: it is said of the automata and the lines, and is refused only where it is so (`IsUnresolvedFault`).
+pub data IsLoggedRefused (files : Files) (file name : List ℕ) (fault : FileFault) : Type 0 where
+  refused_logged_group : IsRefusedFor (IsGroupFault files file) file name fault
+      → IsLoggedRefused files file name fault
+  refused_log : {presentation : Presentation} → HoldsGroup files file presentation
+      → IsRefusedFor (IsLogFaultBeside files file presentation) (log_file file) name fault
+      → IsLoggedRefused files file name fault
+  refused_logged_automata : {presentation : Presentation} {log : Log}
+      → HoldLogged files file presentation log
+      → IsJustifiedBy (parts_of presentation) log
+      → IsAutomatonRefused files file presentation name fault
+      → IsLoggedRefused files file name fault
 
 -- ---- what is found
 

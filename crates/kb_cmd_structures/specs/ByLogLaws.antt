@@ -71,7 +71,7 @@ module _ {given : CheckGiven} {presentation : Presentation} {log : Log} {accepts
   found_yes (unresolved_by_log is) is_yes = absurd is_yes
 
 -- a log that isn't justified is no yes
-refuted_answers : {presentation : Presentation} {log : Log} {status : Status} {texts : List Text}
+pub refuted_answers : {presentation : Presentation} {log : Log} {status : Status} {texts : List Text}
     {line : List ℕ} → FindsUnjustified presentation log status texts line → IsAnswer status
 refuted_answers (unjustified first) = tt
 
@@ -154,13 +154,13 @@ verified_status verdicts.Yes = Yes
 verified_status (verdicts.No number why) = No (NotJustified number why)
 
 -- the check of the log answered no, which is the status
-record IsRefuted (presentation : Presentation) (log : Log) (status : Status) : Type 0 where
+pub record IsRefuted (presentation : Presentation) (log : Log) (status : Status) : Type 0 where
   answer : Verified
   says : VerifiedSays (Below presentation.order) (relations (parts_of presentation)) log answer
   is : status ≡ verified_status answer
   refutes : ¬ IsYes status
 
-is_refuted : {presentation : Presentation} {log : Log} {status : Status} {texts : List Text}
+pub is_refuted : {presentation : Presentation} {log : Log} {status : Status} {texts : List Text}
     {line : List ℕ}
     → FindsUnjustified presentation log status texts line → IsRefuted presentation log status
 is_refuted (unjustified {number = number} {why = why} first) =
@@ -196,7 +196,7 @@ module _ {files others : Files} {file : List ℕ} {one other : Presentation} {lo
       first.is ∙ (ap verified_status
       (one_check first.answer second.answer first.says second.says) ∙ sym second.is)
 
-  not_justified : {status : Status} → IsRefuted one log status
+  pub not_justified : {status : Status} → IsRefuted one log status
       → ¬ IsJustifiedBy (parts_of other) again
   not_justified {status = status} first justified =
       let same = one_check first.answer verdicts.Yes first.says justified in

@@ -4,16 +4,23 @@ use Rattle.std.specs.Prelude.{Bool, true, false}
 use Rattle.kb_io.specs.Outside.{Outside}
 use Rattle.kb_word.specs.declared.presentation.Presentation.{Presentation}
 use Rattle.kb_fsa.specs.Language.{Automaton}
+use Rattle.kb_task.specs.OneReason.{HaveOneReason}
 use Rattle.kb_task.specs.Promises.{IsLawful}
+use Rattle.kb_task.specs.Refusals.{IsLoadFault, IsRefusalOrMemory}
 use Rattle.kb_task.specs.Runs.{HasSameEffect, ReadsSame}
 use Rattle.kb_task.specs.Statuses.{IsAnswer, IsFaultless, IsYes}
 use Rattle.kb_task.specs.Stores.{Text}
+use Rattle.kb_task.specs.declared.status.FileFault.{FileFault}
+use Rattle.kb_task.specs.declared.status.Refusal.TheVariants.{File}
 use Rattle.kb_task.specs.declared.status.Status.{Status}
+use Rattle.kb_task.specs.declared.status.Status.TheVariants.{Refused}
 use Rattle.kb_answering.specs.AnswerLaws.{texts_same}
 use Rattle.kb_cmd_structures.specs.ByLogLaws.{SaidYes, by_log_complete, by_log_said, by_log_settled, said_yes}
+use Rattle.kb_cmd_structures.specs.ByLogRefusals.{by_log_exact, by_log_refused}
 use Rattle.kb_cmd_structures.specs.Given.{CheckGiven, GpaxiomsGiven}
 use Rattle.kb_cmd_structures.specs.Gpaxioms.{Finds, own, refuted, too_many, unsettled, GpaxiomsSettles, checked_by}
-use Rattle.kb_cmd_structures.specs.GpaxiomsPromise.{IsUnrefusedBy, MayStoreBy, MeansBy, ReadsBy, gpaxioms_promise}
+use Rattle.kb_cmd_structures.specs.GpaxiomsPromise.{IsUnrefusedBy, MayStoreBy, MeansBy, ReadsBy, RefusesBy, gpaxioms_promise}
+use Rattle.kb_cmd_structures.specs.RefusalLaws.{structure_exact, structure_refused}
 use Rattle.kb_cmd_structures.specs.Shown.{StructureMeans}
 use Rattle.kb_cmd_structures.specs.ShownLaws.{Answered, AreAnswers, complete, conclusive, loaded_yes, settled}
 
@@ -68,6 +75,24 @@ all_answer true check before after status means unrefused faultless =
 all_answer false check before after status means unrefused faultless =
     complete (are_answers check) before after status means unrefused faultless
 
+all_refused : (by_log : Bool) (check : CheckGiven) (before after : Outside) (name : List ℕ)
+    (fault : FileFault)
+    → MeansBy by_log check before after (Refused (File name fault)) → IsLoadFault fault
+    → RefusesBy by_log check before name fault
+all_refused true check before after name fault means at_load =
+    by_log_refused check before after name fault means at_load
+all_refused false check before after name fault means at_load =
+    structure_refused (are_answers check) before after name fault means at_load
+
+all_exact : (by_log : Bool) (check : CheckGiven) → HaveOneReason → (before after : Outside)
+    (status : Status) (name : List ℕ) (fault : FileFault)
+    → MeansBy by_log check before after status → RefusesBy by_log check before name fault
+    → IsFaultless status → IsRefusalOrMemory name fault status
+all_exact true check have before after status name fault means refuses faultless =
+    by_log_exact check have before after status name fault means refuses faultless
+all_exact false check have before after status name fault means refuses faultless =
+    structure_exact (are_answers check) have before after status name fault means refuses faultless
+
 all_settled : (by_log : Bool) (check : CheckGiven)
     (before after other_before other_after : Outside) (status other : Status)
     → MeansBy by_log check before after status → MeansBy by_log check other_before other_after other
@@ -114,6 +139,8 @@ pub gpaxioms_lawful : (given : GpaxiomsGiven)
 gpaxioms_lawful given = record {
   complete = all_answer given.by_log given.check;
   memory = tt;
+  refused = all_refused given.by_log given.check;
+  exact = all_exact given.by_log given.check;
   settled = all_settled given.by_log given.check;
   conclusive = conclusive;
   one_function = λ other_given before after other_before other_after status other means others is_yes also file same input.

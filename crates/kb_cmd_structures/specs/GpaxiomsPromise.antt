@@ -9,12 +9,13 @@ use Rattle.kb_bylog.specs.LogLines.{IsJustifiedBy}
 use Rattle.kb_task.specs.Automata.{IsUnrefused}
 use Rattle.kb_task.specs.Promises.{Promise}
 use Rattle.kb_task.specs.Statuses.{IsAnswer}
+use Rattle.kb_task.specs.declared.status.FileFault.{FileFault}
 use Rattle.kb_task.specs.declared.status.Status.{Status}
 use Rattle.kb_evidence.specs.Files.{log_file}
-use Rattle.kb_cmd_structures.specs.ByLog.{ByLogMeans, HoldsLogBeside, IsLogFaultBeside, IsUnresolvedFault}
+use Rattle.kb_cmd_structures.specs.ByLog.{ByLogMeans, HoldsLogBeside, IsLogFaultBeside, IsLoggedRefused, IsUnresolvedFault}
 use Rattle.kb_cmd_structures.specs.Given.{CheckGiven, GpaxiomsGiven}
 use Rattle.kb_cmd_structures.specs.Gpaxioms.{Finds, GpaxiomsMayStore, GpaxiomsReads, GpaxiomsSettles, IsGpaxiomsUnrefused}
-use Rattle.kb_cmd_structures.specs.Loaded.{HoldsGroup, HoldStructure}
+use Rattle.kb_cmd_structures.specs.Loaded.{HoldsGroup, HoldStructure, IsStructureRefused}
 use Rattle.kb_cmd_structures.specs.Shown.{StructureMeans}
 
 -- what each status means, where the lines of the log decide or a completion
@@ -31,6 +32,11 @@ MayStoreBy false check name = GpaxiomsMayStore check name
 abbrev pub ReadsBy : Bool → CheckGiven → List ℕ → Type 0
 ReadsBy true check name = (name ≡ log_file check.file) ⊎ GpaxiomsReads check name
 ReadsBy false check name = GpaxiomsReads check name
+
+-- the first of the files that has a fault
+abbrev pub RefusesBy : Bool → CheckGiven → Outside → List ℕ → FileFault → Type 0
+RefusesBy true check before = IsLoggedRefused before.shelf.holds check.file
+RefusesBy false check before = IsStructureRefused before.shelf.holds check.file
 
 -- None of the files is refused, nor that of the log: neither as it is loaded, nor because its lines don't settle what the
 -- automata are.
@@ -58,6 +64,7 @@ gpaxioms_promise given = record {
   may_store = MayStoreBy given.by_log given.check;
   settled_stores = MayStoreBy given.by_log given.check;
   reads = ReadsBy given.by_log given.check;
+  refuses = RefusesBy given.by_log given.check;
   is_unrefused = IsUnrefusedBy given.by_log given.check;
   answers = IsAnswer;
   settles = GpaxiomsSettles;

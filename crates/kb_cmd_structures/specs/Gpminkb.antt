@@ -18,6 +18,7 @@ use Rattle.kb_evidence.specs.Files.{minred_file, minkb_file}
 use Rattle.kb_cmd_structures.specs.CanonicalForms.{IsCanonicalForm, AreCanonicalForms}
 use Rattle.kb_cmd_structures.specs.Given.{CheckGiven}
 use Rattle.kb_cmd_structures.specs.Gpaxioms.{Finds, GpaxiomsMayStore, GpaxiomsReads, GpaxiomsSettles, IsGpaxiomsUnrefused, checked_by}
+use Rattle.kb_cmd_structures.specs.Loaded.{IsStructureRefused}
 use Rattle.kb_cmd_structures.specs.ReducedSystem.{IsSystemOf, system_texts}
 use Rattle.kb_cmd_structures.specs.Shown.{StructureMeans}
 
@@ -71,6 +72,7 @@ gpminkb_promise given = record {
   may_store = GpminkbMayStore given;
   settled_stores = GpminkbMayStore given;
   reads = GpaxiomsReads given;
+  refuses = λ before. IsStructureRefused before.shelf.holds given.file;
   is_unrefused = IsGpaxiomsUnrefused given;
   answers = IsAnswer;
   settles = GpaxiomsSettles;

@@ -14,6 +14,7 @@ use Rattle.kb_cmd_structures.specs.GpaxiomsLaws.{found_answers, found_says}
 use Rattle.kb_cmd_structures.specs.Gpminkb.{FindsSystem, system, many_left_sides, many_rules, not_own, GpminkbMayStore, gpminkb_promise}
 use Rattle.kb_cmd_structures.specs.OneSystem.{one_system, system_of_parts}
 use Rattle.kb_cmd_structures.specs.ReducedSystem.{IsSystemOf, system_texts}
+use Rattle.kb_cmd_structures.specs.RefusalLaws.{structure_exact, structure_refused}
 use Rattle.kb_cmd_structures.specs.Shown.{StructureMeans}
 use Rattle.kb_cmd_structures.specs.ShownLaws.{Answered, AreAnswers, FindsOne, complete, conclusive, one_effect, settled}
 
@@ -96,6 +97,8 @@ pub gpminkb_lawful : (given : CheckGiven) → IsLawful gpminkb_promise (gpminkb_
 gpminkb_lawful given = record {
   complete = complete (are_answers given);
   memory = tt;
+  refused = structure_refused (are_answers given);
+  exact = structure_exact (are_answers given);
   settled = settled given (FindsSystem given) (are_answers given);
   conclusive = conclusive;
   one_function = λ other_given before after other_before other_after status ends means others is_yes also file same input.

@@ -14,7 +14,9 @@ pub mod Gpaxioms
 pub mod ShownLaws
 pub mod ByLog
 pub mod GpaxiomsPromise
+pub mod RefusalLaws
 pub mod ByLogLaws
+pub mod ByLogRefusals
 pub mod GpaxiomsLaws
 pub mod Findings
 pub mod Logged

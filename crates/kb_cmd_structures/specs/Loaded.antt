@@ -11,6 +11,7 @@ use Rattle.kb_axioms.specs.Truth.{AreMultipliers}
 use Rattle.kb_task.specs.Automata.{HoldsAutomaton, IsSecondFault}
 use Rattle.kb_task.specs.Loads.{Files, EndsAtLoad}
 use Rattle.kb_task.specs.Presentations.{HoldsPresentation, IsGroupFault}
+use Rattle.kb_task.specs.Refusals.{IsRefusedFor}
 use Rattle.kb_task.specs.declared.loading.automata.Kind.TheVariants.{Words, Pairs}
 use Rattle.kb_task.specs.declared.status.FileFault.{FileFault}
 use Rattle.kb_task.specs.declared.status.Status.{Status}
@@ -94,3 +95,30 @@ pub data EndsAtFile (files : Files) (file : List ℕ) (status : Status) : Type 0
   at_automata : {presentation : Presentation} → HoldsGroup files file presentation
       → EndsAtAutomata files file presentation status
       → EndsAtFile files file status
+
+-- the file of the multiplier that is next after these, which the files before it hold, has a fault
+pub record IsMultiplierRefused (files : Files) (file : List ℕ) (presentation : Presentation)
+    (name : List ℕ) (fault : FileFault) : Type 0 where
+  pub earlier : List Automaton
+  pub held : HoldMultipliers files file presentation earlier
+  pub within : length earlier < presentation.n
+  pub refused : IsRefusedFor (IsMultiplierFault files file presentation (suc (length earlier)))
+      (multiplier_file file (suc (length earlier))) name fault
+
+-- The file of the word acceptor has a fault; or, where it holds one, that of a multiplier has, and those before it hold
+-- what they have to.
+pub data IsAutomatonRefused (files : Files) (file : List ℕ) (presentation : Presentation)
+    (name : List ℕ) (fault : FileFault) : Type 0 where
+  refused_acceptor : IsRefusedFor (IsAcceptorFault files file presentation) (acceptor_file file)
+      name fault → IsAutomatonRefused files file presentation name fault
+  refused_multiplier : {acceptor : Automaton} → HoldsAcceptor files file presentation acceptor
+      → IsMultiplierRefused files file presentation name fault
+      → IsAutomatonRefused files file presentation name fault
+
+-- The file of the group has a fault; or, where it holds one, that of one of the automata has.
+pub data IsStructureRefused (files : Files) (file name : List ℕ) (fault : FileFault) : Type 0 where
+  refused_group : IsRefusedFor (IsGroupFault files file) file name fault
+      → IsStructureRefused files file name fault
+  refused_automata : {presentation : Presentation} → HoldsGroup files file presentation
+      → IsAutomatonRefused files file presentation name fault
+      → IsStructureRefused files file name fault

@@ -5,6 +5,7 @@ use Rattle.kb_word.specs.Presentations.{PresentationParts, parts_of}
 use Rattle.kb_task.specs.Loads.{EndsAtLoad}
 use Rattle.kb_task.specs.Presentations.{HoldsPresentation, IsGroupFault}
 use Rattle.kb_task.specs.declared.status.Status.TheVariants.{Memory}
+use Rattle.kb_task.proofs.LoadLemmas.{holds_group}
 use Rattle.kb_answering.proofs.LoadedRuns.{nothing-run}
 use Rattle.kb_cmd_structures.specs.Autgroup.{autgroup_own, autgroup_shows}
 use Rattle.kb_cmd_structures.specs.Given.{AutgroupGiven}
@@ -32,7 +33,9 @@ returns-in-Ok-find g c =
     let parts : PresentationParts = parts_of c.in-Ok-load_group.presentation in
     let file : c.in-Ok.file ≡ given.file = c.in-Ok.ensures ∙ ap (λ (it : AutgroupGiven). it.file) c.self.view_is in
     run-held given shelf read input output c.load_group.ensures.only_loads parts after c.conclude.result
-    (λ told. subst (λ (name : List ℕ). HoldsPresentation shelf.holds name parts) file (c.in-Ok-load_group.ensures.holds told))
+    (λ told. holds_group shelf.holds given.file c.in-Ok-load_group.presentation
+    (subst (λ (name : List ℕ). HoldsPresentation shelf.holds name parts) file (c.in-Ok-load_group.ensures.holds told))
+    c.in-Ok-load_group.ensures.shortlex c.in-Ok-load_group.ensures.group)
     (c.conclude.ensures parts c.in-Ok-find.ensures)
 
 pub returns-in-Ok-load_group : goal.returns-in-Ok-load_group
@@ -45,7 +48,9 @@ returns-in-Ok-load_group g c =
     let parts : PresentationParts = parts_of c.in-Ok-load_group.presentation in
     let file : c.in-Ok.file ≡ given.file = c.in-Ok.ensures ∙ ap (λ (it : AutgroupGiven). it.file) c.self.view_is in
     run-held given shelf read input output c.load_group.ensures.only_loads parts (outside read input output) Memory
-    (λ told. subst (λ (name : List ℕ). HoldsPresentation shelf.holds name parts) file (c.in-Ok-load_group.ensures.holds told))
+    (λ told. holds_group shelf.holds given.file c.in-Ok-load_group.presentation
+    (subst (λ (name : List ℕ). HoldsPresentation shelf.holds name parts) file (c.in-Ok-load_group.ensures.holds told))
+    c.in-Ok-load_group.ensures.shortlex c.in-Ok-load_group.ensures.group)
     (nothing-run (autgroup_own given) (autgroup_shows given) parts read input output)
 
 pub returns : goal.returns
