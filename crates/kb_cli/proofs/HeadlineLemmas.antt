@@ -1,12 +1,16 @@
 -- The laws over all commands, from those of the commands.
-use Rattle.std.proofs.Common.{◌≡◌, ℕ, List, subst}
+use Rattle.std.proofs.Common.{◌≡◌, inr, ℕ, List, refl, subst}
 use Rattle.kb_io.specs.Outside.{Outside}
+use Rattle.kb_task.specs.OneReason.{HaveOneReason}
 use Rattle.kb_task.specs.PromiseLaws.{yes-conclusive}
 use Rattle.kb_task.specs.Promises.{Keeps}
+use Rattle.kb_task.specs.Refusals.{IsLoadFault, IsRefusalOrMemory}
 use Rattle.kb_task.specs.Runs.{IsRun, ReadsSame, HasSameEffect}
 use Rattle.kb_task.specs.Statuses.{IsYes, IsConclusive, IsFaultless}
+use Rattle.kb_task.specs.declared.status.FileFault.{FileFault}
+use Rattle.kb_task.specs.declared.status.Refusal.TheVariants.{File}
 use Rattle.kb_task.specs.declared.status.Status.{Status}
-use Rattle.kb_task.specs.declared.status.Status.TheVariants.{Memory, Usage}
+use Rattle.kb_task.specs.declared.status.Status.TheVariants.{Refused, Memory, Usage}
 use Rattle.kb_cli.specs.CommandLaws.{commands_lawful}
 use Rattle.kb_cli.specs.CommandLine.{IsLine}
 use Rattle.kb_cli.specs.Commands.{command_promise}
@@ -44,6 +48,29 @@ headline_answers arguments command before after status line (no_command stop unc
 headline_answers arguments command before after status line (a_command found is means) unrefused faultless =
     (commands_lawful command).complete before after status
     (subst (λ c. (command_promise c).means before after status) (one_line arguments found command is line) means) unrefused faultless
+
+-- before the command is known no file is refused
+refused_or_memory : (arguments : List (List ℕ)) (command : Command) (status : Status) (name : List ℕ) (fault : FileFault) → IsLine arguments command
+    → ArgumentsStop arguments status → IsRefusalOrMemory name fault status
+refused_or_memory arguments command (Usage kind) name fault line stop = absurd (line_or_not arguments command kind line stop)
+refused_or_memory arguments command Memory name fault line stop = inr refl
+refused_or_memory arguments command _ name fault line stop = absurd stop
+
+pub headline_refused : (arguments : List (List ℕ)) (command : Command) (before after : Outside) (name : List ℕ) (fault : FileFault) → IsLine arguments command
+    → Headline arguments before after (Refused (File name fault)) → IsLoadFault fault → (command_promise command).refuses before name fault
+headline_refused arguments command before after name fault line (no_command stop unchanged) at_load = absurd stop
+headline_refused arguments command before after name fault line (a_command found is means) at_load =
+    (commands_lawful command).refused before after name fault
+    (subst (λ c. (command_promise c).means before after (Refused (File name fault))) (one_line arguments found command is line) means) at_load
+
+pub headline_exact : HaveOneReason → (arguments : List (List ℕ)) (command : Command) (before after : Outside) (status : Status) (name : List ℕ)
+    (fault : FileFault) → IsLine arguments command → Headline arguments before after status → (command_promise command).refuses before name fault
+    → IsFaultless status → IsRefusalOrMemory name fault status
+headline_exact have arguments command before after status name fault line (no_command stop unchanged) refuses faultless =
+    refused_or_memory arguments command status name fault line stop
+headline_exact have arguments command before after status name fault line (a_command found is means) refuses faultless =
+    (commands_lawful command).exact have before after status name fault
+    (subst (λ c. (command_promise c).means before after status) (one_line arguments found command is line) means) refuses faultless
 
 pub headline_settled : (arguments : List (List ℕ)) (command : Command) (before after other_before other_after : Outside) (status other : Status)
     → IsLine arguments command → Headline arguments before after status → Headline arguments other_before other_after other

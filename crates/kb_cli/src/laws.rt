@@ -3,13 +3,19 @@
 ghost use Rattle.std.specs.Prelude.{◌≡◌, ℕ, List};
 ghost use Rattle.clap.specs.declared.error.kind.ErrorKind.{ErrorKind};
 ghost use Rattle.kb_io.specs.Outside.{Outside};
+ghost use Rattle.kb_task.specs.Refusals.{IsLoadFault, IsRefusalOrMemory};
 ghost use Rattle.kb_task.specs.Runs.{ReadsSame, HasSameEffect};
 ghost use Rattle.kb_task.specs.Statuses.{IsYes, IsFaultless};
+ghost use Rattle.kb_task.specs.declared.status.FileFault.{FileFault};
+ghost use Rattle.kb_task.specs.declared.status.Refusal.TheVariants.{File};
 ghost use Rattle.kb_task.specs.declared.status.Status.{Status};
+ghost use Rattle.kb_task.specs.declared.status.Status.TheVariants.{Refused};
 ghost use Rattle.kb_cli.specs.CommandLine.{IsLine, IsNoLine};
 ghost use Rattle.kb_cli.specs.Commands.{command_promise};
 ghost use Rattle.kb_cli.specs.Headline.{Headline};
 ghost use Rattle.kb_cli.specs.declared.command.Command.{Command};
+
+use kb_task::files_are_refused_for_one_reason;
 
 /// No arguments are both a line of the program and none.
 pub fn no_line_is_faulty()
@@ -34,6 +40,31 @@ pub fn where_nothing_is_refused_there_is_an_answer()
         → IsFaultless status
         → (command_promise command).answers status }
 {}
+
+/// A file that is refused for a fault that it has as it is loaded is the first that has one, of those that the command
+/// reads in their order.
+pub fn a_refused_file_has_the_first_fault()
+    ensures { (arguments : List (List ℕ)) (command : Command) (before after : Outside)
+        (name : List ℕ) (fault : FileFault)
+        → IsLine arguments command
+        → Headline arguments before after (Refused (File name fault))
+        → IsLoadFault fault
+        → (command_promise command).refuses before name fault }
+{}
+
+/// And where there is such a file, the run ends with exactly that refusal: the file is named, with the first fault that it
+/// has; or memory ran out, or a device failed.
+pub fn a_file_with_a_fault_is_refused()
+    ensures { (arguments : List (List ℕ)) (command : Command) (before after : Outside)
+        (status : Status) (name : List ℕ) (fault : FileFault)
+        → IsLine arguments command
+        → Headline arguments before after status
+        → (command_promise command).refuses before name fault
+        → IsFaultless status
+        → IsRefusalOrMemory name fault status }
+{
+    files_are_refused_for_one_reason();
+}
 
 /// The answer depends only on the arguments and on the files that the command reads: two runs that end with statuses
 /// which those files settle have one status.
