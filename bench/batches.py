@@ -5,7 +5,7 @@ from measuring import GIVEN_UP, MIB, TURNS, give, run_once
 
 BATCH = 4096
 COUNTS = (1, 2, 4)
-SIZE = 16
+SIZE = 8
 
 
 def measure_batches(program, room, examples):
