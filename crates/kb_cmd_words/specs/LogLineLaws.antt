@@ -17,7 +17,8 @@ use Rattle.kb_proof.specs.declared.verified.Verified.TheVariants as verdicts
 use Rattle.kb_proof.specs.declared.verified.Why.{Why}
 use Rattle.kb_cmd_words.specs.Confluence.{relations}
 use Rattle.kb_cmd_words.specs.ByRelationsLaws.{not_apart, one_first_apart}
-use Rattle.kb_cmd_words.specs.LogLines.{AreJoined, Decides, IsFirstRelationApart, IsJustifiedBy, Objects, lines_of}
+use Rattle.kb_bylog.specs.LogLines.{AreJoined, IsJustifiedBy, lines_of}
+use Rattle.kb_cmd_words.specs.LogLines.{Decides, IsFirstRelationApart, Objects}
 use Rattle.kb_cmd_words.specs.declared.objection.Objection.{Objection}
 use Rattle.kb_cmd_words.specs.declared.objection.Objection.TheVariants as objections
 
@@ -27,7 +28,7 @@ use Rattle.kb_cmd_words.specs.declared.objection.Objection.TheVariants as object
 joined_not_apart : {rules pairs : List Pair} {number : ℕ} {u v : List ℕ} → AreJoined rules pairs
     → ¬ IsFirstRelationApart rules pairs number u v
 joined_not_apart joined first =
-    not_apart (joined first.index first.pair first.is_pair) first.apart
+    not_apart (joined first.pair (first.index, first.is_pair)) first.apart
 
 same_index : (i k : ℕ) → (i < k → ⊥) → (k < i → ⊥) → i ≡ k
 same_index i k none_before none_after =

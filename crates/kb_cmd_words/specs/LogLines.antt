@@ -8,9 +8,9 @@ use Rattle.kb_word.specs.Overlap.{IsConfluent, IsResolved, IsUnresolved}
 use Rattle.kb_word.specs.Presentations.{PresentationParts}
 use Rattle.kb_word.specs.Printed.{text_of_word}
 use Rattle.kb_confluence.specs.FirstApart.{IsFirstApart, IsCounterexample}
-use Rattle.kb_machine.specs.Lines.{rules_of}
-use Rattle.kb_proof.specs.Verifying.{IsFirstFault, IsVerified}
+use Rattle.kb_proof.specs.Verifying.{IsFirstFault}
 use Rattle.kb_proof.specs.declared.log.Log.{Log}
+use Rattle.kb_bylog.specs.LogLines.{AreJoined, IsJustifiedBy, lines_of}
 use Rattle.kb_task.specs.Reasons.{unjustified_line}
 use Rattle.kb_task.specs.declared.status.Cert.TheVariants.{NotConfluent, NotJustified, RelationApart}
 use Rattle.kb_task.specs.declared.status.Status.{Status}
@@ -20,11 +20,6 @@ use Rattle.kb_cmd_words.specs.declared.objection.Objection.{Objection}
 use Rattle.kb_cmd_words.specs.declared.objection.Objection.TheVariants as objections
 
 -- ---- relations by rules
-
--- both sides of each relation have one normal form by the rules
-abbrev pub AreJoined : List Pair → List Pair → Type 0
-AreJoined rules relations =
-    (index : ℕ) (pair : Pair) → slice_get relations index ≡ Some pair → IsResolved rules pair
 
 -- the sides of the relation of this number have different normal forms, u and v, and those of none before it have
 pub record IsFirstRelationApart (rules relations : List Pair) (number : ℕ)
@@ -38,14 +33,6 @@ pub record IsFirstRelationApart (rules relations : List Pair) (number : ℕ)
       → slice_get relations before ≡ Some other → IsResolved rules other
 
 -- ---- the lines of a log
-
--- the rules of the log's lines
-abbrev pub lines_of : Log → List Pair
-lines_of log = rules_of log.lines.items
-
--- the log is justified over the presentation
-abbrev pub IsJustifiedBy : PresentationParts → Log → Type 0
-IsJustifiedBy parts log = IsVerified (Below parts.order) (relations parts) log
 
 -- The log is justified over the presentation, each relation follows from its lines, and these are confluent. So normal
 -- forms by the lines are the least words of the presentation.

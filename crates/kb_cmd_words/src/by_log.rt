@@ -11,11 +11,13 @@ ghost use Rattle.kb_task.specs.Runs.{IsRun};
 ghost use Rattle.kb_cmd_words.specs.Confluence.{relations};
 ghost use Rattle.kb_cmd_words.specs.ByLog.{ByLogMeans, LogMeans};
 ghost use Rattle.kb_cmd_words.specs.ByRelations.{StoresNothing};
-ghost use Rattle.kb_cmd_words.specs.LogLines.{AreJoined, Decides, IsJustifiedBy, lines_of};
+ghost use Rattle.kb_bylog.specs.LogLines.{AreJoined, IsJustifiedBy, lines_of};
+ghost use Rattle.kb_cmd_words.specs.LogLines.{Decides};
 
-use crate::joining::{index_of, relation_apart};
+use crate::joining::relation_apart;
 use crate::laws::lines_that_decide_give_least_words;
 use crate::objection::{Objection, print_objection};
+use kb_bylog::index_of;
 use kb_confluence::{Verdict, check};
 use kb_evidence::log_file;
 use kb_index::Index;

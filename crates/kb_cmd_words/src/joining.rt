@@ -1,70 +1,15 @@
-//! The lines of a log as rules, and whether the relations follow from them.
+//! Whether the relations follow from the lines of a log.
 
-ghost use Rattle.std.specs.Prelude.{◌≡◌, ◌≤◌, ◌^◌, IfOk, IsTrue, length};
-ghost use Rattle.kb_word.specs.WordOrders.{Below};
+ghost use Rattle.std.specs.Prelude.{IfOk};
 ghost use Rattle.kb_word.specs.Presentations.{parts_of};
-ghost use Rattle.kb_word.specs.Rewriting.{AreDecreasing};
-ghost use Rattle.kb_machine.specs.Lines.{rule_of, rules_of};
 ghost use Rattle.kb_cmd_words.specs.Confluence.{relations};
-ghost use Rattle.kb_cmd_words.specs.LogLines.{IsJustifiedBy, RelationSays, RelationsSay, lines_of};
+ghost use Rattle.kb_cmd_words.specs.LogLines.{RelationSays, RelationsSay};
 
 use crate::objection::Objection;
 use kb_index::Index;
-use kb_machine::Line;
-use kb_proof::Log;
-use kb_rules::{Reducer, Rule, Rules};
-use kb_word::{Memory, Presentation, Word, WordOrder};
+use kb_rules::Reducer;
+use kb_word::{Memory, Presentation, Word};
 use std::alloc::Global;
-
-/// Of so many rules the confluence can be checked. A log that was read from a file has fewer lines.
-const MOST_RULES: usize = 2_147_483_648;
-
-/// The index of the lines of a justified log.
-pub(crate) fn index_of(
-    alloc: Global,
-    presentation: &Presentation,
-    log: &Log,
-) -> Result<Index, Memory>
-    requires { IsJustifiedBy (parts_of presentation.now) log.now }
-    ensures rules { IfOk result (λ index. index.rules ≡ lines_of log.now) }
-    ensures few { IfOk result (λ index. length index.rules ≤ 2 ^ 31) }
-{
-    let order = presentation.order.copy(alloc)?;
-    let rules = line_rules(alloc, order, log.lines.as_slice())?;
-    if !are_few(&rules) {
-        return Err(Memory);
-    }
-    Index::of(alloc, &rules)
-}
-
-/// Whether the rules are so few that their confluence can be checked.
-fn are_few(rules: &Rules) -> bool
-    ensures { IsTrue result → length rules.now.rules ≤ 2 ^ 31 }
-{
-    rules.len() <= MOST_RULES
-}
-
-/// The rules of lines, in their order.
-fn line_rules(alloc: Global, order: WordOrder, lines: &[Line]) -> Result<Rules, Memory>
-    requires { AreDecreasing (Below order) (rules_of lines.now) }
-    ensures { IfOk result (λ rules. rules.rules ≡ rules_of lines.now) }
-{
-    let mut rules = Rules::new(alloc, order);
-    for line in lines {
-        let rule = line_rule(alloc, line)?;
-        rules.push(rule)?;
-    }
-    Ok(rules)
-}
-
-/// The rule of a line.
-fn line_rule(alloc: Global, line: &Line) -> Result<Rule, Memory>
-    ensures { IfOk result (λ rule. rule ≡ rule_of line.now) }
-{
-    let left = line.left.copy(alloc)?;
-    let right = line.right.copy(alloc)?;
-    Ok(Rule::new(left, right))
-}
 
 /// Whether both sides of each relation of the presentation have one normal form, or the first one where they haven't.
 pub(crate) fn relation_apart(

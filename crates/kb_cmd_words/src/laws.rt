@@ -8,7 +8,8 @@ ghost use Rattle.kb_proof.specs.Same.{AreSameLogs};
 ghost use Rattle.kb_proof.specs.declared.log.Log.{Log};
 ghost use Rattle.kb_cmd_words.specs.Confluence.{IsLeastIn, OrientedAreConfluent, OrientedAreNotConfluent, relations};
 ghost use Rattle.kb_cmd_words.specs.LogLineLaws.{IsFound};
-ghost use Rattle.kb_cmd_words.specs.LogLines.{AreJoined, Decides, IsJustifiedBy, lines_of};
+ghost use Rattle.kb_bylog.specs.LogLines.{AreJoined, IsJustifiedBy, lines_of};
+ghost use Rattle.kb_cmd_words.specs.LogLines.{Decides};
 ghost use Rattle.kb_cmd_words.specs.declared.objection.Objection.{Objection};
 
 /// No presentation's oriented relations are confluent and not.

@@ -11,13 +11,13 @@
 //!
 //! - `word_reduce` is the command, `run` a run of it, and `line` the command on the command line.
 //! - `orienting` orients the relations.
-//! - `by_log` answers by the lines of a log. `joining` makes them rules, and looks for a relation that doesn't follow from
-//!   them; `objection` is what stands against a log, with its line.
+//! - `by_log` answers by the lines of a log. `joining` looks for a relation that doesn't follow from them; `objection` is
+//!   what stands against a log, with its line.
 //! - By the laws of `laws` no presentation's oriented relations are confluent and not, and where the lines of a log decide,
 //!   normal forms by them are least words; what is found of a log is found in one way.
 //!
-//! Below are `kb_task`, `kb_evidence`, which names the log's file, `kb_proof`, which checks logs, `kb_lines`, `kb_reduce` and
-//! `kb_confluence`.
+//! Below are `kb_task`, `kb_evidence`, which names the log's file, `kb_proof`, which checks logs, `kb_bylog`, which makes
+//! their lines rules, `kb_lines`, `kb_reduce` and `kb_confluence`.
 #![tactic(auto)]
 
 mod by_log;

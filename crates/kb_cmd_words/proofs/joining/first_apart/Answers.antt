@@ -1,7 +1,8 @@
 use Rattle.std.proofs.Common.{◌+◌, ℕ, Option, Some, None, refl, subst}
 use Rattle.kb_cmd_words.specs.LogLines.{RelationSays}
 use Rattle.kb_cmd_words.specs.declared.objection.Objection.{Objection}
-use Rattle.kb_cmd_words.proofs.LogLemmas.{apart_found, joined_all, joined_more, joined_none}
+use Rattle.kb_bylog.proofs.LineLemmas.{joined_all, joined_more, joined_none}
+use Rattle.kb_cmd_words.proofs.LogLemmas.{apart_found}
 use Rattle.kb_cmd_words.proofs.joining.first_apart.Goals as goal
 
 pub loop-place-init : goal.loop-place-init

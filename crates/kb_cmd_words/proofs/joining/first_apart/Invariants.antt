@@ -1,4 +1,4 @@
-use Rattle.kb_cmd_words.proofs.LogLemmas.{JoinedBefore}
+use Rattle.kb_bylog.proofs.LineLemmas.{JoinedBefore}
 use Rattle.kb_cmd_words.proofs.joining.first_apart.Given as goal
 
 -- the relations before this place are joined
