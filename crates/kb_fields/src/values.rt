@@ -1,13 +1,12 @@
 //! Values that are Names, and lists of Names.
 
-ghost use Rattle.std.specs.Prelude.{◌≡◌, ◌≢◌, ℕ, List, map, Some, None, IfOk, IfSome, IfNone};
-ghost use Rattle.kb_record.specs.Tree.{named};
-ghost use Rattle.kb_record.specs.View.{factor_view, value_view};
+ghost use Rattle.std.specs.Prelude.{◌≡◌, ◌≢◌, ℕ, List, map, Some, IfOk, IfSome, IfNone};
+ghost use Rattle.kb_record.specs.View.{value_view};
 ghost use Rattle.kb_record.specs.Listed.{place_view};
 ghost use Rattle.kb_fields.specs.Fields.{IsListOf};
 ghost use Rattle.kb_fields.specs.Fields as kinds;
 
-use kb_record::{Factor, Place, Value};
+use kb_record::{Place, Value};
 use kb_word::Memory;
 use std::alloc::Global;
 
@@ -16,22 +15,8 @@ pub fn bare_name<'a>(value: &Value<'a>) -> Option<&'a str>
     ensures found { IfSome result (λ name. value_view value.now ≡ kinds.bare_name name.now) }
     ensures none { IfNone result ((name : List ℕ) → value_view value.now ≢ kinds.bare_name name) }
 {
-    let Value::Word(word) = value else {
-        return None;
-    };
-    if word.factors.len() != 1 {
-        return None;
-    }
-    name_alone(&word.factors[0])
-}
-
-/// The name of a factor that is a name without a power.
-fn name_alone<'a>(factor: &Factor<'a>) -> Option<&'a str>
-    ensures found { IfSome result (λ name. factor_view factor.now ≡ named name.now None) }
-    ensures none { IfNone result ((name : List ℕ) → factor_view factor.now ≢ named name None) }
-{
-    match factor {
-        Factor::Name(name, None) => Some(name),
+    match value {
+        Value::Word(word) => word.bare_name(),
         _ => None,
     }
 }

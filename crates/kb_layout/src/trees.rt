@@ -2,7 +2,7 @@
 
 ghost use Rattle.std.specs.Prelude.{◌≡◌, ◌++◌, OnOk, OnErr, IfOk, suc, codes, [], ◌∷◌};
 ghost use Rattle.kb_record.specs.Tree.{string_value, record_value, list_value, range_value};
-ghost use Rattle.kb_record.specs.View.{text_view, value_view, fields_view, places_view, factor_view, factors_view};
+ghost use Rattle.kb_record.specs.View.{text_view, value_view, fields_view, places_view, factor_view, factors_view, word_view};
 ghost use Rattle.kb_layout.specs.Layout.{printed, power_text, word_text, factor_text, line_of, indent, text_of_value};
 ghost use Rattle.kb_layout.specs.Layout as layout;
 ghost use Rattle.std.specs.Option.{option_map};
@@ -10,7 +10,7 @@ ghost use Rattle.kb_layout.specs.Printing.{Appended, row_of_place, holds_list};
 
 use crate::printing::{print_blanks, print_number};
 use crate::rows::{print_items, print_lists, print_lists_on_line};
-use kb_record::{Factor, Rec, Value};
+use kb_record::{Expr, Factor, Rec, Value};
 use kb_word::Memory;
 
 /// Appends the printed text of a record: a line for each field, and for each place of a list of lists.
@@ -187,7 +187,7 @@ fn print_on_line(value: &Value<'_>, out: &mut Vec<u8>) -> Result<(), Memory>
         Value::Rows(rows) => print_lists_on_line(rows, out),
         Value::Entries(rows) => print_lists_on_line(rows, out),
         Value::Range(from, to) => print_range(*from, *to, out),
-        Value::Word(word) => print_word(word.factors.as_slice(), out),
+        Value::Word(word) => print_expr(word, out),
     }
 }
 
@@ -253,6 +253,15 @@ fn print_string(text: &str, out: &mut Vec<u8>) -> Result<(), Memory>
     out.extend_from_slice(text.as_bytes())?;
     out.push(b'"')?;
     Ok(())
+}
+
+/// Appends a word as it is written.
+fn print_expr(word: &Expr<'_>, out: &mut Vec<u8>) -> Result<(), Memory>
+    ensures printed { OnOk result (out.new.items ≡ out.old.items ++ word_text (word_view word.now)) }
+    ensures kept { OnErr result (Appended out.old.items out.new.items) }
+{
+    let factors = word.factors(*out.allocator())?;
+    print_word(factors.as_slice(), out)
 }
 
 /// Appends factors with `*` between them.

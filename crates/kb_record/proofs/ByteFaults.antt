@@ -10,8 +10,8 @@ use Rattle.kb_lexing.proofs.LongestPossible.{longest_possible}
 use Rattle.kb_record.specs.Grammar.{IsTextForm, IsWordForm}
 use Rattle.kb_record.specs.Nesting.{deepest, open_behind}
 use Rattle.kb_record.specs.Faults.{IsSyntaxFault, IsDepthFault, HasFault, HasTextFault, HasTreeFault}
-use Rattle.kb_record.specs.View.{word_view}
-use Rattle.kb_record.specs.Reading.{Reading, read, unexpected, too_deep, Parse, Reads, Says, StandsBehind, finished, read_word, read_ended, rec_view}
+use Rattle.kb_record.specs.View.{word_view, rec_view}
+use Rattle.kb_record.specs.Reading.{Reading, read, unexpected, too_deep, Parse, Reads, Says, StandsBehind, finished, read_word, read_ended}
 use Rattle.kb_record.specs.declared.cursor.Stop.{Stop}
 use Rattle.kb_record.specs.declared.cursor.Stop.TheVariants.{Unexpected, TooDeep, Memory}
 use Rattle.kb_record.specs.declared.error.RecordError.{RecordError}

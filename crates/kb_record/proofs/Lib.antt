@@ -1,4 +1,6 @@
 pub mod Balanced
+pub mod BareNames
+pub mod Deeper
 pub mod Depths
 pub mod Finds
 pub mod FoundValues

@@ -6,8 +6,8 @@ use Rattle.kb_lexing.specs.Spelling.{TokensOf}
 use Rattle.kb_record.specs.Tree.{Factors, Fields, TextTree}
 use Rattle.kb_record.specs.Grammar.{IsText, TextOf, WordOf, word_tokens}
 use Rattle.kb_record.specs.Nesting.{deepest, word_nesting, text_nesting}
-use Rattle.kb_record.specs.View.{text_view}
-use Rattle.kb_record.specs.Reading.{Reading, read, unexpected, too_deep, and_then, behind, read_word, read_text, read_ended, skip_semicolon, rec_view, finished}
+use Rattle.kb_record.specs.View.{text_view, rec_view}
+use Rattle.kb_record.specs.Reading.{Reading, read, unexpected, too_deep, and_then, behind, read_word, read_text, read_ended, skip_semicolon, finished}
 use Rattle.kb_record.specs.declared.tree.Rec.{Rec as RecType}
 use Rattle.kb_record.specs.declared.cursor.Mark.TheVariants.{Semicolon}
 use Rattle.kb_record.proofs.PassedMarks.{behind-is}

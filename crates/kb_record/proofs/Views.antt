@@ -1,11 +1,12 @@
 -- The views of values, a level at a time.
 use Rattle.std.proofs.Common.{◌≡◌, ℕ, List, [], ◌∷◌, map, refl, ap, rules, Option, Some, None, ℤ, Vec, Global, sym, ◌∙◌}
 use Rattle.std.specs.Borrow.{Bor}
-use Rattle.kb_record.specs.Tree.{field, record_value, list_value, Value as ValueTree}
-use Rattle.kb_record.specs.View.{value_view, fields_of, places_of, places_view, number_place, row_place, entry_place, entries_place}
-use Rattle.kb_record.specs.Reading.{fields_from, field_view}
+use Rattle.kb_record.specs.Tree.{field, record_value, list_value, word_value, Value as ValueTree}
+use Rattle.kb_record.specs.View.{value_view, word_view, fields_of, places_of, places_view, number_place, row_place, entry_place, entries_place, field_view}
+use Rattle.kb_record.specs.Reading.{fields_from}
 use Rattle.kb_record.specs.Listed.{places_in, listed, HasPlaces, pair_row}
-use Rattle.kb_record.specs.declared.tree.Value.{Value, Record, List as Listed, Numbers, Rows, Entries, the_lemmas}
+use Rattle.kb_record.specs.declared.tree.Expr.{Expr}
+use Rattle.kb_record.specs.declared.tree.Value.{Value, Record, List as Listed, Numbers, Rows, Entries, Word, the_lemmas}
 
 -- the fields in two ways
 pub fields_alike : (fs : List (Bor (List ℕ) × Value)) → fields_from (map field_view fs) ≡ fields_of (map (λ (f : Bor (List ℕ) × Value). (f.0, value_view f.1)) fs)
@@ -14,6 +15,9 @@ fields_alike (f ∷ fs) = ap (field f.0.now (value_view f.1)) (fields_alike fs)
 
 pub view-Record : (v : Vec (Bor (List ℕ) × Value) Global) → value_view (Record v) ≡ record_value (fields_of (map (λ (f : Bor (List ℕ) × Value). (f.0, value_view f.1)) v.items))
 view-Record v = search (rules, the_lemmas)
+
+pub view-Word : (word : Expr) → value_view (Word word) ≡ word_value (word_view word)
+view-Word word = search (rules, the_lemmas)
 
 pub view-List : (v : Vec (Option Value) Global) → value_view (Listed v) ≡ list_value (places_view v.items)
 view-List v = search (rules, the_lemmas)

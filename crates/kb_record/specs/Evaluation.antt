@@ -14,6 +14,10 @@ abbrev pub ReadsFor : {A B : Type 0} → Reading A → (A → B → Type 0) → 
 ReadsFor reading Means (Ok found) rest = (tree : _) × (reading ≡ read tree rest) × Means tree found
 ReadsFor reading Means (Err stop) rest = Reads reading (λ tree. tree) (Err stop) rest
 
+-- what is read is there, and nothing is kept of it
+abbrev pub Passes : {A B : Type 0} → Reading A → Result B Stop → List Token → Type 0
+Passes reading result rest = ReadsFor reading (λ tree done. Unit {0}) result rest
+
 -- the meaning was evaluated, where it was asked for
 abbrev pub Evaluated : {A : Type 0} → Bool → (A → Result (List ℕ) WordFault) → A
     → Result (List ℕ) WordError → Type 0

@@ -4,6 +4,7 @@ pub mod Tree
 pub mod Grammar
 pub mod Meaning
 pub mod Nesting
+pub mod Lists
 pub mod View
 pub mod Listed
 pub use Rattle.kb_lexing.specs.Lexemes

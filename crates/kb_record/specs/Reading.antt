@@ -1,16 +1,13 @@
 -- Reading tokens from the left: the tree that stands first, and the tokens behind it.
-use Rattle.std.specs.Prelude.{◌≡◌, unwrap_or, ℕ, zero, suc, ℤ, List, [], ◌∷◌, ◌++◌, length, drop, map, Bool, true, false, if◌then◌else◌, Option, Some, None, Result, Ok, Err}
-use Rattle.std.specs.Borrow.{Bor}
+use Rattle.std.specs.Prelude.{◌≡◌, unwrap_or, ℕ, zero, suc, ℤ, List, [], ◌∷◌, ◌++◌, length, drop, Bool, true, false, if◌then◌else◌, Option, Some, None, Result, Ok, Err}
 use Rattle.kb_lexing.specs.Token.{Token, name, number, string, assign, open_round, close_round, open_square, close_square, comma, semicolon, star, caret, dots, rec_word}
 use Rattle.kb_record.specs.Tree.{Factor, named, grouped, Factors, Value, number_value, string_value, record_value, list_value, range_value, word_value, Fields, no_fields, field, no_places}
-use Rattle.kb_record.specs.View.{factors_of, places_of, number_place, value_view}
+use Rattle.kb_record.specs.Lists.{factors_of, places_of, number_place}
 use Rattle.kb_lexing.proofs.FrontTokens.{tokens_from, tokens_of}
 use Rattle.kb_lexing.specs.Possible.{PassedAre, IsPlace, rest_behind, last_place_of}
 use Rattle.kb_lexing.specs.declared.token.Lexeme.{Lexeme}
 use Rattle.kb_lexing.specs.declared.place.Expected.{Expected}
 use Rattle.kb_lexing.specs.declared.place.Expected.TheVariants as wanted
-use Rattle.kb_record.specs.declared.tree.Value.{Value as ValueType}
-use Rattle.kb_record.specs.declared.tree.Rec.{Rec as RecType}
 use Rattle.kb_record.specs.declared.error.RecordError.{RecordError}
 use Rattle.kb_record.specs.declared.error.RecordError.TheVariants as errors
 use Rattle.kb_record.specs.declared.cursor.Cursor.{Cursor}
@@ -46,7 +43,7 @@ Reads reading view (Err Memory) rest = Unit {0}
 
 -- the tokens that the cursor has left
 abbrev pub remaining : Cursor → List Token
-remaining cursor = tokens_from cursor.next
+remaining cursor = tokens_from cursor.next.lexeme
 
 -- those behind the next one
 abbrev pub behind_next : Cursor → List Token
@@ -179,6 +176,11 @@ abbrev pub first_number : List Token → Option (ℤ × List Token)
 first_number (number z ∷ tokens) = Some (z, tokens)
 first_number _ = None
 
+-- the name that stands first, and the tokens behind it
+abbrev pub first_name : List Token → Option (List ℕ × List Token)
+first_name (name text ∷ tokens) = Some (text, tokens)
+first_name _ = None
+
 abbrev pub range_from : ℤ → Parse Value
 range_from from tokens =
     and_then (read_number tokens)
@@ -285,9 +287,6 @@ read_fields (suc depth) = fields_with (read_value depth)
 abbrev pub read_record : ℕ → Parse Value
 read_record depth = record_with (read_fields depth)
 
-abbrev pub field_view : Bor (List ℕ) × ValueType → List ℕ × Value
-field_view f = (f.0.now, value_view f.1)
-
 -- ---- texts
 
 -- the name and the fields of a text, and the tokens behind its record
@@ -307,9 +306,6 @@ skip_semicolon tokens = unwrap_or (behind Semicolon tokens) tokens
 abbrev pub read_ended : ℕ → Parse (List ℕ × List (List ℕ × Value))
 read_ended depth tokens =
     and_then (read_text depth tokens) (λ text rest. read text (skip_semicolon rest))
-
-abbrev pub rec_view : RecType → List ℕ × List (List ℕ × Value)
-rec_view text = (text.name.now, map field_view text.fields.items)
 
 -- no token may be left, of tokens that are those of the whole text or not
 abbrev pub ended : Bool → Parse Bool

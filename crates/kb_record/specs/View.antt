@@ -2,17 +2,17 @@
 use Rattle.std.specs.Prelude.{ℕ, ℤ, List, [], ◌∷◌, Option, Some, None, map}
 use Rattle.std.specs.Borrow.{Bor}
 use Rattle.std.specs.Option.{option_map}
-use Rattle.kb_record.specs.Tree.{Factor as FactorTree, named, grouped, Factors, no_factors, factor, Value as ValueTree, number_value, string_value, record_value, list_value, range_value, word_value, Fields, no_fields, field, Places, no_places, place, empty_place, TextTree}
+use Rattle.kb_lexing.proofs.FrontTokens.{tokens_of}
+use Rattle.kb_record.specs.Tree.{Factor as FactorTree, named, grouped, Factors, no_factors, factor, Value as ValueTree, number_value, string_value, record_value, list_value, range_value, word_value, Fields, Places, TextTree}
+use Rattle.kb_record.specs.Nesting.{deepest}
+use Rattle.kb_record.specs.Reading.{Reading, read, unexpected, too_deep, read_word}
 use Rattle.kb_record.specs.declared.tree.Factor.{Factor, fold-Factor}
 use Rattle.kb_record.specs.declared.tree.Factor.TheOpen.{Factor-F}
 use Rattle.kb_record.specs.declared.tree.Value.{Value, fold-Value}
 use Rattle.kb_record.specs.declared.tree.Value.TheOpen.{Value-F}
 use Rattle.kb_record.specs.declared.tree.Expr.{Expr}
 use Rattle.kb_record.specs.declared.tree.Rec.{Rec}
-
-abbrev pub factors_of : List FactorTree → Factors
-factors_of [] = no_factors
-factors_of (f ∷ fs) = factor f (factors_of fs)
+pub use Rattle.kb_record.specs.Lists.{factors_of, fields_of, places_of, number_place, row_place, entry_place, entries_place}
 
 -- one level, with each factor inside already seen as its tree
 abbrev pub factor_step : Factor-F FactorTree → FactorTree
@@ -25,31 +25,22 @@ factor_view = fold-Factor FactorTree factor_step
 abbrev pub factors_view : List Factor → Factors
 factors_view factors = factors_of (map factor_view factors)
 
--- the tree of a word
+-- the factors that are read, and none where that can't be
+abbrev pub factors_in : Reading Factors → Factors
+factors_in (read tree rest) = tree
+factors_in (unexpected expected rest) = no_factors
+factors_in (too_deep rest) = no_factors
+
+-- the tree of the word that stands first in a text
+abbrev pub first_word : List ℕ → Factors
+first_word text = factors_in (read_word deepest (tokens_of text))
+
+-- a word of one factor, a name without a power
+abbrev pub one_name : List ℕ → Factors
+one_name name = factor (named name None) no_factors
+
 abbrev pub word_view : Expr → Factors
-word_view word = factors_view word.factors.items
-
-abbrev pub fields_of : List (Bor (List ℕ) × ValueTree) → Fields
-fields_of [] = no_fields
-fields_of (f ∷ fs) = field f.0.now f.1 (fields_of fs)
-
-abbrev pub places_of : List (Option ValueTree) → Places
-places_of [] = no_places
-places_of (None ∷ ps) = empty_place (places_of ps)
-places_of (Some v ∷ ps) = place v (places_of ps)
-
--- a number, a row of numbers, an entry of two numbers and a row of entries as places of a list
-abbrev pub number_place : ℤ → Option ValueTree
-number_place z = Some (number_value z)
-
-abbrev pub row_place : List ℤ → Option ValueTree
-row_place row = Some (list_value (places_of (map number_place row)))
-
-abbrev pub entry_place : ℤ × ℤ → Option ValueTree
-entry_place entry = row_place (entry.0 ∷ entry.1 ∷ [])
-
-abbrev pub entries_place : List (ℤ × ℤ) → Option ValueTree
-entries_place entries = Some (list_value (places_of (map entry_place entries)))
+word_view word = first_word word.text.now
 
 abbrev pub value_step : Value-F ValueTree → ValueTree
 value_step (Value-F.Number z) = number_value z
@@ -81,3 +72,10 @@ fields_view fields = fields_of (map (λ (f : Bor (List ℕ) × Value). (f.0, val
 -- the places of a list as the code has them, as a tree
 abbrev pub places_view : List (Option Value) → Places
 places_view places = places_of (map (option_map value_view) places)
+
+-- a field, and the name and the fields of a text, as they are read
+abbrev pub field_view : Bor (List ℕ) × Value → List ℕ × ValueTree
+field_view f = (f.0.now, value_view f.1)
+
+abbrev pub rec_view : Rec → List ℕ × List (List ℕ × ValueTree)
+rec_view text = (text.name.now, map field_view text.fields.items)

@@ -3,14 +3,16 @@
 ghost use Rattle.std.specs.Prelude.{◌≡◌, ◌∷◌, [], Some, None, MatchOption, MatchResult, true, length, ◌-◌};
 ghost use Rattle.kb_record.specs.declared.cursor.Stop.TheVariants as stops;
 ghost use Rattle.std.specs.Bool.{MatchBool};
-ghost use Rattle.kb_record.specs.View.{value_view};
+ghost use Rattle.kb_record.specs.Nesting.{deepest};
+ghost use Rattle.kb_record.specs.View.{factors_in, value_view, word_view};
 ghost use Rattle.kb_lexing.specs.Lexemes.{token_view};
 ghost use Rattle.kb_lexing.proofs.FrontTokens.{tokens_of};
-ghost use Rattle.kb_record.specs.Reading.{Reads, remaining, behind_next, is_mark, behind, read_name, read_number, read_scalar, begins_word, first_number, ends_place, ended, passes_comma};
+ghost use Rattle.kb_record.specs.Reading.{Reads, remaining, behind_next, is_mark, behind, read_name, read_number, read_scalar, begins_word, first_name, first_number, read_word, ends_place, ended, passes_comma};
 
+use crate::next::{Next, next_in};
 use crate::passed::token_count;
-use crate::tree::Value;
-use kb_lexing::{Expected, Lexeme, Token, first_lexeme};
+use crate::tree::{Expr, Value};
+use kb_lexing::{Expected, Token};
 use kb_word::Memory;
 use std::alloc::{AllocError, AllocFailed};
 
@@ -89,7 +91,7 @@ impl<T: Drop> From<AllocFailed<T>> for Stop {
 /// Goes over the tokens of a text, which it makes one by one.
 #[derive(Drop)]
 pub(crate) struct Cursor<'a> {
-    next: Option<Lexeme<'a>>,
+    next: Next<'a>,
 }
 
 impl<'a> Cursor<'a> {
@@ -98,7 +100,7 @@ impl<'a> Cursor<'a> {
         ensures { remaining result ≡ tokens_of text.now }
     {
         Cursor {
-            next: first_lexeme(text),
+            next: next_in(text),
         }
     }
 
@@ -107,7 +109,7 @@ impl<'a> Cursor<'a> {
         ensures { MatchOption result (remaining self.now ≡ [])
             (λ token. remaining self.now ≡ token_view token ∷ behind_next self.now) }
     {
-        let lexeme = self.next.as_ref()?;
+        let lexeme = self.next.lexeme.as_ref()?;
         Some(lexeme.token)
     }
 
@@ -115,8 +117,8 @@ impl<'a> Cursor<'a> {
     fn advance(&mut self)
         ensures { remaining self.new ≡ behind_next self.old }
     {
-        if let Some(lexeme) = self.next {
-            self.next = first_lexeme(lexeme.rest);
+        if let Some(lexeme) = self.next.lexeme {
+            self.next = next_in(lexeme.rest);
         }
     }
 
@@ -215,6 +217,31 @@ impl<'a> Cursor<'a> {
         matches!(self.peek(), Some(Token::Name(_) | Token::OpenRound))
     }
 
+    /// The word that comes next, which isn't passed.
+    pub fn word(&self) -> Expr<'a>
+        ensures { word_view result ≡ factors_in (read_word deepest (remaining self.now)) }
+    {
+        Expr {
+            text: self.next.text,
+        }
+    }
+
+    /// Passes the name that comes next, if one does.
+    pub fn take_name(&mut self) -> Option<&'a str>
+        ensures { MatchOption result
+            ((first_name (remaining self.old) ≡ None)
+            × (remaining self.new ≡ remaining self.old))
+            (λ name. first_name (remaining self.old) ≡ Some (name.now, remaining self.new)) }
+    {
+        match self.peek() {
+            Some(Token::Name(name)) => {
+                self.advance();
+                Some(name)
+            }
+            _ => None,
+        }
+    }
+
     /// Passes the number that comes next, if one does.
     pub fn take_number(&mut self) -> Option<i64>
         ensures { MatchOption result
@@ -238,12 +265,21 @@ impl<'a> Cursor<'a> {
         matches!(self.peek(), Some(Token::Comma | Token::CloseSquare))
     }
 
+    /// Room for the places of a list of which one was read: for that one, where the list ends behind it, or else for two.
+    pub fn room(&self) -> usize {
+        if matches!(self.peek(), Some(Token::CloseSquare)) {
+            1
+        } else {
+            2
+        }
+    }
+
     /// How many tokens of the text were passed.
     pub fn passed(&self, text: &[u8]) -> usize
         ensures { result ≡ length (tokens_of text.now) - length (remaining self.now) }
     {
         let count = token_count(text);
-        match self.next {
+        match self.next.lexeme {
             Some(lexeme) => count
                 .saturating_sub(token_count(lexeme.rest))
                 .saturating_sub(1),
@@ -256,7 +292,7 @@ impl<'a> Cursor<'a> {
         ensures { Reads (ended whole (remaining self.now)) (λ _. true) result
             (remaining self.now) }
     {
-        if whole && self.next.is_none() {
+        if whole && self.next.lexeme.is_none() {
             Ok(())
         } else {
             Err(Stop::Unexpected(Expected::Mark))

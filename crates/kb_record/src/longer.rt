@@ -24,11 +24,12 @@ pub(crate) fn number_list<'a>(alloc: Global, first: Option<i64>) -> Result<Value
     }
 }
 
-/// The list with one place more.
+/// The list with one place more. A list of other values that begins with it has room for so many.
 pub(crate) fn longer<'a>(
     alloc: Global,
     list: Value<'a>,
     place: Option<Value<'a>>,
+    room: usize,
 ) -> Result<Value<'a>, Memory>
     requires { HasPlaces (value_view list) (listed (value_view list)) }
     ensures { IfOk result (λ longer. HasPlaces (value_view longer)
@@ -38,7 +39,7 @@ pub(crate) fn longer<'a>(
         Value::Numbers(numbers) => longer_numbers(alloc, numbers, place),
         Value::Rows(rows) => longer_rows(alloc, rows, place),
         Value::Entries(rows) => longer_entries(alloc, rows, place),
-        Value::List(places) => longer_any(alloc, places, place),
+        Value::List(places) => longer_any(alloc, places, place, room),
         _ => unreachable!(),
     }
 }
@@ -48,39 +49,43 @@ fn longer_any<'a>(
     alloc: Global,
     places: Vec<Option<Value<'a>>>,
     place: Option<Value<'a>>,
+    room: usize,
 ) -> Result<Value<'a>, Memory>
     ensures { IfOk result (λ list. HasPlaces (value_view list)
         (map (option_map value_view) places.entry.items
         ++ option_map value_view place.entry ∷ [])) }
 {
     if places.is_empty() {
-        return list_of_one(alloc, place);
+        return list_of_one(alloc, place, room);
     }
     longer_list(places, place)
 }
 
 /// A list of one place.
-fn list_of_one<'a>(alloc: Global, place: Option<Value<'a>>) -> Result<Value<'a>, Memory>
+fn list_of_one<'a>(
+    alloc: Global,
+    place: Option<Value<'a>>,
+    room: usize,
+) -> Result<Value<'a>, Memory>
     ensures { IfOk result
         (λ list. HasPlaces (value_view list) (option_map value_view place.entry ∷ [])) }
 {
     match place {
         Some(Value::Number(number)) => longer_numbers_by(Vec::new(alloc), number),
         Some(Value::Numbers(row)) => longer_rows_by(Ragged::new(alloc)?, row.as_slice()),
-        Some(value) => list_of_value(alloc, value),
+        Some(value) => list_of_value(alloc, value, room),
         None => longer_list(Vec::new(alloc), None),
     }
 }
 
-/// A list of one place with a value.
-fn list_of_value<'a>(alloc: Global, value: Value<'a>) -> Result<Value<'a>, Memory>
+/// A list of one place with a value, and with room for so many.
+fn list_of_value<'a>(alloc: Global, value: Value<'a>, room: usize) -> Result<Value<'a>, Memory>
     ensures { IfOk result
         (λ list. HasPlaces (value_view list) (Some (value_view value.entry) ∷ [])) }
 {
     match pairs_of(alloc, &value)? {
         Some(pairs) => longer_entries_by(Ragged::new(alloc)?, pairs.as_slice()),
-        // A list of words is most often an equation, of two places.
-        None => longer_list(Vec::with_capacity(alloc, 2)?, Some(value)),
+        None => longer_list(Vec::with_capacity(alloc, room)?, Some(value)),
     }
 }
 

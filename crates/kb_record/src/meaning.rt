@@ -1,67 +1,15 @@
-//! From trees of words to words of a presentation.
+//! What names, products and powers mean over a presentation.
 
-ghost use Rattle.std.specs.Prelude.{◌≡◌, ℕ, ◌-◌, ◌<◌, [], Some, negsuc, IfOk};
-ghost use Rattle.kb_record.specs.Meaning.{name_meaning, first_without_inverse, repetition, power_meaning, product, factor_meaning, product_meaning, word_meaning};
-ghost use Rattle.kb_record.specs.View.{factor_view, factors_view, word_view};
+ghost use Rattle.std.specs.Prelude.{◌≡◌, ℕ, ◌-◌, ◌<◌, Some, negsuc, IfOk};
+ghost use Rattle.kb_record.specs.Meaning.{name_meaning, first_without_inverse, repetition, power_meaning, product};
 ghost use Rattle.kb_record.specs.Faults.{Evaluates};
 
 use crate::error::WordError;
-use crate::tree::{Expr, Factor};
 use kb_word::{Memory, OwnedText, Presentation, Word};
 use std::alloc::Global;
 
 /// The most letters that a word may have, and each factor, group and product in it.
 const MOST_LETTERS: usize = 65_535;
-
-/// The word that a tree stands for: a name is its generator or, as `IdWord`, the empty word, and a power
-/// below 0 repeats the inverse.
-///
-/// The first fault that is met from the left is returned: a name that is no generator's, a letter without
-/// inverse under a power below 0, or more than 65,535 letters.
-pub fn word_of(alloc: Global, tree: &Expr, presentation: &Presentation) -> Result<Word, WordError>
-    ensures { Evaluates
-        (word_meaning presentation.now.names presentation.now.inv (word_view tree.now)) result }
-{
-    product_of(alloc, tree.factors.as_slice(), presentation)
-}
-
-/// The product of factors.
-#[cycle(factors)]
-fn product_of(
-    alloc: Global,
-    factors: &[Factor],
-    presentation: &Presentation,
-) -> Result<Word, WordError>
-    ensures { Evaluates
-        (product_meaning presentation.now.names presentation.now.inv [] (factors_view factors.now))
-        result }
-{
-    let mut so_far = Word::new(alloc);
-    for factor in factors {
-        let word = factor_of(alloc, factor, presentation)?;
-        so_far = times(so_far, &word)?;
-    }
-    Ok(so_far)
-}
-
-/// The word of one factor.
-#[cycle(factors)]
-fn factor_of(alloc: Global, factor: &Factor, presentation: &Presentation) -> Result<Word, WordError>
-    ensures { Evaluates
-        (factor_meaning presentation.now.names presentation.now.inv (factor_view factor.now))
-        result }
-{
-    match factor {
-        Factor::Name(name, power) => {
-            let word = name_of(alloc, name, presentation)?;
-            power_of(alloc, word, *power, presentation)
-        }
-        Factor::Group(factors, power) => {
-            let group = product_of(alloc, factors.as_slice(), presentation)?;
-            power_of(alloc, group, *power, presentation)
-        }
-    }
-}
 
 /// The product so far and the next factor, where that isn't too long.
 pub(crate) fn times(mut so_far: Word, next: &Word) -> Result<Word, WordError>

@@ -4,8 +4,8 @@ ghost use Rattle.std.specs.Prelude.{◌≡◌, ◌≤◌, IfOk, IfErr, OnErr};
 ghost use Rattle.kb_record.specs.Grammar.{TextOf, WordOf};
 ghost use Rattle.kb_record.specs.Nesting.{deepest, text_nesting, word_nesting};
 ghost use Rattle.kb_record.specs.Faults.{HasTextFault, HasTreeFault, HasWordFault, Meaning};
-ghost use Rattle.kb_record.specs.Reading.{Reads, Says, remaining, finished, read_text, read_ended, read_word, rec_view};
-ghost use Rattle.kb_record.specs.View.{text_view, word_view};
+ghost use Rattle.kb_record.specs.Reading.{Reads, Says, remaining, finished, read_text, read_ended, read_word};
+ghost use Rattle.kb_record.specs.View.{text_view, word_view, rec_view};
 ghost use Rattle.kb_record.specs.Meaning.{word_meaning};
 ghost use Rattle.kb_record.specs.Faults.{Evaluates};
 ghost use Rattle.kb_record.specs.Evaluation.{ReadsFor};
@@ -14,15 +14,15 @@ use crate::cursor::{Cursor, Mark, Stop};
 use crate::error::{RecordError, WordError};
 use crate::evaluation::product;
 use crate::passed::last_passed;
+use crate::passing::pass_word;
 use crate::records::fields;
 use crate::tree::{Expr, Rec};
-use crate::words::word;
 use kb_lexing::{Expected, has_tokens, last_place, syntax_place};
 use kb_word::{Presentation, Word};
 use std::alloc::Global;
 
 /// Brackets in brackets may stand this deep.
-const DEEPEST: usize = 64;
+pub(crate) const DEEPEST: usize = 64;
 
 /// Reads a text: a name, `:=` and a record, with `;` behind it or nothing.
 ///
@@ -45,13 +45,13 @@ pub fn parse<'a>(alloc: Global, bytes: &'a [u8]) -> Result<Rec<'a>, RecordError>
 /// Reads a word, alone or as a line of its own.
 ///
 /// As with [`parse`], the bytes are refused exactly where they have a fault, with its place, but for want of memory.
-pub fn parse_expr<'a>(alloc: Global, bytes: &'a [u8]) -> Result<Expr<'a>, RecordError>
+pub fn parse_expr<'a>(bytes: &'a [u8]) -> Result<Expr<'a>, RecordError>
     ensures read { IfOk result (λ word. WordOf bytes.now (word_view word)) }
     ensures shallow { IfOk result (λ word. word_nesting (word_view word) ≤ deepest) }
     ensures fault { IfErr result (HasTreeFault bytes.now) }
 {
     let mut tokens = Cursor::new(bytes);
-    match whole_word(alloc, &mut tokens, has_tokens(bytes)) {
+    match whole_word(&mut tokens, has_tokens(bytes)) {
         Ok(word) => Ok(word),
         Err(stop) => Err(error_at(bytes, tokens.passed(bytes), stop)),
     }
@@ -119,13 +119,14 @@ fn text<'a>(alloc: Global, tokens: &mut Cursor<'a>) -> Result<Rec<'a>, Stop>
 }
 
 /// Reads a word that goes to the end of the tokens, which are all that the bytes have.
-fn whole_word<'a>(alloc: Global, tokens: &mut Cursor<'a>, whole: bool) -> Result<Expr<'a>, Stop>
+fn whole_word<'a>(tokens: &mut Cursor<'a>, whole: bool) -> Result<Expr<'a>, Stop>
     ensures { Reads (finished whole (read_word deepest (remaining tokens.old))) word_view result
         (remaining tokens.new) }
 {
-    let factors = word(alloc, tokens, DEEPEST)?;
+    let word = tokens.word();
+    pass_word(tokens, DEEPEST)?;
     tokens.end(whole)?;
-    Ok(Expr { factors })
+    Ok(word)
 }
 
 /// Reads a word that goes to the end of the tokens, which are all that the bytes have, and evaluates it.

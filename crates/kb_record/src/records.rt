@@ -6,26 +6,28 @@ ghost use Rattle.std.specs.Prelude.{◌≡◌, ◌≤◌, length, map, OnOk, IfO
 ghost use Rattle.kb_lexing.specs.declared.place.Expected.TheVariants as wanted;
 ghost use Rattle.kb_record.specs.declared.cursor.Mark.TheVariants as marks;
 ghost use Rattle.kb_record.specs.Tree.{word_value};
-ghost use Rattle.kb_record.specs.Reading.{Reads, remaining, row, passes_comma, place_with, field_with, range_from, read_list, read_fields, read_record, read_word, reading_map, read_value, read_places, number_with, after_items, first_place, field_view};
-ghost use Rattle.kb_record.specs.View.{value_view};
+ghost use Rattle.kb_record.specs.Nesting.{deepest};
+ghost use Rattle.kb_record.specs.Reading.{Reads, remaining, row, passes_comma, place_with, field_with, range_from, read_list, read_fields, read_record, read_word, reading_map, read_value, read_places, number_with, after_items, first_place};
+ghost use Rattle.kb_record.specs.View.{value_view, field_view};
 ghost use Rattle.kb_record.specs.Listed.{listed, HasPlaces};
 
 use crate::cursor::{Cursor, Mark, Stop};
 use crate::longer::{longer, number_list};
-use crate::tree::{Expr, Value};
-use crate::words::word;
+use crate::passing::pass_word;
+use crate::tree::Value;
 use kb_lexing::Expected;
 use std::alloc::Global;
 
 /// Reads a value, with brackets in brackets at most `depth` deep.
 #[cycle(values)]
 fn value<'a>(alloc: Global, tokens: &mut Cursor<'a>, depth: usize) -> Result<Value<'a>, Stop>
+    requires { depth ≤ deepest }
     ensures reads { Reads (read_value depth (remaining tokens.old)) value_view result
         (remaining tokens.new) }
     ensures shorter { OnOk result (length (remaining tokens.new) ≤ length (remaining tokens.old)) }
 {
     if tokens.begins_word() {
-        return word_value(alloc, tokens, depth);
+        return word_value(tokens, depth);
     }
     if tokens.take(Mark::Rec) {
         return record(alloc, tokens, depth);
@@ -37,19 +39,22 @@ fn value<'a>(alloc: Global, tokens: &mut Cursor<'a>, depth: usize) -> Result<Val
 }
 
 /// Reads a word as a value.
-fn word_value<'a>(alloc: Global, tokens: &mut Cursor<'a>, depth: usize) -> Result<Value<'a>, Stop>
+fn word_value<'a>(tokens: &mut Cursor<'a>, depth: usize) -> Result<Value<'a>, Stop>
+    requires { depth ≤ deepest }
     ensures reads { Reads (reading_map word_value (read_word depth (remaining tokens.old)))
         value_view
         result (remaining tokens.new) }
     ensures shorter { OnOk result (length (remaining tokens.new) ≤ length (remaining tokens.old)) }
 {
-    let factors = word(alloc, tokens, depth)?;
-    Ok(Value::Word(Expr { factors }))
+    let word = tokens.word();
+    pass_word(tokens, depth)?;
+    Ok(Value::Word(word))
 }
 
 /// Reads a record behind its `rec`.
 #[cycle(values)]
 fn record<'a>(alloc: Global, tokens: &mut Cursor<'a>, depth: usize) -> Result<Value<'a>, Stop>
+    requires { depth ≤ deepest }
     ensures reads { Reads (read_record depth (remaining tokens.old)) value_view result
         (remaining tokens.new) }
     ensures shorter { OnOk result (length (remaining tokens.new) ≤ length (remaining tokens.old)) }
@@ -66,6 +71,7 @@ pub(crate) fn fields<'a>(
     tokens: &mut Cursor<'a>,
     depth: usize,
 ) -> Result<Vec<(&'a str, Value<'a>)>, Stop>
+    requires { depth ≤ deepest }
     ensures reads { Reads (read_fields depth (remaining tokens.old))
         (λ fields. map field_view fields.items)
         result (remaining tokens.new) }
@@ -87,6 +93,7 @@ fn some_fields<'a>(
     tokens: &mut Cursor<'a>,
     depth: usize,
 ) -> Result<Vec<(&'a str, Value<'a>)>, Stop>
+    requires { depth ≤ deepest }
     ensures reads { Reads
         (row (field_with (read_value depth)) (passes_comma marks.CloseRound wanted.Mark)
         (remaining tokens.old))
@@ -109,6 +116,7 @@ fn field<'a>(
     tokens: &mut Cursor<'a>,
     depth: usize,
 ) -> Result<(&'a str, Value<'a>), Stop>
+    requires { depth ≤ deepest }
     ensures reads { Reads (field_with (read_value depth) (remaining tokens.old)) field_view result
         (remaining tokens.new) }
     ensures shorter { OnOk result (length (remaining tokens.new) ≤ length (remaining tokens.old)) }
@@ -122,6 +130,7 @@ fn field<'a>(
 /// Reads a list or a range behind its open bracket, and the closing bracket.
 #[cycle(values)]
 fn list<'a>(alloc: Global, tokens: &mut Cursor<'a>, depth: usize) -> Result<Value<'a>, Stop>
+    requires { depth ≤ deepest }
     ensures reads { Reads (read_list depth (remaining tokens.old)) value_view result
         (remaining tokens.new) }
     ensures shorter { OnOk result (length (remaining tokens.new) ≤ length (remaining tokens.old)) }
@@ -146,6 +155,7 @@ fn behind_number<'a>(
     depth: usize,
     first: i64,
 ) -> Result<Value<'a>, Stop>
+    requires { depth ≤ deepest }
     ensures reads { Reads (number_with (read_value depth) first (remaining tokens.old)) value_view
         result (remaining tokens.new) }
     ensures shorter { OnOk result (length (remaining tokens.new) ≤ length (remaining tokens.old)) }
@@ -167,6 +177,7 @@ fn places<'a>(
     depth: usize,
     first: Option<i64>,
 ) -> Result<Value<'a>, Stop>
+    requires { depth ≤ deepest }
     ensures reads { Reads
         (after_items (first_place first) (read_places (read_value depth) (remaining tokens.old)))
         (λ list. listed (value_view list)) result (remaining tokens.new) }
@@ -176,7 +187,7 @@ fn places<'a>(
     let mut list = number_list(alloc, first)?;
     loop {
         let place = place(alloc, tokens, depth)?;
-        list = longer(alloc, list, place)?;
+        list = longer(alloc, list, place, tokens.room())?;
         if !tokens.passes_comma(Mark::CloseSquare, Expected::Mark)? {
             return Ok(list);
         }
@@ -190,6 +201,7 @@ fn place<'a>(
     tokens: &mut Cursor<'a>,
     depth: usize,
 ) -> Result<Option<Value<'a>>, Stop>
+    requires { depth ≤ deepest }
     ensures reads { Reads (place_with (read_value depth) (remaining tokens.old))
         (option_map value_view)
         result (remaining tokens.new) }

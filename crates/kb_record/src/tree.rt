@@ -1,4 +1,4 @@
-//! The trees of words and records. Names and strings borrow from the text.
+//! The trees of words and records. Names, strings and words borrow from the text.
 
 use kb_ragged::Ragged;
 
@@ -11,11 +11,10 @@ pub enum Factor<'a> {
     Group(Vec<Factor<'a>>, Option<i64>),
 }
 
-/// The tree of a word: its factors from left to right, of which there is at least one.
-#[derive(Debug, Drop)]
+/// A word as it is written: a text that begins with it. So it takes no memory, however long it is.
+#[derive(Clone, Copy, Debug)]
 pub struct Expr<'a> {
-    /// The factors, from left to right.
-    pub factors: Vec<Factor<'a>>,
+    pub(crate) text: &'a [u8],
 }
 
 /// What a field or a place of a list may hold.

@@ -5,7 +5,8 @@ use Rattle.kb_record.specs.Tree.{TextTree}
 use Rattle.kb_lexing.proofs.FrontTokens.{tokens_of}
 use Rattle.kb_lexing.specs.Token.{Token}
 use Rattle.kb_record.proofs.ByteFaults.{text_fault}
-use Rattle.kb_record.specs.Reading.{Reads, remaining, read_ended, finished, rec_view}
+use Rattle.kb_record.specs.Reading.{Reads, remaining, read_ended, finished}
+use Rattle.kb_record.specs.View.{rec_view}
 use Rattle.kb_record.proofs.TokensToBytes.{LexedOf, text_read, text_shallow, text_alike}
 use Rattle.kb_record.proofs.parser.parse.Goals as goal
 

@@ -3,8 +3,8 @@ use Rattle.std.proofs.lemmas.Int.{to_z-of_z}
 use Rattle.std.specs.Borrow.{Bor}
 use Rattle.kb_lexing.specs.declared.place.Expected.TheVariants as wanted
 use Rattle.kb_record.specs.Tree.{record_value}
-use Rattle.kb_record.specs.Reading.{Reads, read, remaining, passes_comma, joined, reading_map, after_items, first_place, read_places, read_value, place_with, field_with, field_view, fields_from, read_fields, past, behind, begins_word, read_scalar}
-use Rattle.kb_record.specs.View.{value_view}
+use Rattle.kb_record.specs.Reading.{Reads, read, remaining, passes_comma, joined, reading_map, after_items, first_place, read_places, read_value, place_with, field_with, fields_from, read_fields, past, behind, begins_word, read_scalar}
+use Rattle.kb_record.specs.View.{value_view, field_view}
 use Rattle.kb_record.specs.Listed.{listed, HasPlaces}
 use Rattle.kb_record.specs.declared.tree.Value.{Value as ValueType}
 use Rattle.kb_record.specs.declared.cursor.Mark.TheVariants.{CloseRound, CloseSquare, Dots, Rec, OpenSquare}

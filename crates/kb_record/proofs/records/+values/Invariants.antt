@@ -1,6 +1,6 @@
 use Rattle.std.proofs.Common.{◌≡◌, ℕ, ◌+◌, ◌*◌, ◌<◌, ◌≤◌, suc, map, length}
-use Rattle.kb_record.specs.Reading.{remaining, passes_comma, joined, after_items, first_place, read_places, read_value, place_with, field_with, field_view}
-use Rattle.kb_record.specs.View.{value_view}
+use Rattle.kb_record.specs.Reading.{remaining, passes_comma, joined, after_items, first_place, read_places, read_value, place_with, field_with}
+use Rattle.kb_record.specs.View.{value_view, field_view}
 use Rattle.kb_record.specs.Listed.{listed, HasPlaces}
 use Rattle.kb_record.specs.declared.cursor.Mark.TheVariants.{CloseRound, CloseSquare}
 use Rattle.kb_lexing.specs.declared.place.Expected.TheVariants as wanted
