@@ -49,7 +49,7 @@ pub fn repeated_name<'a>(
     Ok(None)
 }
 
-/// The same of the records in a value. Lists of numbers hold none.
+/// The same of the records in a value. Lists of words, or of numbers, hold none.
 #[cycle(repeats)]
 fn repeated_within<'a>(alloc: Global, value: &Value<'a>) -> Result<Option<OwnedText>, Memory>
     ensures some { IfOk result (λ found. IfSome found (IsFirstRepeated (value_view value.now))) }

@@ -55,6 +55,7 @@ fn name_at<'a>(place: Place<'_, 'a>) -> Option<&'a str>
 {
     match place {
         Place::Value(value) => bare_name(value),
+        Place::Word(word) => word.bare_name(),
         _ => None,
     }
 }

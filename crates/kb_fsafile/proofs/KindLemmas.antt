@@ -65,6 +65,7 @@ module _ (p : Place) (other : (value : Bor code.Value) → p ≡ variants.Value 
           → place_view q ≡ Some (entry_value entry) → ⊥
       go variants.Empty v n h = cc
       go (variants.Value value) v n h = v value refl
+      go (variants.Word word) v n h = cc
       go (variants.Number z) v n h = cc
       go (variants.Numbers numbers) v n h = n numbers refl
       go (variants.Entries entries) v n h = none entries.now h
@@ -77,6 +78,7 @@ module _ (p : Place) (other : (value : Bor code.Value) → p ≡ variants.Value 
           → ((entries : Bor (List (ℤ × ℤ))) → q ≡ variants.Entries entries → ⊥) → place_view q ≡ Some (list_value places) → ⊥
       go variants.Empty v n r h = cc
       go (variants.Value value) v n r h = v value refl
+      go (variants.Word word) v n r h = cc
       go (variants.Number z) v n r h = cc
       go (variants.Numbers numbers) v n r h = n numbers refl
       go (variants.Entries entries) v n r h = r entries refl

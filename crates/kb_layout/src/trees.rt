@@ -49,6 +49,7 @@ fn print_value(level: usize, value: &Value<'_>, out: &mut Vec<u8>) -> Result<(),
         Value::Record(fields) => print_record(level, fields.as_slice(), out),
         Value::List(places) => print_list(level, places.as_slice(), out),
         Value::Numbers(numbers) => print_items(numbers.as_slice(), out),
+        Value::Words(words) => print_items(words.as_slice(), out),
         Value::Rows(rows) => print_lists(level, rows, out),
         Value::Entries(rows) => print_lists(level, rows, out),
         _ => print_on_line(value, out),
@@ -138,7 +139,7 @@ fn is_list(place: &Option<Value<'_>>) -> bool
 {
     matches!(
         place,
-        Some(Value::List(_) | Value::Numbers(_) | Value::Rows(_) | Value::Entries(_))
+        Some(Value::List(_) | Value::Words(_) | Value::Numbers(_) | Value::Rows(_) | Value::Entries(_))
     )
 }
 
@@ -184,6 +185,7 @@ fn print_on_line(value: &Value<'_>, out: &mut Vec<u8>) -> Result<(), Memory>
         Value::Record(fields) => print_record_on_line(fields.as_slice(), out),
         Value::List(places) => print_list_on_line(places.as_slice(), out),
         Value::Numbers(numbers) => print_items(numbers.as_slice(), out),
+        Value::Words(words) => print_items(words.as_slice(), out),
         Value::Rows(rows) => print_lists_on_line(rows, out),
         Value::Entries(rows) => print_lists_on_line(rows, out),
         Value::Range(from, to) => print_range(*from, *to, out),
@@ -256,7 +258,7 @@ fn print_string(text: &str, out: &mut Vec<u8>) -> Result<(), Memory>
 }
 
 /// Appends a word as it is written.
-fn print_expr(word: &Expr<'_>, out: &mut Vec<u8>) -> Result<(), Memory>
+pub(crate) fn print_expr(word: &Expr<'_>, out: &mut Vec<u8>) -> Result<(), Memory>
     ensures printed { OnOk result (out.new.items ≡ out.old.items ++ word_text (word_view word.now)) }
     ensures kept { OnErr result (Appended out.old.items out.new.items) }
 {

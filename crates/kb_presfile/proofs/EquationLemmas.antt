@@ -25,6 +25,7 @@ no_entries (entry ∷ entries) sides e = cc
 pub no_equation : (p : Place) → ((v : Bor code.Value) → p ≡ places.Value v → ⊥) → (sides : Factors × Factors) → place_view p ≡ Some (equation_value sides) → ⊥
 no_equation places.Empty other sides e = cc
 no_equation (places.Value v) other sides e = absurd (other v refl)
+no_equation (places.Word word) other sides e = cc
 no_equation (places.Number z) other sides e = cc
 no_equation (places.Numbers numbers) other sides e = no_row numbers.now sides e
 no_equation (places.Entries entries) other sides e = no_entries entries.now sides e

@@ -61,6 +61,7 @@ fn name_or_empty<'a>(place: Place<'_, 'a>) -> Option<Option<&'a str>>
     match place {
         Place::Empty => Some(None),
         Place::Value(value) => bare_name(value).map(Some),
+        Place::Word(word) => word.bare_name().map(Some),
         _ => None,
     }
 }
@@ -102,6 +103,7 @@ fn word_at<'r, 'a>(place: Place<'r, 'a>) -> Option<&'r Expr<'a>>
 {
     match place {
         Place::Value(Value::Word(word)) => Some(word),
+        Place::Word(word) => Some(word),
         _ => None,
     }
 }

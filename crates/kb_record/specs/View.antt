@@ -42,11 +42,16 @@ one_name name = factor (named name None) no_factors
 abbrev pub word_view : Expr → Factors
 word_view word = first_word word.text.now
 
+-- a word, or an empty place, as a place of a list
+abbrev pub word_place : Option Expr → Option ValueTree
+word_place place = option_map (λ (word : Expr). word_value (word_view word)) place
+
 abbrev pub value_step : Value-F ValueTree → ValueTree
 value_step (Value-F.Number z) = number_value z
 value_step (Value-F.String text) = string_value text.now
 value_step (Value-F.Record fields) = record_value (fields_of fields.items)
 value_step (Value-F.List places) = list_value (places_of places.items)
+value_step (Value-F.Words words) = list_value (places_of (map word_place words.items))
 value_step (Value-F.Numbers numbers) = list_value (places_of (map number_place numbers.items))
 value_step (Value-F.Rows rows) = list_value (places_of (map row_place rows))
 value_step (Value-F.Entries rows) = list_value (places_of (map entries_place rows))

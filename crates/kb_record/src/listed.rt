@@ -3,10 +3,10 @@
 ghost use Rattle.std.specs.Prelude.{◌≡◌, ◌≢◌, ◌<◌, length, slice_get, Some, IfSome, IfNone};
 ghost use Rattle.std.specs.Option.{option_map};
 ghost use Rattle.kb_record.specs.Tree.{Places, list_value};
-ghost use Rattle.kb_record.specs.View.{value_view};
+ghost use Rattle.kb_record.specs.View.{value_view, word_place};
 ghost use Rattle.kb_record.specs.Listed.{listed, HasPlaces, place_view};
 
-use crate::tree::Value;
+use crate::tree::{Expr, Value};
 
 /// What stands at a place of a list.
 #[derive(Debug, Drop)]
@@ -15,6 +15,8 @@ pub enum Place<'r, 'a> {
     Empty,
     /// Any value.
     Value(&'r Value<'a>),
+    /// A word.
+    Word(&'r Expr<'a>),
     /// A number.
     Number(i64),
     /// A list of numbers.
@@ -37,6 +39,7 @@ impl<'a> Value<'a> {
             Value::Numbers(numbers) => Some(numbers.len()),
             Value::Rows(rows) => Some(rows.len()),
             Value::Entries(rows) => Some(rows.len()),
+            Value::Words(words) => Some(words.len()),
             _ => None,
         }
     }
@@ -51,6 +54,7 @@ impl<'a> Value<'a> {
             Value::Numbers(numbers) => Place::Number(numbers[place]),
             Value::Rows(rows) => Place::Numbers(rows.get(place).unwrap()),
             Value::Entries(rows) => Place::Entries(rows.get(place).unwrap()),
+            Value::Words(words) => word_at(&words[place]),
             _ => unreachable!(),
         }
     }
@@ -62,6 +66,16 @@ fn place_of<'r, 'a>(place: &'r Option<Value<'a>>) -> Place<'r, 'a>
 {
     match place {
         Some(value) => Place::Value(value),
+        None => Place::Empty,
+    }
+}
+
+/// What stands at a place of a list of words and empty places.
+fn word_at<'r, 'a>(place: &'r Option<Expr<'a>>) -> Place<'r, 'a>
+    ensures { place_view result ≡ word_place place.now }
+{
+    match place {
+        Some(word) => Place::Word(word),
         None => Place::Empty,
     }
 }

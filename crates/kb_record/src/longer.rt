@@ -5,11 +5,11 @@
 
 ghost use Rattle.std.specs.Prelude.{◌≡◌, ◌++◌, ◌∷◌, [], map, Some, IfOk, IfSome};
 ghost use Rattle.std.specs.Option.{option_map};
-ghost use Rattle.kb_record.specs.View.{value_view, number_place, row_place, entry_place, entries_place};
+ghost use Rattle.kb_record.specs.View.{value_view, number_place, row_place, entry_place, entries_place, word_place};
 ghost use Rattle.kb_record.specs.Listed.{listed, HasPlaces, pair_row};
 ghost use Rattle.kb_record.specs.Reading.{first_place};
 
-use crate::tree::Value;
+use crate::tree::{Expr, Value};
 use kb_ragged::Ragged;
 use kb_word::Memory;
 use std::alloc::Global;
@@ -40,6 +40,7 @@ pub(crate) fn longer<'a>(
         Value::Rows(rows) => longer_rows(alloc, rows, place),
         Value::Entries(rows) => longer_entries(alloc, rows, place),
         Value::List(places) => longer_any(alloc, places, place, room),
+        Value::Words(words) => longer_words(alloc, words, place),
         _ => unreachable!(),
     }
 }
@@ -73,8 +74,9 @@ fn list_of_one<'a>(
     match place {
         Some(Value::Number(number)) => longer_numbers_by(Vec::new(alloc), number),
         Some(Value::Numbers(row)) => longer_rows_by(Ragged::new(alloc)?, row.as_slice()),
+        Some(Value::Word(word)) => list_of_word(alloc, word, room),
         Some(value) => list_of_value(alloc, value, room),
-        None => longer_list(Vec::new(alloc), None),
+        None => longer_words_by(Vec::new(alloc), None),
     }
 }
 
@@ -101,6 +103,42 @@ fn longer_list<'a>(
     let mut places = places;
     places.push(place)?;
     Ok(Value::List(places))
+}
+
+/// A list of one word, with room for so many.
+fn list_of_word<'a>(alloc: Global, word: Expr<'a>, room: usize) -> Result<Value<'a>, Memory>
+    ensures { IfOk result (λ list. HasPlaces (value_view list) (word_place (Some word.entry) ∷ [])) }
+{
+    longer_words_by(Vec::with_capacity(alloc, room)?, Some(word))
+}
+
+/// A list of words and empty places with one place more.
+fn longer_words<'a>(
+    alloc: Global,
+    words: Vec<Option<Expr<'a>>>,
+    place: Option<Value<'a>>,
+) -> Result<Value<'a>, Memory>
+    ensures { IfOk result (λ list. HasPlaces (value_view list)
+        (map word_place words.entry.items ++ option_map value_view place.entry ∷ [])) }
+{
+    match place {
+        Some(Value::Word(word)) => longer_words_by(words, Some(word)),
+        None => longer_words_by(words, None),
+        place => longer_list(words_apart(alloc, words.as_slice())?, place),
+    }
+}
+
+/// A list of words and empty places with one word, or one empty place, more.
+fn longer_words_by<'a>(
+    words: Vec<Option<Expr<'a>>>,
+    word: Option<Expr<'a>>,
+) -> Result<Value<'a>, Memory>
+    ensures { IfOk result (λ list. HasPlaces (value_view list)
+        (map word_place words.entry.items ++ word_place word.entry ∷ [])) }
+{
+    let mut words = words;
+    words.push(word)?;
+    Ok(Value::Words(words))
 }
 
 /// A list of numbers with one place more.
@@ -235,6 +273,31 @@ fn pair_of(row: &[i64]) -> Option<(i64, i64)>
     match row {
         [first, second] => Some((*first, *second)),
         _ => None,
+    }
+}
+
+/// Words and empty places as values of their own.
+fn words_apart<'a>(
+    alloc: Global,
+    words: &[Option<Expr<'a>>],
+) -> Result<Vec<Option<Value<'a>>>, Memory>
+    ensures { IfOk result
+        (λ places. map (option_map value_view) places.items ≡ map word_place words.now) }
+{
+    let mut places = Vec::with_capacity(alloc, words.len())?;
+    for word in words {
+        places.push(word_apart(*word))?;
+    }
+    Ok(places)
+}
+
+/// A word, or an empty place, as a value of its own.
+fn word_apart<'a>(word: Option<Expr<'a>>) -> Option<Value<'a>>
+    ensures { option_map value_view result ≡ word_place word.entry }
+{
+    match word {
+        Some(word) => Some(Value::Word(word)),
+        None => None,
     }
 }
 

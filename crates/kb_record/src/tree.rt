@@ -27,8 +27,10 @@ pub enum Value<'a> {
     /// `rec( .. )`, its fields in the order of the text
     Record(Vec<(&'a str, Value<'a>)>),
     /// `[ .. ]`, its places in order, of which some may be empty. It may be any list; a long list is one of the
-    /// next three where it can be.
+    /// next four where it can be.
     List(Vec<Option<Value<'a>>>),
+    /// `[a,,b*c]`, a list of words and empty places
+    Words(Vec<Option<Expr<'a>>>),
     /// `[1,2]`, a list of numbers
     Numbers(Vec<i64>),
     /// `[[1,2],[3]]`, a list of lists of numbers

@@ -38,6 +38,7 @@ fn word_at<'r, 'a>(place: Place<'r, 'a>) -> Option<&'r Expr<'a>>
 {
     match place {
         Place::Value(Value::Word(word)) => Some(word),
+        Place::Word(word) => Some(word),
         _ => None,
     }
 }

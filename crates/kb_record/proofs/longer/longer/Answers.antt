@@ -2,7 +2,7 @@ use Rattle.std.proofs.Common.{◌++◌, ◌∷◌, [], List, Option, IfOk, optio
 use Rattle.kb_record.specs.Tree.{Value as ValueTree}
 use Rattle.kb_record.specs.View.{value_view}
 use Rattle.kb_record.specs.Listed.{HasPlaces}
-use Rattle.kb_record.proofs.Views.{view-List, view-Numbers, view-Rows, view-Entries, listed-is}
+use Rattle.kb_record.proofs.Views.{view-List, view-Numbers, view-Rows, view-Entries, view-Words, listed-is}
 use Rattle.kb_record.proofs.longer.longer.Goals as goal
 
 pub returns-in-Numbers : goal.returns-in-Numbers
@@ -24,3 +24,8 @@ pub returns-in-List : goal.returns-in-List
 returns-in-List c =
     let P : List (Option ValueTree) → Type 0 = λ ps. IfOk c.longer_any.result (λ longer. HasPlaces (value_view longer) (ps ++ option_map value_view c.args.place ∷ [])) in
     subst P (sym (listed-is (value_view c.args.list) _ (ap value_view c.in-List.is ∙ view-List c.in-List.places))) c.longer_any.ensures
+
+pub returns-in-Words : goal.returns-in-Words
+returns-in-Words c =
+    let P : List (Option ValueTree) → Type 0 = λ ps. IfOk c.longer_words.result (λ longer. HasPlaces (value_view longer) (ps ++ option_map value_view c.args.place ∷ [])) in
+    subst P (sym (listed-is (value_view c.args.list) _ (ap value_view c.in-Words.is ∙ view-Words c.in-Words.words))) c.longer_words.ensures

@@ -3,9 +3,9 @@ use Rattle.std.specs.Option.{IsSome}
 use Rattle.std.proofs.lemmas.List.{length-map}
 use Rattle.std.proofs.lemmas.Option.{slice_get-map, slice_get_read}
 use Rattle.kb_record.specs.Tree.{Value as ValueTree}
-use Rattle.kb_record.specs.View.{value_view, number_place, row_place, entries_place}
+use Rattle.kb_record.specs.View.{value_view, number_place, row_place, entries_place, word_place}
 use Rattle.kb_record.specs.Listed.{listed, HasPlaces}
-use Rattle.kb_record.proofs.Views.{view-List, view-Numbers, view-Rows, view-Entries, listed-is}
+use Rattle.kb_record.proofs.Views.{view-List, view-Numbers, view-Rows, view-Entries, view-Words, listed-is}
 use Rattle.kb_record.proofs.tree.Value.place.Goals as goal
 
 -- a place of the list is one of what it is made of
@@ -81,3 +81,18 @@ returns-in-Entries c =
     let is : HasPlaces (value_view c.args.self.now) (map entries_place rows) = ap value_view c.in-Entries.is ∙ view-Entries rows in
     let found : slice_get rows c.args.place ≡ Some c.unwrap-in-Entries.result.now = search rules in
     at _ _ rows c.args.place _ is found
+
+pub index-requires-in-Words : goal.index-requires-in-Words
+index-requires-in-Words c =
+    let words = c.in-Words.words in
+    let is : HasPlaces (value_view c.args.self.now) (map word_place words.items) = ap value_view c.in-Words.is ∙ view-Words words in
+    let few = within _ _ words.items c.args.place is c.requires in
+    omega (arith, few, words.ok)
+
+pub returns-in-Words : goal.returns-in-Words
+returns-in-Words c =
+    let words = c.in-Words.words in
+    let is : HasPlaces (value_view c.args.self.now) (map word_place words.items) = ap value_view c.in-Words.is ∙ view-Words words in
+    let few = within _ _ words.items c.args.place is c.requires in
+    let found : slice_get words.items c.args.place ≡ Some c.index-in-Words.result.now = slice_get_read words.items (length words.items) c.args.place _ refl few c.index-in-Words.ensures in
+    at _ _ words.items c.args.place _ is found ∙ ap Some (sym c.word_at.ensures)

@@ -1,9 +1,9 @@
 use Rattle.std.proofs.Common.{rules, ◌≡◌, length, map, ap, ◌∙◌, ℕ, List, Option, option_map}
 use Rattle.std.proofs.lemmas.List.{length-map}
 use Rattle.kb_record.specs.Tree.{Value as ValueTree}
-use Rattle.kb_record.specs.View.{value_view, number_place, row_place, entries_place}
+use Rattle.kb_record.specs.View.{value_view, number_place, row_place, entries_place, word_place}
 use Rattle.kb_record.specs.Listed.{listed, HasPlaces}
-use Rattle.kb_record.proofs.Views.{view-List, view-Numbers, view-Rows, view-Entries, listed-is, has_its_places}
+use Rattle.kb_record.proofs.Views.{view-List, view-Numbers, view-Rows, view-Entries, view-Words, listed-is, has_its_places}
 use Rattle.kb_record.proofs.tree.Value.place_count.Goals as goal
 
 -- the places, and how many of them there are
@@ -37,3 +37,10 @@ returns-in-Entries-clause-list c =
     let is : HasPlaces (value_view c.args.self.now) (map entries_place rows) = ap value_view c.in-Entries.is ∙ view-Entries rows in
     let count : length rows ≡ c.len-in-Entries.result = search rules in
     counted _ _ c.len-in-Entries.result is (length-map rows entries_place ∙ count)
+
+pub returns-in-Words-clause-list : goal.returns-in-Words-clause-list
+returns-in-Words-clause-list c =
+    let words = c.in-Words.words in
+    let is : HasPlaces (value_view c.args.self.now) (map word_place words.items) = ap value_view c.in-Words.is ∙ view-Words words in
+    let count : length words.items ≡ c.len-in-Words.result = search rules in
+    counted _ _ c.len-in-Words.result is (length-map words.items word_place ∙ count)
