@@ -139,7 +139,13 @@ fn is_list(place: &Option<Value<'_>>) -> bool
 {
     matches!(
         place,
-        Some(Value::List(_) | Value::Words(_) | Value::Numbers(_) | Value::Rows(_) | Value::Entries(_))
+        Some(
+            Value::List(_)
+                | Value::Words(_)
+                | Value::Numbers(_)
+                | Value::Rows(_)
+                | Value::Entries(_)
+        )
     )
 }
 
