@@ -1,5 +1,5 @@
 -- The trees of `specs/Tree.antt` that the types of the code stand for.
-use Rattle.std.specs.Prelude.{ℕ, ℤ, List, [], ◌∷◌, Option, Some, None, map}
+use Rattle.std.specs.Prelude.{ℕ, List, Option, None, map}
 use Rattle.std.specs.Borrow.{Bor}
 use Rattle.std.specs.Option.{option_map}
 use Rattle.kb_lexing.proofs.FrontTokens.{tokens_of}

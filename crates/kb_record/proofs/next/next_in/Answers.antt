@@ -2,4 +2,4 @@ use Rattle.kb_lexing.proofs.FrontTokens.{tokens_next}
 use Rattle.kb_record.proofs.next.next_in.Goals as goal
 
 pub invariant_of-result : goal.invariant_of-result
-invariant_of-result c = tokens_next c.args.text.now c.first_lexeme.result c.first_lexeme.ensures.first
+invariant_of-result c = record { first = tokens_next c.args.text.now c.first_lexeme.result c.first_lexeme.ensures.first }

@@ -1,5 +1,4 @@
-use Rattle.std.proofs.Common.{◌≡◌, None, Some, sym, ap, ◌∙◌}
-use Rattle.kb_lexing.proofs.FrontTokens.{tokens_of}
+use Rattle.std.proofs.Common.{◌≡◌, ℕ, List, Option, None, Some, IfNone, sym, ap, ◌∙◌, arith}
 use Rattle.kb_record.specs.Nesting.{deepest}
 use Rattle.kb_record.specs.Reading.{remaining, first_name, behind, read_word}
 use Rattle.kb_record.specs.View.{factors_in}
@@ -7,10 +6,14 @@ use Rattle.kb_record.specs.declared.cursor.Mark.TheVariants.{Star, Caret}
 use Rattle.kb_record.proofs.BareNames.{no_name, name_alone, name_times, name_powered}
 use Rattle.kb_record.proofs.tree.Expr.bare_name.Goals as goal
 
+if_none : {X P : Type 0} (found : Option X) → P → IfNone found P
+if_none None p = p
+if_none (Some x) p = tt
+
 pub returns-in_err-name-clause-none : goal.returns-in_err-name-clause-none
-returns-in_err-name-clause-none c = λ text is.
+returns-in_err-name-clause-none c =
     let none : first_name (remaining c.new-tokens.result) ≡ None = grind arith in
-    no_name deepest (remaining c.new-tokens.result) text none (ap (λ ts. factors_in (read_word deepest ts)) c.new-tokens.ensures ∙ is)
+    if_none c.from_residual.result (λ (text : List ℕ) is. no_name deepest (remaining c.new-tokens.result) text none (ap (λ ts. factors_in (read_word deepest ts)) c.new-tokens.ensures ∙ is))
 
 pub returns-then-take-clause-none : goal.returns-then-take-clause-none
 returns-then-take-clause-none c = λ text is.
