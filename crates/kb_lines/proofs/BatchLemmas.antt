@@ -8,7 +8,7 @@ use Rattle.kb_word.specs.Presentations.{PresentationParts}
 use Rattle.kb_record.specs.declared.error.WordError.{WordError}
 use Rattle.kb_lines.specs.WordLines.{IsOneLine, ended}
 use Rattle.kb_lines.specs.Progress.{IsReady, Advances, FrontIn, RefusesIn, StopsIn}
-use Rattle.kb_lines.specs.Batches.{held, IsNew, IsHeld, least_taken, BatchAdvances}
+use Rattle.kb_lines.specs.Batches.{held, taken, joined, AreLines, IsNew, IsHeld, least_taken, BatchAdvances}
 use Rattle.kb_lines.specs.declared.batch.Batch.{Batch}
 use Rattle.kb_lines.specs.declared.progress.Progress.{Progress}
 use Rattle.kb_lines.specs.declared.stop.Stop.{Stop}
@@ -18,76 +18,92 @@ use Rattle.kb_lines.proofs.ProgressLemmas.{advances-start, advances-end, advance
 
 -- ---- what is held
 
--- a new batch holds nothing
-pub new-holds_nothing : (batch : Batch) → IsNew batch → held batch ≡ []
-new-holds_nothing batch new = ap₂ (λ lines line. ended lines ++ line) new.lines new.line
-
-pub new-held : (batch : Batch) → IsNew batch → IsHeld batch
-new-held batch new = record {
-  each = subst (AllByRecursion IsOneLine) (sym new.lines) tt;
-  open_line = subst IsOneLine (sym new.line) tt;
-  fresh = new.progress.line;
-  sent = new.progress.pending;
-}
-
 -- each line has a byte at least, its newline
 pub lines-fit : (lines : List (List ℕ)) → length lines ≤ length (ended lines)
 lines-fit [] = omega arith
 lines-fit (line ∷ lines) =
     let others = lines-fit lines in omega (arith, others, length-append line (newline ∷ ended lines))
 
+-- a new batch holds nothing
+pub new-holds_nothing : (batch : Batch) → IsNew batch → held batch ≡ []
+new-holds_nothing batch new =
+    ap₂ (λ (bytes line : List ℕ). bytes ++ line) (ap₂ (λ (blocks : List (List ℕ)) (block : List ℕ). joined blocks ++ block) new.blocks new.block) new.line
+
+-- no bytes are no lines
+pub no-lines : AreLines []
+no-lines = record { lines = []; cuts = record { whole = refl; each = tt; open_line = tt } }
+
+pub new-held : (batch : Batch) → IsNew batch → IsHeld batch
+new-held batch new = record {
+  each = subst (AllByRecursion AreLines) (sym new.blocks) tt;
+  few = subst (λ (blocks : List (List ℕ)). length blocks ≤ length (joined blocks)) (sym new.blocks) (omega arith);
+  open_block = subst AreLines (sym new.block) no-lines;
+  open_line = subst IsOneLine (sym new.line) tt;
+  fresh = new.progress.line;
+  sent = new.progress.pending;
+}
+
+-- one line more makes lines
+pub more-lines : (bytes line : List ℕ) → AreLines bytes → IsOneLine line → AreLines (bytes ++ (line ++ newline ∷ []))
+more-lines bytes line are one = record {
+  lines = are.lines ++ line ∷ [];
+  cuts = record {
+    whole = ap (λ b. b ++ (line ++ newline ∷ [])) (are.cuts.whole ∙ append-nil (ended are.lines)) ∙ ended-next are.lines line [];
+    each = all-append IsOneLine are.lines (line ∷ []) are.cuts.each (one, tt);
+    open_line = tt;
+  };
+}
+
 -- a line was taken: it ended with these bytes and a newline
-module _ (end : List ℕ) (old new : Batch) (taken : new.lines.items ≡ old.lines.items ++ (old.line.items ++ end) ∷ [])
-    (none : new.line.items ≡ []) where
-  pub taken-held_bytes : held old ++ (end ++ newline ∷ []) ≡ held new
-  taken-held_bytes =
-      append_assoc (ended old.lines.items) old.line.items (end ++ newline ∷ [])
-      ∙ ap (λ l. ended old.lines.items ++ l) (sym (append_assoc old.line.items end (newline ∷ [])))
-      ∙ ended-next old.lines.items (old.line.items ++ end) []
-      ∙ ap₂ (λ lines line. ended lines ++ line) (sym taken) (sym none)
-
-  pub taken-held : new.progress ≡ old.progress → IsHeld old → IsOneLine end → IsHeld new
-  taken-held same is one = record {
-    each = subst (AllByRecursion IsOneLine) (sym taken) (all-append IsOneLine old.lines.items ((old.line.items ++ end) ∷ []) is.each
-        (all-append (λ byte. byte ≢ newline) old.line.items end is.open_line one, tt));
-    open_line = subst IsOneLine (sym none) tt;
-    fresh = ap (λ (p : Progress). p.line.items) same ∙ is.fresh;
-    sent = ap (λ (p : Progress). p.pending.items) same ∙ is.sent;
-  }
-
-  pub taken-least : new.progress ≡ old.progress → least_taken new ≡ least_taken old + length end + 1
-  taken-least same =
-      let count = ap (λ (p : Progress). p.number) same in
-      let bytes = ap length taken-held_bytes in
-      omega (arith, count, bytes, length-append (held old) (end ++ newline ∷ []), length-append end (newline ∷ []))
+module _ (end : List ℕ) (old new : Batch) (added : new.block.items ≡ old.block.items ++ ((old.line.items ++ end) ++ newline ∷ []))
+    (same : new.blocks.items ≡ old.blocks.items) (none : new.line.items ≡ []) where
+  pub added-held_bytes : held new ≡ held old ++ (end ++ newline ∷ [])
+  added-held_bytes =
+      let front = joined old.blocks.items in
+      ap₂ (λ (bytes line : List ℕ). bytes ++ line) (ap₂ (λ (bs : List (List ℕ)) (b : List ℕ). joined bs ++ b) same added) none
+      ∙ append-nil (front ++ (old.block.items ++ ((old.line.items ++ end) ++ newline ∷ [])))
+      ∙ ap (λ l. front ++ (old.block.items ++ l)) (append_assoc old.line.items end (newline ∷ []))
+      ∙ sym (append_assoc front old.block.items (old.line.items ++ (end ++ newline ∷ [])))
+      ∙ sym (append_assoc (front ++ old.block.items) old.line.items (end ++ newline ∷ []))
 
 -- all lines that were taken were answered
-module _ (old new : Batch) (none : new.lines.items ≡ []) (same : new.line.items ≡ old.line.items) where
-  pub answered-held_bytes : held new ≡ old.line.items
-  answered-held_bytes = ap₂ (λ lines line. ended lines ++ line) none same
-
-  pub answered-held : IsHeld old → new.progress.line.items ≡ [] → new.progress.pending.items ≡ [] → IsHeld new
-  answered-held is fresh sent = record {
-    each = subst (AllByRecursion IsOneLine) (sym none) tt;
-    open_line = subst IsOneLine (sym same) is.open_line;
-    fresh = fresh;
-    sent = sent;
-  }
-
--- and they count as bytes that were taken, one each
-pub answered-least : (old : Batch) (lines : List (List ℕ)) (line : List ℕ) (number : ℕ) → lines ≡ [] → line ≡ old.line.items
-    → number ≡ old.progress.number + length old.lines.items → number + length (ended lines ++ line) ≤ least_taken old
-answered-least old lines line number none same count =
-    let bytes : length (ended lines ++ line) ≡ length old.line.items = ap₂ (λ ls l. length (ended ls ++ l)) none same in
-    let fit = lines-fit old.lines.items in
-    omega (arith, count, bytes, fit, length-append (ended old.lines.items) old.line.items)
+pub answered-held_bytes : (old new : Batch) → taken new ≡ [] → new.line.items ≡ old.line.items → held new ≡ old.line.items
+answered-held_bytes old new none same = ap₂ (λ (bytes line : List ℕ). bytes ++ line) none same
 
 -- more has come of the line that has begun
-pub more-held : (rest : List ℕ) (old new : Batch) → IsHeld old → IsOneLine rest → new.lines.items ≡ old.lines.items
-    → new.line.items ≡ old.line.items ++ rest → new.progress ≡ old.progress → IsHeld new
-more-held rest old new is one lines line progress = record {
-  each = subst (AllByRecursion IsOneLine) (sym lines) is.each;
+pub more-held : (rest : List ℕ) (old new : Batch) → IsHeld old → IsOneLine rest → new.blocks.items ≡ old.blocks.items
+    → new.block.items ≡ old.block.items → new.line.items ≡ old.line.items ++ rest → new.progress ≡ old.progress → IsHeld new
+more-held rest old new is one blocks block line progress = record {
+  each = subst (AllByRecursion AreLines) (sym blocks) is.each;
+  few = subst (λ (bs : List (List ℕ)). length bs ≤ length (joined bs)) (sym blocks) is.few;
+  open_block = subst AreLines (sym block) is.open_block;
   open_line = subst IsOneLine (sym line) (all-append (λ byte. byte ≢ newline) old.line.items rest is.open_line one);
+  fresh = ap (λ (p : Progress). p.line.items) progress ∙ is.fresh;
+  sent = ap (λ (p : Progress). p.pending.items) progress ∙ is.sent;
+}
+
+-- one block more
+pub joined-next : (blocks : List (List ℕ)) (block : List ℕ) → joined (blocks ++ block ∷ []) ≡ joined blocks ++ block
+joined-next [] block = append-nil block
+joined-next (first ∷ blocks) block = ap (λ rest. first ++ rest) (joined-next blocks block) ∙ sym (append_assoc first (joined blocks) block)
+
+some-length : (xs : List ℕ) → xs ≢ [] → 1 ≤ length xs
+some-length [] some = absurd (some refl)
+some-length (x ∷ xs) some = omega arith
+
+-- a block ended
+pub ended-held : (old new : Batch) → IsHeld old → old.block.items ≢ [] → new.blocks.items ≡ old.blocks.items ++ old.block.items ∷ []
+    → new.block.items ≡ [] → new.line.items ≡ old.line.items → new.progress ≡ old.progress → IsHeld new
+ended-held old new is some more none line progress = record {
+  each = subst (AllByRecursion AreLines) (sym more) (all-append AreLines old.blocks.items (old.block.items ∷ []) is.each (is.open_block, tt));
+  few =
+      let fewer = is.few in
+      let longer = some-length old.block.items some in
+      subst (λ (bs : List (List ℕ)). length bs ≤ length (joined bs)) (sym more)
+      (let next = ap length (joined-next old.blocks.items old.block.items) in
+      omega (arith, fewer, longer, next, length-append old.blocks.items (old.block.items ∷ []), length-append (joined old.blocks.items) old.block.items));
+  open_block = subst AreLines (sym none) no-lines;
+  open_line = subst IsOneLine (sym line) is.open_line;
   fresh = ap (λ (p : Progress). p.line.items) progress ∙ is.fresh;
   sent = ap (λ (p : Progress). p.pending.items) progress ∙ is.sent;
 }
@@ -127,7 +143,7 @@ module _ {parts : PresentationParts} {Answers : List ℕ → List ℕ → Type 0
   }
 
 -- the same of each stop
-stops-more : (parts : PresentationParts) (Answers : List ℕ → List ℕ → Type 0) (bytes more : List ℕ) (old : Progress) (a b : SinkState)
+pub stops-more : (parts : PresentationParts) (Answers : List ℕ → List ℕ → Type 0) (bytes more : List ℕ) (old : Progress) (a b : SinkState)
     (stop : Stop) → StopsIn parts Answers bytes old a b stop → StopsIn parts Answers (bytes ++ more) old a b stop
 stops-more parts Answers bytes more old a b (Refused number fault) stops = refuses-more more stops
 stops-more parts Answers bytes more old a b Output stops = front-more more stops
@@ -167,30 +183,29 @@ module _ {parts : PresentationParts} {Answers : List ℕ → List ℕ → Type 0
 
   -- the rest of the bytes is held, behind what has come of the line
   pub batch-end : {bytes rest : List ℕ} {old middle : Batch} {a b : SinkState} (new : Batch)
-      → BatchAdvances parts Answers bytes rest old middle a b → new.lines.items ≡ middle.lines.items
+      → BatchAdvances parts Answers bytes rest old middle a b → taken new ≡ taken middle
       → new.line.items ≡ middle.line.items ++ rest → new.progress ≡ middle.progress
       → BatchAdvances parts Answers bytes [] old new a b
   batch-end {bytes} {rest} {old} {middle} {a} {b} new so_far lines line progress = record {
     answered = so_far.answered;
-    whole = so_far.whole ∙ ap (λ h. so_far.answered ++ h) (append_assoc (ended middle.lines.items) middle.line.items rest
-        ∙ ap₂ (λ ls l. ended ls ++ l) (sym lines) (sym line) ∙ sym (append-nil (held new)));
+    whole = so_far.whole ∙ ap (λ h. so_far.answered ++ h) (append_assoc (taken middle) middle.line.items rest
+        ∙ ap₂ (λ (t l : List ℕ). t ++ l) (sym lines) (sym line) ∙ sym (append-nil (held new)));
     advances = subst (λ (p : Progress). Advances parts Answers so_far.answered [] old.progress p a b) (sym progress) so_far.advances;
   }
 
   -- no line was taken
-  pub none-taken : (batch : Batch) (a : SinkState) → IsTrue a.told → IsHeld batch → batch.lines.items ≡ []
-      → Advances parts Answers (ended batch.lines.items) [] batch.progress batch.progress a a
+  pub none-taken : (batch : Batch) (a : SinkState) → IsTrue a.told → IsHeld batch → taken batch ≡ []
+      → Advances parts Answers (taken batch) [] batch.progress batch.progress a a
   none-taken batch a told is none =
-      subst (λ (lines : List (List ℕ)). Advances parts Answers (ended lines) [] batch.progress batch.progress a a) (sym none)
+      subst (λ (bytes : List ℕ). Advances parts Answers bytes [] batch.progress batch.progress a a) (sym none)
       (advances-start [] (held-ready batch a told is))
 
   -- a line was taken
-  pub batch-taken : (end : List ℕ) (old new : Batch) (a : SinkState) → IsTrue a.told → IsHeld old
-      → new.lines.items ≡ old.lines.items ++ (old.line.items ++ end) ∷ [] → new.line.items ≡ [] → new.progress ≡ old.progress
-      → BatchAdvances parts Answers (end ++ newline ∷ []) [] old new a a
-  batch-taken end old new a told is taken none progress = record {
+  pub batch-taken : (bytes : List ℕ) (old new : Batch) (a : SinkState) → IsTrue a.told → IsHeld old
+      → held new ≡ held old ++ bytes → new.progress ≡ old.progress → BatchAdvances parts Answers bytes [] old new a a
+  batch-taken bytes old new a told is whole progress = record {
     answered = [];
-    whole = taken-held_bytes end old new taken none ∙ sym (append-nil (held new));
+    whole = sym whole ∙ sym (append-nil (held new));
     advances = subst (λ (p : Progress). Advances parts Answers [] [] old.progress p a a) (sym progress)
         (advances-start [] (held-ready old a told is));
   }
@@ -198,13 +213,13 @@ module _ {parts : PresentationParts} {Answers : List ℕ → List ℕ → Type 0
   -- then all lines that were taken were answered
   pub batch-answered : {bytes : List ℕ} {old middle : Batch} {a b : SinkState} (new : Batch) (c : SinkState)
       → BatchAdvances parts Answers bytes [] old middle a b
-      → Advances parts Answers (ended middle.lines.items) [] middle.progress new.progress b c
-      → new.lines.items ≡ [] → new.line.items ≡ middle.line.items → BatchAdvances parts Answers bytes [] old new a c
+      → Advances parts Answers (taken middle) [] middle.progress new.progress b c
+      → taken new ≡ [] → new.line.items ≡ middle.line.items → BatchAdvances parts Answers bytes [] old new a c
   batch-answered {middle = middle} {b = b} new c first advances none same =
       let next : BatchAdvances parts Answers [] [] middle new b c = record {
-        answered = ended middle.lines.items;
+        answered = taken middle;
         whole = append-nil (held middle)
-            ∙ ap (λ l. ended middle.lines.items ++ l) (sym (append-nil (held new) ∙ answered-held_bytes middle new none same));
+            ∙ ap (λ l. taken middle ++ l) (sym (append-nil (held new) ∙ answered-held_bytes middle new none same));
         advances = advances;
       } in
       batch-then [] [] first refl next
@@ -225,12 +240,12 @@ module _ {parts : PresentationParts} {Answers : List ℕ → List ℕ → Type 0
   -- or among the lines that were taken
   pub batch-answer_stops : {bytes : List ℕ} {old middle : Batch} {a b : SinkState} (c : SinkState) (stop : Stop)
       → BatchAdvances parts Answers bytes [] old middle a b
-      → StopsIn parts Answers (ended middle.lines.items) middle.progress b c stop
+      → StopsIn parts Answers (taken middle) middle.progress b c stop
       → StopsIn parts Answers (held old ++ bytes) old.progress a c stop
   batch-answer_stops {middle = middle} {b = b} c stop first stops =
       batch-stops c [] [] stop first refl
       (subst (λ (w : List ℕ). StopsIn parts Answers w middle.progress b c stop) (sym (append-nil (held middle)))
-      (stops-more parts Answers (ended middle.lines.items) middle.line.items middle.progress b c stop stops))
+      (stops-more parts Answers (taken middle) middle.line.items middle.progress b c stop stops))
 
   -- nothing more was sent
   pub batch-none : {bytes rest : List ℕ} {old middle : Batch} {a b : SinkState} → BatchAdvances parts Answers bytes rest old middle a b
@@ -241,7 +256,7 @@ module _ {parts : PresentationParts} {Answers : List ℕ → List ℕ → Type 0
 
   -- the line that has begun is handed on, where no other is held
   pub batch-last : {bytes : List ℕ} {old middle : Batch} {a b : SinkState} (new : Progress)
-      → BatchAdvances parts Answers bytes [] old middle a b → IsTrue b.told → IsHeld middle → middle.lines.items ≡ []
+      → BatchAdvances parts Answers bytes [] old middle a b → IsTrue b.told → IsHeld middle → taken middle ≡ []
       → new.line.items ≡ middle.line.items → new.number ≡ middle.progress.number → new.pending.items ≡ middle.progress.pending.items
       → Advances parts Answers (held old ++ bytes) [] old.progress new a b
   batch-last {bytes} {old} {middle} {a} {b} new first told is none same number pending =
@@ -249,5 +264,5 @@ module _ {parts : PresentationParts} {Answers : List ℕ → List ℕ → Type 0
       advances-end new (advances-start middle.line.items (held-ready middle b told is)) is.open_line
       (same ∙ ap (λ l. l ++ middle.line.items) (sym is.fresh)) number pending in
       let whole : first.answered ++ middle.line.items ≡ held old ++ bytes =
-      sym (first.whole ∙ ap (λ h. first.answered ++ h) (append-nil (held middle) ∙ ap (λ ls. ended ls ++ middle.line.items) none)) in
+      sym (first.whole ∙ ap (λ h. first.answered ++ h) (append-nil (held middle) ∙ ap (λ t. t ++ middle.line.items) none)) in
       subst (λ (w : List ℕ). Advances parts Answers w [] old.progress new a b) whole (advances-append first.advances begun)

@@ -37,7 +37,7 @@ one-front (b ∷ line) (c ∷ other) behind after one also is =
     (ap₂ (λ x l. x ∷ l) heads rest.0, rest.1)
 
 -- bytes are cut in one way
-one-cut : (lines others : List (List ℕ)) (rest last : List ℕ) → AllByRecursion IsOneLine lines → AllByRecursion IsOneLine others
+pub one-cut : (lines others : List (List ℕ)) (rest last : List ℕ) → AllByRecursion IsOneLine lines → AllByRecursion IsOneLine others
     → IsOneLine rest → IsOneLine last → ended lines ++ rest ≡ ended others ++ last → (lines ≡ others) × (rest ≡ last)
 one-cut [] [] rest last each too one also is = (refl, is)
 one-cut [] (other ∷ others) rest last each too one also is =

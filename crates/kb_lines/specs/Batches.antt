@@ -1,43 +1,91 @@
 -- Lines that are taken, and then answered together.
-use Rattle.std.specs.Prelude.{◌≡◌, ℕ, ◌+◌, List, [], ◌++◌, length, get_or}
+use Rattle.std.specs.Prelude.{◌≡◌, ℕ, ◌+◌, ◌≤◌, List, [], ◌∷◌, ◌++◌, length, get_or}
 use Rattle.std.specs.List.{AllByRecursion}
 use Rattle.kb_each.specs.Made.{AreMadeInOrder}
+use Rattle.kb_io.specs.Bytes.{newline}
 use Rattle.kb_io.specs.States.{SinkState}
 use Rattle.kb_word.specs.Presentations.{PresentationParts}
-use Rattle.kb_lines.specs.WordLines.{IsOneLine, ended, LineGives, LineHasFault}
+use Rattle.kb_record.specs.declared.error.WordError.{WordError}
+use Rattle.kb_lines.specs.WordLines.{IsOneLine, ended, Cuts, LinesGive, LineHasFault}
 use Rattle.kb_lines.specs.Progress.{IsFresh, Advances}
 use Rattle.kb_lines.specs.Streams.{Streams, Takes}
 use Rattle.kb_lines.specs.declared.batch.Batch.{Batch}
 use Rattle.kb_lines.specs.declared.progress.Progress.{Progress}
-use Rattle.kb_lines.specs.declared.together.LineAnswer.{LineAnswer}
-use Rattle.kb_lines.specs.declared.together.LineAnswer.TheVariants.{Given, Faulty}
+use Rattle.kb_lines.specs.declared.together.BlockAnswer.{BlockAnswer}
+use Rattle.kb_lines.specs.declared.together.BlockAnswer.TheVariants.{Given, Faulty}
 
--- the text is what the line gives, or the line has the fault for which it is refused
-abbrev pub IsLineAnswer : PresentationParts → (List ℕ → List ℕ → Type 0) → List ℕ → LineAnswer
+-- the bytes are lines, each with its newline
+pub record AreLines (bytes : List ℕ) : Type 0 where
+  pub lines : List (List ℕ)
+  pub cuts : Cuts bytes lines []
+
+-- the blocks, one behind the other
+abbrev pub joined : List (List ℕ) → List ℕ
+joined [] = []
+joined (block ∷ blocks) = block ++ joined blocks
+
+-- the lines that end in the bytes are so many, and they give the text
+pub record BlockGives (parts : PresentationParts) (Answers : List ℕ → List ℕ → Type 0)
+    (bytes : List ℕ) (count : ℕ) (text : List ℕ) : Type 0 where
+  pub lines : List (List ℕ)
+  pub rest : List ℕ
+  pub cuts : Cuts bytes lines rest
+  pub counted : count ≡ length lines
+  pub answered : LinesGive parts Answers lines text
+
+-- so many lines at the front of the bytes give the text, and the line behind them is refused
+pub record BlockRefused (parts : PresentationParts) (Answers : List ℕ → List ℕ → Type 0)
+    (bytes : List ℕ) (count : ℕ) (text : List ℕ) (fault : WordError) : Type 0 where
+  pub lines : List (List ℕ)
+  pub line : List ℕ
+  pub behind : List ℕ
+  pub whole : bytes ≡ (ended lines ++ line) ++ newline ∷ behind
+  pub each : AllByRecursion IsOneLine lines
+  pub one : IsOneLine line
+  pub counted : count ≡ length lines
+  pub answered : LinesGive parts Answers lines text
+  pub faulty : LineHasFault parts line fault
+
+-- what the lines of the bytes give, up to the first that is refused
+abbrev pub IsBlockAnswer : PresentationParts → (List ℕ → List ℕ → Type 0) → List ℕ → BlockAnswer
     → Type 0
-IsLineAnswer parts Answers line (Given text) = LineGives parts Answers line text.items
-IsLineAnswer parts Answers line (Faulty fault) = LineHasFault parts line fault
+IsBlockAnswer parts Answers bytes (Given count text) =
+    BlockGives parts Answers bytes count text.items
+IsBlockAnswer parts Answers bytes (Faulty count text fault) =
+    BlockRefused parts Answers bytes count text.items fault
 
--- each of the lines has its answer, in their order
-abbrev pub AreLineAnswers : PresentationParts → (List ℕ → List ℕ → Type 0) → List (List ℕ)
-    → List LineAnswer → Type 0
-AreLineAnswers parts Answers lines answers =
-    AreMadeInOrder (length lines) (λ place. IsLineAnswer parts Answers (get_or lines place []))
-    answers
+-- how many lines the answer speaks of
+abbrev pub lines_in : BlockAnswer → ℕ
+lines_in (Given count text) = count
+lines_in (Faulty count text fault) = count + 1
+
+-- each of the blocks has its answer, in their order
+abbrev pub AreBlockAnswers : PresentationParts → (List ℕ → List ℕ → Type 0) → List (List ℕ)
+    → List BlockAnswer → Type 0
+AreBlockAnswers parts Answers blocks answers =
+    AreMadeInOrder (length blocks)
+    (λ place. IsBlockAnswer parts Answers (get_or blocks place [])) answers
+
+-- the bytes of the lines that were taken
+abbrev pub taken : Batch → List ℕ
+taken batch = joined batch.blocks.items ++ batch.block.items
 
 -- the bytes that are held: the lines that were taken, and what has come of the next line
 abbrev pub held : Batch → List ℕ
-held batch = ended batch.lines.items ++ batch.line.items
+held batch = taken batch ++ batch.line.items
 
 -- nothing was taken yet
 pub record IsNew (batch : Batch) : Type 0 where
-  pub lines : batch.lines.items ≡ []
+  pub blocks : batch.blocks.items ≡ []
+  pub block : batch.block.items ≡ []
   pub line : batch.line.items ≡ []
   pub progress : IsFresh batch.progress
 
 -- what is held are lines, and of the lines that were answered nothing is pending
 pub record IsHeld (batch : Batch) : Type 0 where
-  pub each : AllByRecursion IsOneLine batch.lines.items
+  pub each : AllByRecursion AreLines batch.blocks.items
+  pub few : length batch.blocks.items ≤ length (joined batch.blocks.items)
+  pub open_block : AreLines batch.block.items
   pub open_line : IsOneLine batch.line.items
   pub fresh : batch.progress.line.items ≡ []
   pub sent : batch.progress.pending.items ≡ []

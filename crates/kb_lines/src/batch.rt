@@ -3,16 +3,16 @@
 ghost use Rattle.std.specs.Prelude.{◌≡◌, ◌<◌, ◌≤◌, ◌+◌, ◌^◌, [], ◌∷◌, ◌++◌, length, IsTrue, OnOk, IfErr};
 ghost use Rattle.kb_io.specs.Bytes.{newline};
 ghost use Rattle.kb_io.specs.States.{SinkGoesOn};
-ghost use Rattle.kb_lines.specs.WordLines.{IsOneLine, ended};
+ghost use Rattle.kb_lines.specs.WordLines.{IsOneLine};
 ghost use Rattle.kb_lines.specs.Progress.{Advances, StopsIn, LineStopIsCounted};
-ghost use Rattle.kb_lines.specs.Batches.{BatchAdvances, IsHeld, IsNew, least_taken, held};
+ghost use Rattle.kb_lines.specs.Batches.{BatchAdvances, IsHeld, IsNew, least_taken, held, taken, joined};
 
 use crate::answerer::Answerer;
 use crate::batches::Batches;
 use crate::line::split_line;
 use crate::progress::Progress;
 use crate::stop::Stop;
-use crate::together::TakenLine;
+use crate::together::Block;
 use kb_io::{Gate, Sink};
 use kb_word::Memory;
 use std::alloc::Global;
@@ -23,8 +23,14 @@ use std::thread::Threads;
 /// The lines that were taken and aren't answered yet, the line that has begun, and how far the lines before them came.
 #[derive(Drop)]
 pub(crate) struct Batch {
-    lines: Vec<TakenLine>,
+    /// Blocks of lines, of which none is empty.
+    blocks: Vec<Block>,
+    /// The lines behind them, each with its newline.
+    block: Vec<u8>,
     line: Vec<u8>,
+    /// How many lines make up a batch so far, and how many of them are behind the blocks.
+    count: u32,
+    filled: u32,
     pub progress: Progress,
 }
 
@@ -34,8 +40,11 @@ impl Batch {
         ensures { IsNew result }
     {
         Batch {
-            lines: Vec::new(alloc),
+            blocks: Vec::new(alloc),
+            block: Vec::new(alloc),
             line: Vec::new(alloc),
+            count: 0,
+            filled: 0,
             progress: Progress::new(alloc),
         }
     }
@@ -154,24 +163,68 @@ impl Batch {
         ensures counted { IfErr result (LineStopIsCounted (O.state out.old) (O.state out.new)) }
         ensures goes_on { SinkGoesOn (O.state out.old) (O.state out.new) }
     {
-        self.take_line(alloc, end)?;
-        if self.lines.len() < batches.size as usize {
+        self.take_line(alloc, batches, end)?;
+        if self.count < batches.size {
             return Ok(());
         }
         self.answer_taken(rt, alloc, answerer, batches, out)?;
         Ok(())
     }
 
-    /// Takes the line that has begun and ends with these bytes.
-    fn take_line(&mut self, alloc: Global, end: &[u8]) -> Result<(), Memory>
-        ensures taken { OnOk result (self.new.lines.items
-            ≡ self.old.lines.items ++ (self.old.line.items ++ end.now) ∷ []) }
+    /// Takes the line that has begun and ends with these bytes, and ends the block if it is full.
+    fn take_line<G: Gate>(
+        &mut self,
+        alloc: Global,
+        batches: &Batches<'_, G>,
+        end: &[u8],
+    ) -> Result<(), Memory>
+        requires ready { IsHeld self.old }
+        requires one { IsOneLine end.now }
+        ensures held { OnOk result (held self.new ≡ held self.old ++ (end.now ++ newline ∷ [])) }
+        ensures ready { OnOk result (IsHeld self.new) }
+        ensures progress { self.new.progress ≡ self.old.progress }
+    {
+        self.add_line(end)?;
+        if self.count < batches.size {
+            self.count += 1;
+        }
+        if self.filled < batches.block() {
+            self.filled += 1;
+            return Ok(());
+        }
+        self.end_block(alloc)
+    }
+
+    /// Puts the line that has begun and ends with these bytes behind the others.
+    fn add_line(&mut self, end: &[u8]) -> Result<(), Memory>
+        ensures block { OnOk result (self.new.block.items
+            ≡ self.old.block.items ++ ((self.old.line.items ++ end.now) ++ newline ∷ [])) }
+        ensures blocks { self.new.blocks.items ≡ self.old.blocks.items }
         ensures line { OnOk result (self.new.line.items ≡ []) }
         ensures progress { self.new.progress ≡ self.old.progress }
     {
         self.line.extend_from_slice(end)?;
-        let line = replace(&mut self.line, Vec::new(alloc));
-        self.lines.push(TakenLine::of(line))?;
+        self.line.push(b'\n')?;
+        self.block.extend_from_slice(&self.line)?;
+        self.line.clear();
+        Ok(())
+    }
+
+    /// Makes a block of the lines behind the blocks, if there are any.
+    fn end_block(&mut self, alloc: Global) -> Result<(), Memory>
+        requires ready { IsHeld self.old }
+        ensures taken { OnOk result (joined self.new.blocks.items ≡ taken self.old) }
+        ensures none { OnOk result (self.new.block.items ≡ []) }
+        ensures ready { OnOk result (IsHeld self.new) }
+        ensures line { self.new.line.items ≡ self.old.line.items }
+        ensures progress { self.new.progress ≡ self.old.progress }
+    {
+        self.filled = 0;
+        if self.block.is_empty() {
+            return Ok(());
+        }
+        let block = replace(&mut self.block, Vec::new(alloc));
+        self.blocks.push(Block::of(block))?;
         Ok(())
     }
 
@@ -189,26 +242,28 @@ impl Batch {
         requires ready { IsHeld self.old }
         requires room { least_taken self.old < 2 ^ 32 }
         ensures advances { IsTrue (O.state out.old).told → OnOk result
-            (Advances (A.parts answerer.now) (A.answers answerer.now) (ended self.old.lines.items) []
+            (Advances (A.parts answerer.now) (A.answers answerer.now) (taken self.old) []
             self.old.progress self.new.progress (O.state out.old) (O.state out.new)) }
         ensures ready { OnOk result (IsHeld self.new) }
-        ensures none { OnOk result (self.new.lines.items ≡ []) }
+        ensures none { OnOk result (taken self.new ≡ []) }
         ensures line { OnOk result (self.new.line.items ≡ self.old.line.items) }
         ensures number { OnOk result (least_taken self.new ≤ least_taken self.old) }
 
         // After a stop.
         ensures stops { IsTrue (O.state out.old).told → IfErr result
-            (StopsIn (A.parts answerer.now) (A.answers answerer.now) (ended self.old.lines.items)
+            (StopsIn (A.parts answerer.now) (A.answers answerer.now) (taken self.old)
             self.old.progress (O.state out.old) (O.state out.new)) }
         ensures counted { IfErr result (LineStopIsCounted (O.state out.old) (O.state out.new)) }
         ensures goes_on { SinkGoesOn (O.state out.old) (O.state out.new) }
     {
-        if self.lines.is_empty() {
+        self.end_block(alloc)?;
+        self.count = 0;
+        if self.blocks.is_empty() {
             return Ok(());
         }
         self.progress
-            .answer_together(rt, alloc, answerer, batches, &self.lines, out)?;
-        self.lines.clear();
+            .answer_together(rt, alloc, answerer, batches, &self.blocks, out)?;
+        self.blocks.clear();
         Ok(())
     }
 }

@@ -25,4 +25,17 @@ impl<'g, G: Gate> Batches<'g, G> {
             gate,
         }
     }
+
+    /// How many lines make a block, so that each worker has several. No answer depends on it.
+    pub(crate) fn block(&self) -> u32 {
+        let share = self.size / (4 * self.workers);
+        if share < MOST_IN_BLOCK {
+            share
+        } else {
+            MOST_IN_BLOCK
+        }
+    }
 }
+
+/// The most lines of a block.
+const MOST_IN_BLOCK: u32 = 64;

@@ -4,16 +4,16 @@ ghost use Rattle.std.specs.Prelude.{◌≡◌, ◌<◌, ◌≤◌, ◌+◌, ◌^
 ghost use Rattle.std.specs.List.{AllByRecursion};
 ghost use Rattle.kb_io.specs.Bytes.{AppendsPrefix};
 ghost use Rattle.kb_io.specs.States.{SinkGoesOn};
-ghost use Rattle.kb_lines.specs.WordLines.{IsOneLine, ended, LineGives, LineHasFault};
+ghost use Rattle.kb_lines.specs.WordLines.{IsOneLine};
 ghost use Rattle.kb_lines.specs.Progress.{IsFresh, IsReady, LineEnds, LineStops, Advances, StopsIn, LineStopIsCounted};
-ghost use Rattle.kb_lines.specs.Batches.{AreLineAnswers, IsLineAnswer};
+ghost use Rattle.kb_lines.specs.Batches.{AreBlockAnswers, AreLines, BlockGives, BlockRefused, IsBlockAnswer, joined, lines_in};
 ghost use Rattle.kb_lines.specs.declared.stop.Stop.TheVariants as stops;
 
 use crate::answerer::Answerer;
 use crate::batches::Batches;
 use crate::line::{LineWorkspace, answer_line, split_line};
 use crate::stop::Stop;
-use crate::together::{LineAnswer, TakenLine, answers_to};
+use crate::together::{Block, BlockAnswer, answers_to};
 use kb_io::{Gate, Sink, write_all};
 use kb_record::WordError;
 use std::alloc::Global;
@@ -215,155 +215,175 @@ impl Progress {
         self.line = line;
     }
 
-    /// Answers lines together, where no other has begun, and sends all answers.
+    /// Answers blocks of lines together, where no line has begun, and sends all answers.
     pub(crate) fn answer_together<A: Answerer + Sync, G: Gate, T: Threads + Wait + Sync, O: Sink>(
         &mut self,
         rt: &T,
         alloc: Global,
         answerer: &A,
         batches: &Batches<'_, G>,
-        lines: &[TakenLine],
+        blocks: &[Block],
         out: &mut O,
     ) -> Result<(), Stop>
     where
         A::Workspace: Send,
         requires fresh { self.old.line.items ≡ [] }
-        requires room { self.old.number + length lines.now < 2 ^ 32 }
-        requires each { AllByRecursion IsOneLine lines.now }
+        requires few { length blocks.now ≤ length (joined blocks.now) }
+        requires room { self.old.number + length (joined blocks.now) < 2 ^ 32 }
+        requires each { AllByRecursion AreLines blocks.now }
         ensures advances { IsTrue (O.state out.old).told → OnOk result
-            (Advances (A.parts answerer.now) (A.answers answerer.now) (ended lines.now) []
+            (Advances (A.parts answerer.now) (A.answers answerer.now) (joined blocks.now) []
             self.old self.new (O.state out.old) (O.state out.new)) }
         ensures fresh { OnOk result (self.new.line.items ≡ []) }
         ensures sent { OnOk result (self.new.pending.items ≡ []) }
-        ensures number { OnOk result (self.new.number ≡ self.old.number + length lines.now) }
+        ensures number { OnOk result
+            (self.new.number ≤ self.old.number + length (joined blocks.now)) }
 
         // After a stop.
         ensures stops { IsTrue (O.state out.old).told → IfErr result
-            (StopsIn (A.parts answerer.now) (A.answers answerer.now) (ended lines.now) self.old
+            (StopsIn (A.parts answerer.now) (A.answers answerer.now) (joined blocks.now) self.old
             (O.state out.old) (O.state out.new)) }
         ensures counted { IfErr result (LineStopIsCounted (O.state out.old) (O.state out.new)) }
         ensures goes_on { SinkGoesOn (O.state out.old) (O.state out.new) }
     {
-        let answers = answers_to(rt, alloc, answerer, batches, lines)?;
-        self.add_all(answerer, answers, out)?;
+        let answers = answers_to(rt, alloc, answerer, batches, blocks)?;
+        self.add_all(answerer, blocks, answers, out)?;
         self.send(out)
     }
 
-    /// Adds the answers to lines in their order, where no other has begun.
+    /// Adds the answers to blocks in their order, where no line has begun. Of the answerer and the blocks nothing is
+    /// read: they say what is given.
     fn add_all<A: Answerer, O: Sink>(
         &mut self,
         answerer: &A,
-        answers: Vec<LineAnswer>,
+        blocks: &[Block],
+        answers: Vec<BlockAnswer>,
         out: &mut O,
     ) -> Result<(), Stop>
         requires fresh { self.old.line.items ≡ [] }
-        requires room { self.old.number + length answers.items < 2 ^ 32 }
-        ensures advances { (lines : List (List ℕ)) → AllByRecursion IsOneLine lines
-            → AreLineAnswers (A.parts answerer.now) (A.answers answerer.now) lines answers.items
-            → IsTrue (O.state out.old).told → OnOk result
-            (Advances (A.parts answerer.now) (A.answers answerer.now) (ended lines) []
+        requires room { self.old.number + length (joined blocks.now) < 2 ^ 32 }
+        requires each { AllByRecursion AreLines blocks.now }
+        requires answers { AreBlockAnswers (A.parts answerer.now) (A.answers answerer.now)
+            blocks.now answers.items }
+        ensures advances { IsTrue (O.state out.old).told → OnOk result
+            (Advances (A.parts answerer.now) (A.answers answerer.now) (joined blocks.now) []
             self.old self.new (O.state out.old) (O.state out.new)) }
         ensures fresh { OnOk result (self.new.line.items ≡ []) }
-        ensures number { OnOk result (self.new.number ≡ self.old.number + length answers.items) }
+        ensures number { OnOk result
+            (self.new.number ≤ self.old.number + length (joined blocks.now)) }
 
         // After a stop.
-        ensures stops { (lines : List (List ℕ)) → AllByRecursion IsOneLine lines
-            → AreLineAnswers (A.parts answerer.now) (A.answers answerer.now) lines answers.items
-            → IsTrue (O.state out.old).told → IfErr result
-            (StopsIn (A.parts answerer.now) (A.answers answerer.now) (ended lines) self.old
+        ensures stops { IsTrue (O.state out.old).told → IfErr result
+            (StopsIn (A.parts answerer.now) (A.answers answerer.now) (joined blocks.now) self.old
             (O.state out.old) (O.state out.new)) }
         ensures counted { IfErr result (LineStopIsCounted (O.state out.old) (O.state out.new)) }
         ensures goes_on { SinkGoesOn (O.state out.old) (O.state out.new) }
     {
+        let _ = blocks;
         for answer in answers {
             self.add(answerer, answer, out)?;
         }
         Ok(())
     }
 
-    /// Adds the answer to a line, where no other has begun.
+    /// Adds the answer to a block, where no line has begun.
     fn add<A: Answerer, O: Sink>(
         &mut self,
         answerer: &A,
-        answer: LineAnswer,
+        answer: BlockAnswer,
         out: &mut O,
     ) -> Result<(), Stop>
         requires fresh { self.old.line.items ≡ [] }
-        requires room { self.old.number + 1 < 2 ^ 32 }
-        ensures ends { (line : List ℕ)
-            → IsLineAnswer (A.parts answerer.now) (A.answers answerer.now) line answer
+        requires room { self.old.number + lines_in answer < 2 ^ 32 }
+        ensures advances { (block : List ℕ) → AreLines block
+            → IsBlockAnswer (A.parts answerer.now) (A.answers answerer.now) block answer
             → IsTrue (O.state out.old).told → OnOk result
-            (LineEnds (A.parts answerer.now) (A.answers answerer.now) line self.old self.new
+            (Advances (A.parts answerer.now) (A.answers answerer.now) block [] self.old self.new
             (O.state out.old) (O.state out.new)) }
         ensures fresh { OnOk result (self.new.line.items ≡ []) }
-        ensures number { OnOk result (self.new.number ≡ self.old.number + 1) }
+        ensures number { OnOk result (self.new.number ≡ self.old.number + lines_in answer) }
 
         // After a stop.
-        ensures stops { (line : List ℕ)
-            → IsLineAnswer (A.parts answerer.now) (A.answers answerer.now) line answer
+        ensures stops { (block : List ℕ) → AreLines block
+            → IsBlockAnswer (A.parts answerer.now) (A.answers answerer.now) block answer
             → IsTrue (O.state out.old).told → IfErr result
-            (LineStops (A.parts answerer.now) (A.answers answerer.now) line
-            self.old.number self.old.pending.items (O.state out.old) (O.state out.new)) }
+            (StopsIn (A.parts answerer.now) (A.answers answerer.now) block self.old
+            (O.state out.old) (O.state out.new)) }
         ensures counted { IfErr result (LineStopIsCounted (O.state out.old) (O.state out.new)) }
         ensures goes_on { SinkGoesOn (O.state out.old) (O.state out.new) }
     {
         match answer {
-            LineAnswer::Given(text) => self.add_text(answerer, &text, out),
-            LineAnswer::Faulty(fault) => Err(self.refuse(answerer, fault, out)),
+            BlockAnswer::Given { count, text } => self.add_text(answerer, count, &text, out),
+            BlockAnswer::Faulty { count, text, fault } => {
+                Err(self.refuse(answerer, count, &text, fault, out))
+            }
         }
     }
 
-    /// Adds the text that a line gives, where no other has begun. Of the answerer nothing is read: it says what a line
-    /// gives.
+    /// Adds the text that so many lines give, where no line has begun. Of the answerer nothing is read: it says what
+    /// lines give.
     fn add_text<A: Answerer, O: Sink>(
         &mut self,
         answerer: &A,
+        count: usize,
         text: &[u8],
         out: &mut O,
     ) -> Result<(), Stop>
         requires fresh { self.old.line.items ≡ [] }
-        requires room { self.old.number + 1 < 2 ^ 32 }
-        ensures ends { (line : List ℕ)
-            → LineGives (A.parts answerer.now) (A.answers answerer.now) line text.now
+        requires room { self.old.number + count < 2 ^ 32 }
+        ensures advances { (block : List ℕ) → AreLines block
+            → BlockGives (A.parts answerer.now) (A.answers answerer.now) block count text.now
             → IsTrue (O.state out.old).told → OnOk result
-            (LineEnds (A.parts answerer.now) (A.answers answerer.now) line self.old self.new
+            (Advances (A.parts answerer.now) (A.answers answerer.now) block [] self.old self.new
             (O.state out.old) (O.state out.new)) }
         ensures fresh { OnOk result (self.new.line.items ≡ []) }
-        ensures number { OnOk result (self.new.number ≡ self.old.number + 1) }
+        ensures number { OnOk result (self.new.number ≡ self.old.number + count) }
 
         // After a stop.
-        ensures stops { (line : List ℕ)
-            → LineGives (A.parts answerer.now) (A.answers answerer.now) line text.now
+        ensures stops { (block : List ℕ) → AreLines block
+            → BlockGives (A.parts answerer.now) (A.answers answerer.now) block count text.now
             → IsTrue (O.state out.old).told → IfErr result
-            (LineStops (A.parts answerer.now) (A.answers answerer.now) line
-            self.old.number self.old.pending.items (O.state out.old) (O.state out.new)) }
+            (StopsIn (A.parts answerer.now) (A.answers answerer.now) block self.old
+            (O.state out.old) (O.state out.new)) }
         ensures counted { IfErr result (LineStopIsCounted (O.state out.old) (O.state out.new)) }
         ensures goes_on { SinkGoesOn (O.state out.old) (O.state out.new) }
     {
         let _ = answerer;
         self.pending.extend_from_slice(text)?;
-        self.number += 1;
+        self.number += count as u32;
         if self.pending.len() < ENOUGH {
             return Ok(());
         }
         self.send(out)
     }
 
-    /// Why the answers stop at a line with a fault: first all answers before it are sent. Of the answerer nothing is
-    /// read: it says what a line gives.
-    fn refuse<A: Answerer, O: Sink>(&mut self, answerer: &A, fault: WordError, out: &mut O) -> Stop
-        requires room { self.old.number + 1 < 2 ^ 32 }
-        ensures stops { (line : List ℕ) → LineHasFault (A.parts answerer.now) line fault
+    /// Why the answers stop in a block of which so many lines give the text and the next has a fault: first all answers
+    /// before it are sent. Of the answerer nothing is read: it says what lines give.
+    fn refuse<A: Answerer, O: Sink>(
+        &mut self,
+        answerer: &A,
+        count: usize,
+        text: &[u8],
+        fault: WordError,
+        out: &mut O,
+    ) -> Stop
+        requires fresh { self.old.line.items ≡ [] }
+        requires room { self.old.number + (count + 1) < 2 ^ 32 }
+        ensures stops { (block : List ℕ)
+            → BlockRefused (A.parts answerer.now) (A.answers answerer.now) block count text.now fault
             → IsTrue (O.state out.old).told
-            → LineStops (A.parts answerer.now) (A.answers answerer.now) line
-            self.old.number self.old.pending.items (O.state out.old) (O.state out.new) result }
+            → StopsIn (A.parts answerer.now) (A.answers answerer.now) block self.old
+            (O.state out.old) (O.state out.new) result }
         ensures counted { LineStopIsCounted (O.state out.old) (O.state out.new) result }
         ensures goes_on { SinkGoesOn (O.state out.old) (O.state out.new) }
     {
         let _ = answerer;
+        if self.pending.extend_from_slice(text).is_err() {
+            return Stop::Memory;
+        }
         match self.send(out) {
             Ok(()) => Stop::Refused {
-                number: self.number + 1,
+                number: self.number + (count as u32 + 1),
                 fault,
             },
             Err(stop) => stop,
