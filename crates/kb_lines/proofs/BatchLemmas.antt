@@ -66,9 +66,48 @@ module _ (end : List ℕ) (old new : Batch) (added : new.block.items ≡ old.blo
       ∙ sym (append_assoc front old.block.items (old.line.items ++ (end ++ newline ∷ [])))
       ∙ sym (append_assoc (front ++ old.block.items) old.line.items (end ++ newline ∷ []))
 
+-- they count as bytes that were taken
+pub taken-least : (end : List ℕ) (old new : Batch) → held new ≡ held old ++ (end ++ newline ∷ []) → new.progress ≡ old.progress
+    → least_taken new ≡ least_taken old + length end + 1
+taken-least end old new whole same =
+    let count = ap (λ (p : Progress). p.number) same in
+    let bytes = ap length whole in
+    omega (arith, count, bytes, length-append (held old) (end ++ newline ∷ []), length-append end (newline ∷ []))
+
+-- the block that is open has one line more
+pub added-held : (end : List ℕ) (old new : Batch) → new.block.items ≡ old.block.items ++ ((old.line.items ++ end) ++ newline ∷ [])
+    → new.blocks.items ≡ old.blocks.items → new.line.items ≡ [] → new.progress ≡ old.progress → IsHeld old → IsOneLine end → IsHeld new
+added-held end old new added same none progress is one = record {
+  each = subst (AllByRecursion AreLines) (sym same) is.each;
+  few = subst (λ (bs : List (List ℕ)). length bs ≤ length (joined bs)) (sym same) is.few;
+  open_block = subst AreLines (sym added) (more-lines old.block.items (old.line.items ++ end) is.open_block
+      (all-append (λ byte. byte ≢ newline) old.line.items end is.open_line one));
+  open_line = subst IsOneLine (sym none) tt;
+  fresh = ap (λ (p : Progress). p.line.items) progress ∙ is.fresh;
+  sent = ap (λ (p : Progress). p.pending.items) progress ∙ is.sent;
+}
+
 -- all lines that were taken were answered
 pub answered-held_bytes : (old new : Batch) → taken new ≡ [] → new.line.items ≡ old.line.items → held new ≡ old.line.items
 answered-held_bytes old new none same = ap₂ (λ (bytes line : List ℕ). bytes ++ line) none same
+
+pub answered-held : (old new : Batch) → IsHeld old → new.blocks.items ≡ [] → new.block.items ≡ [] → new.line.items ≡ old.line.items
+    → new.progress.line.items ≡ [] → new.progress.pending.items ≡ [] → IsHeld new
+answered-held old new is none empty same fresh sent = record {
+  each = subst (AllByRecursion AreLines) (sym none) tt;
+  few = subst (λ (bs : List (List ℕ)). length bs ≤ length (joined bs)) (sym none) (omega arith);
+  open_block = subst AreLines (sym empty) no-lines;
+  open_line = subst IsOneLine (sym same) is.open_line;
+  fresh = fresh;
+  sent = sent;
+}
+
+-- no more were answered than bytes were taken
+pub answered-least : (old new : Batch) → taken new ≡ [] → new.line.items ≡ old.line.items
+    → new.progress.number ≤ old.progress.number + length (taken old) → least_taken new ≤ least_taken old
+answered-least old new none same count =
+    let bytes = ap length (answered-held_bytes old new none same) in
+    omega (arith, count, bytes, length-append (taken old) old.line.items)
 
 -- more has come of the line that has begun
 pub more-held : (rest : List ℕ) (old new : Batch) → IsHeld old → IsOneLine rest → new.blocks.items ≡ old.blocks.items
@@ -90,6 +129,10 @@ joined-next (first ∷ blocks) block = ap (λ rest. first ++ rest) (joined-next 
 some-length : (xs : List ℕ) → xs ≢ [] → 1 ≤ length xs
 some-length [] some = absurd (some refl)
 some-length (x ∷ xs) some = omega arith
+
+-- no blocks have no bytes
+pub no-joined : (blocks : List (List ℕ)) → blocks ≡ [] → joined blocks ≡ []
+no-joined blocks none = ap joined none
 
 -- a block ended
 pub ended-held : (old new : Batch) → IsHeld old → old.block.items ≢ [] → new.blocks.items ≡ old.blocks.items ++ old.block.items ∷ []

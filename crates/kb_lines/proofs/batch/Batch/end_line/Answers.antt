@@ -1,7 +1,7 @@
 use Rattle.std.proofs.Common.{◌≡◌, ◌∙◌, ◌∷◌, [], ◌++◌, ℕ, List, sym, refl, ap, arith, length}
 use Rattle.std.proofs.lemmas.Result.{err_from_is_err_and}
 use Rattle.kb_io.specs.Bytes.{newline}
-use Rattle.kb_lines.proofs.BatchLemmas.{batch-start, batch-none, batch-taken, batch-answered, batch-answer_stops, taken-held, taken-least}
+use Rattle.kb_lines.proofs.BatchLemmas.{batch-start, batch-none, batch-taken, batch-answered, batch-answer_stops, taken-least}
 use Rattle.kb_lines.proofs.batch.Batch.end_line.Goals as goal
 
 -- memory ran out before the line was taken
@@ -12,35 +12,33 @@ returns-in_err-take_line-clause-stops g c = λ told.
     (batch-none (batch-start (c.args.end.now ++ newline ∷ []) c.args.self.now (g.O.Sink.state c.args.out.now) told c.requires.ready))
 
 -- the line waits for its batch
-pub returns-then-len-batches-clause-advances : goal.returns-then-len-batches-clause-advances
-returns-then-len-batches-clause-advances g c = λ told.
+pub returns-then-count-batches-clause-advances : goal.returns-then-count-batches-clause-advances
+returns-then-count-batches-clause-advances g c = λ told.
     let take = c.in_ok-take_line.ensures in
-    batch-taken c.args.end.now c.args.self.now c.take_line.new.self (g.O.Sink.state c.args.out.now) told c.requires.ready take.taken take.line
+    batch-taken (c.args.end.now ++ newline ∷ []) c.args.self.now c.take_line.new.self (g.O.Sink.state c.args.out.now) told c.requires.ready take.held
     c.take_line.ensures.progress
 
-pub returns-then-len-batches-clause-ready : goal.returns-then-len-batches-clause-ready
-returns-then-len-batches-clause-ready g c =
+pub returns-then-count-batches-clause-ready : goal.returns-then-count-batches-clause-ready
+returns-then-count-batches-clause-ready g c =
     let take = c.in_ok-take_line.ensures in
-    taken-held c.args.end.now c.args.self.now c.take_line.new.self take.taken take.line c.take_line.ensures.progress c.requires.ready
-    c.requires.one
+    take.ready
 
-pub returns-then-len-batches-clause-number : goal.returns-then-len-batches-clause-number
-returns-then-len-batches-clause-number g c =
+pub returns-then-count-batches-clause-number : goal.returns-then-count-batches-clause-number
+returns-then-count-batches-clause-number g c =
     let take = c.in_ok-take_line.ensures in
-    let least = taken-least c.args.end.now c.args.self.now c.take_line.new.self take.taken take.line c.take_line.ensures.progress in
+    let least = taken-least c.args.end.now c.args.self.now c.take_line.new.self take.held c.take_line.ensures.progress in
     omega (arith, least)
 
 -- the batch is full
 pub answer_taken-requires-clause-ready : goal.answer_taken-requires-clause-ready
 answer_taken-requires-clause-ready g c =
     let take = c.in_ok-take_line.ensures in
-    λ κs lives. taken-held c.args.end.now c.args.self.now c.take_line.new.self take.taken take.line c.take_line.ensures.progress c.requires.ready
-    c.requires.one
+    λ κs lives. take.ready
 
 pub answer_taken-requires-clause-room : goal.answer_taken-requires-clause-room
 answer_taken-requires-clause-room g c =
     let take = c.in_ok-take_line.ensures in
-    let least = taken-least c.args.end.now c.args.self.now c.take_line.new.self take.taken take.line c.take_line.ensures.progress in
+    let least = taken-least c.args.end.now c.args.self.now c.take_line.new.self take.held c.take_line.ensures.progress in
     let room = c.requires.room in
     omega (arith, least, room)
 
@@ -50,8 +48,8 @@ returns-in_err-answer_taken-clause-stops g c = λ told.
     let p = err_from_is_err_and c.from_residual-in_err-answer_taken.result c.from_residual-in_err-answer_taken.ensures.1 in
     rw (p.1, p.2)
     (batch-answer_stops (g.O.Sink.state c.answer_taken.new.out) c.in_err-answer_taken.field-0.0
-    (batch-taken c.args.end.now c.args.self.now c.take_line.new.self (g.O.Sink.state c.args.out.now) told c.requires.ready take.taken
-    take.line c.take_line.ensures.progress)
+    (batch-taken (c.args.end.now ++ newline ∷ []) c.args.self.now c.take_line.new.self (g.O.Sink.state c.args.out.now) told c.requires.ready take.held
+    c.take_line.ensures.progress)
     (c.in_err-answer_taken.ensures.stops told))
 
 pub returns-clause-advances : goal.returns-clause-advances
@@ -59,13 +57,13 @@ returns-clause-advances g c = λ told.
     let take = c.in_ok-take_line.ensures in
     let answer = c.in_ok-answer_taken.ensures in
     batch-answered c.answer_taken.new.self (g.O.Sink.state c.answer_taken.new.out)
-    (batch-taken c.args.end.now c.args.self.now c.take_line.new.self (g.O.Sink.state c.args.out.now) told c.requires.ready take.taken
-    take.line c.take_line.ensures.progress)
+    (batch-taken (c.args.end.now ++ newline ∷ []) c.args.self.now c.take_line.new.self (g.O.Sink.state c.args.out.now) told c.requires.ready take.held
+    c.take_line.ensures.progress)
     (answer.advances told) answer.none answer.line
 
 pub returns-clause-number : goal.returns-clause-number
 returns-clause-number g c =
     let take = c.in_ok-take_line.ensures in
-    let least = taken-least c.args.end.now c.args.self.now c.take_line.new.self take.taken take.line c.take_line.ensures.progress in
+    let least = taken-least c.args.end.now c.args.self.now c.take_line.new.self take.held c.take_line.ensures.progress in
     let fewer = c.in_ok-answer_taken.ensures.number in
     omega (arith, least, fewer)
