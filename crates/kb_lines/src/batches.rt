@@ -26,7 +26,7 @@ impl<'g, G: Gate> Batches<'g, G> {
         }
     }
 
-    /// How many lines make a block, so that each worker has several. No answer depends on it.
+    /// How many lines a block has before its last, so that each worker has several blocks. No answer depends on it.
     pub(crate) fn block(&self) -> u32 {
         let share = self.size / (4 * self.workers);
         if share < MOST_IN_BLOCK {
@@ -37,5 +37,5 @@ impl<'g, G: Gate> Batches<'g, G> {
     }
 }
 
-/// The most lines of a block.
-const MOST_IN_BLOCK: u32 = 64;
+/// The most lines of a block before its last.
+const MOST_IN_BLOCK: u32 = 63;

@@ -11,20 +11,21 @@
 //! its answer. A line that lies in the buffer as a whole is read where it lies.
 //!
 //! [`answer_in_batches`] has the same contract. It takes lines until there are as many as [`Batches`] say, or none is
-//! to come, and then several workers answer those it took: each worker draws a line, reads the word on it, answers
-//! it and prints the answer, in memory for this line alone. The answers are sent in the order of the lines, up to
+//! to come, and then several workers answer those it took. A worker draws a block of lines that stand one behind the
+//! other, and reads, answers and prints them one by one, in memory that serves for the whole block. How many lines a
+//! block has is a matter of speed alone. The answers are sent in the order of the lines, up to
 //! the first line that is refused. So what is held is a batch of lines, and the answers to them. By batches of one
 //! line it is `answer_lines`, and no thread is started.
 //!
 //! - `answerer` is what answers a word, with the reader of words, and `stop` why the lines aren't answered to the end.
 //! - `line` is one line and the memory for it, `progress` what is held between two reads, and `lines` the reading.
-//! - `batches` is how many lines a batch has and who answers them, `together` the lines of a batch and their answers,
+//! - `batches` is how many lines a batch has and who answers them, `together` the blocks of a batch and their answers,
 //!   `batch` what is held between two reads where lines wait for their batch, `ending` how the reading ends then, and
 //!   `batched` the reading.
 //!
 //! In `specs/Batches.antt` a batch goes on as `Progress` does, behind bytes that are held.
 //!
-//! Below are `kb_word`, `kb_record`, `kb_wordreader`, `kb_io`, and `kb_each`, by which workers share the lines of a batch.
+//! Below are `kb_word`, `kb_record`, `kb_wordreader`, `kb_io`, and `kb_each`, by which workers share the blocks of a batch.
 #![tactic(auto)]
 
 mod answerer;
