@@ -5,4 +5,3 @@ use Rattle.kb_lines.specs.Batches.{taken, joined}
 use Rattle.kb_lines.proofs.BatchLemmas.{no-joined, none-taken, answered-held, answered-least}
 use Rattle.kb_lines.proofs.ReadingLemmas.{no-length}
 use Rattle.kb_lines.proofs.batch.Batch.answer_taken.Goals as goal
-
