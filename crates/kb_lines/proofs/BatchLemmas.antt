@@ -55,16 +55,16 @@ more-lines bytes line are one = record {
 }
 
 -- a line was taken: it ended with these bytes and a newline
-module _ (end : List ℕ) (old new : Batch) (added : new.block.items ≡ old.block.items ++ ((old.line.items ++ end) ++ newline ∷ []))
-    (same : new.blocks.items ≡ old.blocks.items) (none : new.line.items ≡ []) where
-  pub added-held_bytes : held new ≡ held old ++ (end ++ newline ∷ [])
-  added-held_bytes =
-      let front = joined old.blocks.items in
-      ap₂ (λ (bytes line : List ℕ). bytes ++ line) (ap₂ (λ (bs : List (List ℕ)) (b : List ℕ). joined bs ++ b) same added) none
-      ∙ append-nil (front ++ (old.block.items ++ ((old.line.items ++ end) ++ newline ∷ [])))
-      ∙ ap (λ l. front ++ (old.block.items ++ l)) (append_assoc old.line.items end (newline ∷ []))
-      ∙ sym (append_assoc front old.block.items (old.line.items ++ (end ++ newline ∷ [])))
-      ∙ sym (append_assoc (front ++ old.block.items) old.line.items (end ++ newline ∷ []))
+pub added-held_bytes : (end : List ℕ) (old : Batch) (blocks : List (List ℕ)) (block line : List ℕ)
+    → block ≡ old.block.items ++ ((old.line.items ++ end) ++ newline ∷ []) → blocks ≡ old.blocks.items → line ≡ []
+    → (joined blocks ++ block) ++ line ≡ held old ++ (end ++ newline ∷ [])
+added-held_bytes end old blocks block line added same none =
+    let front = joined old.blocks.items in
+    ap₂ (λ (bytes line : List ℕ). bytes ++ line) (ap₂ (λ (bs : List (List ℕ)) (b : List ℕ). joined bs ++ b) same added) none
+    ∙ append-nil (front ++ (old.block.items ++ ((old.line.items ++ end) ++ newline ∷ [])))
+    ∙ ap (λ l. front ++ (old.block.items ++ l)) (append_assoc old.line.items end (newline ∷ []))
+    ∙ sym (append_assoc front old.block.items (old.line.items ++ (end ++ newline ∷ [])))
+    ∙ sym (append_assoc (front ++ old.block.items) old.line.items (end ++ newline ∷ []))
 
 -- they count as bytes that were taken
 pub taken-least : (end : List ℕ) (old new : Batch) → held new ≡ held old ++ (end ++ newline ∷ []) → new.progress ≡ old.progress
@@ -87,6 +87,10 @@ added-held end old new added same none progress is one = record {
   sent = ap (λ (p : Progress). p.pending.items) progress ∙ is.sent;
 }
 
+-- no lines wait
+pub none-wait : (blocks : List (List ℕ)) (block : List ℕ) → blocks ≡ [] → block ≡ [] → joined blocks ++ block ≡ []
+none-wait blocks block none empty = ap₂ (λ (bs : List (List ℕ)) (b : List ℕ). joined bs ++ b) none empty
+
 -- all lines that were taken were answered
 pub answered-held_bytes : (old new : Batch) → taken new ≡ [] → new.line.items ≡ old.line.items → held new ≡ old.line.items
 answered-held_bytes old new none same = ap₂ (λ (bytes line : List ℕ). bytes ++ line) none same
@@ -103,10 +107,11 @@ answered-held old new is none empty same fresh sent = record {
 }
 
 -- no more were answered than bytes were taken
-pub answered-least : (old new : Batch) → taken new ≡ [] → new.line.items ≡ old.line.items
-    → new.progress.number ≤ old.progress.number + length (taken old) → least_taken new ≤ least_taken old
-answered-least old new none same count =
-    let bytes = ap length (answered-held_bytes old new none same) in
+pub answered-least : (old : Batch) (blocks : List (List ℕ)) (block line : List ℕ) (number : ℕ) → joined blocks ++ block ≡ []
+    → line ≡ old.line.items → number ≤ old.progress.number + length (taken old)
+    → number + length ((joined blocks ++ block) ++ line) ≤ least_taken old
+answered-least old blocks block line number none same count =
+    let bytes = ap length (ap₂ (λ (bytes line : List ℕ). bytes ++ line) none same) in
     omega (arith, count, bytes, length-append (taken old) old.line.items)
 
 -- more has come of the line that has begun
@@ -151,6 +156,13 @@ ended-held old new is some more none line progress = record {
   sent = ap (λ (p : Progress). p.pending.items) progress ∙ is.sent;
 }
 
+-- it holds the same bytes
+pub ended-held_bytes : (old new : Batch) → joined new.blocks.items ≡ taken old → new.block.items ≡ [] → new.line.items ≡ old.line.items
+    → held new ≡ held old
+ended-held_bytes old new all none line =
+    ap₂ (λ (bytes line : List ℕ). bytes ++ line)
+    (ap₂ (λ (blocks block : List ℕ). blocks ++ block) all none ∙ append-nil (taken old)) line
+
 -- ---- bytes behind those among which the answers stop
 
 module _ {parts : PresentationParts} {Answers : List ℕ → List ℕ → Type 0} where
@@ -193,6 +205,14 @@ stops-more parts Answers bytes more old a b Output stops = front-more more stops
 stops-more parts Answers bytes more old a b Memory stops = front-more more stops
 stops-more parts Answers bytes more old a b TooLong stops = absurd stops
 stops-more parts Answers bytes more old a b Input stops = absurd stops
+
+-- the answers stop among the lines that were taken, in blocks
+pub ended-stops : (parts : PresentationParts) (Answers : List ℕ → List ℕ → Type 0) (old middle : Batch) (a b : SinkState) (stop : Stop)
+    → joined middle.blocks.items ≡ taken old → middle.progress ≡ old.progress
+    → StopsIn parts Answers (joined middle.blocks.items) middle.progress a b stop → StopsIn parts Answers (taken old) old.progress a b stop
+ended-stops parts Answers old middle a b stop all same stops =
+    subst (λ (progress : Progress). StopsIn parts Answers (taken old) progress a b stop) same
+    (subst (λ (bytes : List ℕ). StopsIn parts Answers bytes middle.progress a b stop) all stops)
 
 -- ---- a batch that goes on
 
@@ -242,6 +262,14 @@ module _ {parts : PresentationParts} {Answers : List ℕ → List ℕ → Type 0
   none-taken batch a told is none =
       subst (λ (bytes : List ℕ). Advances parts Answers bytes [] batch.progress batch.progress a a) (sym none)
       (advances-start [] (held-ready batch a told is))
+
+  -- what was answered in blocks are the lines that were taken
+  pub ended-advances : {a b : SinkState} (old middle : Batch) (new : Progress) → joined middle.blocks.items ≡ taken old
+      → middle.progress ≡ old.progress → Advances parts Answers (joined middle.blocks.items) [] middle.progress new a b
+      → Advances parts Answers (taken old) [] old.progress new a b
+  ended-advances {a} {b} old middle new all same advances =
+      subst (λ (progress : Progress). Advances parts Answers (taken old) [] progress new a b) same
+      (subst (λ (bytes : List ℕ). Advances parts Answers bytes [] middle.progress new a b) all advances)
 
   -- a line was taken
   pub batch-taken : (bytes : List ℕ) (old new : Batch) (a : SinkState) → IsTrue a.told → IsHeld old

@@ -49,6 +49,25 @@ pub record IsNext (parts : PresentationParts) (Answers : List ℕ → List ℕ �
   pub advances : IsTrue a.told → Advances parts Answers before [] old now a b
   pub number : now.number + length (block ++ joined left) ≤ old.number + length (joined blocks)
 
+-- an answer speaks of no more lines than its block has bytes
+pub lines_in-fit : (parts : PresentationParts) (Answers : List ℕ → List ℕ → Type 0) (block : List ℕ) (answer : BlockAnswer)
+    → IsBlockAnswer parts Answers block answer → lines_in answer ≤ length block
+lines_in-fit parts Answers block (Given count text) is =
+    let fit = lines-fit is.lines in
+    let counted = is.counted in
+    let whole = ap length is.cuts.whole in
+    omega (arith, fit, counted, whole, length-append (ended is.lines) is.rest)
+lines_in-fit parts Answers block (Faulty count text fault) is =
+    let fit = lines-fit is.lines in
+    let counted = is.counted in
+    let whole = ap length is.whole in
+    omega (arith, fit, counted, whole, length-append (ended is.lines ++ is.line) (newline ∷ is.behind), length-append (ended is.lines) is.line)
+
+-- no answer is left
+none-left : (parts : PresentationParts) (Answers : List ℕ → List ℕ → Type 0) (left : List (List ℕ)) → EachHas parts Answers left [] → joined left ≡ []
+none-left parts Answers [] own = refl
+none-left parts Answers (block ∷ left) own = absurd own
+
 module _ {parts : PresentationParts} {Answers : List ℕ → List ℕ → Type 0} where
   -- the lines of a block are all that end in it
   gives-all : {block text : List ℕ} {count : ℕ} → AreLines block → (gives : BlockGives parts Answers block count text) → gives.rest ≡ []
@@ -119,19 +138,6 @@ module _ {parts : PresentationParts} {Answers : List ℕ → List ℕ → Type 0
     sent = sent ∙ ap (λ m. a.written ++ m) added;
   }
 
-  -- an answer speaks of no more lines than its block has bytes
-  pub lines_in-fit : (block : List ℕ) (answer : BlockAnswer) → IsBlockAnswer parts Answers block answer → lines_in answer ≤ length block
-  lines_in-fit block (Given count text) is =
-      let fit = lines-fit is.lines in
-      let counted = is.counted in
-      let whole = ap length is.cuts.whole in
-      omega (arith, fit, counted, whole, length-append (ended is.lines) is.rest)
-  lines_in-fit block (Faulty count text fault) is =
-      let fit = lines-fit is.lines in
-      let counted = is.counted in
-      let whole = ap length is.whole in
-      omega (arith, fit, counted, whole, length-append (ended is.lines ++ is.line) (newline ∷ is.behind), length-append (ended is.lines) is.line)
-
   each-has : (blocks : List (List ℕ)) (answers : List BlockAnswer) → AreBlockAnswers parts Answers blocks answers → EachHas parts Answers blocks answers
   each-has [] [] are = tt
   each-has [] (answer ∷ answers) are = let count = are.count in absurd (omega (arith, count))
@@ -196,7 +202,7 @@ module _ {parts : PresentationParts} {Answers : List ℕ → List ℕ → Type 0
     advances = λ told. advances-append (next.advances told) (more told);
     number =
         let before = next.number in
-        let fit = lines_in-fit next.block answer next.is in
+        let fit = lines_in-fit parts Answers next.block answer next.is in
         omega (arith, number, before, fit, length-append next.block (joined next.left));
   }
 
@@ -204,7 +210,7 @@ module _ {parts : PresentationParts} {Answers : List ℕ → List ℕ → Type 0
       → IsNext parts Answers blocks answer answers old now a b → now.number + lines_in answer ≤ old.number + length (joined blocks)
   next-room {answer = answer} next =
       let before = next.number in
-      let fit = lines_in-fit next.block answer next.is in
+      let fit = lines_in-fit parts Answers next.block answer next.is in
       omega (arith, before, fit, length-append next.block (joined next.left))
 
   pub next-stops : {blocks : List (List ℕ)} {answer : BlockAnswer} {answers : List BlockAnswer} {old now : Progress} {a b : SinkState}
@@ -215,15 +221,10 @@ module _ {parts : PresentationParts} {Answers : List ℕ → List ℕ → Type 0
       (append_assoc next.before next.block (joined next.left) ∙ sym next.whole)
       (stops-more parts Answers (next.before ++ next.block) (joined next.left) old a c stop (stops-append next.block c stop (next.advances told) stops))
 
-  -- no answer is left
-  none-left : (left : List (List ℕ)) → EachHas parts Answers left [] → joined left ≡ []
-  none-left [] own = refl
-  none-left (block ∷ left) own = absurd own
-
   pub adding-end : {blocks : List (List ℕ)} {answers : List BlockAnswer} {old now : Progress} {a b : SinkState} → answers ≡ []
       → IsAdding parts Answers blocks answers old now a b → IsTrue a.told → Advances parts Answers (joined blocks) [] old now a b
   adding-end {old = old} {now = now} {a = a} {b = b} none adding told =
-      let left = none-left adding.left (subst (λ (list : List BlockAnswer). EachHas parts Answers adding.left list) none adding.own) in
+      let left = none-left parts Answers adding.left (subst (λ (list : List BlockAnswer). EachHas parts Answers adding.left list) none adding.own) in
       subst (λ (w : List ℕ). Advances parts Answers w [] old now a b)
       (sym (adding.whole ∙ ap (λ l. adding.before ++ l) left ∙ append-nil adding.before)) (adding.advances told)
 

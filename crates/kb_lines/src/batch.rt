@@ -185,14 +185,13 @@ impl Batch {
         ensures progress { self.new.progress ≡ self.old.progress }
     {
         self.add_line(end)?;
-        if self.count < batches.size {
-            self.count += 1;
-        }
-        if self.filled < batches.block() {
-            self.filled += 1;
+        self.count = self.count.saturating_add(1);
+        self.filled = self.filled.saturating_add(1);
+        if self.filled <= batches.block() {
             return Ok(());
         }
-        self.end_block(alloc)
+        self.end_block(alloc)?;
+        Ok(())
     }
 
     /// Puts the line that has begun and ends with these bytes behind the others.

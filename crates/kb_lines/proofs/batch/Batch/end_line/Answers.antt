@@ -12,19 +12,19 @@ returns-in_err-take_line-clause-stops g c = λ told.
     (batch-none (batch-start (c.args.end.now ++ newline ∷ []) c.args.self.now (g.O.Sink.state c.args.out.now) told c.requires.ready))
 
 -- the line waits for its batch
-pub returns-then-count-batches-clause-advances : goal.returns-then-count-batches-clause-advances
-returns-then-count-batches-clause-advances g c = λ told.
+pub returns-then-self-batches-clause-advances : goal.returns-then-self-batches-clause-advances
+returns-then-self-batches-clause-advances g c = λ told.
     let take = c.in_ok-take_line.ensures in
     batch-taken (c.args.end.now ++ newline ∷ []) c.args.self.now c.take_line.new.self (g.O.Sink.state c.args.out.now) told c.requires.ready take.held
     c.take_line.ensures.progress
 
-pub returns-then-count-batches-clause-ready : goal.returns-then-count-batches-clause-ready
-returns-then-count-batches-clause-ready g c =
+pub returns-then-self-batches-clause-ready : goal.returns-then-self-batches-clause-ready
+returns-then-self-batches-clause-ready g c =
     let take = c.in_ok-take_line.ensures in
     take.ready
 
-pub returns-then-count-batches-clause-number : goal.returns-then-count-batches-clause-number
-returns-then-count-batches-clause-number g c =
+pub returns-then-self-batches-clause-number : goal.returns-then-self-batches-clause-number
+returns-then-self-batches-clause-number g c =
     let take = c.in_ok-take_line.ensures in
     let least = taken-least c.args.end.now c.args.self.now c.take_line.new.self take.held c.take_line.ensures.progress in
     omega (arith, least)

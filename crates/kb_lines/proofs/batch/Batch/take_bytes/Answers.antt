@@ -51,5 +51,5 @@ returns-clause-advances g c = λ told.
 
 pub returns-clause-ready : goal.returns-clause-ready
 returns-clause-ready g c =
-    more-held c.loop-line.rest.now c.loop-line.self _ c.loop-line.invariant.ready c.in_default.ensures.none refl
+    more-held c.loop-line.rest.now c.loop-line.self _ c.loop-line.invariant.ready c.in_default.ensures.none refl refl
     c.in_ok-extend_from_slice.ensures.items refl
