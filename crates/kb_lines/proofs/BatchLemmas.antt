@@ -131,6 +131,9 @@ pub joined-next : (blocks : List (List ℕ)) (block : List ℕ) → joined (bloc
 joined-next [] block = append-nil block
 joined-next (first ∷ blocks) block = ap (λ rest. first ++ rest) (joined-next blocks block) ∙ sym (append_assoc first (joined blocks) block)
 
+pub one-more : (blocks all : List (List ℕ)) (block own : List ℕ) → all ≡ blocks ++ own ∷ [] → own ≡ block → all ≡ blocks ++ block ∷ []
+one-more blocks all block own is same = is ∙ ap (λ (b : List ℕ). blocks ++ b ∷ []) same
+
 some-length : (xs : List ℕ) → xs ≢ [] → 1 ≤ length xs
 some-length [] some = absurd (some refl)
 some-length (x ∷ xs) some = omega arith

@@ -1,6 +1,5 @@
 -- How the reading of word lines goes on and ends, where lines wait for their batch.
 use Rattle.std.proofs.Common.{◌≡◌, ℕ, ◌+◌, ◌<◌, ◌≤◌, List, [], ◌++◌, length, refl, sym, ◌∙◌, ap, subst, append_assoc, append-nil, arith, length-append}
-use Rattle.kb_io.specs.States.{SourceState}
 use Rattle.kb_word.specs.Presentations.{PresentationParts}
 use Rattle.kb_lines.specs.WordLines.{most_input, IsOneLine}
 use Rattle.kb_lines.specs.Streams.{Streams, streams}

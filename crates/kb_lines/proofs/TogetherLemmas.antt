@@ -7,7 +7,7 @@ use Rattle.kb_io.specs.States.{SinkState}
 use Rattle.kb_word.specs.Presentations.{PresentationParts}
 use Rattle.kb_record.specs.declared.error.WordError.{WordError}
 use Rattle.kb_lines.specs.WordLines.{IsOneLine, ended, LinesGive, LineHasFault, AddsGiven}
-use Rattle.kb_lines.specs.Progress.{IsReady, PendingGoesOn, Advances, FrontIn, RefusesIn, StopsIn}
+use Rattle.kb_lines.specs.Progress.{PendingGoesOn, Advances, FrontIn, RefusesIn, StopsIn}
 use Rattle.kb_lines.specs.Batches.{AreLines, joined, lines_in, BlockGives, BlockRefused, IsBlockAnswer, AreBlockAnswers}
 use Rattle.kb_lines.specs.declared.progress.Progress.{Progress}
 use Rattle.kb_lines.specs.declared.stop.Stop.{Stop}

@@ -1,6 +1,6 @@
 //! Word lines from their first byte to the end of the input.
 
-ghost use Rattle.std.specs.Prelude.{IsTrue, OnOk, IfErr};
+ghost use Rattle.std.specs.Prelude.{OnOk, IfErr};
 ghost use Rattle.kb_lines.specs.Streams.{streams, AreTold, StreamsGoOn};
 ghost use Rattle.kb_lines.specs.Answered.{AllAnswered, Stops, StopIsCounted};
 

@@ -1,10 +1,9 @@
 //! What is held between two reads.
 
-ghost use Rattle.std.specs.Prelude.{◌≡◌, ◌<◌, ◌≤◌, ◌+◌, ◌^◌, [], ◌++◌, ℕ, List, length, IsTrue, OnOk, OnErr, IfOk, IfErr};
+ghost use Rattle.std.specs.Prelude.{◌≡◌, ◌<◌, ◌≤◌, ◌+◌, ◌^◌, [], ◌++◌, ℕ, List, length, IsTrue, OnOk, OnErr, IfErr};
 ghost use Rattle.std.specs.List.{AllByRecursion};
 ghost use Rattle.kb_io.specs.Bytes.{AppendsPrefix};
 ghost use Rattle.kb_io.specs.States.{SinkGoesOn};
-ghost use Rattle.kb_lines.specs.WordLines.{IsOneLine};
 ghost use Rattle.kb_lines.specs.Progress.{IsFresh, IsReady, LineEnds, LineStops, Advances, StopsIn, LineStopIsCounted};
 ghost use Rattle.kb_lines.specs.Batches.{AreBlockAnswers, AreLines, BlockGives, BlockRefused, IsBlockAnswer, joined, lines_in};
 ghost use Rattle.kb_lines.specs.declared.stop.Stop.TheVariants as stops;

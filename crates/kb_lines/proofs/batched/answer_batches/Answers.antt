@@ -1,4 +1,4 @@
-use Rattle.std.proofs.Common.{◌≡◌, ◌≤◌, ◌+◌, ◌-◌, ◌<◌, ◌++◌, ◌∙◌, ℕ, List, [], length, take, drop, refl, sym, ap, arith, append-nil, length-take}
+use Rattle.std.proofs.Common.{◌≡◌, ◌≤◌, ◌+◌, ◌-◌, ◌<◌, ℕ, List, [], length, take, drop, refl, sym, ap, arith, append-nil, length-take}
 use Rattle.std.proofs.lemmas.Result.{err_from_is_err_and}
 use Rattle.kb_lines.specs.Answered.{StopIsCounted}
 use Rattle.kb_lines.specs.Progress.{LineStopIsCounted}

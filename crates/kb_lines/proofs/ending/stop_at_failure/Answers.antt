@@ -1,4 +1,4 @@
-use Rattle.std.proofs.Common.{◌≡◌, ◌≤◌, ◌+◌, ℕ, List, [], length, refl, sym, arith}
+use Rattle.std.proofs.Common.{[], refl, sym, arith}
 use Rattle.kb_lines.specs.Streams.{Streams, streams}
 use Rattle.kb_lines.proofs.HoldingLemmas.{holding-end, holding-stops}
 use Rattle.kb_lines.proofs.ReadingLemmas.{reading-failed, line_stop-counted}

@@ -1,4 +1,4 @@
-use Rattle.std.proofs.Common.{◌≡◌, ◌≤◌, ◌+◌, ℕ, List, length, arith}
+use Rattle.std.proofs.Common.{arith}
 use Rattle.kb_lines.specs.Streams.{Streams, streams}
 use Rattle.kb_lines.proofs.HoldingLemmas.{holding-stops, holding-too_long}
 use Rattle.kb_lines.proofs.ReadingLemmas.{line_stop-counted}

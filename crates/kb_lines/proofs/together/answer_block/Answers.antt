@@ -1,4 +1,4 @@
-use Rattle.std.proofs.Common.{rules, ◌≡◌, ◌+◌, ◌∷◌, length, ap, arith, length-append}
+use Rattle.std.proofs.Common.{rules, ◌∷◌, length, ap, arith, length-append}
 use Rattle.kb_io.specs.Bytes.{newline}
 use Rattle.kb_lines.proofs.TogetherLemmas.{within-next, within-refused}
 use Rattle.kb_lines.proofs.together.answer_block.Goals as goal

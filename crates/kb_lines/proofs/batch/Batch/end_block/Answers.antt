@@ -1,9 +1,9 @@
-use Rattle.std.proofs.Common.{rules, ◌≡◌, ◌≢◌, ◌∙◌, ◌∷◌, ◌++◌, ℕ, List, [], refl, sym, ap, append-nil}
+use Rattle.std.proofs.Common.{rules, ◌≡◌, ◌≢◌, ◌∙◌, ◌++◌, ℕ, List, [], refl, sym, ap, append-nil}
 use Rattle.std.specs.Prelude.{length}
 use Rattle.std.proofs.lemmas.Bool.{eqb-true, eqb-false}
 use Rattle.kb_lines.specs.Batches.{joined}
 use Rattle.kb_lines.specs.declared.batch.Batch.{Batch}
-use Rattle.kb_lines.proofs.BatchLemmas.{more-held, ended-held, joined-next}
+use Rattle.kb_lines.proofs.BatchLemmas.{more-held, ended-held, joined-next, one-more}
 use Rattle.kb_lines.proofs.ReadingLemmas.{no-length}
 use Rattle.kb_lines.proofs.batch.Batch.end_block.Goals as goal
 
@@ -27,14 +27,14 @@ returns-then-is_empty-clause-ready c =
 pub returns-clause-taken : goal.returns-clause-taken
 returns-clause-taken c =
     let old : Batch = c.args.self.now in
-    let own : c.replace-block.result.items ≡ old.block.items = rw c.replace-block.ensures.value refl in
-    ap joined (c.in_ok-push.ensures.items ∙ ap (λ (block : List ℕ). old.blocks.items ++ block ∷ []) (c.of.ensures ∙ own))
-    ∙ joined-next old.blocks.items old.block.items
+    let own : c.of.result ≡ old.block.items = rw c.replace-block.ensures.value at c.of.ensures in
+    let more = one-more old.blocks.items c.push.new.self.items old.block.items c.of.result c.in_ok-push.ensures.items own in
+    ap joined more ∙ joined-next old.blocks.items old.block.items
 
 pub returns-clause-ready : goal.returns-clause-ready
 returns-clause-ready c =
     let old : Batch = c.args.self.now in
-    let own : c.replace-block.result.items ≡ old.block.items = rw c.replace-block.ensures.value refl in
+    let own : c.of.result ≡ old.block.items = rw c.replace-block.ensures.value at c.of.ensures in
+    let more = one-more old.blocks.items c.push.new.self.items old.block.items c.of.result c.in_ok-push.ensures.items own in
     let some : old.block.items ≢ [] = λ none. eqb-false _ _ (sym c.if-is_empty.ensures) (old.block.ok.0 ∙ ap length none) in
-    ended-held old _ c.requires.ready some
-    (c.in_ok-push.ensures.items ∙ ap (λ (block : List ℕ). old.blocks.items ++ block ∷ []) (c.of.ensures ∙ own)) (search rules) refl refl
+    ended-held old _ c.requires.ready some more (search rules) refl refl

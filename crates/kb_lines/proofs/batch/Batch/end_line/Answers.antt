@@ -1,4 +1,4 @@
-use Rattle.std.proofs.Common.{◌≡◌, ◌∙◌, ◌∷◌, [], ◌++◌, ℕ, List, sym, refl, ap, arith, length}
+use Rattle.std.proofs.Common.{◌∷◌, [], ◌++◌, arith}
 use Rattle.std.proofs.lemmas.Result.{err_from_is_err_and}
 use Rattle.kb_io.specs.Bytes.{newline}
 use Rattle.kb_lines.proofs.BatchLemmas.{batch-start, batch-none, batch-taken, batch-answered, batch-answer_stops, taken-least}

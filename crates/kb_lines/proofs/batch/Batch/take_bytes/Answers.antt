@@ -1,4 +1,4 @@
-use Rattle.std.proofs.Common.{◌≡◌, ◌∙◌, ◌∷◌, [], ◌++◌, ℕ, List, sym, refl, ap, arith, length, append_assoc, length-append}
+use Rattle.std.proofs.Common.{◌∙◌, ◌∷◌, [], ◌++◌, sym, refl, ap, arith, length, append_assoc, length-append}
 use Rattle.std.proofs.lemmas.Result.{err_from_is_err_and}
 use Rattle.kb_io.specs.Bytes.{newline}
 use Rattle.kb_lines.proofs.BatchLemmas.{batch-start, batch-then, batch-stops, batch-none, batch-end, more-held}

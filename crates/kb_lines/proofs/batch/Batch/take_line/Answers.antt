@@ -1,5 +1,4 @@
-use Rattle.std.proofs.Common.{◌≡◌, ◌∙◌, refl}
-use Rattle.kb_lines.specs.declared.batch.Batch.{Batch}
+use Rattle.std.proofs.Common.{◌∙◌}
 use Rattle.kb_lines.proofs.BatchLemmas.{added-held, added-held_bytes, ended-held_bytes}
 use Rattle.kb_lines.proofs.batch.Batch.take_line.Goals as goal
 

@@ -1,4 +1,4 @@
-use Rattle.std.proofs.Common.{◌∙◌, ◌+◌, List, sym, ap, subst, length, arith}
+use Rattle.std.proofs.Common.{◌∙◌, List, sym, ap, subst, length, arith}
 use Rattle.std.proofs.lemmas.Result.{err_from_is_err_and}
 use Rattle.kb_lines.proofs.ReadingLemmas.{no-length, sink-goes-on-then, sink-stays}
 use Rattle.kb_lines.specs.declared.together.BlockAnswer.{BlockAnswer}
