@@ -1,7 +1,6 @@
 use Rattle.std.proofs.Common.{◌≡◌, Some, sym, ◌∙◌, ap}
 use Rattle.std.proofs.lemmas.Option.{IfSome_then}
 use Rattle.kb_record.specs.Tree.{word_value}
-use Rattle.kb_record.specs.View.{word_view}
 use Rattle.kb_record.specs.Listed.{place_view}
 use Rattle.kb_fields.proofs.ViewLemmas.{one_word_at}
 use Rattle.kb_fields.proofs.Outcomes.{IfNone_then}
