@@ -8,11 +8,12 @@ use Rattle.kb_word.specs.Relations.{IsOver}
 use Rattle.kb_word.specs.Rewriting.{IsIrreducible}
 use Rattle.kb_rules.proofs.Lists.{All-front}
 use Rattle.kb_explore.specs.Machine.{leads, HasMoreStates}
-use Rattle.kb_explore.proofs.CountingLemmas.{MoreThan-kept}
+use Rattle.kb_explore.proofs.CountingLemmas.{MoreThan-kept, MoreThan-numbered}
 use Rattle.kb_index.specs.declared.edge.Edge.{Edge}
 use Rattle.kb_index.specs.declared.automaton.Automaton.{Automaton}
 use Rattle.kb_index.specs.Edges.{word}
 use Rattle.kb_index.specs.Tries.{HasState}
+use Rattle.kb_index.specs.Automata.{IsAutomaton}
 use Rattle.kb_index.proofs.Words.{word_root}
 use Rattle.kb_index.proofs.States.{edges_tree, same_state}
 use Rattle.kb_wa.specs.Prefixes.{CountedPrefixes, IsProperPrefix}
@@ -28,6 +29,29 @@ IsCounted rules w = (w ≡ []) ⊎ IsProperPrefix rules w
 word_at : List Edge → Option ℕ → List ℕ
 word_at edges None = []
 word_at edges (Some state) = word edges state
+
+-- each such word has a state
+has_state : {rules : List Pair} {automaton : Automaton} → IsAutomaton rules automaton → (w : List ℕ) → IsCounted rules w
+    → HasState automaton.edges.items w
+has_state {automaton} is w (inl nil) = record { state = 0; within = omega arith; is = word_root automaton.edges.items ∙ sym nil }
+has_state {rules} {automaton} is w (inr prefix) =
+    let index : ℕ = prefix.is_rule.0 in
+    let left = left_of rules index prefix.rule prefix.is_rule.1 in
+    let within = slice_get_within rules index prefix.rule prefix.is_rule.1 in
+    has_beginning automaton.edges.items is.trie.edges_rise _ w prefix.rest (is.trie.complete index within) (left ∙ prefix.whole)
+
+-- so there are no more of these words than states
+pub few_prefixes : {rules list : List Pair} {automaton : Automaton} {m : ℕ} → list ≡ rules → IsAutomaton list automaton
+    → length automaton.edges.items < m → ¬ CountedPrefixes rules m
+few_prefixes {rules} {automaton} same is few =
+    let P : List Pair → Type 0 = λ rules. IsAutomaton rules automaton in
+    let own : IsAutomaton rules automaton = subst P same is in
+    MoreThan-numbered (λ w state. word automaton.edges.items state ≡ w)
+    (λ w counted.
+    let has = has_state own w counted in
+    let within = has.within in
+    (has.state, (omega arith, has.is)))
+    (λ w other state one two. sym one ∙ two)
 
 module _ {n : ℕ} {rules : List Pair} {automaton : Automaton} (given : IsDictionary n rules automaton) where
   -- a proper prefix of a left side is irreducible
@@ -63,12 +87,7 @@ module _ {n : ℕ} {rules : List Pair} {automaton : Automaton} (given : IsDictio
   )
 
   counted_has_state : (w : List ℕ) → IsCounted rules w → HasState automaton.edges.items w
-  counted_has_state w (inl nil) = record { state = 0; within = omega arith; is = word_root automaton.edges.items ∙ sym nil }
-  counted_has_state w (inr prefix) =
-      let index : ℕ = prefix.is_rule.0 in
-      let left = left_of rules index prefix.rule prefix.is_rule.1 in
-      let within = slice_get_within rules index prefix.rule prefix.is_rule.1 in
-      has_beginning automaton.edges.items given.is.trie.edges_rise _ w prefix.rest (given.is.trie.complete index within) (left ∙ prefix.whole)
+  counted_has_state = has_state given.is
 
   -- each such word leads to its own state
   own_state : (w : List ℕ) → IsCounted rules w

@@ -2,7 +2,8 @@
 //!
 //! The public contract: `acceptor_of_rules` returns the automaton that accepts exactly the words that are irreducible
 //! by the rules, where no left side has another one as a factor. It answers `TooManyStates` exactly where more words
-//! than the limit are proper prefixes of left sides, the empty word among them.
+//! than the limit are proper prefixes of left sides, the empty word among them. `has_few_states` tells beforehand that
+//! they are not, by the number of states of the automaton of the left sides; it says no for some that are few.
 //!
 //! The automaton is the dictionary automaton of Aho and Corasick (Efficient string matching, 1975), without the states
 //! at which a left side has been read; Sims, Computation with Finitely Presented Groups, 3.5, calls it the index
@@ -17,7 +18,9 @@
 #![tactic(auto)]
 
 mod dictionary;
+mod prefixes;
 mod rules;
 
 pub use kb_explore::Det;
+pub use prefixes::has_few_states;
 pub use rules::acceptor_of_rules;
