@@ -16,7 +16,7 @@ use kb_fsamin::canonical;
 use kb_reduced::{reduced_complete_systems_are_complete, reduced_left_sides_keep_the_letters};
 use kb_rules::{Reducer, Rules};
 use kb_share::book_is_sound;
-use kb_wa::acceptor_of_rules;
+use kb_wa::{acceptor_of_rules, has_few_states};
 use kb_word::{Memory, Presentation};
 use std::alloc::Global;
 
@@ -37,9 +37,33 @@ pub(crate) fn completed<R: Reducer>(
     book_is_sound(&book);
     // The log alone may still be asked for: the rest of the book gives its memory to the acceptor.
     let (lines, _) = book.into_log();
+    if has_few_states(alloc, &rules, limits.states)? {
+        // Then it isn't, and gives its memory to the acceptor too.
+        drop(lines);
+        return accepted(alloc, presentation, rules, limits);
+    }
     match word_acceptor(alloc, presentation, &rules, limits.states)? {
         Some(acceptor) => Ok(Ending::Completed { rules, acceptor }),
         None => Ok(Ending::TooLarge { lines, rules }),
+    }
+}
+
+/// The end of a completion whose reduced complete system has a word acceptor of no more states than there may be.
+fn accepted(
+    alloc: Global,
+    presentation: &Presentation,
+    rules: Rules,
+    limits: &Limits,
+) -> Result<Ending, Memory>
+    requires order { rules.order ≡ (parts_of presentation.now).order }
+    requires system { IsReducedSystem (parts_of presentation.now) rules.rules }
+    requires few { ¬ CountedPrefixes rules.rules limits.now.states }
+    ensures { IfOk result (EndsAs (limits_of limits.now) (parts_of presentation.now)) }
+{
+    let most_states = limits.states;
+    match word_acceptor(alloc, presentation, &rules, most_states)? {
+        Some(acceptor) => Ok(Ending::Completed { rules, acceptor }),
+        None => unreachable!(),
     }
 }
 
