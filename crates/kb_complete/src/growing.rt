@@ -67,7 +67,11 @@ fn look_for_more<R: HasAutomaton + Send + Sync, G: Gate, W: Watch, T: Threads + 
 {
     let given = book.lines().len();
     match workers.pass(rt, alloc, book)? {
-        Passed::Confluent(same) => Ok(completed(alloc, same)?),
+        Passed::Confluent(same) => {
+            // No line comes any more: the finder's memory goes to the reduced system.
+            *finder = Finder::new(alloc);
+            Ok(completed(alloc, same)?)
+        }
         Passed::Entered(passed) => Ok(go_on(alloc, passed, given, finder, watch)?),
     }
 }

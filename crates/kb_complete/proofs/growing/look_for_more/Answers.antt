@@ -1,5 +1,5 @@
 use Rattle.std.proofs.Common.{sym, ap, length}
-use Rattle.kb_complete.proofs.Rounds.{pass_confluent, pass_entered, settled_same, confluent_same, grow_same, known_itself, known_passed}
+use Rattle.kb_complete.proofs.Rounds.{pass_confluent, pass_entered, settled_same, confluent_same, grow_same, known_passed}
 use Rattle.kb_complete.proofs.growing.look_for_more.Goals as goal
 
 pub completed-requires : goal.completed-requires
@@ -24,11 +24,7 @@ returns-in_ok-go_on-in-Entered-clause-says g c =
     (pass_entered before c.in_ok-same.field-0 c.in-Entered.passed c.in-Entered.is c.in_ok-same.ensures) (ap length (sym c.lines-given.ensures))
 
 pub returns-in_ok-completed-in-Confluent-clause-known : goal.returns-in_ok-completed-in-Confluent-clause-known
-returns-in_ok-completed-in-Confluent-clause-known g c =
-    let before = c.args.book.course in
-    let says = pass_confluent before c.in_ok-same.field-0 c.in-Confluent.same c.in-Confluent.is c.in_ok-same.ensures in
-    c.in_ok-completed-in-Confluent.ensures.known c.args.finder.now
-    (known_itself c.args.finder.now before c.in-Confluent.same.course says.0 c.requires.known)
+returns-in_ok-completed-in-Confluent-clause-known g c = c.in_ok-completed-in-Confluent.ensures.known _ (c.new.ensures _)
 
 pub go_on-requires : goal.go_on-requires
 go_on-requires g c =
