@@ -24,7 +24,8 @@ returns-in_ok-go_on-in-Entered-clause-says g c =
     (pass_entered before c.in_ok-same.field-0 c.in-Entered.passed c.in-Entered.is c.in_ok-same.ensures) (ap length (sym c.lines-given.ensures))
 
 pub returns-in_ok-completed-in-Confluent-clause-known : goal.returns-in_ok-completed-in-Confluent-clause-known
-returns-in_ok-completed-in-Confluent-clause-known g c = c.in_ok-completed-in-Confluent.ensures.known _ (c.new.ensures _)
+returns-in_ok-completed-in-Confluent-clause-known g c =
+    c.in_ok-completed-in-Confluent.ensures.known _ (c.new.ensures c.in-Confluent.same.course.state)
 
 pub go_on-requires : goal.go_on-requires
 go_on-requires g c =
