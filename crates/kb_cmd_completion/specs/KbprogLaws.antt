@@ -15,7 +15,7 @@ use Rattle.kb_task.proofs.LoadEnds.{memory_at_load, load_inconclusive, one_prese
 use Rattle.kb_task.proofs.RefusalLemmas.{ReadsOne, ends_there, reads_it, exact_of_one, refused_of_one}
 use Rattle.kb_answering.specs.Answers.{AnswersMean}
 use Rattle.kb_answering.specs.AnswerLaws.{answers-complete, answers-refuse_none, answers-same}
-use Rattle.kb_cmd_completion.specs.CompletionLaws.{one_rules, one_acceptor}
+use Rattle.kb_system.specs.OneCompletion.{one_rules, one_acceptor}
 use Rattle.kb_cmd_completion.specs.Files.{completed_texts, AreCompleted}
 use Rattle.kb_cmd_completion.specs.Given.{KbprogGiven}
 use Rattle.kb_cmd_completion.specs.Kbprog.{KbprogMeans, kbprog_may_store, kbprog_own, kbprog_promise, kbprog_shows, IsKbprogUnrefused}

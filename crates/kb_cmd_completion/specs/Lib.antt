@@ -1,7 +1,6 @@
 pub mod Given
 pub mod Files
 pub mod Conclusions
-pub mod CompletionLaws
 pub mod Kbprog
 pub mod KbprogLaws
 pub mod Logread

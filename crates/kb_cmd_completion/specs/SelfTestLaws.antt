@@ -10,7 +10,7 @@ use Rattle.kb_task.specs.Statuses.{AnswersYesOrLimit, IsFaultless, IsYes}
 use Rattle.kb_task.specs.declared.status.Status.{Status}
 use Rattle.kb_task.specs.declared.status.Status.TheVariants.{Yes, Refused, Undecided, No, Memory, Fault, Usage}
 use Rattle.kb_system.specs.Completed.{IsCompletion}
-use Rattle.kb_cmd_completion.specs.CompletionLaws.{one_acceptor, one_rules}
+use Rattle.kb_system.specs.OneCompletion.{one_acceptor, one_rules}
 use Rattle.kb_freeabelian.specs.FreeAbelian.{free_abelian}
 use Rattle.kb_cmd_completion.specs.Given.{SelfTestGiven}
 use Rattle.kb_cmd_completion.specs.SelfTest.{Reports, completed, halted, too_large, summary_line, SelfTestMeans, selftest_promise}

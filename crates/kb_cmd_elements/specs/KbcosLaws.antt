@@ -1,7 +1,6 @@
 -- The laws of what the statuses of `kbcos` mean.
 use Rattle.std.proofs.Common.{◌≡◌, ◌∙◌, inl, inr, ℕ, ◌≤◌, List, [], ◌++◌, length, length-append, refl, sym, ap, subst, arith}
 use Rattle.kb_io.specs.Outside.{Outside}
-use Rattle.kb_word.specs.Words.{Pair}
 use Rattle.kb_word.specs.Presentations.{PresentationParts}
 use Rattle.kb_word.specs.WordOrderLaws.{word_orders}
 use Rattle.kb_coset.specs.Cosets.{SameCoset}
@@ -12,10 +11,9 @@ use Rattle.kb_record.specs.Tree.{TextTree}
 use Rattle.kb_record.specs.declared.error.WordError.{WordError}
 use Rattle.kb_lines.specs.WordLines.{most_input, IsFirstRefused}
 use Rattle.kb_lines.proofs.UniqueLemmas.{one-answered}
-use Rattle.kb_reduced.proofs.Sorted.{sorted_same}
 use Rattle.kb_subfile.specs.Holds.{GeneratorsOf, HoldsGenerators}
 use Rattle.kb_subfile.proofs.OneFault.{one_list}
-use Rattle.kb_system.specs.Completed.{IsReducedSystem, below}
+use Rattle.kb_system.specs.OneCompletion.{one_system}
 use Rattle.kb_task.specs.Loads.{Files}
 use Rattle.kb_task.specs.Presentations.{HoldsPresentation}
 use Rattle.kb_task.specs.PromiseLaws.{one_yes, yes-conclusive}
@@ -44,15 +42,6 @@ one_least_of : (cosets : Cosets) (w m k : List ℕ) → IsLeastOf cosets w m →
 one_least_of cosets w m k one other =
     let stays : SameCoset (relations cosets.parts) cosets.generators w w = record { steps = []; linked = refl } in
     (told_by_least (word_orders cosets.parts.order) (relations cosets.parts) cosets.generators w w m k one other).0 stays
-
--- a presentation has one reduced complete system
-one_system : (parts : PresentationParts) (rules others : List Pair) → IsReducedSystem parts rules
-    → IsReducedSystem parts others → rules ≡ others
-one_system parts rules others one other =
-    let laws = word_orders parts.order in
-    sorted_same (λ (p q : Pair). below parts p.0 q.0) (λ x. laws.irreflexive x.0)
-    (λ x y z. laws.transitive x.0 y.0 z.0) rules others one.sorted other.sorted
-    (λ rule is. other.all rule (one.each rule is)) (λ rule is. one.all rule (other.each rule is))
 
 -- cosets are told by one list of files
 one_texts : {file other_file : List ℕ} → file ≡ other_file → (cosets : Cosets) (texts others : List Text)

@@ -8,7 +8,7 @@ use Rattle.kb_fsa.specs.Language.{Automaton}
 use Rattle.kb_fsaprint.specs.Printed.{text_of_automaton}
 use Rattle.kb_presprint.specs.Printed.{text_of_presentation}
 use Rattle.kb_system.specs.Completed.{IsCompletion}
-use Rattle.kb_logged.specs.OneCompletion.{one_acceptor, one_rules}
+use Rattle.kb_system.specs.OneCompletion.{one_acceptor, one_rules}
 use Rattle.kb_task.specs.Presentations.{HoldsPresentation, IsPresentationFault}
 use Rattle.kb_task.specs.PromiseLaws.{one_yes, yes-conclusive}
 use Rattle.kb_task.specs.Promises.{IsLawful}

@@ -1,2 +1,1 @@
 pub mod Logged
-pub mod OneCompletion

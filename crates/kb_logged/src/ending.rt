@@ -6,7 +6,6 @@ ghost use Rattle.kb_complete.specs.Completing.{IsCompleted};
 ghost use Rattle.kb_system.specs.Problems.{limits_of, problem_of};
 ghost use Rattle.kb_logged.specs.Logged.{EndsLogged};
 
-use crate::accepting::word_acceptor;
 use kb_book::{Book, Limits};
 use kb_complete::{Outcome, complete_watched};
 use kb_fsa::Fsa;
@@ -15,7 +14,7 @@ use kb_io::OpenGate;
 use kb_machine::Line;
 use kb_rules::{Reducer, Rules};
 use kb_share::{OneByOne, Watch, book_is_sound};
-use kb_system::{Halted, halted};
+use kb_system::{Halted, halted, word_acceptor};
 use kb_threads::Workers;
 use kb_word::{Memory, Presentation};
 use std::alloc::Global;

@@ -6,13 +6,10 @@
 //! the rules of the lines are confluent and generate the congruence of the relations. At a limit there is what `kb_system`
 //! shows of it.
 //!
-//! - `ending` completes, and `accepting` makes the word acceptor of the reduced complete system.
-//!
-//! Below are `kb_complete`, which completes, `kb_wa` and `kb_fsamin`, which make the acceptor, and `kb_system`, with what
-//! a completed presentation and a limit are.
+//! Below are `kb_complete`, which completes, and `kb_system`, which makes the word acceptor, reads the evidence at a limit,
+//! and says what a completed presentation and a limit are.
 #![tactic(auto)]
 
-mod accepting;
 mod ending;
 
 pub use ending::{LoggedEnding, complete_with_log};

@@ -1,4 +1,5 @@
 pub mod Completed
+pub mod OneCompletion
 pub mod Evidence
 pub mod Problems
 pub mod Ended

@@ -69,7 +69,7 @@ fn accepted(
 
 /// The word acceptor of a presentation, made of its reduced complete system; none where more words than there may be
 /// states begin left sides.
-fn word_acceptor(
+pub fn word_acceptor(
     alloc: Global,
     presentation: &Presentation,
     rules: &Rules,

@@ -6,7 +6,9 @@
 //! (`specs/Evidence.antt`): the log, which is justified line by line and with the line that waits;
 //! the live rules, which cover it; and why the limit is reached.
 //!
-//! `accepting` makes the word acceptor of the reduced complete system, in three steps: the left
+//! A presentation has one completion (`specs/OneCompletion.antt`).
+//!
+//! [`word_acceptor`] makes the word acceptor of the reduced complete system, in three steps: the left
 //! sides have no other letters than the relations, the automaton of the irreducible words accepts
 //! exactly the least ones, and the canonical automaton of that language is the word acceptor. Where the automaton of the
 //! left sides has no more states than the acceptor may have, the log can't be asked for any more, and is let go before.
@@ -20,5 +22,6 @@ mod accepting;
 mod ending;
 mod halting;
 
+pub use accepting::word_acceptor;
 pub use ending::{Ending, Halted, Reached, complete_presentation};
 pub use halting::halted;

@@ -5,22 +5,25 @@ use Rattle.kb_word.specs.Presentations.{PresentationParts}
 use Rattle.kb_word.specs.WordOrderLaws.{word_orders}
 use Rattle.kb_fsa.specs.Language.{Automaton}
 use Rattle.kb_fsamin.proofs.Uniqueness.{one_canonical}
-use Rattle.kb_system.specs.Completed.{IsCompletion, below}
 use Rattle.kb_reduced.proofs.Sorted.{sorted_same}
+use Rattle.kb_system.specs.Completed.{IsCompletion, IsReducedSystem, below}
+
+-- it has one reduced complete system
+pub one_system : (parts : PresentationParts) (rules others : List Pair) → IsReducedSystem parts rules
+    → IsReducedSystem parts others → rules ≡ others
+one_system parts rules others one other =
+    let laws = word_orders parts.order in
+    sorted_same (λ (p q : Pair). below parts p.0 q.0) (λ x. laws.irreflexive x.0)
+    (λ x y z. laws.transitive x.0 y.0 z.0) rules others one.sorted other.sorted
+    (λ rule is. other.all rule (one.each rule is)) (λ rule is. one.all rule (other.each rule is))
 
 module _ (parts : PresentationParts) {rules others : List Pair} {acceptor other : Automaton}
     (one : IsCompletion parts rules acceptor) (also : IsCompletion parts others other) where
-  -- it has one reduced complete system
+  -- so its completions have the same rules
   pub one_rules : rules ≡ others
-  one_rules =
-      let laws = word_orders parts.order in
-      sorted_same (λ (p q : Pair). below parts p.0 q.0) (λ x. laws.irreflexive x.0)
-      (λ x y z. laws.transitive x.0 y.0 z.0) rules others
-      one.reduced.sorted also.reduced.sorted
-      (λ rule is. also.reduced.all rule (one.reduced.each rule is))
-      (λ rule is. one.reduced.all rule (also.reduced.each rule is))
+  one_rules = one_system parts rules others one.reduced also.reduced
 
-  -- and one word acceptor
+  -- and the same word acceptor
   pub one_acceptor : acceptor ≡ other
   one_acceptor =
       one_canonical acceptor other one.acceptor.automaton also.acceptor.automaton
