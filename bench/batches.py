@@ -1,11 +1,15 @@
 """What is measured of batches: word lines a second by the clock, line by line, and in batches by one worker, two and four."""
 
+from statistics import median
+
 import data
-from measuring import GIVEN_UP, MIB, TURNS, give, run_once
+from measuring import GIVEN_UP, MIB, give, run_once
 
 BATCH = 4096
 COUNTS = (1, 2, 4)
-SIZE = 8
+ALL_OPTIONS = [("--workers", "1")] + [("--workers", str(workers), "--batch", str(BATCH)) for workers in COUNTS]
+TURNS = 7
+SIZE = 3
 
 
 def measure_batches(program, room, examples):
@@ -20,16 +24,11 @@ def measure_batches(program, room, examples):
             count = sum(1 for _ in it)
         print(f"{what}: {count} lines, {SIZE} MiB", flush=True)
 
-        def rate(*options):
-            words = [program, command, file, *options]
-            clocks = [best_clock(words, given) for given in (lines, none)]
-            return None if None in clocks else count / (clocks[0] - clocks[1])
-
-        alone = rate("--workers", "1")
-        show("line by line", alone, alone)
-        for workers in COUNTS:
-            options = "--workers", str(workers), "--batch", str(BATCH)
-            show(f"batches of {BATCH}, workers {workers}", rate(*options), alone)
+        command_line = [program, command, file]
+        clocks = median_clocks([[*command_line, *options] for options in ALL_OPTIONS], lines, none)
+        alone = clocks[0]
+        for options, clock in zip(ALL_OPTIONS, clocks):
+            show(" ".join(options), clock, alone, count)
 
 
 def runs(examples):
@@ -41,21 +40,23 @@ def runs(examples):
             yield f"multipliers of {example}", "autgroup", it.read()
 
 
-def best_clock(words, given):
-    """The best time of a few runs; None where one is given up or fails."""
-    best = None
+def median_clocks(commands, given, none):
+    """The middle time of some runs of each command, without that of a run that is given no line; None where a run fails.
+
+    The commands take turns, since the speed of one processor changes while the others are busy, or others use the machine.
+    """
+    clocks = [[] for _ in commands]
     for _ in range(TURNS):
-        run = run_once(words, given)
-        if run is None or run.status != 0:
-            return None
-        best = min(best or run.clock, run.clock)
-    return best
+        for words, own in zip(commands, clocks):
+            pair = [run_once(words, file) for file in (given, none)]
+            own.append(None if any(run is None or run.status != 0 for run in pair) else pair[0].clock - pair[1].clock)
+    return [None if None in own else median(own) for own in clocks]
 
 
-def show(what, rate, alone):
-    """Prints a rate, and how it stands beside that of line by line."""
-    if rate is None:
+def show(what, clock, alone, count):
+    """Prints how many lines a second that is, and how it stands beside line by line."""
+    if clock is None:
         print(f"    {what:30} no figure: a run failed, or was given up after {GIVEN_UP} s", flush=True)
         return
-    beside = f", {rate / alone:.2f} times line by line" if alone else ""
-    print(f"    {what:30} {rate:12,.0f} lines/s{beside}", flush=True)
+    beside = f", {alone / clock:.2f} times line by line" if alone else ""
+    print(f"    {what:30} {count / clock:12,.0f} lines/s{beside}", flush=True)
