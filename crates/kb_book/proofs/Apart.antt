@@ -21,14 +21,14 @@ use Rattle.kb_book.specs.Answers.{PendingNormalForms, AreNormalForms}
 use Rattle.kb_word.specs.declared.word_order.WordOrder.{WordOrder}
 use Rattle.kb_book.specs.Books.{IsBook}
 use Rattle.kb_book.specs.Lives.{VersionsParts}
-use Rattle.kb_book.specs.Normal.{HasPair, PairIsJoined, PairIsApart, IsNext, IsNextLine, log_step}
+use Rattle.kb_book.specs.Normal.{HasPair, PairIsJoined, PairIsApart, IsNext, IsNextLine, AreByLines, by_line}
 use Rattle.kb_machine.specs.declared.line.Line.{Line}
 use Rattle.kb_rules.specs.declared.trace.Step.{Step}
 use Rattle.kb_rules.specs.Steps.{IsFirstStep, IsStep, Leads}
 use Rattle.kb_rules.proofs.Tracing.{leads_implied, first_step_is_step}
 use Rattle.kb_word.specs.Rewriting.{IsIrreducible}
 use Rattle.kb_machine.specs.States.{below, rule_numbered, IsLiveRule}
-use Rattle.kb_book.proofs.Derived.{AreNumbers, derives_live, irreducible_live, steps_within}
+use Rattle.kb_book.proofs.Derived.{AreNumbers, derives_by, derives_live, irreducible_live, steps_within}
 use Rattle.std.proofs.lemmas.List.{length-map}
 
 -- an origin names one pair at most
@@ -151,7 +151,7 @@ pub next_line_is : (course : Course) (origin : Origin) (relations' : List Pair) 
     → Leads (IsFirstStep rules) pair.0 first u → Leads (IsFirstStep rules) pair.1 second v
     → line.origin ≡ origin → (rule_of line ≡ (u, v)) ⊎ (rule_of line ≡ (v, u))
     → below course.problem line.right line.left
-    → line.first_steps.items ≡ map (log_step live) first → line.second_steps.items ≡ map (log_step live) second
+    → AreByLines live first line.first_steps.items → AreByLines live second line.second_steps.items
     → IsNextLine course line
 next_line_is course origin relations' lines live pair rules u v first second line next numbers are is_lines is_live is_rules is_pair
     n m f s is_origin both less is_first is_second =
@@ -171,16 +171,15 @@ next_line_is course origin relations' lines live pair rules u v first second lin
     leads_implied (λ x step y. first_step_is_step) pair.0 first u (subst F is_rules f) in
     let other : Leads (IsStep (live_rules state)) pair.1 second v =
     leads_implied (λ x step y. first_step_is_step) pair.1 second v (subst S is_rules s) in
-    let first_is : line.first_steps.items ≡ map (log_step state.live) first =
-    is_first ∙ ap (λ (l : List ℕ). map (log_step l) first) is_live in
-    let second_is : line.second_steps.items ≡ map (log_step state.live) second =
-    is_second ∙ ap (λ (l : List ℕ). map (log_step l) second) is_live in
-    let D : List LogStep → Type 0 = λ steps. Derives allowed all pair.0 steps u in
-    let E : List LogStep → Type 0 = λ steps. Derives allowed all pair.1 steps v in
+    let first_is : AreByLines state.live first line.first_steps.items = is_first ∙ ap (λ (l : List ℕ). map (by_line l) first) is_live in
+    let second_is : AreByLines state.live second line.second_steps.items =
+    is_second ∙ ap (λ (l : List ℕ). map (by_line l) second) is_live in
     let by_first : Derives allowed all pair.0 line.first_steps.items u =
-    subst D (sym first_is) (derives_live state.lines state.live numbers pair.0 first u one) in
+    derives_by allowed all state.live pair.0 first line.first_steps.items u first_is
+    (derives_live state.lines state.live numbers pair.0 first u one) in
     let by_second : Derives allowed all pair.1 line.second_steps.items v =
-    subst E (sym second_is) (derives_live state.lines state.live numbers pair.1 second v other) in
+    derives_by allowed all state.live pair.1 second line.second_steps.items v second_is
+    (derives_live state.lines state.live numbers pair.1 second v other) in
     let O : Origin → Type 0 = λ o. IsNext course o in
     let Q : Origin → Type 0 = λ o. IsPairOf course.problem.relations all o pair in
     let irreducible = sides_irreducible (IsLiveRule state) u v (rule_of line)

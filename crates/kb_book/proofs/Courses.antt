@@ -177,7 +177,7 @@ without_first {problem = problem} {lines = lines} {pending = pending} origin res
 
 pub step_keeps : (problem : Problem) (before : State) (event : Event) (after : State) → Step problem before event after
     → Kept problem before.lines before.live before.pending → Kept problem after.lines after.live after.pending
-step_keeps problem before (Entered worker i j place) after step kept =
+step_keeps problem before (Entered worker place i j) after step kept =
     let P : State → Type 0 = λ s. Kept problem s.lines s.live s.pending in
     let pair = critical_pair step.first step.second place in
     let named : HasPair problem.relations (rules_of before.lines) (origins.Overlap i j place) =
@@ -222,39 +222,6 @@ kept_at_start problem = record {
 pub course_keeps : (course : Course) → IsCourse course → Kept course.problem course.state.lines course.state.live course.state.pending
 course_keeps course is =
     kept_along course.problem (start course.problem) course.journal course.state is (kept_at_start course.problem)
-
--- an event publishes one version at most
-published_by : (problem : Problem) (before : State) (event : Event) (after : State) → Step problem before event after
-    → length after.versions ≤ length before.versions + 1
-published_by problem before (Entered worker i j place) after step =
-    let same : length after.versions ≡ length before.versions = ap (λ (s : State). length s.versions) step.is in omega arith
-published_by problem before Dropped after step =
-    let same : length after.versions ≡ length before.versions = ap (λ (s : State). length s.versions) step.is in omega arith
-published_by problem before (Made k) after step =
-    let same : length after.versions ≡ length before.versions = ap (λ (s : State). length s.versions) step.is in omega arith
-published_by problem before Halted after step =
-    let same : length after.versions ≡ length before.versions = ap (λ (s : State). length s.versions) step.is in omega arith
-published_by problem before (Killed k) after step =
-    let same : length after.versions ≡ length before.versions = ap (λ (s : State). length s.versions) step.is in omega arith
-published_by problem before (Shortened k new) after step =
-    let same : length after.versions ≡ length before.versions = ap (λ (s : State). length s.versions) step.is in omega arith
-published_by problem before Published after step =
-    let more : length after.versions ≡ length (before.versions ++ before.live ∷ []) = ap (λ (s : State). length s.versions) step in
-    omega (arith, length-append before.versions (before.live ∷ []))
-
-published_along : (problem : Problem) (before : State) (events : List Event) (after : State) → Leads (Step problem) before events after
-    → length after.versions ≤ length before.versions + length events
-published_along problem before [] after same =
-    let own : length before.versions ≡ length after.versions = ap (λ (s : State). length s.versions) same in omega arith
-published_along problem before (event ∷ rest) after leads =
-    let first = published_by problem before event leads.0 leads.1 in
-    let others = published_along problem leads.0 rest after leads.2 in
-    omega (arith, first, others)
-
--- there are no more versions than events
-pub versions_counted : (course : Course) → IsCourse course → length course.state.versions ≤ length course.journal
-versions_counted course is =
-    let along = published_along course.problem (start course.problem) course.journal course.state is in omega (arith, along)
 
 -- a book after one more event, whose reducer has the rules that are live then
 pub book_after : {event : Event} {before after : Course} {rules rules' : List Pair} {order order' : WordOrder}

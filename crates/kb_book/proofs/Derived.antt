@@ -1,5 +1,5 @@
 -- Reductions by the live rules are derivations by live lines.
-use Rattle.std.proofs.Common.{◌≡◌, ℕ, zero, suc, ◌<◌, ◌≤◌, List, [], ◌∷◌, length, get_or, map, Some, slice_get, unwrap_or, All, sym, ap, ◌∙◌, arith}
+use Rattle.std.proofs.Common.{◌≡◌, ℕ, zero, suc, ◌<◌, ◌≤◌, List, [], ◌∷◌, ◌++◌, length, get_or, map, Some, slice_get, unwrap_or, All, sym, ap, ◌∙◌, subst, arith}
 use Rattle.std.specs.List.{Contains}
 use Rattle.std.specs.Option.{option_map}
 use Rattle.std.proofs.lemmas.List.{length-map}
@@ -12,9 +12,10 @@ use Rattle.kb_rules.specs.declared.trace.Step.{Step}
 use Rattle.kb_rules.specs.Steps.{IsStep, Leads}
 use Rattle.kb_machine.specs.declared.line.Line.{Line}
 use Rattle.kb_machine.specs.Lines.{numbered, rule_of, rules_of}
-use Rattle.kb_machine.specs.Derivations.{IsStepBy, Derives}
+use Rattle.kb_machine.specs.declared.line.LogStep.{LogStep}
+use Rattle.kb_machine.specs.Derivations.{Derives}
 use Rattle.kb_machine.specs.States.{State, rule_numbered, live_rules, IsLiveRule}
-use Rattle.kb_book.specs.Normal.{log_step}
+use Rattle.kb_book.specs.Normal.{AreByLines, by_line, shown}
 use Rattle.kb_book.proofs.Lists.{contained, contains_at}
 
 -- the numbers are those of lines
@@ -58,9 +59,50 @@ steps_within rules u (step ∷ rest) v leads =
     All-cons (λ (step : Step). step.rule < length rules) step rest (slice_get_within rules step.rule leads.1.rule leads.1.is_rule)
     (steps_within rules leads.0 rest v leads.2)
 
+-- the step leads from u to v at this place, by the rule with this number, which is allowed
+pub record IsStepAt (allowed : ℕ → Type 0) (rules : List Pair) (u : List ℕ) (place number : ℕ) (v : List ℕ) : Type 0 where
+  pub before : List ℕ
+  pub rule : Pair
+  pub after : List ℕ
+  pub is_allowed : allowed number
+  pub is_rule : numbered rules number ≡ Some rule
+  pub at : length before ≡ place
+  pub from : u ≡ before ++ rule.0 ++ after
+  pub to : v ≡ before ++ rule.1 ++ after
+
+-- the steps by the live rules lead from u to v by allowed lines
+abbrev pub Reduces : (ℕ → Type 0) → List Pair → List ℕ → List ℕ → List Step → List ℕ → Type 0
+Reduces allowed rules live = Leads (λ u (step : Step) v. IsStepAt allowed rules u step.place (get_or live step.rule 0) v)
+
+-- so these steps, by the numbers of their lines, are a derivation
+pub derives_by : (allowed : ℕ → Type 0) (rules : List Pair) (live : List ℕ) (u : List ℕ) (steps : List Step) (logged : List LogStep)
+    (v : List ℕ) → AreByLines live steps logged → Reduces allowed rules live u steps v → Derives allowed rules u logged v
+derives_by allowed rules live u [] [] v are leads = leads
+derives_by allowed rules live u [] (log ∷ logged) v are leads = absurd cc
+derives_by allowed rules live u (step ∷ rest) [] v are leads = absurd cc
+derives_by allowed rules live u (step ∷ rest) (log ∷ logged) v are leads =
+    let head : shown log ≡ by_line live step = cc in
+    let tail : map shown logged ≡ map (by_line live) rest = cc in
+    let place : log.place ≡ step.place = ap (λ (p : ℕ × ℕ). p.0) head in
+    let line : log.line ≡ get_or live step.rule 0 = ap (λ (p : ℕ × ℕ). p.1) head in
+    let by : IsStepAt allowed rules u step.place (get_or live step.rule 0) leads.0 = leads.1 in (
+      leads.0,
+      record {
+        before = by.before;
+        rule = by.rule;
+        after = by.after;
+        is_allowed = subst allowed (sym line) by.is_allowed;
+        is_rule = ap (numbered rules) line ∙ by.is_rule;
+        at = by.at ∙ sym place;
+        from = by.from;
+        to = by.to;
+      },
+      derives_by allowed rules live leads.0 rest logged v tail leads.2,
+    )
+
 pub step_by : (lines : List Line) (live : List ℕ) → AreNumbers lines live → (u : List ℕ) (step : Step) (v : List ℕ)
     → IsStep (map (rule_numbered lines) live) u step v
-    → IsStepBy (λ k. Contains live k) (rules_of lines) u (log_step live step) v
+    → IsStepAt (λ k. Contains live k) (rules_of lines) u step.place (get_or live step.rule 0) v
 step_by lines live numbers u step v is =
     let at = live_at lines live step.rule is.rule numbers is.is_rule in
     record {
@@ -77,7 +119,7 @@ step_by lines live numbers u step v is =
 -- steps by the live rules are steps by live lines
 pub derives_live : (lines : List Line) (live : List ℕ) → AreNumbers lines live → (u : List ℕ) (steps : List Step) (v : List ℕ)
     → Leads (IsStep (map (rule_numbered lines) live)) u steps v
-    → Derives (λ k. Contains live k) (rules_of lines) u (map (log_step live) steps) v
+    → Reduces (λ k. Contains live k) (rules_of lines) live u steps v
 derives_live lines live numbers u [] v leads = leads
 derives_live lines live numbers u (step ∷ rest) v leads =
     (leads.0, step_by lines live numbers u step leads.0 leads.1, derives_live lines live numbers leads.0 rest v leads.2)

@@ -1,5 +1,5 @@
 -- The lines of versions, where a line comes, where one goes, and where the live ones are published.
-use Rattle.std.proofs.Common.{◌≡◌, ℕ, zero, suc, ◌+◌, ◌-◌, ◌<◌, ◌≤◌, Bool, true, false, ◌&&◌, nat_le, nat_lt, if◌then◌else◌, List, [], ◌∷◌, ◌++◌, length, map, get_or, take, slice_get, slice_set, Option, Some, None, IfSome, All, refl, sym, ap, ◌∙◌, subst, inl, inr, arith}
+use Rattle.std.proofs.Common.{◌≡◌, ℕ, zero, suc, ◌+◌, ◌-◌, ◌<◌, ◌≤◌, Bool, true, false, ◌&&◌, nat_le, nat_lt, if◌then◌else◌, List, [], ◌∷◌, ◌++◌, length, map, get_or, take, slice_get, slice_set, Some, All, refl, sym, ap, ◌∙◌, subst, inl, inr, arith}
 use Rattle.std.specs.List.{range_with_len, remove}
 use Rattle.std.proofs.lemmas.Bool.{cases_Bool, lt-ltb, le-ltb, le-leb, lt-leb, ltb-true, and_parts, and_from, and_left, and_right}
 use Rattle.std.proofs.lemmas.List.{take_more, length-take-le}
@@ -7,7 +7,7 @@ use Rattle.std.proofs.lemmas.List.FromFn.{length-map-range_with_len, get_or-map-
 use Rattle.std.proofs.lemmas.Option.{none-some, same_Some, slice_get-get_or}
 use Rattle.kb_machine.specs.Lines.{numbered}
 use Rattle.kb_book.specs.declared.versions.Life.{Life}
-use Rattle.kb_book.specs.Lives.{is_before, is_in, numbers_from, IsWithin}
+use Rattle.kb_book.specs.Lives.{is_in, most, numbers_from, IsWithin}
 
 -- with the first line and without it
 with_first : (k : ℕ) (life : Life) (lives : List Life) (place : ℕ) → is_in life place ≡ true
@@ -144,38 +144,39 @@ numbers_less k (first ∷ lives) (suc index) life place at gone is =
         ap (λ (l : List ℕ). k ∷ l) (less at gone (is ∙ ap (λ (n : ℕ). Some n) same))
 
 -- what is live isn't gone, so that earlier versions have it as before when it goes
-not_gone : (count : ℕ) (gone : Option ℕ) (place : ℕ) → IfSome gone (λ g. g ≤ count) → is_before count gone ≡ true → is_before place gone ≡ true
-not_gone count None place within is = refl
-not_gone count (Some gone) place within is = let less = ltb-true count gone is in absurd (omega arith)
+not_gone : (count place : ℕ) (life : Life) → IsWithin count life → nat_lt count life.gone ≡ true → place < count
+    → nat_lt place life.gone ≡ true
+not_gone count place life within is earlier =
+    let less = ltb-true count life.gone is in lt-ltb place life.gone (omega arith)
 
 pub goes_now : (count born : ℕ) (old : Life) (place : ℕ) → IsWithin count old → is_in old count ≡ true → born ≡ old.born → place < count
-    → is_in (record { born = born; gone = Some count }) place ≡ is_in old place
+    → is_in (record { born = born; gone = count }) place ≡ is_in old place
 goes_now count born old place within is same earlier =
-    let parts = and_parts (nat_le old.born count) (is_before count old.gone) is in
-    let here : is_before place old.gone ≡ true = not_gone count old.gone place within.gone parts.1 in
+    let parts = and_parts (nat_le old.born count) (nat_lt count old.gone) is in
+    let here : nat_lt place old.gone ≡ true = not_gone count place old within parts.1 earlier in
     let there : nat_lt place count ≡ true = lt-ltb place count earlier in
     ap (λ (n : ℕ). nat_le n place && nat_lt place count) same ∙ ap (λ (b : Bool). nat_le old.born place && b) (there ∙ sym here)
 
-pub is_gone : (count born : ℕ) → is_in (record { born = born; gone = Some count }) count ≡ false
+pub is_gone : (count born : ℕ) → is_in (record { born = born; gone = count }) count ≡ false
 is_gone count born = and_right (nat_le born count) (nat_lt count count) (le-ltb count count (omega arith))
 
 -- a version more has the same lines
-one_more : (count : ℕ) (life : Life) → IsWithin count life → is_in life (count + 1) ≡ is_in life count
-one_more count life within =
+one_more : (count : ℕ) (life : Life) → count < most → IsWithin count life → is_in life (count + 1) ≡ is_in life count
+one_more count life fits within =
     let born : nat_le life.born (count + 1) ≡ nat_le life.born count =
     le-leb life.born (count + 1) (omega (arith, within.born)) ∙ sym (le-leb life.born count within.born) in
-    cc (born, gone life.gone within.gone)
-  where
-    gone : (gone : Option ℕ) → IfSome gone (λ g. g ≤ count) → is_before (count + 1) gone ≡ is_before count gone
-    gone None within = refl
-    gone (Some g) within = le-ltb (count + 1) g (omega arith) ∙ sym (le-ltb count g within)
+    let gone : nat_lt (count + 1) life.gone ≡ nat_lt count life.gone = elim within.gone [
+      | inl went ↦ le-ltb (count + 1) life.gone (omega arith) ∙ sym (le-ltb count life.gone went)
+      | inr lives ↦ lt-ltb (count + 1) life.gone (omega arith) ∙ sym (lt-ltb count life.gone (omega arith))
+    ] in
+    cc (born, gone)
 
-pub numbers_later : (k : ℕ) (lives : List Life) (count : ℕ) → All (IsWithin count) lives
+pub numbers_later : (k : ℕ) (lives : List Life) (count : ℕ) → count < most → All (IsWithin count) lives
     → numbers_from k lives (count + 1) ≡ numbers_from k lives count
-numbers_later k [] count all = refl
-numbers_later k (first ∷ lives) count all =
-    let rest = numbers_later (suc k) lives count (λ i d within. all (suc i) d (omega arith)) in
-    let same = one_more count first (all 0 first (omega arith)) in
+numbers_later k [] count fits all = refl
+numbers_later k (first ∷ lives) count fits all =
+    let rest = numbers_later (suc k) lives count fits (λ i d within. all (suc i) d (omega arith)) in
+    let same = one_more count first fits (all 0 first (omega arith)) in
     ap (λ (b : Bool). if b then k ∷ numbers_from (suc k) lives (count + 1) else numbers_from (suc k) lives (count + 1)) same
     ∙ ap (λ (l : List ℕ). if is_in first count then k ∷ l else l) rest
 
@@ -197,8 +198,9 @@ version_numbered f count (suc place) found positive within is =
     ∙ ap (λ (l : List ℕ). Some l) (get_or-map-range_with_len f 0 count place place [] (omega arith) (omega arith) ∙ sym (is ∙ ap f same))
 
 -- a line that comes now is in no earlier version
-pub comes_now : (count place : ℕ) → place < count → is_in (record { born = count; gone = None }) place ≡ false
-comes_now count place earlier = and_left (nat_le count place) true (lt-leb count place earlier)
+pub comes_now : (count place : ℕ) → place < count → is_in (record { born = count; gone = suc most }) place ≡ false
+comes_now count place earlier = and_left (nat_le count place) (nat_lt place (suc most)) (lt-leb count place earlier)
 
-pub is_there : (count : ℕ) → is_in (record { born = count; gone = None }) count ≡ true
-is_there count = and_from (nat_le count count) true (le-leb count count (omega arith)) refl
+pub is_there : (count : ℕ) → count ≤ most → is_in (record { born = count; gone = suc most }) count ≡ true
+is_there count fits =
+    and_from (nat_le count count) (nat_lt count (suc most)) (le-leb count count (omega arith)) (lt-ltb count (suc most) (omega arith))

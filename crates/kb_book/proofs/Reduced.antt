@@ -10,7 +10,6 @@ use Rattle.kb_rules.specs.declared.trace.Step.{Step}
 use Rattle.kb_rules.specs.Steps.{IsFirstStep, IsStep, Leads}
 use Rattle.kb_rules.proofs.Tracing.{leads_implied, first_step_is_step}
 use Rattle.kb_machine.specs.declared.line.Line.{Line}
-use Rattle.kb_machine.specs.declared.line.LogStep.{LogStep}
 use Rattle.kb_machine.specs.declared.origin.Origin.TheVariants.{Shortened}
 use Rattle.kb_machine.specs.Lines.{numbered, rule_of, rules_of}
 use Rattle.kb_machine.specs.Derivations.{Derives}
@@ -19,12 +18,12 @@ use Rattle.kb_machine.specs.Machine.{IsLive}
 use Rattle.kb_machine.specs.declared.halt.Halt.{Halt}
 use Rattle.kb_machine.specs.Course.{Course, IsCourse}
 use Rattle.kb_book.specs.Answers.{CanBeShortened}
-use Rattle.kb_book.specs.Normal.{log_step}
+use Rattle.kb_book.specs.Normal.{AreByLines, by_line}
 use Rattle.kb_book.specs.Shorter.{IsShorter}
 use Rattle.kb_book.proofs.Courses.{course_keeps}
 use Rattle.kb_book.proofs.Lists.{contains_at, numbered_one}
-use Rattle.kb_book.proofs.Derived.{numbered_within}
-use Rattle.kb_book.proofs.Shorter.{derived_below, derives_other, can_be_shortened, cannot_be_shortened}
+use Rattle.kb_book.proofs.Derived.{Reduces, derives_by, numbered_within}
+use Rattle.kb_book.proofs.Shorter.{reduced_below, derives_other, can_be_shortened, cannot_be_shortened}
 
 -- a live number has its rule
 pub live_number : (course : Course) (k place : ℕ) (lines : List Line) (live : List ℕ) → IsCourse course
@@ -45,8 +44,8 @@ pub record IsReduction (course : Course) (k place : ℕ) (own : Pair) (steps : L
   pub is_own : numbered (rules_of course.state.lines) k ≡ Some own
   pub falling : AreDecreasing (below course.problem) (rules_of course.state.lines)
   pub normal : NormalForm (live_rules course.state) own.1 word
-  pub derived : Derives (λ j. IsLive course.state j × (j ≢ k)) (rules_of course.state.lines) own.1
-      (map (log_step course.state.live) steps) word
+  pub derived : Reduces (λ j. IsLive course.state j × (j ≢ k)) (rules_of course.state.lines) course.state.live own.1
+      steps word
 
 pub reduction : (course : Course) (k place : ℕ) (lines : List Line) (live : List ℕ) (own : Pair) (rules : List Pair) (steps : List Step)
     (word : List ℕ) → IsCourse course → lines ≡ course.state.lines → live ≡ course.state.live → rules ≡ live_rules course.state
@@ -85,7 +84,7 @@ pub shortenable : (course : Course) (k place : ℕ) (own : Pair) (steps : List S
     → IsReduction course k place own steps word → 0 < length steps → CanBeShortened course.state k
 shortenable course k place own [] word r some = absurd (omega arith)
 shortenable course k place own (step ∷ rest) word r some =
-    can_be_shortened course.state k own (log_step course.state.live step) r.derived.0
+    can_be_shortened course.state k own step.place (get_or course.state.live step.rule 0) r.derived.0
     (contains_at course.state.live place k r.at) r.is_own r.derived.1
 
 -- and what they lead to is another word
@@ -95,8 +94,8 @@ changes course k place own [] word r some = absurd (omega arith)
 changes course k place own (step ∷ rest) word r some =
     let state = course.state in
     let order = course.problem.order in
-    let lower : Below order word own.1 = derived_below order (λ j. IsLive state j × (j ≢ k)) (rules_of state.lines) r.falling own.1
-    (log_step state.live step) (map (log_step state.live) rest) word r.derived in
+    let lower : Below order word own.1 = reduced_below order (λ j. IsLive state j × (j ≢ k)) (rules_of state.lines) state.live r.falling
+    own.1 step rest word r.derived in
     let P : List ℕ → Type 0 = λ w. Below order w own.1 in
     λ same. (word_orders order).irreflexive own.1 (subst P same lower)
 
@@ -113,12 +112,13 @@ is_halted (Some halt) tells = λ none. none-some halt (sym none)
 pub shorter_line : (course : Course) (k place : ℕ) (own line : Line) (live : List ℕ) (steps : List Step) (word : List ℕ)
     → IsReduction course k place (rule_of own) steps word → 0 < length steps → course.state.halt ≡ None
     → length course.state.lines < course.problem.most_lines → live ≡ course.state.live → line.origin ≡ Shortened k
-    → line.left ≡ own.left → line.right ≡ word → line.first_steps.items ≡ map (log_step live) steps
+    → line.left ≡ own.left → line.right ≡ word → AreByLines live steps line.first_steps.items
     → line.second_steps.items ≡ [] → IsShorter course k place line
 shorter_line course k place own line live steps word r some running room is_live origin left right first second =
     let state = course.state in
-    let first_is : line.first_steps.items ≡ map (log_step state.live) steps = first ∙ ap (λ (l : List ℕ). map (log_step l) steps) is_live in
-    let D : List LogStep → Type 0 = λ l. Derives (λ j. IsLive state j × (j ≢ k)) (rules_of state.lines) own.right l word in
+    let first_is : AreByLines state.live steps line.first_steps.items = first ∙ ap (λ (l : List ℕ). map (by_line l) steps) is_live in
+    let derived = derives_by (λ j. IsLive state j × (j ≢ k)) (rules_of state.lines) state.live own.right steps line.first_steps.items
+    word first_is r.derived in
     let E : List ℕ → Type 0 = λ w. Derives (λ j. IsLive state j × (j ≢ k)) (rules_of state.lines) own.right line.first_steps.items w in
     let C : List ℕ → Type 0 = λ w. w ≢ own.right in
     let N : List ℕ → Type 0 = λ w. NormalForm (live_rules state) own.right w in
@@ -130,7 +130,7 @@ shorter_line course k place own line live steps word r some running room is_live
       is_own = r.is_own;
       of_origin = origin;
       left = left;
-      right = subst E (sym right) (subst D (sym first_is) r.derived);
+      right = subst E (sym right) derived;
       changed = subst C (sym right) (changes course k place (rule_of own) steps word r some);
       no_second = second;
       normal = subst N (sym right) r.normal;

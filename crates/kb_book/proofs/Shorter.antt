@@ -1,5 +1,5 @@
 -- A line whose right side is reduced: its own rule is never used, and the right side gets less.
-use Rattle.std.proofs.Common.{◌≡◌, ◌≢◌, ℕ, List, [], ◌∷◌, ◌++◌, map, Some, sym, ap, ◌∙◌, subst, inl, inr}
+use Rattle.std.proofs.Common.{◌≡◌, ◌≢◌, ℕ, List, [], ◌∷◌, ◌++◌, get_or, map, Some, sym, ap, ◌∙◌, subst}
 use Rattle.std.specs.List.{Contains}
 use Rattle.std.proofs.lemmas.Option.{same_Some}
 use Rattle.kb_word.specs.Words.{Pair, OneOf}
@@ -14,15 +14,11 @@ use Rattle.kb_rules.specs.declared.trace.Step.{Step}
 use Rattle.kb_rules.specs.Steps.{IsStep, Leads}
 use Rattle.kb_rules.proofs.Reducts.{replaced_below}
 use Rattle.kb_machine.specs.declared.line.Line.{Line}
-use Rattle.kb_machine.specs.declared.line.LogStep.{LogStep}
 use Rattle.kb_machine.specs.Lines.{numbered, rules_of}
-use Rattle.kb_machine.specs.Derivations.{IsStepBy, Derives}
 use Rattle.kb_machine.specs.States.{State, rule_numbered, live_rules}
 use Rattle.kb_book.specs.Answers.{CanBeShortened, IsOtherLiveRule}
-use Rattle.kb_book.specs.Normal.{log_step}
 use Rattle.kb_book.proofs.Lists.{numbered_one}
-use Rattle.kb_book.proofs.Courses.{derived_at_most}
-use Rattle.kb_book.proofs.Derived.{AreNumbers, step_by, one_of_live}
+use Rattle.kb_book.proofs.Derived.{AreNumbers, IsStepAt, Reduces, step_by, one_of_live}
 
 -- no word is above a word that it is a factor of
 descent : {below : List ℕ → List ℕ → Type 0} → IsReductionOrder below → (before after u : List ℕ) → Accessible below u
@@ -33,52 +29,55 @@ descent order before after u (accessible lower) less =
 
 -- a step goes down
 step_lower : (order : WordOrder) (allowed : ℕ → Type 0) (rules : List Pair) → AreDecreasing (Below order) rules
-    → (u : List ℕ) (step : LogStep) (v : List ℕ) → IsStepBy allowed rules u step v → Below order v u
-step_lower order allowed rules falling u step v is =
+    → (u : List ℕ) (place number : ℕ) (v : List ℕ) → IsStepAt allowed rules u place number v → Below order v u
+step_lower order allowed rules falling u place number v is =
     let replaced : Replaces (OneOf rules) u v = record {
       before = is.before;
       pair = is.rule;
       after = is.after;
-      is_allowed = numbered_one rules step.line is.rule is.is_rule;
+      is_allowed = numbered_one rules number is.rule is.is_rule;
       from = is.from;
       to = is.to;
     } in
     replaced_below (word_orders order) falling replaced
 
--- some steps go down
-pub derived_below : (order : WordOrder) (allowed : ℕ → Type 0) (rules : List Pair) → AreDecreasing (Below order) rules
-    → (u : List ℕ) (step : LogStep) (rest : List LogStep) (v : List ℕ) → Derives allowed rules u (step ∷ rest) v → Below order v u
-derived_below order allowed rules falling u step rest v leads =
-    let lower : Below order leads.0 u = step_lower order allowed rules falling u step leads.0 leads.1 in
-    elim (derived_at_most order allowed rules falling leads.0 rest v leads.2) [
-      | inl same ↦ let P : List ℕ → Type 0 = λ w. Below order w u in subst P (sym same) lower
-      | inr less ↦ (word_orders order).transitive v leads.0 u less lower
-    ]
+-- so do some steps
+pub reduced_below : (order : WordOrder) (allowed : ℕ → Type 0) (rules : List Pair) (live : List ℕ) → AreDecreasing (Below order) rules
+    → (u : List ℕ) (step : Step) (rest : List Step) (v : List ℕ) → Reduces allowed rules live u (step ∷ rest) v → Below order v u
+reduced_below order allowed rules live falling u step [] v leads =
+    let lower : Below order leads.0 u = step_lower order allowed rules falling u step.place (get_or live step.rule 0) leads.0 leads.1 in
+    let P : List ℕ → Type 0 = λ w. Below order w u in
+    subst P leads.2 lower
+reduced_below order allowed rules live falling u step (next ∷ rest) v leads =
+    let lower : Below order leads.0 u = step_lower order allowed rules falling u step.place (get_or live step.rule 0) leads.0 leads.1 in
+    let less = reduced_below order allowed rules live falling leads.0 next rest v leads.2 in
+    (word_orders order).transitive v leads.0 u less lower
 
 -- a step from a word that is below a left side is by another rule
 pub another_rule : (order : WordOrder) (allowed : ℕ → Type 0) (rules : List Pair) (k : ℕ) (own : Pair)
-    → numbered rules k ≡ Some own → (u : List ℕ) (step : LogStep) (v : List ℕ) → IsStepBy allowed rules u step v
-    → Below order u own.0 → step.line ≢ k
-another_rule order allowed rules k own is_own u step v is less same =
+    → numbered rules k ≡ Some own → (u : List ℕ) (place number : ℕ) (v : List ℕ) → IsStepAt allowed rules u place number v
+    → Below order u own.0 → number ≢ k
+another_rule order allowed rules k own is_own u place number v is less same =
     let one : is.rule ≡ own = same_Some is.rule own (sym is.is_rule ∙ ap (numbered rules) same ∙ is_own) in
     let whole : u ≡ is.before ++ own.0 ++ is.after = is.from ∙ ap (λ (r : Pair). is.before ++ r.0 ++ is.after) one in
     let P : List ℕ → Type 0 = λ w. Below order w own.0 in
     descent (word_orders order) is.before is.after own.0 ((word_orders order).well_founded own.0) (subst P whole less)
 
--- so reductions of a word that is below are derivations by the other live lines
+-- so reductions of a word that is below are by the other live lines
 pub derives_other : (order : WordOrder) (lines : List Line) (live : List ℕ) (k : ℕ) (own : Pair) → AreNumbers lines live
     → AreDecreasing (Below order) (rules_of lines) → numbered (rules_of lines) k ≡ Some own
     → (u : List ℕ) (steps : List Step) (v : List ℕ) → Below order u own.0
     → Leads (IsStep (map (rule_numbered lines) live)) u steps v
-    → Derives (λ j. Contains live j × (j ≢ k)) (rules_of lines) u (map (log_step live) steps) v
+    → Reduces (λ j. Contains live j × (j ≢ k)) (rules_of lines) live u steps v
 derives_other order lines live k own numbers falling is_own u [] v less leads = leads
 derives_other order lines live k own numbers falling is_own u (step ∷ rest) v less leads =
     let rules = rules_of lines in
     let next = leads.0 in
-    let by : IsStepBy (λ j. Contains live j) rules u (log_step live step) next = step_by lines live numbers u step next leads.1 in
-    let another : (log_step live step).line ≢ k =
-    another_rule order (λ j. Contains live j) rules k own is_own u (log_step live step) next by less in
-    let lower : Below order next u = step_lower order (λ j. Contains live j) rules falling u (log_step live step) next by in
+    let number = get_or live step.rule 0 in
+    let by : IsStepAt (λ j. Contains live j) rules u step.place number next = step_by lines live numbers u step next leads.1 in
+    let another : number ≢ k =
+    another_rule order (λ j. Contains live j) rules k own is_own u step.place number next by less in
+    let lower : Below order next u = step_lower order (λ j. Contains live j) rules falling u step.place number next by in
     let below_left : Below order next own.0 = (word_orders order).transitive next u own.0 lower less in (
       next,
       record {
@@ -95,15 +94,15 @@ derives_other order lines live k own numbers falling is_own u (step ∷ rest) v 
     )
 
 -- a line whose right side a step by another live line reduces
-pub can_be_shortened : (state : State) (k : ℕ) (own : Pair) (step : LogStep) (v : List ℕ) → Contains state.live k
+pub can_be_shortened : (state : State) (k : ℕ) (own : Pair) (place number : ℕ) (v : List ℕ) → Contains state.live k
     → numbered (rules_of state.lines) k ≡ Some own
-    → IsStepBy (λ j. Contains state.live j × (j ≢ k)) (rules_of state.lines) own.1 step v → CanBeShortened state k
-can_be_shortened state k own step v is_live is_own by = record {
+    → IsStepAt (λ j. Contains state.live j × (j ≢ k)) (rules_of state.lines) own.1 place number v → CanBeShortened state k
+can_be_shortened state k own place number v is_live is_own by = record {
   is_live = is_live;
   own = own;
   is_own = is_own;
   reducible = λ irreducible.
-      irreducible by.before by.rule by.after (step.line, by.is_allowed.0, by.is_allowed.1, by.is_rule) by.from;
+      irreducible by.before by.rule by.after (number, by.is_allowed.0, by.is_allowed.1, by.is_rule) by.from;
 }
 
 -- a line whose right side is its own normal form

@@ -104,7 +104,7 @@ HasOverlap state i j place =
 
 -- what `enter` answers
 abbrev pub EnterSays : ℕ → ℕ → ℕ → ℕ → Course → Course → Result Unit EnterFault → Type 0
-EnterSays worker i j place before after (Ok done) = Takes (Entered worker i j place) before after
+EnterSays worker i j place before after (Ok done) = Takes (Entered worker place i j) before after
 EnterSays worker i j place before after (Err enter_faults.NotOverlap) =
     (after ≡ before) × (¬ HasOverlap before.state i j place)
 EnterSays worker i j place before after (Err enter_faults.Memory) = after ≡ before

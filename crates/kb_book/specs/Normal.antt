@@ -1,5 +1,5 @@
 -- The pair that an origin names, its normal forms, and the line that they give.
-use Rattle.std.specs.Prelude.{◌≡◌, ◌≢◌, ℕ, List, ◌∷◌, None, get_or}
+use Rattle.std.specs.Prelude.{◌≡◌, ◌≢◌, ℕ, List, ◌∷◌, map, None, get_or}
 use Rattle.kb_word.specs.Words.{Pair}
 use Rattle.kb_word.specs.Rewriting.{NormalForm}
 use Rattle.kb_rules.specs.declared.trace.Step.{Step}
@@ -45,9 +45,17 @@ pub record IsNextLine (course : Course) (line : Line) : Type 0 where
       line.first_steps.items line.second_steps.items
   pub normal : AreNormalForms course line.left line.right
 
--- the step by the number of its rule's line
-abbrev pub log_step : List ℕ → Step → LogStep
-log_step live step = record { place = step.place; line = get_or live step.rule 0 }
+-- the place of the step, and the number of its line
+abbrev pub shown : LogStep → ℕ × ℕ
+shown step = (step.place, step.line)
+
+-- the place of a step by the live rules, and the number of its rule's line
+abbrev pub by_line : List ℕ → Step → ℕ × ℕ
+by_line live step = (step.place, get_or live step.rule 0)
+
+-- the steps by the live rules are these, by the numbers of their lines
+abbrev pub AreByLines : List ℕ → List Step → List LogStep → Type 0
+AreByLines live steps log_steps = map shown log_steps ≡ map (by_line live) steps
 
 -- the origin's pair is joined: its words have one normal form
 abbrev pub PairIsJoined : Course → Origin → Type 0

@@ -62,7 +62,7 @@ impl<R: Reducer> Model for Book<R> {
       };
       spare = min (vec_capacity book.journal - vec_len book.journal)
           (deque_capacity book.pending - deque_len book.pending);
-      publish_room = vec_capacity book.journal - vec_len book.journal;
+      publish_room = min (vec_capacity book.journal - vec_len book.journal) book.versions.more;
     } };
 
     ghost invariant = { λ book. IsBook

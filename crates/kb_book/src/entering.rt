@@ -17,7 +17,7 @@ use kb_word::Memory;
 impl<R: Reducer> Book<R> {
     /// Makes the overlap of two lines pending, which a worker found at a place of the first one's left side. It takes
     /// no memory where the book has room to spare.
-    pub fn enter(&mut self, worker: u32, i: u32, j: u32, place: u64) -> Result<(), EnterFault>
+    pub fn enter(&mut self, worker: u8, i: u32, j: u32, place: u64) -> Result<(), EnterFault>
         ensures says { EnterSays worker i j place self.old.course self.new.course result }
         ensures room { 0 < self.old.spare → result ≢ Err EnterFault.Memory }
         ensures spare { self.old.spare ≤ self.new.spare + 1 }
@@ -29,13 +29,13 @@ impl<R: Reducer> Book<R> {
         let origin = Origin::Overlap {
             first: i,
             second: j,
-            place,
+            place: place as u32,
         };
         let event = Event::Entered {
             worker,
+            place: place as u16,
             first: i,
             second: j,
-            place: place as u16,
         };
         append(&mut self.pending, origin);
         add(&mut self.journal, event);

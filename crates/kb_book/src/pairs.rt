@@ -55,7 +55,7 @@ fn put_critical_pair(
     lines: &[Line],
     i: u32,
     j: u32,
-    place: u64,
+    place: u32,
     pair: &mut PairWorkspace,
 ) -> Result<(), Memory>
     requires { (critical : Pair) × IsCriticalPair (rules_of lines.now) i j place critical }
@@ -68,6 +68,6 @@ fn put_critical_pair(
         &first.right,
         &second.left,
         &second.right,
-        place,
+        u64::from(place),
     )
 }

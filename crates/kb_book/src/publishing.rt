@@ -4,7 +4,7 @@ ghost use Rattle.std.specs.Prelude.{◌≡◌, ◌<◌, ◌≤◌, IsOk, OnOk};
 ghost use Rattle.kb_book.specs.Answers.{PublishSays};
 
 use crate::book::Book;
-use crate::room::{add, grow};
+use crate::room::{add, make_publish_room};
 use kb_machine::Event;
 use kb_rules::Reducer;
 use kb_word::Memory;
@@ -16,7 +16,7 @@ impl<R: Reducer> Book<R> {
         ensures says { PublishSays self.old.course self.new.course result }
         ensures room { 0 < self.old.publish_room → IsOk result }
     {
-        grow(&mut self.journal, 1)?;
+        make_publish_room(&mut self.journal, &self.versions)?;
         self.versions.publish();
         add(&mut self.journal, Event::Published);
         Ok(self.versions.len() as u64)
@@ -28,7 +28,6 @@ impl<R: Reducer> Book<R> {
         ensures same { self.new.course ≡ self.old.course }
         ensures spare { self.old.spare ≤ self.new.spare }
     {
-        grow(&mut self.journal, 1)?;
-        Ok(())
+        make_publish_room(&mut self.journal, &self.versions)
     }
 }

@@ -45,6 +45,22 @@ pub(crate) fn make_room(
     Ok(())
 }
 
+/// Makes room for a publication. More versions than a u32 can number take more memory than there is.
+pub(crate) fn make_publish_room(journal: &mut Vec<Event>, versions: &Versions) -> Result<(), Memory>
+    ensures events { journal.new.items ≡ journal.old.items }
+    ensures len { vec_len journal.new ≡ vec_len journal.old }
+    ensures room { OnOk result (vec_len journal.new < vec_capacity journal.new) }
+    ensures more { OnOk result (0 < versions.now.more) }
+    ensures full { OnErr result
+        (min (vec_capacity journal.old - vec_len journal.old) versions.now.more ≡ 0) }
+    ensures kept { vec_capacity journal.old ≤ vec_capacity journal.new }
+{
+    if !versions.have_room() {
+        return Err(Memory);
+    }
+    grow(journal, 1)
+}
+
 /// Makes room for one more line.
 pub(crate) fn make_line_room(
     journal: &mut Vec<Event>,

@@ -1,12 +1,12 @@
 //! Lines whose right side the other live rules reduce are replaced.
 
-ghost use Rattle.std.specs.Prelude.{◌≡◌, ◌<◌, [], ◌∷◌, ◌++◌, IfOk, OnOk, OnErr, All, length, map};
+ghost use Rattle.std.specs.Prelude.{◌≡◌, ◌<◌, [], ◌∷◌, ◌++◌, IfOk, OnOk, OnErr, All, length};
 ghost use Rattle.std.specs.List.{remove};
 ghost use Rattle.kb_word.specs.WordOrders.{Below};
 ghost use Rattle.kb_machine.specs.Lines.{rule_of};
 ghost use Rattle.kb_machine.specs.declared.origin.Origin.TheVariants as origins;
 ghost use Rattle.kb_book.specs.Answers.{ShortenSays};
-ghost use Rattle.kb_book.specs.Normal.{log_step};
+ghost use Rattle.kb_book.specs.Normal.{AreByLines};
 ghost use Rattle.kb_book.specs.Shorter.{IsShorter};
 
 use crate::answers::Shorten;
@@ -94,7 +94,8 @@ fn shorter(alloc: Global, own: &Line, k: u32, live: &[u32], trace: Trace) -> Res
     ensures origin { IfOk result (λ line. line.origin ≡ origins.Shortened k) }
     ensures left { IfOk result (λ line. line.left ≡ own.now.left) }
     ensures right { IfOk result (λ line. line.right ≡ trace.word) }
-    ensures first_steps { IfOk result (λ line. line.first_steps.items ≡ map (log_step live.now) trace.steps.items) }
+    ensures first_steps { IfOk result
+        (λ line. AreByLines live.now trace.steps.items line.first_steps.items) }
     ensures second_steps { IfOk result (λ line. line.second_steps.items ≡ []) }
 {
     let left = own.left.copy(alloc)?;

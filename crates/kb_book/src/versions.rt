@@ -1,6 +1,6 @@
 //! Which lines each version has.
 
-ghost use Rattle.std.specs.Prelude.{◌≡◌, ◌+◌, ◌^◌, ◌≤◌, ◌<◌, ℕ, [], ◌∷◌, ◌++◌, Some, IfOk, OnOk, length, slice_get};
+ghost use Rattle.std.specs.Prelude.{◌≡◌, ◌↔◌, ◌+◌, ◌^◌, ◌≤◌, ◌<◌, ℕ, [], ◌∷◌, ◌++◌, Some, IfOk, IsTrue, OnOk, length, slice_get};
 ghost use Rattle.std.specs.List.{Contains, remove};
 ghost use Rattle.kb_machine.specs.Lines.{numbered};
 ghost use Rattle.kb_book.specs.Lives.{is_in, numbers_from};
@@ -10,29 +10,32 @@ use kb_word::Memory;
 use std::alloc::Global;
 use std::marker::Model;
 
+/// After so many versions a line goes that lives. There are always fewer.
+const NEVER: u32 = 4_294_967_295;
+
 /// The live numbers of each version that was published. They take less memory than the lines, however many versions
-/// there are: of each line is kept when it was made, and when it went.
+/// there are: of each line is kept when it was made, and when it went, in 8 bytes.
 #[derive(Drop)]
 pub struct Versions {
     /// Of each line, in order.
     lives: Vec<Life>,
     /// How many versions there are.
-    count: usize,
+    count: u32,
 }
 
 /// Which versions have a line.
 #[derive(Clone, Copy)]
 struct Life {
     /// How many versions were published before it was made.
-    born: usize,
-    /// How many were published before it went, if it went.
-    gone: Option<usize>,
+    born: u32,
+    /// How many were published before it went.
+    gone: u32,
 }
 
 impl Model for Versions {
-    ghost use Rattle.std.specs.Prelude.{◌-◌, ◌^◌, ◌<◌, vec_len, vec_capacity, length, map, All};
+    ghost use Rattle.std.specs.Prelude.{◌-◌, ◌^◌, ◌<◌, ◌≤◌, vec_len, vec_capacity, length, map, All};
     ghost use Rattle.std.specs.List.{range_with_len};
-    ghost use Rattle.kb_book.specs.Lives.{VersionsParts, numbers_from, IsWithin};
+    ghost use Rattle.kb_book.specs.Lives.{VersionsParts, numbers_from, IsWithin, most};
 
     ghost Value = { VersionsParts };
 
@@ -41,10 +44,11 @@ impl Model for Versions {
       live = numbers_from 1 versions.lives.items versions.count;
       lines = length versions.lives.items;
       room = vec_capacity versions.lives - vec_len versions.lives;
+      more = most - versions.count;
     } };
 
     ghost invariant = { λ versions. (length versions.lives.items < 2 ^ 32)
-        × All (IsWithin versions.count) versions.lives.items };
+        × All (IsWithin versions.count) versions.lives.items × (versions.count ≤ most) };
 }
 
 impl Versions {
@@ -64,7 +68,7 @@ impl Versions {
     pub fn len(&self) -> usize
         ensures { result ≡ length self.now.published }
     {
-        self.count
+        self.count as usize
     }
 
     /// The live numbers of the version with this number. The first version has number 1.
@@ -96,7 +100,7 @@ impl Versions {
     {
         let life = Life {
             born: self.count,
-            gone: None,
+            gone: NEVER,
         };
         add(&mut self.lives, life);
     }
@@ -113,15 +117,19 @@ impl Versions {
         let count = self.count;
         let place = k as usize - 1;
         let born = self.lives[place].born;
-        self.lives[place] = Life {
-            born,
-            gone: Some(count),
-        };
+        self.lives[place] = Life { born, gone: count };
+    }
+
+    /// Whether one more version may be published.
+    pub(crate) fn have_room(&self) -> bool
+        ensures { IsTrue result ↔ (0 < self.now.more) }
+    {
+        self.count < NEVER - 1
     }
 
     /// The live lines are published as a version.
     pub(crate) fn publish(&mut self)
-        requires { length self.old.published + 1 < 2 ^ 64 }
+        requires { 0 < self.old.more }
         ensures published { self.new.published ≡ self.old.published ++ self.old.live ∷ [] }
         ensures live { self.new.live ≡ self.old.live }
         ensures lines { self.new.lines ≡ self.old.lines }
@@ -135,10 +143,7 @@ impl Life {
     fn is_in(&self, place: usize) -> bool
         ensures { result ≡ is_in self.now place }
     {
-        match self.gone {
-            Some(gone) => self.born <= place && place < gone,
-            None => self.born <= place,
-        }
+        self.born as usize <= place && place < self.gone as usize
     }
 }
 

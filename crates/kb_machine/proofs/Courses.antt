@@ -15,7 +15,7 @@ use Rattle.kb_machine.proofs.Shortening.{shortens_kept}
 step_kept : (problem : Problem) (before after : State) (event : Event) → Invariant problem before
     → Step problem before event after
     → Invariant problem after
-step_kept problem before after (Entered worker i j place) inv step = enters_kept i j place inv step
+step_kept problem before after (Entered worker place i j) inv step = enters_kept i j place inv step
 step_kept problem before after Dropped inv step = drops_kept inv step
 step_kept problem before after (Made k) inv step = makes_kept k inv step
 step_kept problem before after Halted inv step = halts_kept inv step

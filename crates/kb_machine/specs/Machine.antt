@@ -132,7 +132,7 @@ pub record Shortens (problem : Problem) (before after : State) (k new : ℕ) : T
 
 -- the event leads from one state to another
 abbrev pub Step : Problem → State → Event → State → Type 0
-Step problem before (Entered worker i j place) after = Enters before after i j place
+Step problem before (Entered worker place i j) after = Enters before after i j place
 Step problem before Dropped after = Drops problem before after
 Step problem before (Made k) after = Makes problem before after k
 Step problem before Halted after = Halts problem before after

@@ -1,5 +1,5 @@
 -- The log of a completion is read again as that log: its words have readable letters, and its numbers fit.
-use Rattle.std.proofs.Common.{◌≡◌, ◌∙◌, ℕ, zero, suc, ◌+◌, ◌-◌, ◌*◌, ◌^◌, ◌<◌, ◌≤◌, List, [], ◌∷◌, ◌++◌, length, take, drop, refl, sym, ap, subst, arith, option_to_list, Option, None, Some, length-append, length-drop}
+use Rattle.std.proofs.Common.{◌≡◌, ◌∙◌, ℕ, zero, suc, ◌+◌, ◌-◌, ◌^◌, ◌<◌, ◌≤◌, List, [], ◌∷◌, ◌++◌, length, take, refl, sym, subst, arith, option_to_list, Option, None, Some, length-append}
 use Rattle.std.specs.Prelude.{slice_get, All, IfSome}
 use Rattle.std.proofs.lemmas.List.{length-map, length-take}
 use Rattle.std.proofs.lemmas.List.Elements.{All-cons, All-nil}
@@ -46,59 +46,15 @@ number_within : (rules : List Pair) (k : ℕ) (rule : Pair) → numbered rules k
 number_within rules zero rule is = omega arith
 number_within rules (suc index) rule is = let within = slice_get_within rules index rule is in omega (arith, within)
 
--- the steps of a derivation by such rules fit, since no word in it is long
-steps_fit : (rules : List Pair) (u v : List ℕ) (steps : List LogStep) → AreFew rules → Derives Any rules u steps v
-    → length u + most * length steps < 2 ^ 64 → All FitsStep steps
-steps_fit rules u v [] are leads short = All-nil FitsStep
-steps_fit rules u v (step ∷ rest) are leads short =
+-- the steps of a derivation by such rules fit
+steps_fit : (rules : List Pair) (u v : List ℕ) (steps : List LogStep) → AreFew rules → Derives Any rules u steps v → All FitsStep steps
+steps_fit rules u v [] are leads = All-nil FitsStep
+steps_fit rules u v (step ∷ rest) are leads =
     let first = leads.1 in
-    let one = numbered_one rules step.line first.rule first.is_rule in
-    let right = (are.sides first.rule one).1 in
-    let from = ap length first.from ∙ length-append (first.before ++ first.rule.0) first.after in
-    let front = length-append first.before first.rule.0 in
-    let to = ap length first.to ∙ length-append (first.before ++ first.rule.1) first.after in
-    let back = length-append first.before first.rule.1 in
-    let at = first.at in
-    let place : step.place < 2 ^ 64 = omega (arith, short, from, front, at) in
     let line : step.line < 2 ^ 32 =
     omega (arith, are.few, number_within rules step.line first.rule first.is_rule) in
-    let fits : FitsStep step = record { place = place; line = line } in
-    All-cons FitsStep step rest fits
-    (steps_fit rules leads.0 v rest are leads.2 (omega (arith, short, right, from, front, to, back)))
-
--- the words of an origin's pair are not long
-pair_short : (relations rules : List Pair) (origin : Origin) (pair : Pair) → AreShort relations → AreFew rules
-    → IsPairOf relations rules origin pair → (length pair.0 < 2 ^ 33) × (length pair.1 < 2 ^ 33)
-pair_short relations rules (Relation k) pair given are is =
-    let sides = given.sides pair (numbered_one relations k pair is) in
-    let left = sides.0 in
-    let right = sides.1 in
-    (omega (arith, left), omega (arith, right))
-pair_short relations rules (Overlap i j place) pair given are is =
-    let one = are.sides is.first (numbered_one rules i is.first is.overlap.is_first) in
-    let other = are.sides is.second (numbered_one rules j is.second is.overlap.is_second) in
-    let P : Pair → Type 0 = λ p. (length p.0 < 2 ^ 33) × (length p.1 < 2 ^ 33) in
-    let a = length-append is.first.1 (drop (length is.first.0 - place) is.second.0) in
-    let b = length-drop (length is.first.0 - place) is.second.0 in
-    let c = length-append (take place is.first.0 ++ is.second.1) (drop (place + length is.second.0) is.first.0) in
-    let d = length-append (take place is.first.0) is.second.1 in
-    let e = length-take place is.first.0 in
-    let f = length-drop (place + length is.second.0) is.first.0 in
-    let w = one.0 in
-    let x = one.1 in
-    let y = other.0 in
-    let z = other.1 in
-    subst P (sym is.is) (omega (arith, a, b, w, x, y, z), omega (arith, c, d, e, f, w, x, y, z))
-pair_short relations rules (Killed k) pair given are is =
-    let sides = are.sides pair (numbered_one rules k pair is) in
-    let left = sides.0 in
-    let right = sides.1 in
-    (omega (arith, left), omega (arith, right))
-pair_short relations rules (Shortened k) pair given are is =
-    let sides = are.sides pair (numbered_one rules k pair is) in
-    let left = sides.0 in
-    let right = sides.1 in
-    (omega (arith, left), omega (arith, right))
+    let fits : FitsStep step = record { place = step.fits; line = line } in
+    All-cons FitsStep step rest fits (steps_fit rules leads.0 v rest are leads.2)
 
 -- the numbers of a line fit
 record Fits (origin : Origin) (line : Line) : Type 0 where
@@ -123,47 +79,41 @@ origin_fits relations rules (Overlap i j place) pair given are is =
 origin_fits relations rules (Killed k) pair given are is = omega (arith, are.few, number_within rules k pair is)
 origin_fits relations rules (Shortened k) pair given are is = omega (arith, are.few, number_within rules k pair is)
 
-comes_fit : (relations earlier : List Pair) (line : Line) → AreShort relations → AreFew earlier → IsSmall most line
+comes_fit : (relations earlier : List Pair) (line : Line) → AreShort relations → AreFew earlier
     → ComesFromPair relations earlier line → (IsShortening line.origin → line.second_steps.items ≡ []) → Fits line.origin line
-comes_fit relations earlier line given are small comes shortened =
+comes_fit relations earlier line given are comes shortened =
     let pair = comes.pair in
     let both = comes.derived in
-    let short = pair_short relations earlier line.origin pair given are comes.is_pair in
-    let left = short.0 in
-    let right = short.1 in
     record {
       numbers = origin_fits relations earlier line.origin pair given are comes.is_pair;
-      first = steps_fit earlier pair.0 both.one line.first_steps.items are both.first (omega (arith, left, small.first));
-      second =
-          steps_fit earlier pair.1 both.other line.second_steps.items are both.second (omega (arith, right, small.second));
+      first = steps_fit earlier pair.0 both.one line.first_steps.items are both.first;
+      second = steps_fit earlier pair.1 both.other line.second_steps.items are both.second;
       shortened = shortened;
     }
 
-shortens_fit : (earlier : List Pair) (k : ℕ) (line : Line) → AreFew earlier → IsSmall most line
+shortens_fit : (earlier : List Pair) (k : ℕ) (line : Line) → AreFew earlier
     → ShortensRule earlier k line → Fits (Shortened k) line
-shortens_fit earlier k line are small shortens =
+shortens_fit earlier k line are shortens =
     let rule = shortens.rule in
-    let sides = are.sides rule (numbered_one earlier k rule shortens.is_rule) in
-    let right = sides.1 in
     record {
       numbers = omega (arith, are.few, number_within earlier k rule shortens.is_rule);
-      first = steps_fit earlier rule.1 line.right line.first_steps.items are shortens.right (omega (arith, right, small.first));
+      first = steps_fit earlier rule.1 line.right line.first_steps.items are shortens.right;
       second = subst (All FitsStep) (sym shortens.no_second) (All-nil FitsStep);
       shortened = λ is. shortens.no_second;
     }
 
 follows_fit : (relations earlier : List Pair) (origin : Origin) (line : Line) → line.origin ≡ origin → AreShort relations
-    → AreFew earlier → IsSmall most line → FollowsBy relations earlier origin line → Fits origin line
-follows_fit relations earlier (Relation k) line is given are small comes =
-    subst (λ o. Fits o line) is (comes_fit relations earlier line given are small comes
+    → AreFew earlier → FollowsBy relations earlier origin line → Fits origin line
+follows_fit relations earlier (Relation k) line is given are comes =
+    subst (λ o. Fits o line) is (comes_fit relations earlier line given are comes
     (λ shortens. absurd (subst IsShortening is shortens)))
-follows_fit relations earlier (Overlap i j place) line is given are small comes =
-    subst (λ o. Fits o line) is (comes_fit relations earlier line given are small comes
+follows_fit relations earlier (Overlap i j place) line is given are comes =
+    subst (λ o. Fits o line) is (comes_fit relations earlier line given are comes
     (λ shortens. absurd (subst IsShortening is shortens)))
-follows_fit relations earlier (Killed k) line is given are small comes =
-    subst (λ o. Fits o line) is (comes_fit relations earlier line given are small comes.0
+follows_fit relations earlier (Killed k) line is given are comes =
+    subst (λ o. Fits o line) is (comes_fit relations earlier line given are comes.0
     (λ shortens. absurd (subst IsShortening is shortens)))
-follows_fit relations earlier (Shortened k) line is given are small shortens = shortens_fit earlier k line are small shortens
+follows_fit relations earlier (Shortened k) line is given are shortens = shortens_fit earlier k line are shortens
 
 -- ---- lines
 
@@ -187,7 +137,7 @@ line_printable : {below : List ℕ → List ℕ → Type 0} (names : List (List 
 line_printable names relations lines over given justified few small index line at =
     let earlier = take index (rules_of lines) in
     let fits = follows_fit relations earlier line.origin line refl given (earlier_few lines index few small)
-    (small index line at) (justified.follows index line at) in
+    (justified.follows index line at) in
     let here : slice_get (rules_of lines) index ≡ Some (rule_of line) = slice_get-map rule_of lines index ∙ cc at in
     let letters = justified_over (length names) relations lines over justified (rule_of line) (index, here) in
     record {

@@ -22,6 +22,7 @@ use Rattle.kb_proof.specs.declared.log.Log.{Log}
 use Rattle.kb_proof.specs.declared.log.Version.{Version}
 use Rattle.kb_proof.specs.declared.log.Version.TheVariants.{One, Two}
 use Rattle.kb_proof.proofs.Bytes.{from_weaker}
+use denote.Struct.Props.{props}
 use Rattle.kb_proof.proofs.PartLemmas.{alone, same_parts}
 use Rattle.kb_proof.proofs.TextLemmas.{IsLetter, decimal_wide, digits_wide, head_same, letter_is_there, name_at, none_printed, overlap_parts, step_parts, steps_parts, word_parts}
 use Rattle.kb_proof.proofs.LineLemmas.{LineCut, fields_printed, line_cut, same_fields}
@@ -45,7 +46,7 @@ overlap_same i j place i' j' place' a b e =
     let dp : decimal place ≡ decimal place' = cc in
     let one = decimal_injective i i' (wide i a.0) (wide i' b.0) di in
     let two = decimal_injective j j' (wide j a.1) (wide j' b.1) dj in
-    let three = decimal_injective place place' a.2 b.2 dp in
+    let three = decimal_injective place place' (wide place a.2) (wide place' b.2) dp in
     cc
 
 differ : {A : Type 0} (x y : ℕ) (xs ys : List ℕ) → x ≢ y → x ∷ xs ≡ y ∷ ys → A
@@ -79,9 +80,11 @@ origin_same (Overlap i j place) (Shortened m) a b e =
 
 step_of : (one other : LogStep) → one.place ≡ other.place → one.line ≡ other.line → one ≡ other
 step_of one other p l =
-    let f : ℕ → LogStep = λ n. record { place = n; line = one.line } in
-    let g : ℕ → LogStep = λ n. record { place = other.place; line = n } in
-    ap f p ∙ ap g l
+    let f : (n : ℕ) → n < 2 ^ 32 → LogStep = λ n fits. record { place = n; line = one.line; fits = fits } in
+    let g : ℕ → LogStep = λ n. record { place = other.place; line = n; fits = other.fits } in
+    let once : IsProp (one.place < 2 ^ 32) = hlevel props in
+    let P : ℕ → Type 0 = λ n. (fits : n < 2 ^ 32) → f one.place one.fits ≡ f n fits in
+    subst P p (λ fits. ap (f one.place) (once one.fits fits)) other.fits ∙ ap g l
 
 pub step_same : (one other : LogStep) → FitsStep one → FitsStep other → text_of_step one ≡ text_of_step other → one ≡ other
 step_same one other a b e =
@@ -89,7 +92,7 @@ step_same one other a b e =
     sym (step_parts one a) ∙ (ap (parts 47) e ∙ step_parts other b) in
     let dp : decimal one.place ≡ decimal other.place = cc in
     let dl : decimal one.line ≡ decimal other.line = cc in
-    let place = decimal_injective one.place other.place a.place b.place dp in
+    let place = decimal_injective one.place other.place (wide one.place a.place) (wide other.place b.place) dp in
     let line = decimal_injective one.line other.line (wide one.line a.line) (wide other.line b.line) dl in
     step_of one other place line
 

@@ -144,17 +144,19 @@ word_read names bytes (Some (x ∷ w)) other some = (some.0, some.1)
 -- steps
 pub step_from : (step : LogStep) → FitsStep step → AllFrom 47 (text_of_step step)
 step_from step fits =
+    let place : step.place < 2 ^ 64 = omega (arith, fits.place) in
     let line : step.line < 2 ^ 64 = omega (arith, fits.line) in
     from_join 47 47 (decimal step.place ∷ decimal step.line ∷ []) (omega arith) (
-      from_weaker 47 48 (decimal step.place) (omega arith) (decimal_from step.place fits.place),
+      from_weaker 47 48 (decimal step.place) (omega arith) (decimal_from step.place place),
       (from_weaker 47 48 (decimal step.line) (omega arith) (decimal_from step.line line), tt),
     )
 
 pub step_parts : (step : LogStep) → FitsStep step → parts 47 (text_of_step step) ≡ decimal step.place ∷ decimal step.line ∷ []
 step_parts step fits =
+    let place : step.place < 2 ^ 64 = omega (arith, fits.place) in
     let line : step.line < 2 ^ 64 = omega (arith, fits.line) in
     parts_join 48 47 (decimal step.place) (decimal step.line ∷ []) (omega arith)
-    (decimal_from step.place fits.place, (decimal_from step.line line, tt))
+    (decimal_from step.place place, (decimal_from step.line line, tt))
 
 pub steps_parts : AreParts 44 text_of_step FitsStep
 steps_parts = are_parts 47 44 text_of_step FitsStep (omega arith) step_from
@@ -176,16 +178,18 @@ origin_from (Shortened k) fits = kind_from 83 k (omega (arith, fits)) (omega ari
 origin_from (Overlap i j place) fits =
     let one : i < 2 ^ 64 = omega (arith, fits.0) in
     let two : j < 2 ^ 64 = omega (arith, fits.1) in
+    let three : place < 2 ^ 64 = omega (arith, fits.2) in
     let P : (n : ℕ) → n < 2 ^ 64 → AllFrom 44 (decimal n) = λ n small. from_weaker 44 48 (decimal n) (omega arith) (decimal_from n small) in
-    (omega arith, from_join 44 44 (decimal i ∷ decimal j ∷ decimal place ∷ []) (omega arith) (P i one, (P j two, (P place fits.2, tt))))
+    (omega arith, from_join 44 44 (decimal i ∷ decimal j ∷ decimal place ∷ []) (omega arith) (P i one, (P j two, (P place three, tt))))
 
 pub overlap_parts : (i j place : ℕ) → FitsOrigin (Overlap i j place)
     → parts 44 (join_with_byte 44 (decimal i ∷ decimal j ∷ decimal place ∷ [])) ≡ decimal i ∷ decimal j ∷ decimal place ∷ []
 overlap_parts i j place fits =
     let one : i < 2 ^ 64 = omega (arith, fits.0) in
     let two : j < 2 ^ 64 = omega (arith, fits.1) in
+    let three : place < 2 ^ 64 = omega (arith, fits.2) in
     parts_join 48 44 (decimal i) (decimal j ∷ decimal place ∷ []) (omega arith)
-    (decimal_from i one, (decimal_from j two, (decimal_from place fits.2, tt)))
+    (decimal_from i one, (decimal_from j two, (decimal_from place three, tt)))
 
 -- nothing read
 pub reads_none : {T : Type 0} (text : T → List ℕ) (Fits : T → Type 0) (bytes : List ℕ) (found : Option T) → found ≡ None

@@ -15,15 +15,15 @@ pub record AreReadableNames (names : List (List ℕ)) : Type 0 where
   pub spelled : All IsName names
   pub free : ¬ Contains names (codes "IdWord")
 
--- the numbers fit: those of lines and relations are below 2 ^ 32, and places below 2 ^ 64
+-- the numbers fit: those of lines and relations, and places
 abbrev pub FitsOrigin : Origin → Type 0
 FitsOrigin (Relation k) = k < 2 ^ 32
-FitsOrigin (Overlap first second place) = (first < 2 ^ 32) × (second < 2 ^ 32) × (place < 2 ^ 64)
+FitsOrigin (Overlap first second place) = (first < 2 ^ 32) × (second < 2 ^ 32) × (place < 2 ^ 32)
 FitsOrigin (Killed k) = k < 2 ^ 32
 FitsOrigin (Shortened k) = k < 2 ^ 32
 
 pub record FitsStep (step : LogStep) : Type 0 where
-  pub place : step.place < 2 ^ 64
+  pub place : step.place < 2 ^ 32
   pub line : step.line < 2 ^ 32
 
 -- the line is a line with another right side

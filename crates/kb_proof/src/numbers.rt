@@ -6,7 +6,7 @@ ghost use Rattle.kb_proof.specs.Reading.{Reads};
 use itoa::Buffer;
 
 /// The number of 64 bits whose digits the bytes are, without sign and leading zeros.
-pub(crate) fn read_u64(bytes: &[u8]) -> Option<u64>
+fn read_u64(bytes: &[u8]) -> Option<u64>
     ensures { Reads decimal (λ number. number < 2 ^ 64) bytes.now result }
 {
     let Ok(digits) = std::str::from_utf8(bytes) else {

@@ -5,7 +5,7 @@ ghost use Rattle.kb_proof.specs.Printed.{text_of_origin};
 ghost use Rattle.kb_proof.specs.Reading.{Reads, ReadsOverlap};
 
 use crate::cut::cut_at;
-use crate::numbers::{read_u32, read_u64};
+use crate::numbers::read_u32;
 use kb_machine::Origin;
 
 /// The origin whose text the bytes are.
@@ -30,6 +30,6 @@ fn read_overlap(bytes: &[u8]) -> Option<Origin>
     Some(Origin::Overlap {
         first: read_u32(first)?,
         second: read_u32(second)?,
-        place: read_u64(place)?,
+        place: read_u32(place)?,
     })
 }

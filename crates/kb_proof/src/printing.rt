@@ -147,14 +147,13 @@ fn print_kind(kind: u8, number: u32, out: &mut Vec<u8>) -> Result<(), Memory>
 }
 
 /// Appends an overlap of two lines.
-fn print_overlap(first: u32, second: u32, place: u64, out: &mut Vec<u8>) -> Result<(), Memory>
+fn print_overlap(first: u32, second: u32, place: u32, out: &mut Vec<u8>) -> Result<(), Memory>
     ensures { OnOk result
         (out.new.items ≡ out.old.items ++ text_of_origin (Overlap first second place)) }
 {
     print_kind(b'M', first, out)?;
     print_kind(b',', second, out)?;
-    out.push(b',')?;
-    print_number(place, out)
+    print_kind(b',', place, out)
 }
 
 /// Appends `-`, or steps with commas between them.
@@ -177,7 +176,7 @@ fn print_steps(steps: &[LogStep], out: &mut Vec<u8>) -> Result<(), Memory>
 fn print_step(step: &LogStep, out: &mut Vec<u8>) -> Result<(), Memory>
     ensures { OnOk result (out.new.items ≡ out.old.items ++ text_of_step step.now) }
 {
-    print_number(step.place, out)?;
+    print_number(u64::from(step.place), out)?;
     print_kind(b'/', step.line, out)
 }
 

@@ -7,7 +7,7 @@ ghost use Rattle.kb_proof.specs.Printed.{text_of_step, text_of_steps};
 ghost use Rattle.kb_proof.specs.Reading.{Reads, ReadsJoined};
 
 use crate::cut::cut_at;
-use crate::numbers::{read_u32, read_u64};
+use crate::numbers::read_u32;
 use kb_machine::LogStep;
 use kb_word::Memory;
 use std::alloc::Global;
@@ -54,7 +54,7 @@ fn read_step(bytes: &[u8]) -> Option<LogStep>
 {
     let (place, line) = cut_at(b'/', bytes)?;
     Some(LogStep {
-        place: read_u64(place)?,
+        place: read_u32(place)?,
         line: read_u32(line)?,
     })
 }

@@ -62,7 +62,7 @@ one_more a b c e = omega (arith, e)
 -- the entries of two journals, one after the other
 pub entries-append : (earlier later : List Event) → entries (earlier ++ later) ≡ entries earlier + entries later
 entries-append [] later = sym (zero-add (entries later))
-entries-append (events.Entered worker first second place ∷ earlier) later =
+entries-append (events.Entered worker place first second ∷ earlier) later =
     one_more (entries earlier) (entries later) (entries (earlier ++ later)) (entries-append earlier later)
 entries-append (events.Dropped ∷ earlier) later = entries-append earlier later
 entries-append (events.Made k ∷ earlier) later = entries-append earlier later

@@ -22,5 +22,5 @@ pub record OnlyEnters (before after : Course) : Type 0 where
 -- how many overlaps were entered
 abbrev pub entries : List Event → ℕ
 entries [] = 0
-entries (Entered worker first second place ∷ events) = suc (entries events)
+entries (Entered worker place first second ∷ events) = suc (entries events)
 entries (_ ∷ events) = entries events

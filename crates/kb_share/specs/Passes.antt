@@ -38,7 +38,7 @@ origin_of one = origins.Overlap one.first one.second one.place
 
 -- the event that a worker entered an overlap
 abbrev pub entry_of : ℕ → Found → Event
-entry_of worker one = Entered worker one.first one.second one.place
+entry_of worker one = Entered worker one.place one.first one.second
 
 -- the completion after a worker entered these overlaps, one after another
 abbrev pub entered : ℕ → Course → List Found → Course

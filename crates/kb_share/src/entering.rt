@@ -12,7 +12,7 @@ use kb_word::Memory;
 /// Enters these overlaps for a worker, one after another.
 pub(crate) fn enter_all<R: Reducer>(
     book: &mut Book<R>,
-    worker: u32,
+    worker: u8,
     found: &[Found],
 ) -> Result<(), Memory>
     ensures { OnOk result (book.new.course ≡ entered worker book.old.course found.now) }
@@ -25,7 +25,7 @@ pub(crate) fn enter_all<R: Reducer>(
 
 /// Enters an overlap. Those that were found by a version of the book are overlaps, so that nothing but memory can be
 /// wanting.
-fn enter<R: Reducer>(book: &mut Book<R>, worker: u32, one: &Found) -> Result<(), Memory>
+fn enter<R: Reducer>(book: &mut Book<R>, worker: u8, one: &Found) -> Result<(), Memory>
     ensures { OnOk result (Takes (entry_of worker one.now) book.old.course book.new.course) }
 {
     match book.enter(worker, one.first, one.second, one.place) {

@@ -116,13 +116,14 @@ impl Finder {
         Ok(())
     }
 
-    /// Where most of the lines that are kept are no longer live, they go.
+    /// Where some of the lines that are kept are no longer live, more than an eighth of the live ones, they go.
     fn renew(&mut self, lines: &[Line], live: &[u32]) -> Result<(), Memory>
         requires { KnowsLines self.old lines.now live.now }
         ensures known { OnOk result (KnowsLines self.new lines.now live.now) }
         ensures met { self.new.met ≡ self.old.met }
     {
-        if self.kept.numbers.len() / 2 > live.len() {
+        let gone = self.kept.numbers.len().saturating_sub(live.len());
+        if gone > live.len() / 8 + 16 {
             self.kept.renew(lines, live)?;
         }
         Ok(())

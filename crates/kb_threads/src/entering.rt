@@ -39,7 +39,7 @@ pub(crate) fn enter_shared<
     blank: Blank,
     book: Book<R>,
     kept: Vec<Vec<Apart>>,
-    workers: u32,
+    workers: u8,
 ) -> Result<Book<R>, Memory>
     requires name { blank.name ≡ S.name }
     requires parts { (blank.parts ≡ S.parts) × (S.parts ≡ workers) × (1 ≤ workers) }
@@ -124,7 +124,7 @@ fn enter_one<R: Reducer, S: Sharing, G: Gate, T: Wait>(
     pass: &mut Pass<S>,
     one: &Found,
 ) -> Result<(), Memory> {
-    gate.at(pass.worker(), Point::Enter);
+    gate.at(u32::from(pass.worker()), Point::Enter);
     match shared.enter(rt, pass, one) {
         Ok(()) | Err(ShareFault::NotOverlap) => Ok(()),
         Err(ShareFault::Memory) => Err(Memory),

@@ -10,7 +10,7 @@ use std::sync::ledger::{Book, Share};
 /// entered. It is never copied.
 #[derive(Drop)]
 pub struct Pass<S: Sharing> {
-    worker: u32,
+    worker: u8,
     share: Share<S>,
 }
 
@@ -27,7 +27,7 @@ impl<S: Sharing> Model for Pass<S> {
 
 impl<S: Sharing> Pass<S> {
     /// A pass of a worker that has entered nothing, by a part of the rest.
-    pub(crate) fn of(worker: u32, rest: &mut Share<S>) -> Pass<S>
+    pub(crate) fn of(worker: u8, rest: &mut Share<S>) -> Pass<S>
         requires { (1 ≤ rest.old.parts) × (rest.old.amount ≡ 0) }
         ensures pass { (result.worker ≡ worker) × (result.entered ≡ 0) }
         ensures rest { (rest.new.parts + 1 ≡ rest.old.parts) × (rest.new.amount ≡ 0) }
@@ -37,7 +37,7 @@ impl<S: Sharing> Pass<S> {
     }
 
     /// The worker's number, from 1 on.
-    pub fn worker(&self) -> u32
+    pub fn worker(&self) -> u8
         ensures { result ≡ self.now.worker }
     {
         self.worker

@@ -30,7 +30,7 @@ impl<R: Reducer, S: Sharing> Shared<R, S> {
         alloc: Global,
         book: Book<R>,
         blank: Blank,
-        workers: u32,
+        workers: u8,
     ) -> Result<(Shared<R, S>, Vec<Pass<S>>), Memory>
         requires name { blank.name ≡ S.name }
         requires parts { (blank.parts ≡ S.parts) × (blank.parts ≡ workers) × (1 ≤ workers) }
@@ -70,7 +70,7 @@ impl<R: Reducer, S: Sharing> Shared<R, S> {
 fn passes_of<S: Sharing>(
     alloc: Global,
     mut rest: Share<S>,
-    workers: u32,
+    workers: u8,
 ) -> Result<Vec<Pass<S>>, Memory>
     requires { (rest.parts ≡ workers) × (rest.amount ≡ 0) }
     ensures count { IfOk result (λ passes. length passes.items ≡ workers) }

@@ -85,6 +85,7 @@ impl<'g, G: Gate> Threads<'g, G> {
         ensures { IfOk result (λ after. OnlyEnters book.course after.course) }
     {
         let blank = Blank::new(self.workers as u64);
-        enter_shared::<Brand, R, G, T>(rt, alloc, self.gate, blank, book, kept, self.workers)
+        let workers = self.workers as u8;
+        enter_shared::<Brand, R, G, T>(rt, alloc, self.gate, blank, book, kept, workers)
     }
 }

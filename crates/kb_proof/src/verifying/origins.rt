@@ -102,7 +102,7 @@ fn overlap_pair(
     lines: &[Line],
     first: u32,
     second: u32,
-    place: u64,
+    place: u32,
 ) -> Result<Option<(Word, Word)>, Memory>
     ensures some { IfOk result
         (λ found. IfSome found (IsCriticalPair (rules_of lines.now) first second place)) }
@@ -118,7 +118,7 @@ fn overlap_pair(
     if first == second && place == 0 {
         return Ok(None);
     }
-    if !meets(&one.left, &other.left, place) {
+    if !meets(&one.left, &other.left, place as u64) {
         return Ok(None);
     }
     Ok(Some(pair_at(
@@ -127,7 +127,7 @@ fn overlap_pair(
         &one.right,
         &other.left,
         &other.right,
-        place,
+        place as u64,
     )?))
 }
 

@@ -52,7 +52,7 @@ fn take_step(
 }
 
 /// Whether the factor stands in the word at this place.
-fn stands_at(word: &Word, factor: &Word, place: u64) -> bool
+fn stands_at(word: &Word, factor: &Word, place: u32) -> bool
     ensures { IsTrue result ↔ StandsAt word.now factor.now place }
 {
     let letters = word.letters();
@@ -69,7 +69,7 @@ fn replace_at(
     word: &mut Word,
     factor: &Word,
     other: &Word,
-    place: u64,
+    place: u32,
     behind: &mut Word,
 ) -> Result<(), Memory>
     requires { StandsAt word.old factor.now place }

@@ -1,4 +1,4 @@
-use Rattle.std.proofs.Common.{◌+◌, [], ◌∷◌, ◌++◌, ℕ, List, Vec, Global, sym, ap, ◌∙◌, None}
+use Rattle.std.proofs.Common.{◌+◌, [], ◌∷◌, ◌++◌, ℕ, List, Vec, Global, sym, ap, ◌∙◌}
 use Rattle.kb_book.specs.declared.versions.Life.{Life}
 use Rattle.kb_book.proofs.Lives.{next_with, next_without}
 use Rattle.kb_book.proofs.versions.numbers_at.Goals as goal
@@ -6,7 +6,7 @@ use Rattle.kb_book.proofs.versions.numbers_at.Goals.{then-is_in+in_ok-push, else
 
 pub loop-index-preserved : goal.loop-index-preserved
 loop-index-preserved c =
-    let d : Life = record { born = 0; gone = None } in
+    let d : Life = record { born = 0; gone = 0 } in
     let index = c.loop-index.index in
     elim c.if-is_in.branch [
       | then-is_in+in_ok-push w ↦ ap (λ (v : Vec ℕ Global). v.items) w.numbers-is ∙ w.in_ok-push.ensures.items

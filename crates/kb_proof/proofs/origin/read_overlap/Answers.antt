@@ -28,9 +28,9 @@ returns-in_err-read_u32-2 c = reads_no_overlap c.args.bytes.now c.from_residual-
     let front : c.in_ok-second.second.now ≡ decimal j = cc in
     c.in_err-read_u32-2.ensures j fits.1 front)
 
-pub returns-in_err-read_u64 : goal.returns-in_err-read_u64
-returns-in_err-read_u64 c = reads_no_overlap c.args.bytes.now c.from_residual-in_err-read_u64.result (search rules) (λ i j place fits is.
+pub returns-in_err-read_u32-3 : goal.returns-in_err-read_u32-3
+returns-in_err-read_u32-3 c = reads_no_overlap c.args.bytes.now c.from_residual-in_err-read_u32-3.result (search rules) (λ i j place fits is.
     let cut = (c.in_ok-first.ensures.cut).first in
     let again = (c.in_ok-second.ensures.cut).first in
     let back : parts 44 c.in_ok-second.place.now ≡ decimal place ∷ [] = cc in
-    c.in_err-read_u64.ensures place fits.2 (one_part 44 c.in_ok-second.place.now (decimal place) back))
+    c.in_err-read_u32-3.ensures place fits.2 (one_part 44 c.in_ok-second.place.now (decimal place) back))

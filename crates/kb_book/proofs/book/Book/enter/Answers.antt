@@ -18,6 +18,12 @@ place_is_short course is most i j place first second overlap =
     let short : length first.0 ≤ course.problem.most_letters = (course_keeps course is).short first one in
     let within : place < length first.0 = overlap.overlaps.within in omega arith
 
+pub overflow_cast-origin : goal.overflow_cast-origin
+overflow_cast-origin g c =
+    let found : (first second : Pair) × OverlapOfNumbers (rules_of c.self.inside.lines.items) c.args.i c.args.j c.args.place first second = search rules in
+    let short = place_is_short _ c.self.invariant.is_course c.self.invariant.most_letters c.args.i c.args.j c.args.place found.0 found.1 found.2 in
+    omega (arith, short)
+
 pub overflow_cast-event : goal.overflow_cast-event
 overflow_cast-event g c =
     let found : (first second : Pair) × OverlapOfNumbers (rules_of c.self.inside.lines.items) c.args.i c.args.j c.args.place first second = search rules in
@@ -26,7 +32,7 @@ overflow_cast-event g c =
 
 pub invariant_of-self-2 : goal.invariant_of-self-2
 invariant_of-self-2 g c =
-    let event : Event = Entered c.args.worker c.args.i c.args.j c.args.place in
+    let event : Event = Entered c.args.worker c.args.place c.args.i c.args.j in
     let origin : Origin = Overlap c.args.i c.args.j c.args.place in
     let found : (first second : Pair) × OverlapOfNumbers (rules_of c.self.inside.lines.items) c.args.i c.args.j c.args.place first second = search rules in
     let events = c.add.ensures.items ∙ ap (λ (l : List Event). l ++ event ∷ []) c.make_room.ensures.events in

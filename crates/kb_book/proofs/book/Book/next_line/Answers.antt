@@ -4,7 +4,7 @@ use Rattle.kb_machine.specs.Lines.{rules_of, IsPairOf}
 use Rattle.kb_word.specs.Words.{Pair}
 use Rattle.kb_machine.specs.States.{live_rules}
 use Rattle.kb_book.specs.Books.{BookParts}
-use Rattle.kb_book.specs.Normal.{IsNext, log_step}
+use Rattle.kb_book.specs.Normal.{IsNext, by_line}
 use Rattle.kb_rules.specs.declared.trace.Step.{Step}
 use Rattle.kb_book.proofs.Courses.{course_keeps}
 use Rattle.kb_book.proofs.Apart.{forms_differ, next_line_is, pair_of_words, steps_fit}
@@ -38,10 +38,10 @@ returns-clause-line g c =
     let N : BookParts → Type 0 = λ b. IsNext b.course c.args.origin in
     let next = subst N (sym c.self.view_is) c.requires.next in
     let numbers = (course_keeps _ c.self.invariant.is_course).numbers in
-    let first_is = c.in_ok-first_steps.ensures ∙ ap (λ (l : List ℕ). map (log_step l) c.deref-4.result.now) c.deref-3.ensures.value
-    ∙ ap (λ (l : List Step). map (log_step c.self.inside.live.items) l) c.deref-4.ensures.value in
-    let second_is = c.in_ok-second_steps.ensures ∙ ap (λ (l : List ℕ). map (log_step l) c.deref-6.result.now) c.deref-5.ensures.value
-    ∙ ap (λ (l : List Step). map (log_step c.self.inside.live.items) l) c.deref-6.ensures.value in
+    let first_is = c.in_ok-first_steps.ensures ∙ ap (λ (l : List ℕ). map (by_line l) c.deref-4.result.now) c.deref-3.ensures.value
+    ∙ ap (λ (l : List Step). map (by_line c.self.inside.live.items) l) c.deref-4.ensures.value in
+    let second_is = c.in_ok-second_steps.ensures ∙ ap (λ (l : List ℕ). map (by_line l) c.deref-6.result.now) c.deref-5.ensures.value
+    ∙ ap (λ (l : List Step). map (by_line c.self.inside.live.items) l) c.deref-6.ensures.value in
     let is_pair = pair_of_words _ _ c.args.origin c.put_pair.new.pair c.first.result.now c.second.result.now
     c.in_ok-put_pair.ensures c.first.ensures c.second.ensures in
     rw (← c.self.view_is)

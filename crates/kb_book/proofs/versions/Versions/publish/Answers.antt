@@ -1,15 +1,17 @@
-use Rattle.std.proofs.Common.{◌≡◌, [], ◌∷◌, ◌++◌, length, sym, ap, ◌∙◌, arith}
-use Rattle.std.proofs.lemmas.List.FromFn.{length-map-range_with_len, map-range_with_len_more}
-use Rattle.kb_book.specs.Lives.{VersionsParts, numbers_from}
+use Rattle.std.proofs.Common.{◌≡◌, ◌-◌, ◌<◌, ℕ, [], ◌∷◌, ◌++◌, ap, ◌∙◌, arith}
+use Rattle.std.proofs.lemmas.List.FromFn.{map-range_with_len_more}
+use Rattle.kb_book.specs.Lives.{VersionsParts, most, numbers_from}
 use Rattle.kb_book.proofs.Lives.{numbers_later}
 use Rattle.kb_book.proofs.versions.Versions.publish.Goals as goal
 
+-- where there may be more versions, there are fewer than the most
+room : (count : ℕ) (parts : VersionsParts) → most - count ≡ parts.more → 0 < parts.more → count < most
+room count parts is some = omega (arith, is, some)
+
 pub overflow_add-self : goal.overflow_add-self
 overflow_add-self c =
-    let count : c.self.inside.count ≡ length c.args.self.now.published =
-    sym (length-map-range_with_len (numbers_from 1 c.self.inside.lives.items) 0 c.self.inside.count)
-    ∙ ap (λ (v : VersionsParts). length v.published) c.self.view_is in
-    omega (arith, count)
+    let fits = room c.self.inside.count c.args.self.now (ap (λ (v : VersionsParts). v.more) c.self.view_is) c.requires in
+    omega (arith, fits)
 
 pub returns-clause-published : goal.returns-clause-published
 returns-clause-published c =
@@ -18,5 +20,6 @@ returns-clause-published c =
 
 pub returns-clause-live : goal.returns-clause-live
 returns-clause-live c =
-    numbers_later 1 c.self.inside.lives.items c.self.inside.count c.self.invariant.1
+    numbers_later 1 c.self.inside.lives.items c.self.inside.count (room c.self.inside.count c.args.self.now (ap (λ (v : VersionsParts). v.more) c.self.view_is) c.requires)
+    c.self.invariant.1
     ∙ ap (λ (v : VersionsParts). v.live) c.self.view_is

@@ -56,7 +56,7 @@ returns-clause-published c =
     let count = c.self.inside.count in
     let index = c.args.k - 1 in
     let old = c.index.result.now in
-    let life : Life = record { born = old.born; gone = Some count } in
+    let life : Life = record { born = old.born; gone = count } in
     let one = live_life c.args.self.now lives count c.args.k (ap (λ (v : VersionsParts). v.live) c.self.view_is) c.requires in
     let within : index < length lives = omega (arith, one.positive, one.within) in
     let here = get_or lives index life in
@@ -70,7 +70,7 @@ returns-clause-live c = λ place at.
     let lives = c.self.inside.lives.items in
     let count = c.self.inside.count in
     let index = c.args.k - 1 in
-    let life : Life = record { born = c.index.result.now.born; gone = Some count } in
+    let life : Life = record { born = c.index.result.now.born; gone = count } in
     let one = live_life c.args.self.now lives count c.args.k (ap (λ (v : VersionsParts). v.live) c.self.view_is) c.requires in
     let same : c.args.k ≡ 1 + index = omega (arith, one.positive) in
     let there : slice_get (numbers_from 1 lives count) place ≡ Some (1 + index) =
