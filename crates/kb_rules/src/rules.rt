@@ -75,6 +75,7 @@ impl Rules {
         ensures err { OnErr result (self.new.rules ≡ self.old.rules) }
         ensures order { self.new.order ≡ self.old.order }
     {
+        make_room(&mut self.rules)?;
         self.rules.push(rule)?;
         Ok(())
     }
@@ -154,6 +155,17 @@ impl Rules {
         let rules = copy_rules(alloc, self.as_slice())?;
         Ok(Rules { order, rules })
     }
+}
+
+/// Makes room for one more rule. A list that is full grows by a sixteenth of its length, so that little of its memory is
+/// never used.
+fn make_room(rules: &mut Vec<Rule>) -> Result<(), Memory>
+    ensures { rules.new.items ≡ rules.old.items }
+{
+    if rules.capacity() == rules.len() {
+        rules.reserve_exact(rules.len() / 16 + 4)?;
+    }
+    Ok(())
 }
 
 /// The same rules, in order.
