@@ -44,8 +44,8 @@ impl<'a> Prefixes<'a> {
             beyond) found.old.items found.new.items) }
     {
         let mut end = self.automaton.ends[state] as usize;
-        while self.lengths[end] > beyond {
-            let place = read - self.lengths[end];
+        while self.lengths[end] as usize > beyond {
+            let place = read - self.lengths[end] as usize;
             self.add_chain(index, end, place, found)?;
             end = self.automaton.ends[self.automaton.links[end] as usize] as usize;
         }
@@ -84,8 +84,17 @@ fn add_other(
 ) -> Result<(), Memory>
     ensures { OnOk result (Gains (IsOther index rule place) found.old.items found.new.items) }
 {
+    if rule > u32::MAX as usize {
+        return Err(Memory);
+    }
+    if place > u32::MAX as usize {
+        return Err(Memory);
+    }
     if rule != index || place > 0 {
-        found.push(Overlap { rule, place })?;
+        found.push(Overlap {
+            rule: rule as u32,
+            place: place as u32,
+        })?;
     }
     Ok(())
 }

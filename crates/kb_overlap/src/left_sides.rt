@@ -10,13 +10,13 @@ use kb_word::{Memory, Word};
 use std::alloc::Global;
 use std::marker::Model;
 
-/// An overlap of a word with the left side of a rule.
+/// An overlap of a word with the left side of a rule. Its numbers are below 2^32: where a larger one is wanted, memory is.
 #[derive(Clone, Copy, Debug, PartialEq, Eq, PartialOrd, Ord)]
 pub struct Overlap {
     /// The index of the rule in its list.
-    pub rule: usize,
+    pub rule: u32,
     /// The place of the word at which the left side begins.
-    pub place: usize,
+    pub place: u32,
 }
 
 /// The left sides of a list of rules, by which all overlaps of a word with them are found.
@@ -66,9 +66,12 @@ fn listed<'r>(alloc: Global, rules: &'r [Rule]) -> Result<Vec<Side<'r>>, Memory>
 {
     let mut sides = Vec::with_capacity(alloc, rules.len())?;
     for (rule, sided) in rules.iter().enumerate() {
+        if rule > u32::MAX as usize {
+            return Err(Memory);
+        }
         sides.push(Side {
             letters: sided.left().letters(),
-            rule,
+            rule: rule as u32,
         })?;
     }
     Ok(sides)

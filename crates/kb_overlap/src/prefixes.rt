@@ -19,7 +19,7 @@ pub(crate) struct Prefixes<'a> {
     pub(crate) rules: &'a [Rule],
     pub(crate) automaton: &'a Automaton,
     /// For each state the length of its word.
-    pub(crate) lengths: &'a [usize],
+    pub(crate) lengths: &'a [u32],
 }
 
 impl<'a> Prefixes<'a> {
@@ -63,7 +63,7 @@ impl<'a> Prefixes<'a> {
 }
 
 /// The lengths of the words of all states.
-pub(crate) fn lengths_of(alloc: Global, automaton: &Automaton) -> Result<Vec<usize>, Memory>
+pub(crate) fn lengths_of(alloc: Global, automaton: &Automaton) -> Result<Vec<u32>, Memory>
     requires edges { AreEdges automaton.now.edges.items }
     requires few { length automaton.now.edges.items < 2 ^ 32 }
     ensures { IfOk result (λ lengths. AreLengths automaton.now.edges.items lengths.items) }

@@ -21,7 +21,7 @@ pub struct PrimeOverlaps<'r> {
     rules: &'r [Rule],
     automaton: Arc<Automaton>,
     /// For each state the length of its word.
-    lengths: Vec<usize>,
+    lengths: Vec<u32>,
 }
 
 impl<'r> Model for PrimeOverlaps<'r> {

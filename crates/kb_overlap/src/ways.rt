@@ -110,7 +110,7 @@ impl<'a> Prefixes<'a> {
             next.old.items next.new.items) }
     {
         let mut at = state;
-        while self.lengths[at] > count {
+        while self.lengths[at] as usize > count {
             self.add_children(state, at, next)?;
             at = self.automaton.links[at] as usize;
         }
