@@ -9,6 +9,7 @@ pub mod Growth
 pub mod Linking
 pub mod Chaining
 pub mod Ending
+pub mod Marks
 pub mod Walking
 pub mod ChildRows
 pub mod Recents

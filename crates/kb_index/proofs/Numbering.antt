@@ -200,7 +200,7 @@ lookup_kept rules rules' rule lookup lookup' is same settled numbers recent =
 
 -- and when it has joined the list
 pub lookup_joined : (rules rules' : List Pair) (rule : Pair) (number : ℕ) (lookup lookup' : Lookup) (is : IsLookup rules lookup)
-    → rules' ≡ rules ++ rule ∷ [] → number ≡ length lookup.settled.value.chains.before.items + length lookup.recent.chains.before.items
+    → rules' ≡ rules ++ rule ∷ [] → number ≡ length lookup.settled.value.before.items + length lookup.recent.chains.before.items
     → lookup'.settled.value ≡ lookup.settled.value → lookup'.numbers.items ≡ lookup.numbers.items ++ number ∷ []
     → IsRecent (is.later ++ rule ∷ []) lookup'.recent → IsLookup rules' lookup'
 lookup_joined rules rules' rule number lookup lookup' is longer next settled numbers recent =
@@ -241,7 +241,7 @@ lookup_removed rules rules' gone lookup lookup' is fits shorter settled recent n
 -- the lookup after a rule left the list and another joined it
 pub lookup_replaced : (rules rules' : List Pair) (gone : ℕ) (rule : Pair) (number : ℕ) (lookup lookup' : Lookup)
     (is : IsLookup rules lookup) → gone < length rules → rules' ≡ remove rules gone ++ rule ∷ []
-    → number ≡ length lookup.settled.value.chains.before.items + length lookup.recent.chains.before.items
+    → number ≡ length lookup.settled.value.before.items + length lookup.recent.chains.before.items
     → lookup'.settled.value ≡ lookup.settled.value → lookup'.numbers.items ≡ remove lookup.numbers.items gone ++ number ∷ []
     → IsRecent (is.later ++ rule ∷ []) lookup'.recent → IsLookup rules' lookup'
 lookup_replaced rules rules' gone rule number lookup lookup' is fits replaced next settled numbers recent =
@@ -286,7 +286,7 @@ rise_high numbers rise low (suc rest) place last =
 
 -- where no rule came and none went, the settled rules are those of the list
 pub tidy_automaton : (rules : List Pair) (lookup : Lookup) → IsLookup rules lookup → length lookup.recent.chains.before.items ≡ 0
-    → length lookup.numbers.items ≡ length lookup.settled.value.chains.before.items → IsAutomaton rules lookup.settled.value
+    → length lookup.numbers.items ≡ length lookup.settled.value.before.items → IsAutomaton rules lookup.settled.value
 tidy_automaton rules lookup is none as_many =
     let numbers : List ℕ = lookup.numbers.items in
     let numbered = is.numbered in

@@ -1,11 +1,11 @@
 -- The rows of the table of steps.
-use Rattle.std.proofs.Common.{◌≡◌, ℕ, ◌+◌, ◌*◌, ◌/◌, ◌%◌, ◌<◌, ◌≤◌, List, [], ◌∷◌, ◌++◌, length, get_or, refl, sym, subst, arith}
+use Rattle.std.proofs.Common.{◌≡◌, ℕ, ◌+◌, ◌*◌, ◌/◌, ◌%◌, ◌<◌, ◌≤◌, List, [], ◌∷◌, ◌++◌, length, get_or, refl, sym, ap, subst, arith}
 use Rattle.std.proofs.Math.Nat.{mul_comm}
 use Rattle.std.proofs.lemmas.Nat.{mul-add-lt, div-mul-add, mod-mul-add}
 use Rattle.kb_word.specs.Words.{EndsWith}
 use Rattle.kb_index.specs.declared.edge.Edge.{Edge}
 use Rattle.kb_index.specs.Edges.{AreEdges, edge_at, word}
-use Rattle.kb_index.specs.Children.{IsChild, IsNoChild}
+use Rattle.kb_index.specs.Children.{AreFirsts, FirstsOrRows, IsChild, IsNoChild}
 use Rattle.kb_index.specs.Links.{AreLinks}
 use Rattle.kb_index.specs.Rows.{AreRows, AreSteps, IsStep}
 use Rattle.kb_index.proofs.Runs.{numbers_push}
@@ -69,6 +69,48 @@ pub step_linked : (edges : List Edge) (links : List ℕ) → AreEdges edges → 
 step_linked edges links rise are state letter after in_links within some none step =
     step_from edges rise state letter (get_or links state 0) after
     (step_falls edges links rise are state letter state in_links within some (falling_none edges state letter) none) step
+
+-- no edge by the letter is there: what ends with it leads to state 0
+nowhere_at : (edges : List Edge) → AreEdges edges → (state letter width : ℕ)
+    → ((i : ℕ) → i < length edges → (edge_at edges i).letter < width) → width ≤ letter
+    → (other : ℕ) → FromEdge other → other ≤ length edges → EndsWith (word edges state ++ letter ∷ []) (word edges other)
+    → EndsWith (word edges 0) (word edges other)
+nowhere_at edges rise state letter width below beyond other root within ends = ends_root edges (word edges 0)
+nowhere_at edges rise state letter width below beyond other (edge_to place) within ends =
+    let here : place < length edges = omega arith in
+    let same : letter ≡ (edge_at edges place).letter = (spelled_ends edges rise (word edges state) letter place here ends).1 in
+    let short : (edge_at edges place).letter < width = below place here in
+    absurd (omega arith)
+
+-- the step by a letter beyond those of the edges
+pub step_nowhere : (edges : List Edge) → AreEdges edges → (state letter width : ℕ)
+    → ((i : ℕ) → i < length edges → (edge_at edges i).letter < width) → width ≤ letter → IsStep edges state letter 0
+step_nowhere edges rise state letter width below beyond =
+    record {
+      within = omega arith;
+      longest = record {
+        ends = ends_root edges (word edges state ++ letter ∷ []);
+        longest = λ other within ends. nowhere_at edges rise state letter width below beyond other (from_edge other) within ends;
+      };
+    }
+
+-- the firsts stay
+pub firsts_kept : (edges : List Edge) (width : ℕ) (firsts : List ℕ) → AreFirsts edges firsts → FirstsOrRows edges width firsts
+firsts_kept edges width firsts are =
+    record { some = λ full. are; none = λ empty. let count : length firsts ≡ length edges + 2 = are.count in absurd (omega arith) }
+
+-- they go, where the rows are narrow and have all letters
+pub firsts_gone : (edges : List Edge) (width letters : ℕ) (firsts : List ℕ) → width ≤ 8 → letters ≤ width
+    → ((i : ℕ) → i < length edges → (edge_at edges i).letter < letters) → firsts ≡ [] → FirstsOrRows edges width firsts
+firsts_gone edges width letters firsts narrow fits below gone =
+    let none : length firsts ≡ 0 = ap length gone in
+    record {
+      some = λ full. absurd (omega arith);
+      none = λ empty. record {
+        narrow = narrow;
+        below = λ i within. let short : (edge_at edges i).letter < letters = below i within in omega arith;
+      };
+    }
 
 -- the place of a row and a column
 pub steps_at : (edges : List Edge) (width : ℕ) (rows : List ℕ) (state letter : ℕ) → AreSteps edges width rows → letter < width

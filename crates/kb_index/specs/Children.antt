@@ -14,6 +14,16 @@ pub record AreFirsts (edges : List Edge) (firsts : List ℕ) : Type 0 where
   pub count : length firsts ≡ length edges + 2
   pub each : (state : ℕ) → state < length firsts → IsFirst edges state (get_or firsts state 0)
 
+-- the letters of the edges are below the width, which is small
+pub record IsCovered (edges : List Edge) (width : ℕ) : Type 0 where
+  pub narrow : width ≤ 8
+  pub below : (i : ℕ) → i < length edges → (edge_at edges i).letter < width
+
+-- those numbers are kept, unless rows of this width have all steps
+pub record FirstsOrRows (edges : List Edge) (width : ℕ) (firsts : List ℕ) : Type 0 where
+  pub some : 0 < length firsts → AreFirsts edges firsts
+  pub none : length firsts ≡ 0 → IsCovered edges width
+
 -- an edge by the letter leads from the state to the child
 pub record IsChild (edges : List Edge) (state letter child : ℕ) : Type 0 where
   pub place : ℕ

@@ -1,28 +1,32 @@
 //! The automaton of a list of rules.
 
-ghost use Rattle.std.specs.Prelude.{◌≡◌, ℕ, List, ◌≤◌, ◌+◌, IfOk, length};
+ghost use Rattle.std.specs.Prelude.{◌≡◌, ℕ, List, ◌≤◌, ◌<◌, ◌+◌, IfOk, length};
 ghost use Rattle.kb_word.specs.Words.{Pair, EndsWith};
 ghost use Rattle.kb_index.specs.Edges.{word};
-ghost use Rattle.kb_index.specs.Children.{AreFirsts, AreRootChildren};
+ghost use Rattle.kb_index.specs.Children.{AreFirsts, AreRootChildren, FirstsOrRows};
 ghost use Rattle.kb_index.specs.Links.{AreLinks};
 ghost use Rattle.kb_index.specs.Rows.{AreRows};
 ghost use Rattle.kb_index.specs.Tries.{IsTrie};
 ghost use Rattle.kb_index.specs.Chains.{AreBefore, AreHeads, Rise};
 ghost use Rattle.kb_index.specs.Live.{IsFirstSuch};
-ghost use Rattle.kb_index.specs.Automata.{IsAutomaton, StandsFor, HaveLefts};
+ghost use Rattle.kb_index.specs.Automata.{IsAutomaton, StandsFor, HaveLefts, end_of, head_of};
 
 use crate::chains::{Chains, first_live};
 use crate::children::{firsts_of, root_children_of};
 use crate::edge::Edge;
-use crate::ends::ends_of;
-use crate::table::{Table, links_and_table};
+use crate::ends::{end_marked, head_marked, marks_of};
+use crate::table::{Table, letters_of, links_and_table};
 use crate::trie::trie_of;
 use kb_rules::Rule;
 use kb_word::Memory;
 use std::alloc::Global;
 
+/// Up to how many letters the table alone has the steps, so that the places of the states' first edges are not kept.
+const NARROW: usize = 8;
+
 /// The automaton: the trie of the left sides, and for each of its states the failure link, the steps by the letters
-/// of a short alphabet, the rules with the state's word, and the state of the longest suffix that has rules.
+/// of a short alphabet, and a mark that tells the last rule with the state's word, or the state of the longest suffix
+/// that has rules (`ends`); and for each rule the one before it with its left side, counted from 1, or 0 (`chains`).
 #[derive(Debug, Drop)]
 pub struct Automaton {
     pub edges: Vec<Edge>,
@@ -30,8 +34,8 @@ pub struct Automaton {
     pub roots: Vec<usize>,
     pub links: Vec<u32>,
     pub table: Table,
-    pub chains: Chains,
-    pub ends: Vec<u32>,
+    pub marks: Vec<u32>,
+    pub before: Vec<u32>,
 }
 
 impl Automaton {
@@ -48,15 +52,16 @@ impl Automaton {
         let roots = root_children_of(alloc, &edges, &firsts)?;
         let (links, table) = links_and_table(alloc, &edges, &firsts, &roots)?;
         let chains = chains_of(alloc, rules, &edges, &firsts, &roots, &links, &table)?;
-        let ends = ends_of(alloc, &edges, &links, &chains.heads)?;
+        let marks = marks_of(alloc, rules, &edges, &links, &chains.heads)?;
+        let firsts = kept_firsts(alloc, &edges, table.width, firsts);
         Ok(Automaton {
             edges,
             firsts,
             roots,
             links,
             table,
-            chains,
-            ends,
+            marks,
+            before: chains.before,
         })
     }
 
@@ -71,14 +76,45 @@ impl Automaton {
             → IsFirstSuch (EndsWith read) rules 0 numbers.now result }
     {
         let mut best = numbers.len();
-        let mut end = self.ends[state] as usize;
+        let mut end = self.end_at(state);
         while end > 0 {
-            let head = self.chains.heads[end];
-            best = best.min(first_live(numbers, 0, &self.chains.before, head));
-            end = self.ends[self.links[end] as usize] as usize;
+            let head = self.head_at(end);
+            best = best.min(first_live(numbers, 0, &self.before, head));
+            end = self.end_at(self.links[end] as usize);
         }
         best
     }
+
+    /// The last of the rules that have the state's word as left side, counted from 1, or 0.
+    pub fn head_at(&self, state: usize) -> u32
+        requires { state < length self.now.marks.items }
+        ensures { result ≡ head_of self.now state }
+    {
+        head_marked(self.before.len(), self.marks[state])
+    }
+
+    /// The state of the longest suffix of the state's word that has rules, or state 0.
+    pub fn end_at(&self, state: usize) -> usize
+        requires { state < length self.now.marks.items }
+        ensures { result ≡ end_of self.now state }
+    {
+        end_marked(self.before.len(), state, self.marks[state])
+    }
+}
+
+/// The places of the states' first edges, or none where rows of this width have the steps by all letters of the edges
+/// and are narrow.
+fn kept_firsts(alloc: Global, edges: &[Edge], width: usize, firsts: Vec<u32>) -> Vec<u32>
+    requires { AreFirsts edges.now firsts.items }
+    ensures { FirstsOrRows edges.now width result.items }
+{
+    if width > NARROW {
+        return firsts;
+    }
+    if letters_of(edges) > width {
+        return firsts;
+    }
+    Vec::new(alloc)
 }
 
 /// The chains of the states' rules.

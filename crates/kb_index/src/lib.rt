@@ -29,8 +29,9 @@
 //!   The table has a row for each state, with four bytes for each number up to the greatest letter, and 16 MiB at most:
 //!   where it would take more, it is empty, and steps go by children and links.
 //! - `chains`: the rules of each state, those whose left side is its word: the last of them, and for each rule the
-//!   one before it. `ends`: for each state the one of the longest suffix of its word that has rules. `automaton` puts
-//!   all these together; it never changes. `stepping` has its calls for other crates, state by state.
+//!   one before it. `ends`: the mark of each state, one number that tells the last of its rules, or where it has none the
+//!   state of the longest suffix of its word that has rules. `automaton` puts all these together; it never changes.
+//!   `stepping` has its calls for other crates, state by state.
 //! - `recent`: the rules that came after the automaton was made: a trie of the left sides read from their ends, which
 //!   takes a further rule letter by letter. What is read is looked up in it from its last letter on. Where no rule
 //!   came, it costs nothing. `short_children` has the children of its states by the letters of the automaton, but for
@@ -56,7 +57,7 @@
 //!
 //! The definitions are in specs/, and the lemmas in proofs/: `Words` and `States` on the states and their words,
 //! `Sides` on the left sides in order, `Growth` on a level of the trie, `Runs` on children, `Steps` and `Linking` on
-//! links, `Rows` on the table, `Chaining` on chains, `Ending` on the rules of the automaton that end what is read,
+//! links, `Rows` on the table, `Chaining` on chains, `Marks` and `Ending` on the rules of the automaton that end what is read,
 //! `Recents`, `ChildRows` and `Walking` on those that came later, `Numbering` on the numbers of the list's rules, and
 //! `Fronts` on reading. What a step does to a word, and that steps come to an end, are lemmas of `kb_rules`.
 //!

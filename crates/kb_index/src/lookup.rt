@@ -72,17 +72,17 @@ impl Lookup {
         ensures { (rules : List Pair) → IsLookup rules self.now → IsOwner rules read.now result }
     {
         let automaton: &Automaton = &self.settled;
-        let first = automaton.chains.before.len();
+        let first = automaton.before.len();
         let settled = automaton.first_ending(&self.numbers, state);
         settled.min(self.recent.first_ending(&self.numbers, first, read))
     }
 
     /// The number of the rule that comes next.
     pub fn next_number(&self) -> usize
-        ensures { result ≡ length self.now.settled.value.chains.before.items
+        ensures { result ≡ length self.now.settled.value.before.items
             + length self.now.recent.chains.before.items }
     {
-        self.settled.chains.before.len() + self.recent.chains.before.len()
+        self.settled.before.len() + self.recent.chains.before.len()
     }
 
     /// Whether no rule came since the automaton was made, and none went, so that it is the automaton of the list.
@@ -90,14 +90,13 @@ impl Lookup {
         ensures { (rules : List Pair) → IsLookup rules self.now → IsTrue result
             → IsAutomaton rules self.now.settled.value }
     {
-        self.recent.chains.before.is_empty()
-            && self.numbers.len() == self.settled.chains.before.len()
+        self.recent.chains.before.is_empty() && self.numbers.len() == self.settled.before.len()
     }
 
     /// Whether to make all anew: when a quarter as many rules came as were settled, or as many went as are left.
     /// Rules that came are looked up letter by letter, at each letter read, and those that went cost little.
     pub fn is_due(&self) -> bool {
-        let settled = self.settled.chains.before.len();
+        let settled = self.settled.before.len();
         let recent = self.recent.chains.before.len();
         let left = self.numbers.len();
         let gone = (settled + recent).saturating_sub(left);

@@ -1,10 +1,10 @@
 //! The automaton, state by state.
 
-ghost use Rattle.std.specs.Prelude.{◌≡◌, ◌<◌, ◌≤◌, List, [], ◌∷◌, ◌++◌, length, get_or, nat_lt};
+ghost use Rattle.std.specs.Prelude.{◌≡◌, ◌<◌, ◌≤◌, List, [], ◌∷◌, ◌++◌, length, nat_lt};
 ghost use Rattle.kb_word.specs.Words.{Pair};
 ghost use Rattle.kb_index.specs.Edges.{word};
 ghost use Rattle.kb_index.specs.Links.{IsLongestSuffix};
-ghost use Rattle.kb_index.specs.Automata.{IsAutomaton};
+ghost use Rattle.kb_index.specs.Automata.{IsAutomaton, head_of};
 
 use crate::automaton::Automaton;
 
@@ -24,7 +24,7 @@ impl Automaton {
         ensures longest { IsLongestSuffix self.now.edges.items
             (word self.now.edges.items state ++ letter ∷ []) (word self.now.edges.items result) }
     {
-        self.table.step(
+        self.table.next(
             &self.edges,
             &self.firsts,
             &self.roots,
@@ -36,9 +36,9 @@ impl Automaton {
 
     /// Whether the state's word is a left side.
     pub fn is_left_side(&self, state: usize) -> bool
-        requires { state < length self.now.chains.heads.items }
-        ensures { result ≡ nat_lt 0 (get_or self.now.chains.heads.items state 0) }
+        requires { state < length self.now.marks.items }
+        ensures { result ≡ nat_lt 0 (head_of self.now state) }
     {
-        self.chains.heads[state] > 0
+        self.head_at(state) > 0
     }
 }

@@ -2,7 +2,7 @@
 
 ghost use Rattle.std.specs.Prelude.{◌≡◌, ℕ, List, ◌<◌, ◌≤◌, ◌+◌, ◌*◌, ◌^◌, IfOk, IfSome, IfNone, OnOk, drop, length};
 ghost use Rattle.kb_index.specs.Edges.{AreEdges, edge_at, word};
-ghost use Rattle.kb_index.specs.Children.{AreFirsts, AreRootChildren};
+ghost use Rattle.kb_index.specs.Children.{AreFirsts, AreRootChildren, FirstsOrRows};
 ghost use Rattle.kb_index.specs.Links.{AreLinks, IsLongestSuffix};
 ghost use Rattle.kb_index.specs.Rows.{AreRows, AreSteps, IsStep};
 
@@ -106,6 +106,7 @@ impl Table {
             None
         }
     }
+
     /// The state after a letter more: one look where the letter is below the width, else by children and links.
     pub fn step(
         &self,
@@ -129,6 +130,33 @@ impl Table {
         match self.after(state, letter) {
             Some(after) => after,
             None => step(edges, firsts, roots, links, state, letter),
+        }
+    }
+
+    /// The state after a letter more, as `step` has it, also where the places of first edges are not kept: the table has
+    /// the steps by all letters of the edges then.
+    pub fn next(
+        &self,
+        edges: &[Edge],
+        firsts: &[u32],
+        roots: &[usize],
+        links: &[u32],
+        state: usize,
+        letter: u16,
+    ) -> usize
+        requires edges { AreEdges edges.now }
+        requires firsts { FirstsOrRows edges.now self.now.width firsts.now }
+        requires roots { AreRootChildren edges.now roots.now }
+        requires links { AreLinks edges.now links.now }
+        requires linked { state < length links.now }
+        requires count { length links.now ≤ length edges.now + 1 }
+        requires rows { (states : ℕ) × (state < states)
+            × AreRows edges.now states self.now.width self.now.rows.items }
+        ensures { IsStep edges.now state letter result }
+    {
+        match self.after(state, letter) {
+            Some(after) => after,
+            None => step_beyond(self.width, edges, firsts, roots, links, state, letter),
         }
     }
 
@@ -185,6 +213,32 @@ impl Table {
         let link = links[edge.parent as usize] as usize;
         self.step(edges, firsts, roots, links, link, edge.letter)
     }
+}
+
+/// The state after a letter more that isn't below the width of the rows: state 0, where they have the steps by all letters
+/// of the edges, and else by children and links.
+fn step_beyond(
+    width: usize,
+    edges: &[Edge],
+    firsts: &[u32],
+    roots: &[usize],
+    links: &[u32],
+    state: usize,
+    letter: u16,
+) -> usize
+    requires edges { AreEdges edges.now }
+    requires firsts { FirstsOrRows edges.now width firsts.now }
+    requires roots { AreRootChildren edges.now roots.now }
+    requires links { AreLinks edges.now links.now }
+    requires linked { state < length links.now }
+    requires count { length links.now ≤ length edges.now + 1 }
+    requires beyond { width ≤ letter }
+    ensures { IsStep edges.now state letter result }
+{
+    if firsts.is_empty() {
+        return 0;
+    }
+    step(edges, firsts, roots, links, state, letter)
 }
 
 /// The failure links of all states, in their order, and the table: the row of each state follows that of its link, and

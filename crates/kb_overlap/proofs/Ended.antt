@@ -8,7 +8,8 @@ use Rattle.kb_index.specs.declared.automaton.Automaton.{Automaton}
 use Rattle.kb_index.specs.Edges.{word}
 use Rattle.kb_index.specs.Tries.{left_at}
 use Rattle.kb_index.specs.Chains.{AreBefore, IsHead}
-use Rattle.kb_index.specs.Automata.{IsAutomaton}
+use Rattle.kb_index.specs.Automata.{IsAutomaton, end_of, head_of}
+use Rattle.kb_index.proofs.Ending.{ends_of, heads_of}
 use Rattle.kb_index.proofs.Suffixes.{drop_ends, ends_within}
 use Rattle.kb_overlap.specs.declared.left_sides.Overlap.{Overlap}
 use Rattle.kb_overlap.specs.Ways.{EndsRead, Gains, HasLeft, IsOther}
@@ -105,21 +106,21 @@ pub record Ending (rules : List Pair) (automaton : Automaton) (index state read 
 
 module _ {rules : List Pair} {automaton : Automaton} (is : IsAutomaton rules automaton) where
   -- the end of a state
-  pub end_within : (state : ℕ) → state ≤ length automaton.edges.items → get_or automaton.ends.items state 0 ≤ length automaton.edges.items
+  pub end_within : (state : ℕ) → state ≤ length automaton.edges.items → end_of automaton state ≤ length automaton.edges.items
   end_within state within =
-      let at = is.ends.each state (omega (arith, is.end_count)) in
+      let at = ends_of is state within in
       omega (arith, at.upto)
 
   pub end_ends : (state : ℕ) → state ≤ length automaton.edges.items
-      → EndsWith (word automaton.edges.items state) (word automaton.edges.items (get_or automaton.ends.items state 0))
+      → EndsWith (word automaton.edges.items state) (word automaton.edges.items (end_of automaton state))
   end_ends state within =
-      let at = is.ends.each state (omega (arith, is.end_count)) in at.ends
+      let at = ends_of is state within in at.ends
 
   pub ending_first : (index state read beyond : ℕ) (xs : List Overlap) → state ≤ length automaton.edges.items
-      → Ending rules automaton index state read beyond (get_or automaton.ends.items state 0) xs xs
+      → Ending rules automaton index state read beyond (end_of automaton state) xs xs
   ending_first index state read beyond xs within =
       let edges : List Edge = automaton.edges.items in
-      let end : ℕ = get_or automaton.ends.items state 0 in
+      let end : ℕ = end_of automaton state in
       record {
         within = end_within state within;
         ends = end_ends state within;
@@ -205,19 +206,15 @@ pub record Looking (rules : List Pair) (automaton : Automaton) (state end : ℕ)
       → EndsWith (word automaton.edges.items end) (left_at rules place)
 
 module _ {rules : List Pair} {automaton : Automaton} (is : IsAutomaton rules automaton) where
-  pub head_of : (state : ℕ) → state ≤ length automaton.edges.items
-      → IsHead rules (length rules) (word automaton.edges.items state) (get_or automaton.chains.heads.items state 0)
-  head_of state within = is.heads.each state (omega (arith, is.head_count))
-
   pub looking_first : (state : ℕ) → state ≤ length automaton.edges.items
-      → Looking rules automaton state (get_or automaton.ends.items state 0)
+      → Looking rules automaton state (end_of automaton state)
   looking_first state within = record {
     within = end_within is state within;
     ends = end_ends is state within;
     rest = λ place in_rules ends. to_end is state place within in_rules ends;
   }
 
-  pub looking_more : (state end : ℕ) → 0 < end → get_or automaton.chains.heads.items end 0 ≤ 0 → Looking rules automaton state end
+  pub looking_more : (state end : ℕ) → 0 < end → head_of automaton end ≤ 0 → Looking rules automaton state end
       → Looking rules automaton state (next_end automaton end)
   looking_more state end some none looking =
       let edges : List Edge = automaton.edges.items in
@@ -233,19 +230,19 @@ module _ {rules : List Pair} {automaton : Automaton} (is : IsAutomaton rules aut
         rest = λ place in_rules ends.
             elim (left_to_next is end place some within in_rules (looking.rest place in_rules ends)) [
               | inl same ↦
-                  let head = head_of end within in
-                  let under : place < get_or automaton.chains.heads.items end 0 = head.last place in_rules same in
+                  let head = heads_of is end within in
+                  let under : place < head_of automaton end = head.last place in_rules same in
                   absurd (let no : ⊥ = omega arith in no)
               | inr deeper ↦ deeper
             ];
       }
 
-  pub looking_found : (state end : ℕ) → 0 < get_or automaton.chains.heads.items end 0 → Looking rules automaton state end
+  pub looking_found : (state end : ℕ) → 0 < head_of automaton end → Looking rules automaton state end
       → ¬ NoneEnds rules (word automaton.edges.items state)
   looking_found state end some looking =
       let edges : List Edge = automaton.edges.items in
-      let head = head_of end looking.within in
-      let last : ℕ = get_or automaton.chains.heads.items end 0 - 1 in
+      let head = heads_of is end looking.within in
+      let last : ℕ = head_of automaton end - 1 in
       let within : last < length rules = omega (arith, head.within) in
       let P : List ℕ → Type 0 = λ left. EndsWith (word edges state) left in
       ends_some is (word edges state) last within (subst P (sym (head.is some)) looking.ends)

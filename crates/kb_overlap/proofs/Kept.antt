@@ -4,6 +4,7 @@ use Rattle.std.proofs.lemmas.List.{get_or_read}
 use Rattle.kb_word.specs.Words.{Pair}
 use Rattle.kb_index.specs.declared.automaton.Automaton.{Automaton}
 use Rattle.kb_index.specs.Edges.{word}
+use Rattle.kb_index.specs.Automata.{end_of}
 use Rattle.kb_overlap.specs.Prefixes.{AreStatesOf}
 use Rattle.kb_overlap.proofs.Suffixed.{next_end}
 
@@ -11,32 +12,20 @@ module _ {rules : List Pair} {automaton : Automaton} {lengths : List ℕ} (are :
   pub length_at : (state : ℕ) → state ≤ length automaton.edges.items → get_or lengths state 0 ≡ length (word automaton.edges.items state)
   length_at state within = are.counted.each state (omega (arith, are.counted.count))
 
-  pub end_read : (state x : ℕ) → state ≤ length automaton.edges.items → x ≡ get_or automaton.ends.items state x
-      → x ≡ get_or automaton.ends.items state 0
-  end_read state x within read =
-      get_or_read automaton.ends.items state x (omega (arith, are.is.end_count)) read 0
-
   pub link_read : (state x : ℕ) → state ≤ length automaton.edges.items → x ≡ get_or automaton.links.items state x
       → x ≡ get_or automaton.links.items state 0
   link_read state x within read =
       get_or_read automaton.links.items state x (omega (arith, are.is.link_count)) read 0
 
-  pub head_read : (state x : ℕ) → state ≤ length automaton.edges.items → x ≡ get_or automaton.chains.heads.items state x
-      → x ≡ get_or automaton.chains.heads.items state 0
-  head_read state x within read =
-      get_or_read automaton.chains.heads.items state x (omega (arith, are.is.head_count)) read 0
-
-  pub first_read : (state x : ℕ) → state ≤ length automaton.edges.items + 1 → x ≡ get_or automaton.firsts.items state x
+  pub first_read : (state x : ℕ) → 0 < length automaton.firsts.items → state ≤ length automaton.edges.items + 1 → x ≡ get_or automaton.firsts.items state x
       → x ≡ get_or automaton.firsts.items state 0
-  first_read state x within read =
-      get_or_read automaton.firsts.items state x (omega (arith, are.is.firsts.count)) read 0
+  first_read state x some within read =
+      let count : length automaton.firsts.items ≡ length automaton.edges.items + 2 = (are.is.firsts.some some).count in
+      get_or_read automaton.firsts.items state x (omega arith) read 0
 
   -- the end of the link
-  pub next_read : (state link end : ℕ) → 0 < state → state ≤ length automaton.edges.items
-      → link ≡ get_or automaton.links.items state link → end ≡ get_or automaton.ends.items link end
+  pub next_read : (state link end : ℕ) → state ≤ length automaton.edges.items
+      → link ≡ get_or automaton.links.items state link → end ≡ end_of automaton link
       → end ≡ next_end automaton state
-  next_read state link end some within links ends =
-      let link_is : link ≡ get_or automaton.links.items state 0 = link_read state link within links in
-      let falls : get_or automaton.links.items state 0 < state =
-      are.is.links.falls state some (omega (arith, are.is.link_count)) in
-      end_read link end (omega arith) ends ∙ ap (λ (s : ℕ). get_or automaton.ends.items s 0) link_is
+  next_read state link end within links ends =
+      ends ∙ ap (end_of automaton) (link_read state link within links)

@@ -13,7 +13,7 @@ use Rattle.kb_index.specs.Automata.{IsAutomaton}
 use Rattle.kb_index.proofs.States.{edges_tree, same_state}
 use Rattle.kb_index.proofs.Steps.{spelled_ends}
 use Rattle.kb_index.proofs.Suffixes.{ends_all, ends_within, ends_shorter, drop_ends, same_ends}
-use Rattle.kb_overlap.specs.Prefixes.{LeadsAlong, LeadsBeyond, LeadsToChild}
+use Rattle.kb_overlap.specs.Prefixes.{LeadsAlong, LeadsBeyond, LeadsBy, LeadsToChild}
 use Rattle.kb_overlap.specs.Ways.{Gains}
 use Rattle.kb_overlap.proofs.Gaining.{gains_none, gains_same, gains_then}
 use Rattle.kb_overlap.proofs.Suffixed.{ends_length, ends_of_both, link_below, longer_some}
@@ -164,9 +164,12 @@ pub record LeadsUpto (edges : List Edge) (state parent upto next : ℕ) : Type 0
   pub before : next ≤ upto
 
 module _ {rules : List Pair} {automaton : Automaton} (is : IsAutomaton rules automaton) where
-  pub firsts_of : (state : ℕ) → state ≤ length automaton.edges.items + 1
+  pub firsts_of : (state : ℕ) → 0 < length automaton.firsts.items → state ≤ length automaton.edges.items + 1
       → IsFirst automaton.edges.items state (get_or automaton.firsts.items state 0)
-  firsts_of state within = is.firsts.each state (omega (arith, is.firsts.count))
+  firsts_of state some within =
+      let are = is.firsts.some some in
+      let count : length automaton.firsts.items ≡ length automaton.edges.items + 2 = are.count in
+      are.each state (omega arith)
 
   pub children_none : (state at first : ℕ) (xs : List ℕ) → IsFirst automaton.edges.items at first
       → Gains (LeadsUpto automaton.edges.items state at first) xs xs
@@ -236,3 +239,49 @@ module _ {rules : List Pair} {automaton : Automaton} (is : IsAutomaton rules aut
       let low = here.later place from within in
       let high = there.earlier place upto in
       omega arith
+
+-- by a letter below a number
+pub record LeadsBelow (edges : List Edge) (state upto beyond next : ℕ) : Type 0 where
+  pub letter : ℕ
+  pub below : letter < upto
+  pub by : LeadsBy edges state letter beyond next
+
+pub below_none : (edges : List Edge) (state beyond : ℕ) (xs : List ℕ) → Gains (LeadsBelow edges state 0 beyond) xs xs
+below_none edges state beyond xs =
+    gains_none (LeadsBelow edges state 0 beyond) xs (λ next leads. let none = leads.below in omega arith)
+
+pub below_more : (edges : List Edge) (state upto beyond : ℕ) (xs ys zs : List ℕ) → Gains (LeadsBelow edges state upto beyond) xs ys
+    → Gains (LeadsBy edges state upto beyond) ys zs → Gains (LeadsBelow edges state (upto + 1) beyond) xs zs
+below_more edges state upto beyond xs ys zs gains added =
+    gains_then (LeadsBelow edges state upto beyond) (LeadsBy edges state upto beyond) (LeadsBelow edges state (upto + 1) beyond) xs ys zs gains
+    added
+    (λ next leads. record { letter = leads.letter; below = let below = leads.below in omega arith; by = leads.by })
+    (λ next by. record { letter = upto; below = omega arith; by = by })
+    (λ next leads.
+    elim (cases_lt leads.letter upto) [
+      | inl earlier ↦ inl (record { letter = leads.letter; below = earlier; by = leads.by })
+      | inr late ↦
+          let below : leads.letter < upto + 1 = leads.below in
+          let here : leads.letter ≡ upto = omega arith in
+          let P : ℕ → Type 0 = λ x. LeadsBy edges state x beyond next in
+          inr (subst P here leads.by)
+    ])
+
+-- the letter by which a longer word is led to is one of an edge, so that no other than those below the width need a look
+pub below_all : {rules : List Pair} {automaton : Automaton} → IsAutomaton rules automaton → (state upto width count : ℕ) (xs ys : List ℕ)
+    → width ≤ upto → ((i : ℕ) → i < length automaton.edges.items → (edge_at automaton.edges.items i).letter < width)
+    → Gains (LeadsBelow automaton.edges.items state upto (count + 1)) xs ys → Gains (LeadsBeyond automaton.edges.items state (count + 1)) xs ys
+below_all {rules} {automaton} is state upto width count xs ys all covered gains =
+    let edges : List Edge = automaton.edges.items in
+    gains_same (LeadsBelow edges state upto (count + 1)) (LeadsBeyond edges state (count + 1)) xs ys
+    (λ next leads. record { letter = leads.letter; step = leads.by.step; longer = leads.by.longer })
+    (λ next leads.
+    let some : 0 < next = longer_some is next (count + 1) leads.longer in
+    let from = parent_of edges is.trie.edges_rise (word edges state) leads.letter next some leads.step.within leads.step.longest.ends in
+    let short : (edge_at edges from.child.place).letter < width = covered from.child.place from.child.within in
+    let same : (edge_at edges from.child.place).letter ≡ leads.letter = from.child.letter_is in
+    record {
+      letter = leads.letter;
+      below = omega arith;
+      by = record { step = leads.step; longer = leads.longer };
+    }) gains

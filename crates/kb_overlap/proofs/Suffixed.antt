@@ -13,7 +13,8 @@ use Rattle.kb_index.specs.declared.automaton.Automaton.{Automaton}
 use Rattle.kb_index.specs.Edges.{word}
 use Rattle.kb_index.specs.Tries.{left_at}
 use Rattle.kb_index.specs.Links.{IsLongestSuffix}
-use Rattle.kb_index.specs.Automata.{IsAutomaton, StandsFor}
+use Rattle.kb_index.specs.Automata.{IsAutomaton, StandsFor, end_of, head_of}
+use Rattle.kb_index.proofs.Ending.{ends_of, heads_of}
 use Rattle.kb_index.proofs.Words.{word_root}
 use Rattle.kb_index.proofs.Steps.{longest_more}
 use Rattle.kb_index.proofs.Suffixes.{ends_within, ends_shorter, ends_of_nil}
@@ -48,7 +49,7 @@ read_more letters i x within is = ap (λ (y : ℕ). take i letters ++ y ∷ []) 
 
 -- the state of the next longest suffix that may be a left side
 abbrev pub next_end : Automaton → ℕ → ℕ
-next_end automaton end = get_or automaton.ends.items (get_or automaton.links.items end 0) 0
+next_end automaton end = end_of automaton (get_or automaton.links.items end 0)
 
 module _ {rules : List Pair} {automaton : Automaton} (is : IsAutomaton rules automaton) where
   -- a left side that ends what is read ends the state's word
@@ -74,15 +75,15 @@ module _ {rules : List Pair} {automaton : Automaton} (is : IsAutomaton rules aut
   -- a left side that ends a state's word ends that of the state's end
   pub to_end : (state place : ℕ) → state ≤ length automaton.edges.items → place < length rules
       → EndsWith (word automaton.edges.items state) (left_at rules place)
-      → EndsWith (word automaton.edges.items (get_or automaton.ends.items state 0)) (left_at rules place)
+      → EndsWith (word automaton.edges.items (end_of automaton state)) (left_at rules place)
   to_end state place in_edges within ends =
       let edges : List Edge = automaton.edges.items in
       let has = is.trie.complete place within in
-      let at = is.ends.each state (omega (arith, is.end_count)) in
-      let head = is.heads.each has.state (omega (arith, has.within, is.head_count)) in
-      let below : place < get_or automaton.chains.heads.items has.state 0 = head.last place within (sym has.is) in
+      let at = ends_of is state in_edges in
+      let head = heads_of is has.state has.within in
+      let below : place < head_of automaton has.state = head.last place within (sym has.is) in
       let P : List ℕ → Type 0 = λ w. EndsWith (word edges state) w in
-      let Q : List ℕ → Type 0 = λ w. EndsWith (word edges (get_or automaton.ends.items state 0)) w in
+      let Q : List ℕ → Type 0 = λ w. EndsWith (word edges (end_of automaton state)) w in
       subst Q has.is (at.longest has.state has.within (omega arith) (subst P (sym has.is) ends))
 
   -- the link of a state that isn't state 0
@@ -93,7 +94,7 @@ module _ {rules : List Pair} {automaton : Automaton} (is : IsAutomaton rules aut
   next_below end some within =
       let link : ℕ = get_or automaton.links.items end 0 in
       let falls : link < end = link_below end some within in
-      let at = is.ends.each link (omega (arith, is.end_count)) in
+      let at = ends_of is link (omega arith) in
       let upto : next_end automaton end ≤ link = at.upto in
       omega arith
 
@@ -117,7 +118,7 @@ module _ {rules : List Pair} {automaton : Automaton} (is : IsAutomaton rules aut
       let link : ℕ = get_or automaton.links.items end 0 in
       let falls : link < end = link_below end some within in
       let longest = is.links.longest end (omega (arith, is.link_count)) in
-      let at = is.ends.each link (omega (arith, is.end_count)) in
+      let at = ends_of is link (omega arith) in
       ends_within (drop 1 (word edges end)) (word edges link) (word edges (next_end automaton end)) longest.ends at.ends
 
   -- so its word is shorter

@@ -32,6 +32,11 @@ pub record LeadsBeyond (edges : List Edge) (state beyond next : ℕ) : Type 0 wh
   pub step : IsStep edges state letter next
   pub longer : beyond < length (word edges next)
 
+-- this letter leads from the state to such a one
+pub record LeadsBy (edges : List Edge) (state letter beyond next : ℕ) : Type 0 where
+  pub step : IsStep edges state letter next
+  pub longer : beyond < length (word edges next)
+
 -- the edge at the place leads to the next state, and its letter leads there from the state
 pub record LeadsAlong (edges : List Edge) (state place next : ℕ) : Type 0 where
   pub is : next ≡ place + 1

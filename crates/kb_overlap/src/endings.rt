@@ -43,11 +43,11 @@ impl<'a> Prefixes<'a> {
             (EndsRead self.now.rules.now index (word self.now.automaton.now.edges.items state) read
             beyond) found.old.items found.new.items) }
     {
-        let mut end = self.automaton.ends[state] as usize;
+        let mut end = self.automaton.end_at(state);
         while self.lengths[end] as usize > beyond {
             let place = read - self.lengths[end] as usize;
             self.add_chain(index, end, place, found)?;
-            end = self.automaton.ends[self.automaton.links[end] as usize] as usize;
+            end = self.automaton.end_at(self.automaton.links[end] as usize);
         }
         Ok(())
     }
@@ -66,10 +66,10 @@ impl<'a> Prefixes<'a> {
             (HasLeft self.now.rules.now index (word self.now.automaton.now.edges.items state) place)
             found.old.items found.new.items) }
     {
-        let mut rest = self.automaton.chains.heads[state] as usize;
+        let mut rest = self.automaton.head_at(state) as usize;
         while rest > 0 {
             add_other(index, rest - 1, place, found)?;
-            rest = self.automaton.chains.before[rest - 1] as usize;
+            rest = self.automaton.before[rest - 1] as usize;
         }
         Ok(())
     }

@@ -32,13 +32,13 @@ impl<'a> Prefixes<'a> {
         ensures no { result ≡ false
             → NoneEnds self.now.rules.now (word self.now.automaton.now.edges.items state) }
     {
-        let mut end = self.automaton.ends[state] as usize;
+        let mut end = self.automaton.end_at(state);
         while end > 0 {
-            let head = self.automaton.chains.heads[end];
+            let head = self.automaton.head_at(end);
             if head > 0 {
                 return true;
             }
-            end = self.automaton.ends[self.automaton.links[end] as usize] as usize;
+            end = self.automaton.end_at(self.automaton.links[end] as usize);
         }
         false
     }

@@ -5,7 +5,7 @@ ghost use Rattle.kb_word.specs.Words.{OneOf};
 ghost use Rattle.kb_word.specs.Rewriting.{IsIrreducible};
 ghost use Rattle.kb_index.specs.Tries.{left_at};
 ghost use Rattle.kb_index.specs.Automata.{StandsFor};
-ghost use Rattle.kb_overlap.specs.Prefixes.{ArePrefixes, GoesOn, LeadsAlong, LeadsBeyond, LeadsToChild};
+ghost use Rattle.kb_overlap.specs.Prefixes.{ArePrefixes, GoesOn, LeadsAlong, LeadsBeyond, LeadsBy, LeadsToChild};
 ghost use Rattle.kb_overlap.specs.Ways.{AreReached, Gains, IsMet, IsProper};
 
 use crate::left_sides::Overlap;
@@ -100,11 +100,67 @@ impl<'a> Prefixes<'a> {
         self.add_steps(state, count, next)
     }
 
-    /// Adds the states to which a letter leads from a state, if their words are longer than `count + 1`. Each is a
-    /// child of the state, or of one along its links, whose word is longer than `count`.
+    /// Adds the states to which a letter leads from a state, if their words are longer than `count + 1`.
     fn add_steps(&self, state: usize, count: usize, next: &mut Vec<usize>) -> Result<(), Memory>
         requires prefixes { ArePrefixes self.now }
         requires state { state ≤ length self.now.automaton.now.edges.items }
+        ensures { OnOk result
+            (Gains (LeadsBeyond self.now.automaton.now.edges.items state (count + 1))
+            next.old.items next.new.items) }
+    {
+        if self.automaton.firsts.is_empty() {
+            return self.add_row(state, count, next);
+        }
+        self.add_linked(state, count, next)
+    }
+
+    /// The same by the row of the table, which has the steps by all letters of the left sides.
+    fn add_row(&self, state: usize, count: usize, next: &mut Vec<usize>) -> Result<(), Memory>
+        requires prefixes { ArePrefixes self.now }
+        requires state { state ≤ length self.now.automaton.now.edges.items }
+        requires none { length self.now.automaton.now.firsts.items ≡ 0 }
+        ensures { OnOk result
+            (Gains (LeadsBeyond self.now.automaton.now.edges.items state (count + 1))
+            next.old.items next.new.items) }
+    {
+        // Such a row has 8 letters at most.
+        let letters = self.automaton.table.width.min(8);
+        for letter in 0..letters as u16 {
+            self.add_step(state, letter, count, next)?;
+        }
+        Ok(())
+    }
+
+    /// Adds the state to which the letter leads from a state, if its word is longer than `count + 1`.
+    fn add_step(
+        &self,
+        state: usize,
+        letter: u16,
+        count: usize,
+        next: &mut Vec<usize>,
+    ) -> Result<(), Memory>
+        requires prefixes { ArePrefixes self.now }
+        requires state { state ≤ length self.now.automaton.now.edges.items }
+        ensures { OnOk result
+            (Gains (LeadsBy self.now.automaton.now.edges.items state letter (count + 1))
+            next.old.items next.new.items) }
+    {
+        let after = self.automaton.step(state, letter);
+        let long = self.lengths[after] as usize;
+        let most = count.saturating_add(1);
+        if long <= most {
+            return Ok(());
+        }
+        next.push(after)?;
+        Ok(())
+    }
+
+    /// The same by edges and links: each such state is a child of the state, or of one along its links, whose word is
+    /// longer than `count`.
+    fn add_linked(&self, state: usize, count: usize, next: &mut Vec<usize>) -> Result<(), Memory>
+        requires prefixes { ArePrefixes self.now }
+        requires state { state ≤ length self.now.automaton.now.edges.items }
+        requires firsts { 0 < length self.now.automaton.now.firsts.items }
         ensures { OnOk result
             (Gains (LeadsBeyond self.now.automaton.now.edges.items state (count + 1))
             next.old.items next.new.items) }
@@ -122,6 +178,7 @@ impl<'a> Prefixes<'a> {
         requires prefixes { ArePrefixes self.now }
         requires state { state ≤ length self.now.automaton.now.edges.items }
         requires at { at ≤ length self.now.automaton.now.edges.items }
+        requires firsts { 0 < length self.now.automaton.now.firsts.items }
         ensures { OnOk result (Gains (LeadsToChild self.now.automaton.now.edges.items state at)
             next.old.items next.new.items) }
     {

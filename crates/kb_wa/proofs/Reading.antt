@@ -16,7 +16,8 @@ use Rattle.kb_index.specs.declared.automaton.Automaton.{Automaton}
 use Rattle.kb_index.specs.Edges.{word}
 use Rattle.kb_index.specs.Chains.{IsHead}
 use Rattle.kb_index.specs.Tries.{left_at}
-use Rattle.kb_index.specs.Automata.{IsAutomaton, StandsFor}
+use Rattle.kb_index.specs.Automata.{IsAutomaton, StandsFor, head_of}
+use Rattle.kb_index.proofs.Ending.{heads_of}
 use Rattle.kb_index.proofs.Words.{word_root}
 use Rattle.kb_index.proofs.Steps.{longest_more}
 use Rattle.kb_index.proofs.Linking.{longest_nil}
@@ -59,16 +60,16 @@ pub data Outcome (n : ℕ) (rules : List Pair) (automaton : Automaton) (w : List
 
 module _ {n : ℕ} {rules : List Pair} {automaton : Automaton} (given : IsDictionary n rules automaton) where
   is_head : (state : ℕ) → state ≤ length automaton.edges.items
-      → IsHead rules (length rules) (word automaton.edges.items state) (get_or automaton.chains.heads.items state 0)
-  is_head state within = given.is.heads.each state (omega (arith, given.is.head_count))
+      → IsHead rules (length rules) (word automaton.edges.items state) (head_of automaton state)
+  is_head state within = heads_of given.is state within
 
   -- where the state of the longest suffix stands for a left side, that left side ends the word
   reducible_there : (w : List ℕ) (state : ℕ) → StandsFor automaton.edges.items w state → is_left_side automaton state ≡ true
       → ¬ IsIrreducible (OneOf rules) w
   reducible_there w state stands left irreducible =
       let head = is_head state stands.within in
-      let some : 0 < get_or automaton.chains.heads.items state 0 = ltb-true 0 (get_or automaton.chains.heads.items state 0) left in
-      let index : ℕ = get_or automaton.chains.heads.items state 0 - 1 in
+      let some : 0 < head_of automaton state = ltb-true 0 (head_of automaton state) left in
+      let index : ℕ = head_of automaton state - 1 in
       let within : index < length rules = omega (arith, head.within) in
       let rule : Pair = get_or rules index no_rule in
       let ends : EndsWith w (word automaton.edges.items state) = stands.longest.ends in
@@ -109,7 +110,7 @@ module _ {n : ℕ} {rules : List Pair} {automaton : Automaton} (given : IsDictio
         | inl some ↦
             let head = is_head state stands.within in
             let after = head.last index within (same_left state index rule some stands.within one.1 inner) in
-            let no = ltb-false 0 (get_or automaton.chains.heads.items state 0) none in
+            let no = ltb-false 0 (head_of automaton state) none in
             absurd (omega arith)
         | inr first ↦
             let root : state ≡ 0 = omega arith in

@@ -1,12 +1,13 @@
 -- The dictionary automaton of left sides as a machine whose states are those of the trie of left sides, by number.
 -- Aho, Corasick, Efficient string matching (1975); Sims, Computation with Finitely Presented Groups, 3.5.
-use Rattle.std.specs.Prelude.{◌≡◌, ℕ, zero, suc, ◌+◌, ◌<◌, ◌≤◌, ◌&&◌, nat_eq, nat_lt, nat_le, Bool, true, List, [], ◌∷◌, ◌++◌, length, get_or, All, Option, Some, None, unwrap_or, if◌then◌else◌}
+use Rattle.std.specs.Prelude.{◌≡◌, ℕ, zero, suc, ◌+◌, ◌<◌, ◌≤◌, ◌&&◌, nat_eq, nat_lt, nat_le, Bool, true, List, [], ◌∷◌, ◌++◌, length, All, Option, Some, None, unwrap_or, if◌then◌else◌}
 use Rattle.std.specs.Cmp.Lexicographic.{pointwise}
 use Rattle.kb_fsa.specs.Table.{lookup, Ascends}
 use Rattle.kb_explore.specs.Machine.{Machine}
 use Rattle.kb_index.specs.declared.edge.Edge.{Edge}
 use Rattle.kb_index.specs.declared.automaton.Automaton.{Automaton}
 use Rattle.kb_index.specs.Edges.{word}
+use Rattle.kb_index.specs.Automata.{head_of}
 
 -- the state, among so many, that stands for the word
 abbrev pub state_of : List Edge → ℕ → List ℕ → Option ℕ
@@ -22,7 +23,7 @@ state_after edges (x ∷ w) =
 
 -- whether the state stands for a left side
 abbrev pub is_left_side : Automaton → ℕ → Bool
-is_left_side automaton state = nat_lt 0 (get_or automaton.chains.heads.items state 0)
+is_left_side automaton state = nat_lt 0 (head_of automaton state)
 
 -- the state, unless it stands for a left side
 abbrev pub unless_left_side : Automaton → ℕ → Option ℕ

@@ -11,8 +11,8 @@ returns-then-is_empty c rules is tidy =
     let automaton : Automaton = lookup.settled.value in
     let none : length lookup.recent.chains.before.items ≡ 0 =
     omega (arith, eqb-true _ _ (sym c.if-is_empty.ensures), lookup.recent.chains.before.ok) in
-    let count : c.len-then-is_empty.result ≡ length automaton.chains.before.items =
-    omega (arith, c.len-then-is_empty.ensures, c.deref.result.now.chains.before.ok, ap (λ (a : Automaton). length a.chains.before.items) c.deref.ensures) in
-    let as_many : length lookup.numbers.items ≡ length automaton.chains.before.items =
+    let count : c.len-then-is_empty.result ≡ length automaton.before.items =
+    omega (arith, c.len-then-is_empty.ensures, c.deref.result.now.before.ok, ap (λ (a : Automaton). length a.before.items) c.deref.ensures) in
+    let as_many : length lookup.numbers.items ≡ length automaton.before.items =
     omega (arith, eqb-true _ _ tidy, count, c.len.ensures, lookup.numbers.ok) in
     tidy_automaton rules lookup is none as_many

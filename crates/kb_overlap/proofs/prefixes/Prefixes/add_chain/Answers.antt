@@ -1,8 +1,9 @@
 use Rattle.std.proofs.Common.{◌≡◌, ℕ, ◌-◌, ◌<◌, ◌≤◌, List, length, get_or, sym, subst, arith}
 use Rattle.std.proofs.lemmas.List.{get_or_read}
 use Rattle.kb_index.specs.Edges.{word}
-use Rattle.kb_overlap.proofs.Kept.{head_read}
-use Rattle.kb_overlap.proofs.Ended.{Chaining, chaining_first, chaining_more, chaining_all, head_of}
+use Rattle.kb_index.specs.Automata.{head_of}
+use Rattle.kb_index.proofs.Ending.{heads_of}
+use Rattle.kb_overlap.proofs.Ended.{Chaining, chaining_first, chaining_more, chaining_all}
 use Rattle.kb_overlap.proofs.prefixes.Prefixes.add_chain.Goals as goal
 
 pub loop-rest-init : goal.loop-rest-init
@@ -11,22 +12,23 @@ loop-rest-init c =
     let are = c.requires.prefixes in
     let left : List ℕ = word prefixes.automaton.now.edges.items c.args.state in
     let P : ℕ → Type 0 = λ rest. Chaining prefixes.rules.now c.args.index left c.args.place rest c.args.found.now.items c.args.found.now.items in
-    subst P (sym (head_read are c.args.state c.index.result.now c.requires.state c.index.ensures))
-    (chaining_first prefixes.rules.now c.args.index left c.args.place (get_or prefixes.automaton.now.chains.heads.items c.args.state 0)
-    c.args.found.now.items (head_of are.is c.args.state c.requires.state))
+    let head : c.head_at-rest.result ≡ head_of prefixes.automaton.now c.args.state = c.head_at-rest.ensures in
+    subst P (sym head)
+    (chaining_first prefixes.rules.now c.args.index left c.args.place (head_of prefixes.automaton.now c.args.state)
+    c.args.found.now.items (heads_of are.is c.args.state c.requires.state))
 
 pub loop-rest-preserved : goal.loop-rest-preserved
 loop-rest-preserved c =
     let prefixes = c.args.self.now in
     let are = c.requires.prefixes in
     let left : List ℕ = word prefixes.automaton.now.edges.items c.args.state in
-    let before : List ℕ = prefixes.automaton.now.chains.before.items in
+    let before : List ℕ = prefixes.automaton.now.before.items in
     let rest : ℕ = c.loop-rest.rest in
     let some : 0 < rest = c.loop-rest-test.true in
     let within = c.loop-rest.invariant.within in
     let fits : rest - 1 < length before = omega (arith, are.is.rule_count) in
-    let next : c.index-in-loop-rest.result.now ≡ get_or before (rest - 1) 0 =
-    get_or_read before (rest - 1) c.index-in-loop-rest.result.now fits c.index-in-loop-rest.ensures 0 in
+    let next : c.index.result.now ≡ get_or before (rest - 1) 0 =
+    get_or_read before (rest - 1) c.index.result.now fits c.index.ensures 0 in
     let P : ℕ → Type 0 =
     λ rest. Chaining prefixes.rules.now c.args.index left c.args.place rest c.args.found.now.items c.add_other.new.found.items in
     subst P (sym next)
@@ -37,13 +39,13 @@ pub loop-rest-smaller : goal.loop-rest-smaller
 loop-rest-smaller c =
     let prefixes = c.args.self.now in
     let are = c.requires.prefixes in
-    let before : List ℕ = prefixes.automaton.now.chains.before.items in
+    let before : List ℕ = prefixes.automaton.now.before.items in
     let rest : ℕ = c.loop-rest.rest in
     let some : 0 < rest = c.loop-rest-test.true in
     let within = c.loop-rest.invariant.within in
     let fits : rest - 1 < length before = omega (arith, are.is.rule_count) in
-    let next : c.index-in-loop-rest.result.now ≡ get_or before (rest - 1) 0 =
-    get_or_read before (rest - 1) c.index-in-loop-rest.result.now fits c.index-in-loop-rest.ensures 0 in
+    let next : c.index.result.now ≡ get_or before (rest - 1) 0 =
+    get_or_read before (rest - 1) c.index.result.now fits c.index.ensures 0 in
     let head = are.is.before.each (rest - 1) fits in
     let upto : get_or before (rest - 1) 0 ≤ rest - 1 = head.within in
     omega arith

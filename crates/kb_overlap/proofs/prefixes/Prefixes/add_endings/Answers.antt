@@ -3,7 +3,8 @@ use Rattle.kb_index.specs.declared.edge.Edge.{Edge}
 use Rattle.kb_index.specs.Edges.{word}
 use Rattle.kb_overlap.specs.declared.left_sides.Overlap.{Overlap}
 use Rattle.kb_overlap.specs.Ways.{Gains, HasLeft}
-use Rattle.kb_overlap.proofs.Kept.{end_read, length_at, link_read, next_read}
+use Rattle.kb_index.specs.Automata.{end_of}
+use Rattle.kb_overlap.proofs.Kept.{length_at, link_read, next_read}
 use Rattle.kb_overlap.proofs.Suffixed.{link_below, longer_some, next_below, next_end}
 use Rattle.kb_overlap.proofs.Ended.{Ending, ending_first, ending_more, ending_all}
 use Rattle.kb_overlap.proofs.prefixes.Prefixes.add_endings.Goals as goal
@@ -15,11 +16,12 @@ loop-end-init c =
     let found : List Overlap = c.args.found.now.items in
     let P : ℕ → Type 0 =
     λ end. Ending prefixes.rules.now prefixes.automaton.now c.args.index c.args.state c.args.read c.args.beyond end found found in
-    subst P (sym (end_read are c.args.state c.index.result.now c.requires.state c.index.ensures))
+    let end : c.end_at-end.result ≡ end_of prefixes.automaton.now c.args.state = c.end_at-end.ensures in
+    subst P (sym end)
     (ending_first are.is c.args.index c.args.state c.args.read c.args.beyond found c.requires.state)
 
-pub index-requires-in-loop-end-2 : goal.index-requires-in-loop-end-2
-index-requires-in-loop-end-2 c =
+pub end_at-end-requires-in-loop-end : goal.end_at-end-requires-in-loop-end
+end_at-end-requires-in-loop-end c =
     let prefixes = c.args.self.now in
     let are = c.requires.prefixes in
     let edges : List Edge = prefixes.automaton.now.edges.items in
@@ -27,10 +29,10 @@ index-requires-in-loop-end-2 c =
     let within = c.loop-end.invariant.within in
     let long : get_or prefixes.lengths.now end 0 ≡ length (word edges end) = length_at are end within in
     let longer : c.args.beyond < length (word edges end) = omega (arith, c.loop-end-test.true) in
-    let link : c.index-in-loop-end.result.now ≡ get_or prefixes.automaton.now.links.items end 0 =
-    link_read are end c.index-in-loop-end.result.now within c.index-in-loop-end.ensures in
+    let link : c.index.result.now ≡ get_or prefixes.automaton.now.links.items end 0 =
+    link_read are end c.index.result.now within c.index.ensures in
     let below = link_below are.is end (longer_some are.is end c.args.beyond longer) within in
-    omega (arith, are.is.end_count)
+    omega (arith, are.is.mark_count)
 
 pub loop-end-smaller : goal.loop-end-smaller
 loop-end-smaller c =
@@ -42,9 +44,8 @@ loop-end-smaller c =
     let long : get_or prefixes.lengths.now end 0 ≡ length (word edges end) = length_at are end within in
     let longer : c.args.beyond < length (word edges end) = omega (arith, c.loop-end-test.true) in
     let some : 0 < end = longer_some are.is end c.args.beyond longer in
-    let next : c.index-in-loop-end-2.result.now ≡ next_end prefixes.automaton.now end =
-    next_read are end c.index-in-loop-end.result.now c.index-in-loop-end-2.result.now some within c.index-in-loop-end.ensures
-    c.index-in-loop-end-2.ensures in
+    let next : c.end_at-end-in-loop-end.result ≡ next_end prefixes.automaton.now end =
+    next_read are end c.index.result.now c.end_at-end-in-loop-end.result within c.index.ensures c.end_at-end-in-loop-end.ensures in
     let below : next_end prefixes.automaton.now end < end = next_below are.is end some within in
     omega arith
 
@@ -61,9 +62,8 @@ loop-end-preserved c =
     let long : get_or prefixes.lengths.now end 0 ≡ length (word edges end) = length_at are end within in
     let longer : c.args.beyond < length (word edges end) = omega (arith, c.loop-end-test.true) in
     let some : 0 < end = longer_some are.is end c.args.beyond longer in
-    let next : c.index-in-loop-end-2.result.now ≡ next_end prefixes.automaton.now end =
-    next_read are end c.index-in-loop-end.result.now c.index-in-loop-end-2.result.now some within c.index-in-loop-end.ensures
-    c.index-in-loop-end-2.ensures in
+    let next : c.end_at-end-in-loop-end.result ≡ next_end prefixes.automaton.now end =
+    next_read are end c.index.result.now c.end_at-end-in-loop-end.result within c.index.ensures c.end_at-end-in-loop-end.ensures in
     let P : ℕ → Type 0 =
     λ end. Ending prefixes.rules.now prefixes.automaton.now c.args.index c.args.state c.args.read c.args.beyond end before after in
     let Q : ℕ → Type 0 = λ long. Gains (HasLeft prefixes.rules.now c.args.index (word edges end) (c.args.read - long)) now after in

@@ -1,5 +1,6 @@
-use Rattle.std.proofs.Common.{◌≡◌, ℕ, ◌<◌, ◌≤◌, get_or, sym, subst, arith}
-use Rattle.kb_overlap.proofs.Kept.{end_read, head_read, next_read}
+use Rattle.std.proofs.Common.{◌≡◌, ℕ, ◌<◌, ◌≤◌, sym, subst, arith}
+use Rattle.kb_index.specs.Automata.{end_of, head_of}
+use Rattle.kb_overlap.proofs.Kept.{next_read}
 use Rattle.kb_overlap.proofs.Suffixed.{next_below, next_end}
 use Rattle.kb_overlap.proofs.Ended.{Looking, looking_first, looking_more, looking_found, looking_all}
 use Rattle.kb_overlap.proofs.prefixes.Prefixes.is_ended.Goals as goal
@@ -9,7 +10,8 @@ loop-end-init c =
     let prefixes = c.args.self.now in
     let are = c.requires.prefixes in
     let P : ℕ → Type 0 = λ end. Looking prefixes.rules.now prefixes.automaton.now c.args.state end in
-    subst P (sym (end_read are c.args.state c.index.result.now c.requires.state c.index.ensures))
+    let end : c.end_at-end.result ≡ end_of prefixes.automaton.now c.args.state = c.end_at-end.ensures in
+    subst P (sym end)
     (looking_first are.is c.args.state c.requires.state)
 
 pub loop-end-preserved : goal.loop-end-preserved
@@ -19,11 +21,10 @@ loop-end-preserved c =
     let end : ℕ = c.loop-end.end in
     let looking = c.loop-end.invariant in
     let some : 0 < end = c.loop-end-test.true in
-    let head : c.index-head.result.now ≡ get_or prefixes.automaton.now.chains.heads.items end 0 =
-    head_read are end c.index-head.result.now looking.within c.index-head.ensures in
-    let none : c.index-head.result.now ≤ 0 = c.if-head-gt0.false in
-    let next : c.index-in-loop-end-2.result.now ≡ next_end prefixes.automaton.now end =
-    next_read are end c.index-in-loop-end.result.now c.index-in-loop-end-2.result.now some looking.within c.index-in-loop-end.ensures c.index-in-loop-end-2.ensures in
+    let head : c.head_at-head.result ≡ head_of prefixes.automaton.now end = c.head_at-head.ensures in
+    let none : c.head_at-head.result ≤ 0 = c.if-head-gt0.false in
+    let next : c.end_at-end-in-loop-end.result ≡ next_end prefixes.automaton.now end =
+    next_read are end c.index.result.now c.end_at-end-in-loop-end.result looking.within c.index.ensures c.end_at-end-in-loop-end.ensures in
     let P : ℕ → Type 0 = λ end. Looking prefixes.rules.now prefixes.automaton.now c.args.state end in
     subst P (sym next) (looking_more are.is c.args.state end some (omega arith) looking)
 
@@ -34,8 +35,8 @@ loop-end-smaller c =
     let end : ℕ = c.loop-end.end in
     let some : 0 < end = c.loop-end-test.true in
     let within = c.loop-end.invariant.within in
-    let next : c.index-in-loop-end-2.result.now ≡ next_end prefixes.automaton.now end =
-    next_read are end c.index-in-loop-end.result.now c.index-in-loop-end-2.result.now some within c.index-in-loop-end.ensures c.index-in-loop-end-2.ensures in
+    let next : c.end_at-end-in-loop-end.result ≡ next_end prefixes.automaton.now end =
+    next_read are end c.index.result.now c.end_at-end-in-loop-end.result within c.index.ensures c.end_at-end-in-loop-end.ensures in
     let below : next_end prefixes.automaton.now end < end = next_below are.is end some within in
     omega arith
 
@@ -45,9 +46,8 @@ returns-then-head-gt0-clause-yes c =
     let are = c.requires.prefixes in
     let end : ℕ = c.loop-end.end in
     let looking = c.loop-end.invariant in
-    let head : c.index-head.result.now ≡ get_or prefixes.automaton.now.chains.heads.items end 0 =
-    head_read are end c.index-head.result.now looking.within c.index-head.ensures in
-    let some : 0 < c.index-head.result.now = c.if-head-gt0.true in
+    let head : c.head_at-head.result ≡ head_of prefixes.automaton.now end = c.head_at-head.ensures in
+    let some : 0 < c.head_at-head.result = c.if-head-gt0.true in
     λ _ none. looking_found are.is c.args.state end (omega arith) looking none
 
 pub returns-clause-no : goal.returns-clause-no

@@ -1,5 +1,5 @@
 use Rattle.kb_overlap.proofs.Leading.{Linking}
-use Rattle.kb_overlap.proofs.prefixes.Prefixes.add_steps.Given as goal
+use Rattle.kb_overlap.proofs.prefixes.Prefixes.add_linked.Given as goal
 
 -- the children of states with longer words were added
 abbrev pub invariant-loop-at : goal.invariant-loop-at
