@@ -11,8 +11,8 @@ use Rattle.std.proofs.lemmas.Option.{slice_get-map, slice_get_read, slice_get_wi
 use Rattle.std.proofs.lemmas.Bool.{cases_lt, false≢true}
 use Rattle.std.proofs.lemmas.Slice.Eq.{bytes_eq-Decides}
 use Rattle.std.proofs.lemmas.Map.Text.{is_eq-slice_cmp}
-use Rattle.kb_record.specs.Tree.{record_value, list_value}
-use Rattle.kb_record.specs.View.{value_view, places_of, number_place, row_place, entry_place, entries_place, word_place}
+use Rattle.kb_record.specs.Tree.{Value, record_value, list_value}
+use Rattle.kb_record.specs.View.{value_view, places_of, number_place, row_place, entry_place, entries_place, text_place, word_place}
 use Rattle.kb_record.specs.declared.tree.Expr.{Expr}
 use Rattle.kb_record.specs.declared.tree.Value as code
 use Rattle.kb_fields.specs.Fields.{fields_view, places_view, field_names, StandsTwice, HasFieldTwice, SomeFieldHasTwice, SomePlaceHasTwice}
@@ -205,11 +205,15 @@ no_number_twice [] q e = absurd e
 no_number_twice (z ∷ numbers) q (inl here) = absurd here
 no_number_twice (z ∷ numbers) q (inr later) = no_number_twice numbers q later
 
-pub no_word_twice : (words : List (Option Expr)) (q : List ℕ) → SomePlaceHasTwice (places_of (map word_place words)) q → ⊥
+-- nor do words
+behind_text : (text : List ℕ) (others : List (Option Value)) (q : List ℕ) → (SomePlaceHasTwice (places_of others) q → ⊥) → SomePlaceHasTwice (places_of (text_place text ∷ others)) q → ⊥
+behind_text [] others q none later = none later
+behind_text (byte ∷ bytes) others q none (inl here) = absurd here
+behind_text (byte ∷ bytes) others q none (inr later) = none later
+
+pub no_word_twice : (words : List Expr) (q : List ℕ) → SomePlaceHasTwice (places_of (map word_place words)) q → ⊥
 no_word_twice [] q e = absurd e
-no_word_twice (None ∷ words) q e = no_word_twice words q e
-no_word_twice (Some word ∷ words) q (inl here) = absurd here
-no_word_twice (Some word ∷ words) q (inr later) = no_word_twice words q later
+no_word_twice (word ∷ words) q e = behind_text word.text.now (map word_place words) q (no_word_twice words q) e
 
 pub no_row_twice : (rows : List (List ℤ)) (q : List ℕ) → SomePlaceHasTwice (places_of (map row_place rows)) q → ⊥
 no_row_twice [] q e = absurd e

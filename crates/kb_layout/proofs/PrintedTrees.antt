@@ -5,7 +5,7 @@ use Rattle.std.specs.Borrow.{Bor}
 use Rattle.std.specs.Option.{IsSome}
 use Rattle.std.proofs.lemmas.Option.{slice_get-get_or, none-some}
 use Rattle.kb_record.specs.Tree.{Value as ValueTree, record_value}
-use Rattle.kb_record.specs.View.{factor_view, factors_view, value_view, fields_view, places_of, number_place, word_place}
+use Rattle.kb_record.specs.View.{factor_view, factors_view, value_view, fields_view, places_of, number_place, text_place, word_place}
 use Rattle.kb_layout.specs.Layout.{word_text, factor_text, more_factors_text, line_of, line_of_fields, line_of_more_fields, indent, text_of_value, text_of_fields, are_lists, is_table}
 use Rattle.kb_layout.specs.Printing.{pieces, line_of_field, text_of_field, line_of_place, list_place}
 use Rattle.kb_record.specs.declared.tree.Expr.{Expr}
@@ -75,10 +75,13 @@ numbers_no_table [] = refl
 numbers_no_table (z ∷ numbers) = refl
 
 -- nor is a list of words
-pub words_no_table : (words : List (Option Expr)) → is_table (places_of (map word_place words)) ≡ false
+pub words_no_table : (words : List Expr) → is_table (places_of (map word_place words)) ≡ false
 words_no_table [] = refl
-words_no_table (None ∷ words) = refl
-words_no_table (Some word ∷ words) = refl
+words_no_table (word ∷ words) = here word.text.now
+  where
+    here : (text : List ℕ) → is_table (places_of (text_place text ∷ map word_place words)) ≡ false
+    here [] = refl
+    here (byte ∷ bytes) = refl
 
 -- ---- lists of lists that are kept side by side
 

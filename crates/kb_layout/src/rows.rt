@@ -41,14 +41,14 @@ impl Item for (i64, i64) {
     }
 }
 
-impl Item for Option<Expr<'_>> {
+impl Item for Expr<'_> {
     ghost seen = { word_place };
 
     fn print(&self, out: &mut Vec<u8>) -> Result<(), Memory> {
-        match self {
-            Some(word) => print_expr(word, out),
-            None => Ok(()),
+        if !self.is_word() {
+            return Ok(());
         }
+        print_expr(self, out)
     }
 }
 

@@ -1,8 +1,9 @@
 -- The views of values, a level at a time.
-use Rattle.std.proofs.Common.{◌≡◌, ℕ, List, [], ◌∷◌, map, refl, ap, rules, Option, Some, None, ℤ, Vec, Global, sym, ◌∙◌}
+use Rattle.std.proofs.Common.{◌≡◌, ℕ, List, [], ◌∷◌, length, map, Bool, true, false, not, nat_eq, eqb-true, refl, ap, rules, Option, Some, None, ℤ, Vec, Global, sym, ◌∙◌, arith}
+use Rattle.std.specs.Bool.{MatchBool}
 use Rattle.std.specs.Borrow.{Bor}
 use Rattle.kb_record.specs.Tree.{field, record_value, list_value, word_value, Value as ValueTree}
-use Rattle.kb_record.specs.View.{value_view, word_view, fields_of, places_of, places_view, word_place, number_place, row_place, entry_place, entries_place, field_view}
+use Rattle.kb_record.specs.View.{value_view, word_view, first_word, text_place, fields_of, places_of, places_view, word_place, number_place, row_place, entry_place, entries_place, field_view}
 use Rattle.kb_record.specs.Reading.{fields_from}
 use Rattle.kb_record.specs.Listed.{places_in, listed, HasPlaces, pair_row}
 use Rattle.kb_record.specs.declared.tree.Expr.{Expr}
@@ -22,7 +23,7 @@ view-Word word = search (rules, the_lemmas)
 pub view-List : (v : Vec (Option Value) Global) → value_view (Listed v) ≡ list_value (places_view v.items)
 view-List v = search (rules, the_lemmas)
 
-pub view-Words : (words : Vec (Option Expr) Global) → HasPlaces (value_view (Words words)) (map word_place words.items)
+pub view-Words : (words : Vec Expr Global) → HasPlaces (value_view (Words words)) (map word_place words.items)
 view-Words words = search (rules, the_lemmas)
 
 pub view-Numbers : (v : Vec ℤ Global) → HasPlaces (value_view (Numbers v)) (map number_place v.items)
@@ -33,6 +34,13 @@ view-Rows rows = search (rules, the_lemmas)
 
 pub view-Entries : (rows : List (List (ℤ × ℤ))) → HasPlaces (value_view (Entries rows)) (map entries_place rows)
 view-Entries rows = search (rules, the_lemmas)
+
+-- a text is a word's, or that of an empty place
+pub shown_or_empty : (text : List ℕ) (empty : Bool) → empty ≡ nat_eq (length text) 0 → MatchBool (not empty) (text_place text ≡ Some (word_value (first_word text))) (text_place text ≡ None)
+shown_or_empty [] true e = refl
+shown_or_empty [] false e = cc
+shown_or_empty (byte ∷ bytes) false e = refl
+shown_or_empty (byte ∷ bytes) true e = let none = eqb-true (length (byte ∷ bytes)) 0 (sym e) in absurd (omega (arith, none))
 
 -- the places of a list are those that it was made of
 pub places_in-of : (ps : List (Option ValueTree)) → places_in (places_of ps) ≡ ps

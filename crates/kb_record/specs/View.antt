@@ -1,5 +1,5 @@
 -- The trees of `specs/Tree.antt` that the types of the code stand for.
-use Rattle.std.specs.Prelude.{ℕ, List, Option, None, map}
+use Rattle.std.specs.Prelude.{ℕ, List, [], ◌∷◌, Option, Some, None, map}
 use Rattle.std.specs.Borrow.{Bor}
 use Rattle.std.specs.Option.{option_map}
 use Rattle.kb_lexing.proofs.FrontTokens.{tokens_of}
@@ -42,9 +42,14 @@ one_name name = factor (named name None) no_factors
 abbrev pub word_view : Expr → Factors
 word_view word = first_word word.text.now
 
--- a word, or an empty place, as a place of a list
-abbrev pub word_place : Option Expr → Option ValueTree
-word_place place = option_map (λ (word : Expr). word_value (word_view word)) place
+-- the word that stands first in a text as a place of a list; no text is an empty place
+abbrev pub text_place : List ℕ → Option ValueTree
+text_place [] = None
+text_place (byte ∷ bytes) = Some (word_value (first_word (byte ∷ bytes)))
+
+-- a word of a list, or an empty place, as a place of that list
+abbrev pub word_place : Expr → Option ValueTree
+word_place word = text_place word.text.now
 
 abbrev pub value_step : Value-F ValueTree → ValueTree
 value_step (Value-F.Number z) = number_value z

@@ -71,11 +71,12 @@ fn place_of<'r, 'a>(place: &'r Option<Value<'a>>) -> Place<'r, 'a>
 }
 
 /// What stands at a place of a list of words and empty places.
-fn word_at<'r, 'a>(place: &'r Option<Expr<'a>>) -> Place<'r, 'a>
-    ensures { place_view result ≡ word_place place.now }
+fn word_at<'r, 'a>(word: &'r Expr<'a>) -> Place<'r, 'a>
+    ensures { place_view result ≡ word_place word.now }
 {
-    match place {
-        Some(word) => Place::Word(word),
-        None => Place::Empty,
+    if word.is_word() {
+        Place::Word(word)
+    } else {
+        Place::Empty
     }
 }

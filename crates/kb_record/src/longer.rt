@@ -3,9 +3,10 @@
 //! A list of numbers, of lists of numbers or of lists of pairs of numbers stays in a form of its own while its places
 //! allow; a place that doesn't fit makes it a list of any values.
 
-ghost use Rattle.std.specs.Prelude.{◌≡◌, ◌++◌, ◌∷◌, [], map, Some, IfOk, IfSome};
+ghost use Rattle.std.specs.Prelude.{◌≡◌, ◌++◌, ◌∷◌, [], map, Some, None, IfOk, IfSome};
 ghost use Rattle.std.specs.Option.{option_map};
-ghost use Rattle.kb_record.specs.View.{value_view, number_place, row_place, entry_place, entries_place, word_place};
+ghost use Rattle.kb_record.specs.Tree.{word_value};
+ghost use Rattle.kb_record.specs.View.{value_view, word_view, number_place, row_place, entry_place, entries_place, word_place};
 ghost use Rattle.kb_record.specs.Listed.{listed, HasPlaces, pair_row};
 ghost use Rattle.kb_record.specs.Reading.{first_place};
 
@@ -76,7 +77,7 @@ fn list_of_one<'a>(
         Some(Value::Numbers(row)) => longer_rows_by(Ragged::new(alloc)?, row.as_slice()),
         Some(Value::Word(word)) => list_of_word(alloc, word, room),
         Some(value) => list_of_value(alloc, value, room),
-        None => longer_words_by(Vec::new(alloc), None),
+        None => list_of_none(alloc, room),
     }
 }
 
@@ -107,32 +108,64 @@ fn longer_list<'a>(
 
 /// A list of one word, with room for so many.
 fn list_of_word<'a>(alloc: Global, word: Expr<'a>, room: usize) -> Result<Value<'a>, Memory>
-    ensures { IfOk result (λ list. HasPlaces (value_view list) (word_place (Some word.entry) ∷ [])) }
+    ensures { IfOk result
+        (λ list. HasPlaces (value_view list) (Some (word_value (word_view word.entry)) ∷ [])) }
 {
-    longer_words_by(Vec::with_capacity(alloc, room)?, Some(word))
+    if !word.is_word() {
+        return list_of_value(alloc, Value::Word(word), room);
+    }
+    words_of_one(alloc, word, room)
+}
+
+/// A list of one empty place, with room for so many.
+fn list_of_none<'a>(alloc: Global, room: usize) -> Result<Value<'a>, Memory>
+    ensures { IfOk result (λ list. HasPlaces (value_view list) (None ∷ [])) }
+{
+    words_of_one(alloc, no_word(), room)
+}
+
+/// A list of words and empty places that has one of them, with room for so many.
+fn words_of_one<'a>(alloc: Global, word: Expr<'a>, room: usize) -> Result<Value<'a>, Memory>
+    ensures { IfOk result (λ list. HasPlaces (value_view list) (word_place word.entry ∷ [])) }
+{
+    longer_words_by(Vec::with_capacity(alloc, room)?, word)
+}
+
+/// What a list of words keeps at an empty place.
+fn no_word<'a>() -> Expr<'a>
+    ensures { word_place result ≡ None }
+{
+    Expr { text: b"" }
 }
 
 /// A list of words and empty places with one place more.
 fn longer_words<'a>(
     alloc: Global,
-    words: Vec<Option<Expr<'a>>>,
+    words: Vec<Expr<'a>>,
     place: Option<Value<'a>>,
 ) -> Result<Value<'a>, Memory>
     ensures { IfOk result (λ list. HasPlaces (value_view list)
         (map word_place words.entry.items ++ option_map value_view place.entry ∷ [])) }
 {
+    match word_for(&place) {
+        Some(word) => longer_words_by(words, word),
+        None => longer_list(words_apart(alloc, words.as_slice())?, place),
+    }
+}
+
+/// What a list of words keeps at this place, where it is a word or empty.
+fn word_for<'a>(place: &Option<Value<'a>>) -> Option<Expr<'a>>
+    ensures { IfSome result (λ word. option_map value_view place.now ≡ word_place word) }
+{
     match place {
-        Some(Value::Word(word)) => longer_words_by(words, Some(word)),
-        None => longer_words_by(words, None),
-        place => longer_list(words_apart(alloc, words.as_slice())?, place),
+        Some(Value::Word(word)) => { if word.is_word() { Some(*word) } else { None } }
+        None => Some(no_word()),
+        _ => None,
     }
 }
 
 /// A list of words and empty places with one word, or one empty place, more.
-fn longer_words_by<'a>(
-    words: Vec<Option<Expr<'a>>>,
-    word: Option<Expr<'a>>,
-) -> Result<Value<'a>, Memory>
+fn longer_words_by<'a>(words: Vec<Expr<'a>>, word: Expr<'a>) -> Result<Value<'a>, Memory>
     ensures { IfOk result (λ list. HasPlaces (value_view list)
         (map word_place words.entry.items ++ word_place word.entry ∷ [])) }
 {
@@ -277,10 +310,7 @@ fn pair_of(row: &[i64]) -> Option<(i64, i64)>
 }
 
 /// Words and empty places as values of their own.
-fn words_apart<'a>(
-    alloc: Global,
-    words: &[Option<Expr<'a>>],
-) -> Result<Vec<Option<Value<'a>>>, Memory>
+fn words_apart<'a>(alloc: Global, words: &[Expr<'a>]) -> Result<Vec<Option<Value<'a>>>, Memory>
     ensures { IfOk result
         (λ places. map (option_map value_view) places.items ≡ map word_place words.now) }
 {
@@ -292,12 +322,13 @@ fn words_apart<'a>(
 }
 
 /// A word, or an empty place, as a value of its own.
-fn word_apart<'a>(word: Option<Expr<'a>>) -> Option<Value<'a>>
+fn word_apart<'a>(word: Expr<'a>) -> Option<Value<'a>>
     ensures { option_map value_view result ≡ word_place word.entry }
 {
-    match word {
-        Some(word) => Some(Value::Word(word)),
-        None => None,
+    if word.is_word() {
+        Some(Value::Word(word))
+    } else {
+        None
     }
 }
 

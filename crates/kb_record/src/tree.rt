@@ -11,7 +11,8 @@ pub enum Factor<'a> {
     Group(Vec<Factor<'a>>, Option<i64>),
 }
 
-/// A word as it is written: a text that begins with it. So it takes no memory, however long it is.
+/// A word as it is written: a text that begins with it. So it takes no memory, however long it is. In a list of words
+/// an empty text stands for an empty place.
 #[derive(Clone, Copy, Debug)]
 pub struct Expr<'a> {
     pub(crate) text: &'a [u8],
@@ -30,7 +31,7 @@ pub enum Value<'a> {
     /// next four where it can be.
     List(Vec<Option<Value<'a>>>),
     /// `[a,,b*c]`, a list of words and empty places
-    Words(Vec<Option<Expr<'a>>>),
+    Words(Vec<Expr<'a>>),
     /// `[1,2]`, a list of numbers
     Numbers(Vec<i64>),
     /// `[[1,2],[3]]`, a list of lists of numbers

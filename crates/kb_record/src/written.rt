@@ -3,9 +3,11 @@
 //! A text that begins with no word stands for no factors: so each of these calls has an answer, and none is met in a tree
 //! that was read.
 
-ghost use Rattle.std.specs.Prelude.{◌≡◌, ◌≢◌, ℕ, List, IfOk, IfSome, IfNone};
+ghost use Rattle.std.specs.Prelude.{◌≡◌, ◌≢◌, ℕ, List, Some, None, IfOk, IfSome, IfNone};
+ghost use Rattle.std.specs.Bool.{MatchBool};
+ghost use Rattle.kb_record.specs.Tree.{word_value};
 ghost use Rattle.kb_record.specs.Meaning.{word_meaning};
-ghost use Rattle.kb_record.specs.View.{factors_view, one_name, word_view};
+ghost use Rattle.kb_record.specs.View.{factors_view, one_name, word_place, word_view};
 ghost use Rattle.kb_record.specs.Faults.{Evaluates};
 
 use crate::cursor::{Cursor, Mark, Stop};
@@ -18,6 +20,15 @@ use kb_word::{Memory, Presentation, Word};
 use std::alloc::Global;
 
 impl<'a> Expr<'a> {
+    /// Whether it is a word, and no empty place of a list.
+    pub fn is_word(&self) -> bool
+        ensures { MatchBool result
+            (word_place self.now ≡ Some (word_value (word_view self.now)))
+            (word_place self.now ≡ None) }
+    {
+        !self.text.is_empty()
+    }
+
     /// The name that the word is, where it is one factor, a name without a power.
     pub fn bare_name(&self) -> Option<&'a str>
         ensures found { IfSome result (λ name. word_view self.now ≡ one_name name.now) }
