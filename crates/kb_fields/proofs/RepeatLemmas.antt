@@ -12,7 +12,7 @@ use Rattle.std.proofs.lemmas.Bool.{cases_lt, false≢true}
 use Rattle.std.proofs.lemmas.Slice.Eq.{bytes_eq-Decides}
 use Rattle.std.proofs.lemmas.Map.Text.{is_eq-slice_cmp}
 use Rattle.kb_record.specs.Tree.{Value, record_value, list_value}
-use Rattle.kb_record.specs.View.{value_view, places_of, number_place, row_place, entry_place, entries_place, text_place, word_place}
+use Rattle.kb_record.specs.View.{value_view, places_of, number_place, row_place, entry_place, entries_place, text_place, word_place, words_place}
 use Rattle.kb_record.specs.declared.tree.Expr.{Expr}
 use Rattle.kb_record.specs.declared.tree.Value as code
 use Rattle.kb_fields.specs.Fields.{fields_view, places_view, field_names, StandsTwice, HasFieldTwice, SomeFieldHasTwice, SomePlaceHasTwice}
@@ -214,6 +214,11 @@ behind_text (byte ∷ bytes) others q none (inr later) = none later
 pub no_word_twice : (words : List Expr) (q : List ℕ) → SomePlaceHasTwice (places_of (map word_place words)) q → ⊥
 no_word_twice [] q e = absurd e
 no_word_twice (word ∷ words) q e = behind_text word.text.now (map word_place words) q (no_word_twice words q) e
+
+pub no_words_twice : (rows : List (List Expr)) (q : List ℕ) → SomePlaceHasTwice (places_of (map words_place rows)) q → ⊥
+no_words_twice [] q e = absurd e
+no_words_twice (row ∷ rows) q (inl here) = no_word_twice row q here
+no_words_twice (row ∷ rows) q (inr later) = no_words_twice rows q later
 
 pub no_row_twice : (rows : List (List ℤ)) (q : List ℕ) → SomePlaceHasTwice (places_of (map row_place rows)) q → ⊥
 no_row_twice [] q e = absurd e

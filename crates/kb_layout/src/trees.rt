@@ -50,6 +50,7 @@ fn print_value(level: usize, value: &Value<'_>, out: &mut Vec<u8>) -> Result<(),
         Value::List(places) => print_list(level, places.as_slice(), out),
         Value::Numbers(numbers) => print_items(numbers.as_slice(), out),
         Value::Words(words) => print_items(words.as_slice(), out),
+        Value::WordRows(rows) => print_lists(level, rows, out),
         Value::Rows(rows) => print_lists(level, rows, out),
         Value::Entries(rows) => print_lists(level, rows, out),
         _ => print_on_line(value, out),
@@ -142,6 +143,7 @@ fn is_list(place: &Option<Value<'_>>) -> bool
         Some(
             Value::List(_)
                 | Value::Words(_)
+                | Value::WordRows(_)
                 | Value::Numbers(_)
                 | Value::Rows(_)
                 | Value::Entries(_)
@@ -192,6 +194,7 @@ fn print_on_line(value: &Value<'_>, out: &mut Vec<u8>) -> Result<(), Memory>
         Value::List(places) => print_list_on_line(places.as_slice(), out),
         Value::Numbers(numbers) => print_items(numbers.as_slice(), out),
         Value::Words(words) => print_items(words.as_slice(), out),
+        Value::WordRows(rows) => print_lists_on_line(rows, out),
         Value::Rows(rows) => print_lists_on_line(rows, out),
         Value::Entries(rows) => print_lists_on_line(rows, out),
         Value::Range(from, to) => print_range(*from, *to, out),

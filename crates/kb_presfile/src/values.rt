@@ -1,9 +1,10 @@
 //! The kinds of values that a presentation's fields hold.
 
-ghost use Rattle.std.specs.Prelude.{◌≡◌, ◌≢◌, ℕ, List, map, Option, Some, MatchOption, IfOk, IfSome, IfNone};
+ghost use Rattle.std.specs.Prelude.{◌≡◌, ◌≢◌, ℕ, List, [], ◌∷◌, map, Option, Some, MatchOption, IfOk, IfSome, IfNone};
 ghost use Rattle.std.specs.Option.{option_copied, option_map};
 ghost use Rattle.kb_record.specs.Tree.{Factors, string_value, list_value, word_value};
-ghost use Rattle.kb_record.specs.View.{value_view, word_view};
+ghost use Rattle.kb_record.specs.View.{value_view, word_view, words_place};
+ghost use Rattle.kb_record.specs.declared.tree.Expr as code;
 ghost use Rattle.kb_record.specs.Listed.{place_view};
 ghost use Rattle.kb_fields.specs.Fields as fields;
 ghost use Rattle.kb_presfile.specs.Kinds.{list_of_places, equation_value};
@@ -76,6 +77,39 @@ pub fn sides_at<'r, 'a>(place: Place<'r, 'a>) -> Option<(&'r Expr<'a>, &'r Expr<
 {
     match place {
         Place::Value(value) => two_words(value),
+        Place::Words(words) => sides_in(words),
+        _ => None,
+    }
+}
+
+/// The two words of a list of words and empty places that has them and no more.
+fn sides_in<'r, 'a>(words: &'r [Expr<'a>]) -> Option<(&'r Expr<'a>, &'r Expr<'a>)>
+    ensures found { IfSome result
+        (λ sides. words_place words.now
+        ≡ Some (equation_value (word_view sides.0.now, word_view sides.1.now))) }
+    ensures none { IfNone result
+        ((sides : Factors × Factors) → words_place words.now ≢ Some (equation_value sides)) }
+{
+    let Some((left, right)) = two_of(words) else {
+        return None;
+    };
+    if !left.is_word() {
+        return None;
+    }
+    if !right.is_word() {
+        return None;
+    }
+    Some((left, right))
+}
+
+/// The two places of a list, where it has two.
+fn two_of<'r, 'a>(words: &'r [Expr<'a>]) -> Option<(&'r Expr<'a>, &'r Expr<'a>)>
+    ensures found { IfSome result (λ two. words.now ≡ two.0.now ∷ two.1.now ∷ []) }
+    ensures none { IfNone result
+        ((left right : code.Expr) → words.now ≢ left ∷ right ∷ []) }
+{
+    match words {
+        [left, right] => Some((left, right)),
         _ => None,
     }
 }

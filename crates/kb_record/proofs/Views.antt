@@ -3,11 +3,11 @@ use Rattle.std.proofs.Common.{◌≡◌, ℕ, List, [], ◌∷◌, length, map, 
 use Rattle.std.specs.Bool.{MatchBool}
 use Rattle.std.specs.Borrow.{Bor}
 use Rattle.kb_record.specs.Tree.{field, record_value, list_value, word_value, Value as ValueTree}
-use Rattle.kb_record.specs.View.{value_view, word_view, first_word, text_place, fields_of, places_of, places_view, word_place, number_place, row_place, entry_place, entries_place, field_view}
+use Rattle.kb_record.specs.View.{value_view, word_view, first_word, text_place, fields_of, places_of, places_view, word_place, words_place, number_place, row_place, entry_place, entries_place, field_view}
 use Rattle.kb_record.specs.Reading.{fields_from}
 use Rattle.kb_record.specs.Listed.{places_in, listed, HasPlaces, pair_row}
 use Rattle.kb_record.specs.declared.tree.Expr.{Expr}
-use Rattle.kb_record.specs.declared.tree.Value.{Value, Record, List as Listed, Numbers, Rows, Entries, Word, Words, the_lemmas}
+use Rattle.kb_record.specs.declared.tree.Value.{Value, Record, List as Listed, Numbers, Rows, Entries, Word, Words, WordRows, the_lemmas}
 
 -- the fields in two ways
 pub fields_alike : (fs : List (Bor (List ℕ) × Value)) → fields_from (map field_view fs) ≡ fields_of (map (λ (f : Bor (List ℕ) × Value). (f.0, value_view f.1)) fs)
@@ -25,6 +25,9 @@ view-List v = search (rules, the_lemmas)
 
 pub view-Words : (words : Vec Expr Global) → HasPlaces (value_view (Words words)) (map word_place words.items)
 view-Words words = search (rules, the_lemmas)
+
+pub view-WordRows : (rows : List (List Expr)) → HasPlaces (value_view (WordRows rows)) (map words_place rows)
+view-WordRows rows = search (rules, the_lemmas)
 
 pub view-Numbers : (v : Vec ℤ Global) → HasPlaces (value_view (Numbers v)) (map number_place v.items)
 view-Numbers v = search (rules, the_lemmas)

@@ -51,12 +51,17 @@ text_place (byte ∷ bytes) = Some (word_value (first_word (byte ∷ bytes)))
 abbrev pub word_place : Expr → Option ValueTree
 word_place word = text_place word.text.now
 
+-- words and empty places as a list at a place
+abbrev pub words_place : List Expr → Option ValueTree
+words_place words = Some (list_value (places_of (map word_place words)))
+
 abbrev pub value_step : Value-F ValueTree → ValueTree
 value_step (Value-F.Number z) = number_value z
 value_step (Value-F.String text) = string_value text.now
 value_step (Value-F.Record fields) = record_value (fields_of fields.items)
 value_step (Value-F.List places) = list_value (places_of places.items)
 value_step (Value-F.Words words) = list_value (places_of (map word_place words.items))
+value_step (Value-F.WordRows rows) = list_value (places_of (map words_place rows))
 value_step (Value-F.Numbers numbers) = list_value (places_of (map number_place numbers.items))
 value_step (Value-F.Rows rows) = list_value (places_of (map row_place rows))
 value_step (Value-F.Entries rows) = list_value (places_of (map entries_place rows))

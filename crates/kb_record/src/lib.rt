@@ -18,7 +18,7 @@
 //! [`a_word_has_one_meaning`] they mean one word, and by [`a_word_has_one_fault`] others have one fault.
 //!
 //! A list is one tree, in whichever form it is kept: [`Value::place_count`](Value) and [`Value::place`](Value) read it
-//! place by place, and [`Place`] hands out a row of numbers, or of pairs, as it stands.
+//! place by place, and [`Place`] hands out a row of words, of numbers, or of pairs, as it stands.
 //!
 //! Want of memory may be returned by each call that takes memory, and by no other.
 //!
@@ -31,8 +31,8 @@
 //!   function is proved to compute a function on token lists of `specs/Reading.antt`, and what those say of the
 //!   grammar, `specs/Grammar.antt`, is proved in `proofs/`.
 //! - `passed` goes over the tokens of refused bytes once more, up to the last one that was passed: `kb_lexing` says its place.
-//! - `longer` appends a place to a list that is read: a list of numbers, of lists of numbers or of
-//!   lists of pairs stays in arrays (`kb_ragged`) as long as its places allow, which takes a small
+//! - `longer` appends a place to a list that is read: a list of words, of numbers, or of lists of words, of numbers or of
+//!   pairs stays in arrays (`kb_ragged`) as long as its places allow, which takes a small
 //!   part of the memory of a tree of values. `listed` reads the places of a list in any form.
 //! - `evaluation` evaluates a word as it is read, without a tree, so that a line takes no memory but that of its words;
 //!   `meaning` has what its names, powers and products mean. `written` reads a word of a tree again: it evaluates it, tells

@@ -17,6 +17,8 @@ pub enum Place<'r, 'a> {
     Value(&'r Value<'a>),
     /// A word.
     Word(&'r Expr<'a>),
+    /// A list of words and empty places.
+    Words(&'r [Expr<'a>]),
     /// A number.
     Number(i64),
     /// A list of numbers.
@@ -40,6 +42,7 @@ impl<'a> Value<'a> {
             Value::Rows(rows) => Some(rows.len()),
             Value::Entries(rows) => Some(rows.len()),
             Value::Words(words) => Some(words.len()),
+            Value::WordRows(rows) => Some(rows.len()),
             _ => None,
         }
     }
@@ -55,6 +58,7 @@ impl<'a> Value<'a> {
             Value::Rows(rows) => Place::Numbers(rows.get(place).unwrap()),
             Value::Entries(rows) => Place::Entries(rows.get(place).unwrap()),
             Value::Words(words) => word_at(&words[place]),
+            Value::WordRows(rows) => Place::Words(rows.get(place).unwrap()),
             _ => unreachable!(),
         }
     }

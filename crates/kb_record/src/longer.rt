@@ -1,12 +1,12 @@
 //! Lists that grow place by place, each in the smallest form that has room for it.
 //!
-//! A list of numbers, of lists of numbers or of lists of pairs of numbers stays in a form of its own while its places
-//! allow; a place that doesn't fit makes it a list of any values.
+//! A list of words or of numbers, or of lists of words, of numbers or of pairs of numbers, stays in a form of its own while
+//! its places allow; a place that doesn't fit makes it a list of any values.
 
 ghost use Rattle.std.specs.Prelude.{◌≡◌, ◌++◌, ◌∷◌, [], map, Some, None, IfOk, IfSome};
 ghost use Rattle.std.specs.Option.{option_map};
 ghost use Rattle.kb_record.specs.Tree.{word_value};
-ghost use Rattle.kb_record.specs.View.{value_view, word_view, number_place, row_place, entry_place, entries_place, word_place};
+ghost use Rattle.kb_record.specs.View.{value_view, word_view, number_place, row_place, entry_place, entries_place, word_place, words_place};
 ghost use Rattle.kb_record.specs.Listed.{listed, HasPlaces, pair_row};
 ghost use Rattle.kb_record.specs.Reading.{first_place};
 
@@ -42,6 +42,7 @@ pub(crate) fn longer<'a>(
         Value::Entries(rows) => longer_entries(alloc, rows, place),
         Value::List(places) => longer_any(alloc, places, place, room),
         Value::Words(words) => longer_words(alloc, words, place),
+        Value::WordRows(rows) => longer_word_rows(alloc, rows, place),
         _ => unreachable!(),
     }
 }
@@ -76,6 +77,7 @@ fn list_of_one<'a>(
         Some(Value::Number(number)) => longer_numbers_by(Vec::new(alloc), number),
         Some(Value::Numbers(row)) => longer_rows_by(Ragged::new(alloc)?, row.as_slice()),
         Some(Value::Word(word)) => list_of_word(alloc, word, room),
+        Some(Value::Words(row)) => list_of_words(alloc, row, room),
         Some(value) => list_of_value(alloc, value, room),
         None => list_of_none(alloc, room),
     }
@@ -172,6 +174,42 @@ fn longer_words_by<'a>(words: Vec<Expr<'a>>, word: Expr<'a>) -> Result<Value<'a>
     let mut words = words;
     words.push(word)?;
     Ok(Value::Words(words))
+}
+
+/// A list of one list of words, with room for so many. Where it has no other it is smaller as a value.
+fn list_of_words<'a>(alloc: Global, row: Vec<Expr<'a>>, room: usize) -> Result<Value<'a>, Memory>
+    ensures { IfOk result
+        (λ list. HasPlaces (value_view list) (words_place row.entry.items ∷ [])) }
+{
+    if room < 2 {
+        return list_of_value(alloc, Value::Words(row), room);
+    }
+    longer_word_rows_by(Ragged::new(alloc)?, row.as_slice())
+}
+
+/// A list of lists of words with one place more.
+fn longer_word_rows<'a>(
+    alloc: Global,
+    rows: Ragged<Expr<'a>>,
+    place: Option<Value<'a>>,
+) -> Result<Value<'a>, Memory>
+    ensures { IfOk result (λ list. HasPlaces (value_view list)
+        (map words_place rows.entry ++ option_map value_view place.entry ∷ [])) }
+{
+    match place {
+        Some(Value::Words(row)) => longer_word_rows_by(rows, row.as_slice()),
+        place => longer_list(word_rows_apart(alloc, &rows)?, place),
+    }
+}
+
+/// A list of lists of words with one such list more.
+fn longer_word_rows_by<'a>(rows: Ragged<Expr<'a>>, row: &[Expr<'a>]) -> Result<Value<'a>, Memory>
+    ensures { IfOk result (λ list. HasPlaces (value_view list)
+        (map words_place rows.entry ++ words_place row.now ∷ [])) }
+{
+    let mut rows = rows;
+    rows.push(row)?;
+    Ok(Value::WordRows(rows))
 }
 
 /// A list of numbers with one place more.
@@ -330,6 +368,22 @@ fn word_apart<'a>(word: Expr<'a>) -> Option<Value<'a>>
     } else {
         None
     }
+}
+
+/// Lists of words as values of their own.
+fn word_rows_apart<'a>(
+    alloc: Global,
+    rows: &Ragged<Expr<'a>>,
+) -> Result<Vec<Option<Value<'a>>>, Memory>
+    ensures { IfOk result
+        (λ places. map (option_map value_view) places.items ≡ map words_place rows.now) }
+{
+    let mut places = Vec::with_capacity(alloc, rows.len())?;
+    for place in 0..rows.len() {
+        let row = Vec::from_slice(alloc, rows.get(place).unwrap())?;
+        places.push(Some(Value::Words(row)))?;
+    }
+    Ok(places)
 }
 
 /// Numbers as values of their own.

@@ -28,10 +28,12 @@ pub enum Value<'a> {
     /// `rec( .. )`, its fields in the order of the text
     Record(Vec<(&'a str, Value<'a>)>),
     /// `[ .. ]`, its places in order, of which some may be empty. It may be any list; a long list is one of the
-    /// next four where it can be.
+    /// next five where it can be.
     List(Vec<Option<Value<'a>>>),
     /// `[a,,b*c]`, a list of words and empty places
     Words(Vec<Expr<'a>>),
+    /// `[[a,b*c],[,d]]`, a list of lists of words and empty places
+    WordRows(Ragged<Expr<'a>>),
     /// `[1,2]`, a list of numbers
     Numbers(Vec<i64>),
     /// `[[1,2],[3]]`, a list of lists of numbers

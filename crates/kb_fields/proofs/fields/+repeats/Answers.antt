@@ -8,7 +8,7 @@ use Rattle.kb_record.specs.declared.tree.Value.{Value, the_lemmas}
 use Rattle.kb_fields.specs.Fields.{fields_view, places_view, HasFieldTwice, IsFirstRepeated}
 use Rattle.kb_record.proofs.Views.{view-Record, view-List}
 use Rattle.kb_fields.proofs.Outcomes.{IfOk_then, IfNone_then}
-use Rattle.kb_fields.proofs.RepeatLemmas.{has, not_false, not_true, field_at, name_at, none_twice, seen_more, within_more, no_place_twice, places_more, at_value, no_number_twice, no_row_twice, no_entries_twice, no_word_twice}
+use Rattle.kb_fields.proofs.RepeatLemmas.{has, not_false, not_true, field_at, name_at, none_twice, seen_more, within_more, no_place_twice, places_more, at_value, no_number_twice, no_row_twice, no_entries_twice, no_word_twice, no_words_twice}
 use Rattle.kb_fields.proofs.RepeatOrder.{from_field, from_place, stands, is_new, repeated_here, repeated_inside, repeated_later, repeated_at_place, repeated_behind}
 use Rattle.kb_fields.proofs.fields.+repeats.Goals as goal
 use Rattle.kb_fields.proofs.fields.+repeats.Goals.{repeated_within-in-Some+in_ok-name-in-List+in_default-2, repeated_within-in_default-place}
@@ -104,4 +104,4 @@ repeated_within-returns-in-Record-clause-none t c =
     subst Q (sym seen) (subst P c.as_slice.ensures.value once)))
 
 pub repeated_within-returns-in_default : goal.repeated_within-returns-in_default
-repeated_within-returns-in_default t c = search (rules, the_lemmas, no_number_twice, no_row_twice, no_entries_twice, no_word_twice)
+repeated_within-returns-in_default t c = search (rules, the_lemmas, no_number_twice, no_row_twice, no_entries_twice, no_word_twice, no_words_twice)

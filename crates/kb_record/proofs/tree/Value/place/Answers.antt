@@ -3,9 +3,9 @@ use Rattle.std.specs.Option.{IsSome}
 use Rattle.std.proofs.lemmas.List.{length-map}
 use Rattle.std.proofs.lemmas.Option.{slice_get-map, slice_get_read}
 use Rattle.kb_record.specs.Tree.{Value as ValueTree}
-use Rattle.kb_record.specs.View.{value_view, number_place, row_place, entries_place, word_place}
+use Rattle.kb_record.specs.View.{value_view, number_place, row_place, entries_place, word_place, words_place}
 use Rattle.kb_record.specs.Listed.{listed, HasPlaces}
-use Rattle.kb_record.proofs.Views.{view-List, view-Numbers, view-Rows, view-Entries, view-Words, listed-is}
+use Rattle.kb_record.proofs.Views.{view-List, view-Numbers, view-Rows, view-Entries, view-Words, view-WordRows, listed-is}
 use Rattle.kb_record.proofs.tree.Value.place.Goals as goal
 
 -- a place of the list is one of what it is made of
@@ -96,3 +96,16 @@ returns-in-Words c =
     let few = within _ _ words.items c.args.place is c.requires in
     let found : slice_get words.items c.args.place ≡ Some c.index-in-Words.result.now = slice_get_read words.items (length words.items) c.args.place _ refl few c.index-in-Words.ensures in
     at _ _ words.items c.args.place _ is found ∙ ap Some (sym c.word_at.ensures)
+
+pub unwrap-requires-in-WordRows : goal.unwrap-requires-in-WordRows
+unwrap-requires-in-WordRows c =
+    let rows = c.in-WordRows.rows in
+    let is : HasPlaces (value_view c.args.self.now) (map words_place rows) = ap value_view c.in-WordRows.is ∙ view-WordRows rows in
+    some-within rows c.args.place c.get-in-WordRows.result _ (within _ _ rows c.args.place is c.requires) c.get-in-WordRows.ensures
+
+pub returns-in-WordRows : goal.returns-in-WordRows
+returns-in-WordRows c =
+    let rows = c.in-WordRows.rows in
+    let is : HasPlaces (value_view c.args.self.now) (map words_place rows) = ap value_view c.in-WordRows.is ∙ view-WordRows rows in
+    let found : slice_get rows c.args.place ≡ Some c.unwrap-in-WordRows.result.now = search rules in
+    at _ _ rows c.args.place _ is found

@@ -1,9 +1,9 @@
 use Rattle.std.proofs.Common.{rules, ◌≡◌, length, map, ap, ◌∙◌, ℕ, List, Option, option_map}
 use Rattle.std.proofs.lemmas.List.{length-map}
 use Rattle.kb_record.specs.Tree.{Value as ValueTree}
-use Rattle.kb_record.specs.View.{value_view, number_place, row_place, entries_place, word_place}
+use Rattle.kb_record.specs.View.{value_view, number_place, row_place, entries_place, word_place, words_place}
 use Rattle.kb_record.specs.Listed.{listed, HasPlaces}
-use Rattle.kb_record.proofs.Views.{view-List, view-Numbers, view-Rows, view-Entries, view-Words, listed-is, has_its_places}
+use Rattle.kb_record.proofs.Views.{view-List, view-Numbers, view-Rows, view-Entries, view-Words, view-WordRows, listed-is, has_its_places}
 use Rattle.kb_record.proofs.tree.Value.place_count.Goals as goal
 
 -- the places, and how many of them there are
@@ -44,3 +44,10 @@ returns-in-Words-clause-list c =
     let is : HasPlaces (value_view c.args.self.now) (map word_place words.items) = ap value_view c.in-Words.is ∙ view-Words words in
     let count : length words.items ≡ c.len-in-Words.result = search rules in
     counted _ _ c.len-in-Words.result is (length-map words.items word_place ∙ count)
+
+pub returns-in-WordRows-clause-list : goal.returns-in-WordRows-clause-list
+returns-in-WordRows-clause-list c =
+    let rows = c.in-WordRows.rows in
+    let is : HasPlaces (value_view c.args.self.now) (map words_place rows) = ap value_view c.in-WordRows.is ∙ view-WordRows rows in
+    let count : length rows ≡ c.len-in-WordRows.result = search rules in
+    counted _ _ c.len-in-WordRows.result is (length-map rows words_place ∙ count)
