@@ -33,8 +33,8 @@ one_least parts w m n one other = elim ((word_orders parts.order).total m n) [
 
 -- ---- complete
 
--- Where no line of the input is refused and the input isn't too long, the run answers yes or reaches a limit, but where a
--- device fails or memory runs out.
+-- Where no line of the input is refused and the input isn't too long, the run answers yes or reaches a limit, but
+-- where a device fails or memory runs out.
 pub answers-complete : (own : Own) (shows : Shows) (parts : PresentationParts)
     (before after : Outside) (status : Status)
     → ((number : ℕ) (fault : WordError)

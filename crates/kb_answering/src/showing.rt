@@ -17,8 +17,8 @@ use kb_progress::Progress;
 use kb_task::{Status, print_line};
 use std::alloc::Global;
 
-/// Stores the files that show a limit, and writes the line that says so. Of the command nothing is read: it says what the
-/// run means.
+/// Stores the files that show a limit, and writes the line that says so. Of the command nothing is read: it says what
+/// the run means.
 pub fn show_limit<C: Concludes, F: Shelf, O: Sink, E: Sink>(
     alloc: Global,
     command: &C,

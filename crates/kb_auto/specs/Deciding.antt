@@ -24,8 +24,8 @@ pub record AreUnresolvedBy (presentation : Presentation) (rules : List Sides)
   pub other : List ℕ
   pub first : IsFirstUnresolved presentation rules multipliers x state label other
 
--- Yes: the automata pass, and are the group's own. No: the first certificate. Too many states: the first count above the
--- limit, before which there is no certificate. Halted: there is no certificate but perhaps of the kind N3, the
+-- Yes: the automata pass, and are the group's own. No: the first certificate. Too many states: the first count above
+-- the limit, before which there is no certificate. Halted: there is no certificate but perhaps of the kind N3, the
 -- completion reached a limit, as its log shows, and by its live rules the multipliers are unresolved.
 abbrev pub CheckedSays : Limits → Presentation → Automaton → List Automaton → Checked → Type 0
 CheckedSays limits presentation acceptor multipliers Yes =

@@ -49,7 +49,8 @@ pub data KeepsRounds (tried : Tried) : List Equality → List (List ℕ) → Typ
       → AddsEquality tried equality words new Grew
       → KeepsRounds tried (equalities ++ equality ∷ []) new
 
--- the differences are kept of the rules and of the rounds with these equalities, without one for which there was no room
+-- the differences are kept of the rules and of the rounds with these equalities, without one for which there was no
+-- room
 pub record IsKept (tried : Tried) (words : List (List ℕ)) (listing : Listing) : Type 0 where
   pub rounds : List Equality
   pub keeps : KeepsRounds tried rounds words

@@ -34,8 +34,8 @@ use std::alloc::Global;
 use std::sync::Wait;
 use std::thread::Threads;
 
-/// What the reduced complete system of the group answers: rounds by it keep more differences each, until the automata are
-/// the group's own or a limit is reached.
+/// What the reduced complete system of the group answers: rounds by it keep more differences each, until the automata
+/// are the group's own or a limit is reached.
 pub(crate) fn answer_by_complete<W: WatchRounds, T: Threads + Wait + Sync>(
     rt: &T,
     alloc: Global,
@@ -130,8 +130,8 @@ fn too_many_states(
     })
 }
 
-/// What a completion answers that halted: a last round is made by its live rules, by as many of their differences as there
-/// is room for.
+/// What a completion answers that halted: a last round is made by its live rules, by as many of their differences as
+/// there is room for.
 pub(crate) fn answer_at_halt<W: WatchRounds, T: Threads + Wait + Sync>(
     rt: &T,
     alloc: Global,

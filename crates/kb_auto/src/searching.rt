@@ -75,20 +75,20 @@ fn search_by_growths<G: Gate, W: Watch + WatchRounds, T: Threads + Wait + Sync>(
     'growths: loop {
         match grow_twofold(rt, alloc, book, finder, workers, watch)? {
             Grown::More(next) => book = next,
-            Grown::Confluent(rules, ended) => {
+            Grown::Confluent(rules, end) => {
                 return answer_by_complete(
                     rt,
                     alloc,
                     presentation,
                     rules,
-                    ended,
+                    end,
                     limits,
                     count,
                     watch,
                 );
             }
-            Grown::Halted(ended) => {
-                return answer_at_halt(rt, alloc, presentation, ended, limits, count, watch);
+            Grown::Halted(end) => {
+                return answer_at_halt(rt, alloc, presentation, end, limits, count, watch);
             }
         }
         live_rules_are_of_the_group(presentation, &book);

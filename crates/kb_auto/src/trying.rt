@@ -38,8 +38,8 @@ pub(crate) enum Trial {
     Stuck,
 }
 
-/// Makes rounds by rules of the group, each by the differences of the rules and of the failed rounds before. Where there
-/// is a budget, only so many failed rounds are gone by.
+/// Makes rounds by rules of the group, each by the differences of the rules and of the failed rounds before. Where
+/// there is a budget, only so many failed rounds are gone by.
 pub(crate) fn try_rules<W: WatchRounds, T: Threads + Wait + Sync>(
     rt: &T,
     alloc: Global,

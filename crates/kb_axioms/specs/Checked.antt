@@ -86,8 +86,8 @@ pub record PassesRelations (checked : Checked) : Type 0 where
   pub alike : ActAlikeBefore checked.relations checked.acceptor checked.multipliers checked.limit
       (length checked.relations)
 
--- The certificate is the first of the kinds N1, N2 and N4 to N8, in this order; within one kind of the first generator or
--- relation, and of that with the least words. No count before it is above the limit.
+-- The certificate is the first of the kinds N1, N2 and N4 to N8, in this order; within one kind of the first
+-- generator or relation, and of that with the least words. No count before it is above the limit.
 pub data IsFirstCertificate (checked : Checked) : Cert → Type 0 where
   n1 : {u : List ℕ}
       → Of checked (λ structure. IsLeastWord (PrefixNotAccepted structure) u)

@@ -57,8 +57,8 @@ pub enum Axioms {
     Yes,
     /// They aren't: the first certificate.
     No(Cert),
-    /// There is no certificate but perhaps of the kind N3, and the rules, which aren't known to be confluent, give label
-    /// words of a state different normal forms.
+    /// There is no certificate but perhaps of the kind N3, and the rules, which aren't known to be confluent, give
+    /// label words of a state different normal forms.
     Unresolved {
         /// The first such multiplier's generator.
         x: Letter,

@@ -27,9 +27,9 @@ use std::alloc::Global;
 use std::sync::Wait;
 use std::thread::Threads;
 
-/// Whether a word acceptor and multipliers are the automatic structure of the group that is presented, as far as rules
-/// of the group show. Where `confluent` holds the rules settle it, unless a count is above the limit. Several workers are
-/// a thread each.
+/// Whether a word acceptor and multipliers are the automatic structure of the group that is presented, as far as
+/// rules of the group show. Where `confluent` holds the rules settle it, unless a count is above the limit. Several
+/// workers are a thread each.
 pub fn check<R: Reducer, T: Threads + Wait + Sync>(
     rt: &T,
     alloc: Global,

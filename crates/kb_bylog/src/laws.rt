@@ -12,8 +12,8 @@ pub fn the_lines_of_a_justified_log_follow()
         → OneOf (lines_of log) pair → Congruent (OneOf (relations parts)) pair.0 pair.1 }
 {}
 
-/// The lines of a justified log generate the congruence of the relations, if both sides of each relation have one normal
-/// form by them.
+/// The lines of a justified log generate the congruence of the relations, if both sides of each relation have one
+/// normal form by them.
 pub fn lines_that_settle_generate_the_congruence()
     ensures { (parts : PresentationParts) (log : Log) → IsJustifiedBy parts log
         → AreJoined (lines_of log) (relations parts)

@@ -1,7 +1,8 @@
 //! Answers by the lines of a justified log.
 //!
-//! The lines of a justified log are rules, and both sides of each are congruent in the presentation. Where no relation and
-//! no overlap is apart by them, they are a confluent system of the presentation, as that which a completion ends with.
+//! The lines of a justified log are rules, and both sides of each are congruent in the presentation. Where no
+//! relation and no overlap is apart by them, they are a confluent system of the presentation, as that which a
+//! completion ends with.
 //!
 //! # The public contract
 //!

@@ -15,8 +15,8 @@ HasImagesUpTo structure most = (x : ℕ) (u : List ℕ) → IsGenerator structur
     → Accepts structure u
     → (v : List ℕ) × Multiplies structure x u v
 
--- The first words of the generator's multiplier have more sets of states than the limit. Those of no earlier generator's
--- have, and under these each accepted word has an image.
+-- The first words of the generator's multiplier have more sets of states than the limit. Those of no earlier
+-- generator's have, and under these each accepted word has an image.
 pub record IsFirstCounted (acceptor : Automaton) (multipliers : List Automaton) (limit x : ℕ)
     : Type 0 where
   pub multiplier : Automaton
@@ -27,8 +27,8 @@ pub record IsFirstCounted (acceptor : Automaton) (multipliers : List Automaton) 
   pub images : OfAutomata acceptor multipliers (λ structure. (y : ℕ) (u : List ℕ) → y < x
       → ¬ WordWithoutImage structure y u)
 
--- Each accepted word has an image under the generator of the place, which is the one after it, and the first words of its
--- multiplier have no more sets of states than the limit.
+-- Each accepted word has an image under the generator of the place, which is the one after it, and the first words of
+-- its multiplier have no more sets of states than the limit.
 pub record GivesImages (acceptor : Automaton) (multipliers : List Automaton) (limit place : ℕ)
     : Type 0 where
   pub images : OfAutomata acceptor multipliers (λ structure. (u : List ℕ) → Accepts structure u

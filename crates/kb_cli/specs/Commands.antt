@@ -10,8 +10,8 @@ use Rattle.kb_cli.specs.declared.command.Command.{Command}
 use Rattle.kb_cli.specs.declared.command.Command.TheVariants.{WordReduce, Automata, Completion, Elements, Structures, Proofs}
 
 -- What the command promises: what its statuses mean, the names under which it may store, those of the files that it
--- reads, the first of them that has a fault, when nothing of that is refused, its answers, those that the files settle, and which commands are the same but
--- for options that change no answer.
+-- reads, the first of them that has a fault, when nothing of that is refused, its answers, those that the files
+-- settle, and which commands are the same but for options that change no answer.
 abbrev pub command_promise : Command → Promise Command
 command_promise (WordReduce task) = in_family WordReduce (wordreduce_promise task)
 command_promise (Automata task) = in_family Automata (automata_promise task)

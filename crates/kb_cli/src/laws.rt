@@ -52,8 +52,8 @@ pub fn a_refused_file_has_the_first_fault()
         → (command_promise command).refuses before name fault }
 {}
 
-/// And where there is such a file, the run ends with exactly that refusal: the file is named, with the first fault that it
-/// has; or memory ran out, or a device failed.
+/// And where there is such a file, the run ends with exactly that refusal: the file is named, with the first fault
+/// that it has; or memory ran out, or a device failed.
 pub fn a_file_with_a_fault_is_refused()
     ensures { (arguments : List (List ℕ)) (command : Command) (before after : Outside)
         (status : Status) (name : List ℕ) (fault : FileFault)

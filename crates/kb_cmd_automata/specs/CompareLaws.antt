@@ -142,7 +142,8 @@ compare_lawful task = record {
       one_status names one two task.max_states first.0 second.0 status other first.1 second.1)
       (alike task.one (inl refl)) (alike task.two (inr refl)) means others;
   conclusive = λ status settles. settles;
-  one_function = λ other_task before after other_before other_after status other means others is_yes also differs alike input.
+  one_function = λ other_task before after other_before other_after status other means others
+      is_yes also differs alike input.
       over_two before after other_before other_after status other (yes-conclusive status is_yes)
       (yes-conclusive other also)
       (HasSameEffect (λ name. ⊥) before after other_before other_after) WordsOrPairs

@@ -51,7 +51,8 @@ enumerate_lawful task = record {
       other also print.so))
       (alike task.file refl) means others;
   conclusive = λ status settles. settles;
-  one_function = λ other_task before after other_before other_after status other means others is_yes also differs alike input.
+  one_function = λ other_task before after other_before other_after status other means others
+      is_yes also differs alike input.
       over_one before after other_before other_after status other (yes-conclusive status is_yes)
       (yes-conclusive other also)
       (HasSameEffect (λ name. ⊥) before after other_before other_after)

@@ -213,7 +213,8 @@ module _ {Task : Type 0} (making : Task → Making) (Exceeds : Task → Automato
             also made mades)
             (same_files own.file refl) means others;
         conclusive = λ status settles. settles;
-        one_function = λ other_task before after other_before other_after status other means others is_yes also differs same_files input.
+        one_function = λ other_task before after other_before other_after status other means others
+            is_yes also differs same_files input.
             over_one before after other_before other_after status other
             (yes-conclusive status is_yes) (yes-conclusive other also)
             (HasSameEffect (λ name. name ≡ own.out) before after other_before other_after)
@@ -284,7 +285,8 @@ combine_lawful task = record {
       before after other_before other_after status other conclusive also made mades)
       (same task.one (inl refl)) (same task.two (inr refl)) means others;
   conclusive = λ status settles. settles;
-  one_function = λ other_task before after other_before other_after status other means others is_yes also differs same input.
+  one_function = λ other_task before after other_before other_after status other means others
+      is_yes also differs same input.
       over_two before after other_before other_after status other (yes-conclusive status is_yes)
       (yes-conclusive other also)
       (HasSameEffect (λ name. name ≡ task.out) before after other_before other_after)

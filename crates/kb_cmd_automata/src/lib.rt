@@ -11,8 +11,8 @@
 //! Each kind of command is a struct in a file of its own; `task` has the enum of all five kinds, and `line` is what
 //! the command line says of them.
 //!
-//! Below are the operations on automata, their files and their canonical form, `kb_listing`, which prints accepted words, and
-//! `kb_task`.
+//! Below are the operations on automata, their files and their canonical form, `kb_listing`, which prints accepted
+//! words, and `kb_task`.
 #![tactic(auto)]
 
 mod combine;

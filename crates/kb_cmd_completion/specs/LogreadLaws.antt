@@ -164,7 +164,8 @@ logread_lawful given = record {
   settled = λ before after other_before other_after status other means others same is_yes also.
       one_yes status other is_yes also;
   conclusive = yes-conclusive;
-  one_function = λ other_given before after other_before other_after status other means others is_yes also file same input.
+  one_function = λ other_given before after other_before other_after status other means others
+      is_yes also file same input.
       let means_given =
       subst (λ name. LogreadMeans (record { file = name }) other_before other_after other)
       (sym file) others in

@@ -95,7 +95,8 @@ selftest_lawful given = record {
   settled = λ before after other_before other_after status other means others same is_yes also.
       one_yes status other is_yes also;
   conclusive = yes-conclusive;
-  one_function = λ other_given before after other_before other_after status other means others is_yes also rank same input.
+  one_function = λ other_given before after other_before other_after status other means others
+      is_yes also rank same input.
       same_effect given given.rank before after other_before other_after
       (wrote given before after status is_yes means)
       (subst (λ n. Wrote n other_before other_after) (sym rank)

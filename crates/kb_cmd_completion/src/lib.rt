@@ -11,13 +11,14 @@
 //!
 //! - `kbprog`, `logread` and `selftest` are the commands, and `task` has the enum of all three.
 //! - `line` is what the command line says of them.
-//! - `files` makes the files of a completed presentation, and `conclusion` those or what shows a limit, by how a completion
-//!   ended.
+//! - `files` makes the files of a completed presentation, and `conclusion` those or what shows a limit, by how a
+//!   completion ended.
 //! - `printing` appends the parts of lines.
 //!
 //! Below are `kb_system`, which completes presentations, `kb_progress`, which shows how far that has come,
-//! `kb_freeabelian`, which makes what `selftest` completes, `kb_proof`, which prints and reads logs, `kb_evidence`, with the
-//! names of files and what shows a limit, `kb_answering`, which stores files and answers word lines, and `kb_task`.
+//! `kb_freeabelian`, which makes what `selftest` completes, `kb_proof`, which prints and reads logs, `kb_evidence`,
+//! with the names of files and what shows a limit, `kb_answering`, which stores files and answers word lines, and
+//! `kb_task`.
 #![tactic(auto)]
 
 mod conclusion;

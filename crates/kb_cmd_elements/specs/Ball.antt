@@ -42,8 +42,8 @@ BallMeans given before after status =
 abbrev pub ball_may_store : BallGiven → List ℕ → Type 0
 ball_may_store given name = (name ≡ rules_file given.file) ⊎ (name ≡ log_file given.file)
 
--- Which limit is reached may depend on the course of the completion. Another of the same radius on the same file is the same
--- but for its workers and its limits.
+-- Which limit is reached may depend on the course of the completion. Another of the same radius on the same file is
+-- the same but for its workers and its limits.
 abbrev pub ball_promise : BallGiven → Promise BallGiven
 ball_promise given = record {
   means = BallMeans given;

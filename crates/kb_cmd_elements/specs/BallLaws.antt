@@ -183,7 +183,8 @@ ball_lawful given = record {
   settled = λ before after other_before other_after status other means others same one also.
       one_yes status other one also;
   conclusive = yes-conclusive;
-  one_function = λ other_given before after other_before other_after status other means others is_yes also alike same input.
+  one_function = λ other_given before after other_before other_after status other means others
+      is_yes also alike same input.
       one_function given other_given before after other_before other_after status other means others
       is_yes also alike same;
 }

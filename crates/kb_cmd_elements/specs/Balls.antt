@@ -25,8 +25,8 @@ pub record AreFirstOfBall (parts : PresentationParts) (radius : ℕ)
   pub none_before : (word other : List ℕ) → Contains words word → IsInBall parts radius other
       → Less other word → Contains words other
 
--- Each element that some word of at most so many letters stands for has one of these words, its least word; the words are
--- such words, and ascend, so that none stands twice.
+-- Each element that some word of at most so many letters stands for has one of these words, its least word; the words
+-- are such words, and ascend, so that none stands twice.
 pub record IsBall (parts : PresentationParts) (radius : ℕ) (words : List (List ℕ)) : Type 0 where
   pub first : AreFirstOfBall parts radius words
   pub elements : (w : List ℕ) → IsOver (length parts.names) w → length w ≤ radius

@@ -1,4 +1,5 @@
--- What the statuses of a run mean that stores the rules of marked cosets and answers word lines with least words of cosets.
+-- What the statuses of a run mean that stores the rules of marked cosets and answers word lines with least words of
+-- cosets.
 use Rattle.std.specs.Prelude.{◌≡◌, ℕ, ◌⊎◌, List, [], ◌∷◌, ◌++◌, length, codes, true}
 use Rattle.kb_io.specs.Outside.{Outside, IsUnchanged}
 use Rattle.kb_word.specs.Words.{Pair}

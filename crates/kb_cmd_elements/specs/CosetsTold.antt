@@ -6,8 +6,8 @@ use Rattle.kb_coset.specs.Subgroups.{IsInSubgroup}
 use Rattle.kb_cosetwords.specs.Cosets.{Cosets, IsLeastOf}
 use Rattle.kb_cmd_elements.specs.CosetAnswers.{marked_of}
 
--- The answers to words tell the right cosets of a subgroup apart: m and k, the answers to u and to v, are equal exactly where
--- u and v are in one coset.
+-- The answers to words tell the right cosets of a subgroup apart: m and k, the answers to u and to v, are equal
+-- exactly where u and v are in one coset.
 pub record TellCosets (cosets : Cosets) : Type 0 where
   -- exactly where the marked words are congruent by the marked presentation
   pub marked : (u v m k : List ℕ) → IsOver (length cosets.parts.names) u

@@ -41,8 +41,8 @@ AnswersCosets given cosets before after status =
     CosetsMean given.file cosets before after status
     ⊎ AnswersMean no_files (kbcos_shows given) (marked_of cosets) before after status
 
--- What each status means once the group has been read: the run ended at the load of the words; or they were read, and the
--- answers tell the right cosets of the subgroup apart that they generate.
+-- What each status means once the group has been read: the run ended at the load of the words; or they were read, and
+-- the answers tell the right cosets of the subgroup apart that they generate.
 abbrev pub GroupMeans : KbcosGiven → PresentationParts → Outside → Outside → Status → Type 0
 GroupMeans given parts before after status =
     (EndsAtLoad (IsSubgroupFault parts before.shelf.holds (subgroup_file given.file))
@@ -72,7 +72,8 @@ KbcosRefuses given before =
     (λ parts. IsSubgroupFault parts before.shelf.holds (subgroup_file given.file))
     (subgroup_file given.file)
 
--- Neither file is refused, nor a line of the input by the presentation that the first holds, and the input isn't too long.
+-- Neither file is refused, nor a line of the input by the presentation that the first holds, and the input isn't too
+-- long.
 pub record IsKbcosUnrefused (given : KbcosGiven) (before : Outside) : Type 0 where
   pub file : IsUnrefused (IsMarkableFault before.shelf.holds given.file)
   pub generators : (parts : PresentationParts)

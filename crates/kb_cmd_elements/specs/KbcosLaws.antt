@@ -41,7 +41,8 @@ use Rattle.kb_cmd_elements.specs.Kbcos.{AnswersCosets, IsKbcosUnrefused, KbcosMe
 one_least_of : (cosets : Cosets) (w m k : List ℕ) → IsLeastOf cosets w m → IsLeastOf cosets w k → m ≡ k
 one_least_of cosets w m k one other =
     let stays : SameCoset (relations cosets.parts) cosets.generators w w = record { steps = []; linked = refl } in
-    (told_by_least (word_orders cosets.parts.order) (relations cosets.parts) cosets.generators w w m k one other).0 stays
+    (told_by_least (word_orders cosets.parts.order) (relations cosets.parts) cosets.generators
+    w w m k one other).0 stays
 
 -- cosets are told by one list of files
 one_texts : {file other_file : List ℕ} → file ≡ other_file → (cosets : Cosets) (texts others : List Text)

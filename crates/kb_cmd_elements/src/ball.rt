@@ -1,5 +1,5 @@
-//! `ball FILE R`: a presentation is completed, and the least words of at most R letters are printed; or what shows that a
-//! limit was reached is stored.
+//! `ball FILE R`: a presentation is completed, and the least words of at most R letters are printed; or what shows
+//! that a limit was reached is stored.
 
 ghost use Rattle.std.specs.Prelude.{◌≡◌, IfOk};
 ghost use Rattle.kb_io.specs.Outside.{outside};

@@ -15,7 +15,8 @@ use kb_progress::Progress;
 use kb_task::{Status, TextFile, status_of, store_texts};
 use std::alloc::Global;
 
-/// Stores the file of the rules, and answers the word lines. Of the command nothing is read: it says what the run means.
+/// Stores the file of the rules, and answers the word lines. Of the command nothing is read: it says what the run
+/// means.
 pub(crate) fn store_and_answer_cosets<F: Shelf, I: Source, O: Sink, E: Sink>(
     alloc: Global,
     task: &Kbcos,

@@ -1,5 +1,5 @@
-//! `kbcos FILE`: the presentation that marks the right cosets of a subgroup is completed, its rules are stored, and word lines
-//! are answered with the least words of their cosets; or what shows that a limit was reached is stored.
+//! `kbcos FILE`: the presentation that marks the right cosets of a subgroup is completed, its rules are stored, and
+//! word lines are answered with the least words of their cosets; or what shows that a limit was reached is stored.
 
 ghost use Rattle.std.specs.Prelude.{◌≡◌, ◌<◌, length, Contains};
 ghost use Rattle.kb_io.specs.Outside.{outside};

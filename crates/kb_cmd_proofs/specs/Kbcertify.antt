@@ -23,8 +23,8 @@ use Rattle.kb_cmd_proofs.specs.declared.finding.Finding.{Finding}
 abbrev pub yes_line : List ℕ
 yes_line = codes "yes\n"
 
--- What is found of a presentation: the status, the files that are stored, and the line that is written. It was completed,
--- and its log certifies that; or a limit was reached, as log and rules show.
+-- What is found of a presentation: the status, the files that are stored, and the line that is written. It was
+-- completed, and its log certifies that; or a limit was reached, as log and rules show.
 pub data FindsCertified (given : KbcertifyGiven) (parts : PresentationParts) : Status → List Text
     → List ℕ → Type 0 where
   certified : {texts : List Text} → AreCertified given.file parts texts
@@ -62,9 +62,9 @@ abbrev pub IsKbcertifyUnrefused : KbcertifyGiven → Outside → Type 0
 IsKbcertifyUnrefused given before =
     IsUnrefused (IsPresentationFault before.shelf.holds given.file)
 
--- Whether a limit is reached may depend on the course of the completion. Another on the same file is the same but for its
--- limits: they change no byte of the rules and of the word acceptor that a yes stores. Which log certifies these is left
--- open.
+-- Whether a limit is reached may depend on the course of the completion. Another on the same file is the same but for
+-- its limits: they change no byte of the rules and of the word acceptor that a yes stores. Which log certifies these
+-- is left open.
 abbrev pub kbcertify_promise : KbcertifyGiven → Promise KbcertifyGiven
 kbcertify_promise given = record {
   means = KbcertifyMeans given;

@@ -236,7 +236,8 @@ kbverify_lawful given = record {
       (checked_both given other_before other_after other also others)
       (same given.file (inl refl)) (same (log_file given.file) (inr refl));
   conclusive = λ status settles. settles;
-  one_function = λ other_given before after other_before other_after status other means others is_yes also file same input.
+  one_function = λ other_given before after other_before other_after status other means others
+      is_yes also file same input.
       let means_given =
       subst (λ name. KbverifyMeans (record { file = name }) other_before other_after other)
       (sym file) others in

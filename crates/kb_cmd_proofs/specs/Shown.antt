@@ -19,8 +19,8 @@ pub record HasParts (finding : Finding) (status : Status) (texts : List Text) (l
   pub stores : texts_of finding.files.items ≡ texts
   pub writes : finding.line.items ≡ line
 
--- What each status means: what was found was stored and its line written; or the output failed in the line, or the store
--- of a file; or memory ran out before anything was done, or in the stores.
+-- What each status means: what was found was stored and its line written; or the output failed in the line, or the
+-- store of a file; or memory ran out before anything was done, or in the stores.
 pub data ShowMeans (found : Found) (before after : Outside) : Status → Type 0 where
   shown : {status : Status} {texts : List Text} {line : List ℕ} → found status texts line
       → HoldsTexts texts before.shelf after.shelf → IsUnread before after

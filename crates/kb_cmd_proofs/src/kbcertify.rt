@@ -50,7 +50,8 @@ impl Kbcertify {
     ghost use Rattle.kb_task.specs.Promises.{Keeps};
     ghost use Rattle.kb_cmd_proofs.specs.Kbcertify.{kbcertify_promise};
 
-    /// Runs the command. What it writes to `err` only shows that it lives. One worker completes, in the caller's thread.
+    /// Runs the command. What it writes to `err` only shows that it lives. One worker completes, in the caller's
+    /// thread.
     pub fn run<T: Threads + Wait + Sync, F: Shelf, I: Source, O: Sink, E: Sink>(
         self,
         rt: &T,

@@ -53,7 +53,8 @@ pub record HoldLogged (files : Files) (file : List ℕ) (presentation : Presenta
   pub group : HoldsGroup files file presentation
   pub log_is : HoldsLogBeside files file presentation log
 
--- The run ended at the load of a file: of the group's; of the log; or, where the log is justified, of one of the automata.
+-- The run ended at the load of a file: of the group's; of the log; or, where the log is justified, of one of the
+-- automata.
 pub data EndsAtLogged (files : Files) (file : List ℕ) (status : Status) : Type 0 where
   at_logged_group : EndsAtLoad (IsGroupFault files file) file status
       → EndsAtLogged files file status
@@ -66,9 +67,10 @@ pub data EndsAtLogged (files : Files) (file : List ℕ) (status : Status) : Type
       → EndsAtAutomata files file presentation status
       → EndsAtLogged files file status
 
--- The file of the group has a fault; or, where it holds one, that of the log has; or, where the log is justified, that of
--- one of the automata. That the lines of the log leave open what the automata are is no fault that its file has as it is
--- loaded: it is said of the automata and the lines, and is refused only where it is so (`IsUnresolvedFault`).
+-- The file of the group has a fault; or, where it holds one, that of the log has; or, where the log is justified,
+-- that of one of the automata. That the lines of the log leave open what the automata are is no fault that its file
+-- has as it is loaded: it is said of the automata and the lines, and is refused only where it is so
+-- (`IsUnresolvedFault`).
 pub data IsLoggedRefused (files : Files) (file name : List ℕ) (fault : FileFault) : Type 0 where
   refused_logged_group : IsRefusedFor (IsGroupFault files file) file name fault
       → IsLoggedRefused files file name fault
@@ -84,7 +86,8 @@ pub data IsLoggedRefused (files : Files) (file name : List ℕ) (fault : FileFau
 -- ---- what is found
 
 -- There is no certificate but perhaps of the last kind, and the lines don't settle that: they leave a relation or an
--- overlap apart, and by them the label of a state of the multiplier of x and another label word have these normal forms.
+-- overlap apart, and by them the label of a state of the multiplier of x and another label word have these normal
+-- forms.
 pub record IsUnresolvedBy (given : CheckGiven) (presentation : Presentation) (log : Log)
     (acceptor : Automaton) (multipliers : List Automaton) (x : ℕ) (label other : List ℕ) : Type 0 where
   pub passes : PassesRelations (checked_by given presentation acceptor multipliers)
@@ -103,9 +106,10 @@ pub record IsUnresolvedFault (given : CheckGiven) (presentation : Presentation) 
       ≡ LogUnresolved (letter_name presentation.names x) (text_of_word presentation.names label)
       (text_of_word presentation.names other)
 
--- What is found of the automata by the lines of a justified log: the status, the files that are stored, and the line that
--- is written. They are the group's own, and the lines show it; or the first certificate shows that they aren't; or a
--- count is above the limit, and no certificate comes before it; or the lines don't settle it, and nothing is written.
+-- What is found of the automata by the lines of a justified log: the status, the files that are stored, and the line
+-- that is written. They are the group's own, and the lines show it; or the first certificate shows that they aren't;
+-- or a count is above the limit, and no certificate comes before it; or the lines don't settle it, and nothing is
+-- written.
 pub data FindsByLog (given : CheckGiven) (presentation : Presentation) (log : Log)
     (acceptor : Automaton) (multipliers : List Automaton)
     : Status → List Text → List ℕ → Type 0 where
@@ -138,8 +142,9 @@ pub data FindsUnjustified (presentation : Presentation) (log : Log)
 
 -- ---- a run
 
--- What each status means: the run ended at the load of a file; or the files hold a group and a log that isn't justified,
--- and that was shown; or the log is justified, the files hold automata too, and it is what was found of them by its lines.
+-- What each status means: the run ended at the load of a file; or the files hold a group and a log that isn't
+-- justified, and that was shown; or the log is justified, the files hold automata too, and it is what was found of
+-- them by its lines.
 pub data ByLogMeans (given : CheckGiven) (before after : Outside) (status : Status) : Type 0 where
   at_logged : EndsAtLogged before.shelf.holds given.file status → IsUnchanged before after
       → ByLogMeans given before after status

@@ -1,5 +1,5 @@
--- Of the files that `gpaxioms` reads by the lines of a log: what is refused is the first that has a fault, and where one
--- has, it is refused.
+-- Of the files that `gpaxioms` reads by the lines of a log: what is refused is the first that has a fault, and where
+-- one has, it is refused.
 use Rattle.std.proofs.Common.{◌≡◌, inr, ℕ, List, refl, subst}
 use Rattle.kb_io.specs.Outside.{Outside}
 use Rattle.kb_word.specs.Presentations.{PresentationParts, parts_of}
@@ -40,8 +40,8 @@ logged_refused files file name fault
     refused_logged_automata held justified
     (automata_refused files file presentation name fault ends)
 
--- What is found of automata by the lines of a log refuses no file for a fault that it has as it is loaded: where the lines
--- leave open what the automata are, that is the fault.
+-- What is found of automata by the lines of a log refuses no file for a fault that it has as it is loaded: where the
+-- lines leave open what the automata are, that is the fault.
 found_refuses_none : {given : CheckGiven} {presentation : Presentation} {log : Log}
     {accepts : Automaton} {multipliers : List Automaton} (status : Status) (texts : List Text)
     (line : List ℕ)

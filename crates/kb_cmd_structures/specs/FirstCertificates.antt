@@ -211,7 +211,8 @@ module _ (checked : Checked) where
   not_passed cert (of_automata (n8 passes at)) early passed =
       let broken = at.holds.broken ShortLex in
       let relation = broken.relation in
-      broken.different (passed.alike.alike at.index relation (slice_get_within checked.relations at.index relation broken.is_relation)
+      broken.different (passed.alike.alike at.index relation
+      (slice_get_within checked.relations at.index relation broken.is_relation)
       broken.is_relation ShortLex checked.relations _ _ _ broken.accepted broken.left broken.right)
   not_passed cert (of_elements passes first) early passed = absurd (omega (arith, early))
 

@@ -143,7 +143,8 @@ gpaxioms_lawful given = record {
   exact = all_exact given.by_log given.check;
   settled = all_settled given.by_log given.check;
   conclusive = conclusive;
-  one_function = λ other_given before after other_before other_after status other means others is_yes also file same input.
+  one_function = λ other_given before after other_before other_after status other means others
+      is_yes also file same input.
       one_function given other_given before after other_before other_after status other means
       others is_yes also;
 }

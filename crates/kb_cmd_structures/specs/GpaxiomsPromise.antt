@@ -38,8 +38,8 @@ abbrev pub RefusesBy : Bool → CheckGiven → Outside → List ℕ → FileFaul
 RefusesBy true check before = IsLoggedRefused before.shelf.holds check.file
 RefusesBy false check before = IsStructureRefused before.shelf.holds check.file
 
--- None of the files is refused, nor that of the log: neither as it is loaded, nor because its lines don't settle what the
--- automata are.
+-- None of the files is refused, nor that of the log: neither as it is loaded, nor because its lines don't settle what
+-- the automata are.
 pub record IsByLogUnrefused (check : CheckGiven) (before : Outside) : Type 0 where
   pub files : IsGpaxiomsUnrefused check before
   pub log_is : (presentation : Presentation)

@@ -31,10 +31,10 @@ pub record AreOwnForms (given : CheckGiven) (presentation : Presentation) (accep
   pub acceptor_form : IsCanonicalForm acceptor form
   pub multiplier_forms : AreCanonicalForms multipliers forms
 
--- What is found: the status, the files that are stored, and the line that is written. The automata are the group's own,
--- and the reduced complete system was made of their canonical forms, with no count above the limit; or its left sides
--- are counted above the limit; or its left sides aren't, but its rules are. Or else it is what `gpaxioms` finds, if that
--- isn't yes.
+-- What is found: the status, the files that are stored, and the line that is written. The automata are the group's
+-- own, and the reduced complete system was made of their canonical forms, with no count above the limit; or its left
+-- sides are counted above the limit; or its left sides aren't, but its rules are. Or else it is what `gpaxioms`
+-- finds, if that isn't yes.
 pub data FindsSystem (given : CheckGiven) (presentation : Presentation) (acceptor : Automaton)
     (multipliers : List Automaton) : Status → List Text → List ℕ → Type 0 where
   system : {form minred minkb : Automaton} {forms : List Automaton}

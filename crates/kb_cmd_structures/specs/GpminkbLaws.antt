@@ -101,7 +101,8 @@ gpminkb_lawful given = record {
   exact = structure_exact (are_answers given);
   settled = settled given (FindsSystem given) (are_answers given);
   conclusive = conclusive;
-  one_function = λ other_given before after other_before other_after status ends means others is_yes also file same input.
+  one_function = λ other_given before after other_before other_after status ends means others
+      is_yes also file same input.
       let Means : List ℕ → Type 0 =
       λ name. StructureMeans (FindsSystem other_given) name other_before other_after ends in
       one_effect (FindsSystem given) (FindsSystem other_given) given.file (GpminkbMayStore given)

@@ -51,8 +51,8 @@ AreReadyIn (Justified loaded log) =
     AreReady loaded.presentation loaded.acceptor loaded.multipliers.items log
 AreReadyIn (Unjustified number why) = Unit {0}
 
--- What the check by the lines answers: the automata are the group's own, and the lines show it; the first certificate; the
--- first count above the limit; or that the lines don't settle it.
+-- What the check by the lines answers: the automata are the group's own, and the lines show it; the first
+-- certificate; the first count above the limit; or that the lines don't settle it.
 abbrev pub LinesSay : CheckGiven → Presentation → Log → Automaton → List Automaton → Axioms → Type 0
 LinesSay given presentation log acceptor multipliers answers.Yes =
     PassesRelations (checked_by given presentation acceptor multipliers)

@@ -13,9 +13,9 @@ use Rattle.kb_reduced.specs.Reduced.{IsReducedRule}
 use Rattle.kb_task.specs.Stores.{Text}
 use Rattle.kb_evidence.specs.Files.{minred_file, minkb_file}
 
--- The first automaton accepts exactly the left sides of the reduced complete system, by shortlex, of the congruence that
--- the relations generate over n generators; the second exactly the pairs that are its rules. Both are canonical. There
--- may be infinitely many rules.
+-- The first automaton accepts exactly the left sides of the reduced complete system, by shortlex, of the congruence
+-- that the relations generate over n generators; the second exactly the pairs that are its rules. Both are canonical.
+-- There may be infinitely many rules.
 pub record IsReducedSystem (n : ℕ) (relations : List Sides) (minred minkb : Automaton) : Type 0 where
   pub left_sides : (w : List ℕ) → Accepts minred w
       ↔ ((right : List ℕ) × IsReducedRule (Below ShortLex) relations (w, right))

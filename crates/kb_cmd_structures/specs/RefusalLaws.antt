@@ -1,4 +1,5 @@
--- Of the files of a group and of automata: what is refused is the first that has a fault, and where one has, it is refused.
+-- Of the files of a group and of automata: what is refused is the first that has a fault, and where one has, it is
+-- refused.
 use Rattle.std.proofs.Common.{◌≡◌, ◌∙◌, inl, inr, ℕ, suc, ◌<◌, List, Some, length, get_or, refl, sym, ap, subst, arith}
 use Rattle.std.proofs.lemmas.Bool.{cases_order}
 use Rattle.std.proofs.lemmas.Option.{slice_get-get_or}

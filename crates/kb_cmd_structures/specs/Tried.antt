@@ -55,9 +55,9 @@ tried_texts file parts lines rules confluent differences =
     evidence_texts file parts (log_text parts.names lines None) rules confluent
     ++ differences ∷ []
 
--- The files that show that the search reached the limit, and the line that says so. The completion reached a limit of its
--- log; or as many word differences are kept as may be, and another one is needed; or automata by the reduced complete
--- system count too many states.
+-- The files that show that the search reached the limit, and the line that says so. The completion reached a limit of
+-- its log; or as many word differences are kept as may be, and another one is needed; or automata by the reduced
+-- complete system count too many states.
 pub data ShowsLimit (given : AutgroupGiven) (parts : PresentationParts) : Limit → List Text
     → List ℕ → Type 0 where
   halted : {presentation : Presentation} (halted : Halted) {listing : Listing}

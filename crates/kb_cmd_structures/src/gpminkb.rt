@@ -1,5 +1,5 @@
-//! `gpminkb FILE`: where the automata beside a group's file are its own structure, its reduced complete system is made of
-//! them, as automata, and stored.
+//! `gpminkb FILE`: where the automata beside a group's file are its own structure, its reduced complete system is
+//! made of them, as automata, and stored.
 
 ghost use Rattle.std.specs.Prelude.{IfOk};
 ghost use Rattle.kb_io.specs.Outside.{outside};

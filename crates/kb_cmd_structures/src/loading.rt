@@ -28,8 +28,8 @@ pub(crate) struct Loaded {
     pub multipliers: Vec<Fsa>,
 }
 
-/// The group that the file of this name holds, and the word acceptor and the multipliers that the files beside it hold; or
-/// the status of a run that ends at one of them.
+/// The group that the file of this name holds, and the word acceptor and the multipliers that the files beside it
+/// hold; or the status of a run that ends at one of them.
 pub(crate) fn load_structure<F: Shelf>(
     alloc: Global,
     file: &OwnedText,

@@ -26,12 +26,13 @@ use std::alloc::Global;
 pub(crate) enum Logged {
     /// A group with its automata, and a log of it that is justified.
     Justified { loaded: Loaded, log: Log },
-    /// The log isn't justified: the line of this number is the first for which there is a reason, and this is its first.
+    /// The log isn't justified: the line of this number is the first for which there is a reason, and this is its
+    /// first.
     Unjustified { line: u64, why: Why },
 }
 
-/// The group that the file of this name holds, its log, and the automata, of the files beside it; or the status of a run
-/// that ends at one of them.
+/// The group that the file of this name holds, its log, and the automata, of the files beside it; or the status of a
+/// run that ends at one of them.
 pub(crate) fn load_logged<F: Shelf>(
     alloc: Global,
     file: &OwnedText,

@@ -19,9 +19,9 @@ use Rattle.kb_cmd_words.specs.ByRelations.{streams_of}
 use Rattle.kb_cmd_words.specs.LogLines.{Decides, Objects, objection_line, objection_status}
 use Rattle.kb_cmd_words.specs.declared.objection.Objection.{Objection}
 
--- What a status means once the files have been read as this presentation and this log: the lines decide, and each word
--- line was answered with the least word of the presentation, or the answers stopped; or an objection was written that is
--- true of the log; or the output failed after a front of its line; or memory ran out before.
+-- What a status means once the files have been read as this presentation and this log: the lines decide, and each
+-- word line was answered with the least word of the presentation, or the answers stopped; or an objection was written
+-- that is true of the log; or the output failed after a front of its line; or memory ran out before.
 pub data LogMeans (parts : PresentationParts) (log : Log) (before after : Outside)
     (status : Status) : Type 0 where
   answered : status ≡ Yes → Decides parts log

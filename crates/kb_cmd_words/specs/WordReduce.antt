@@ -35,8 +35,8 @@ RefusesBy true file before =
     (λ parts. IsDerivationsFault parts.names before.shelf.holds (log_file file)) (log_file file)
 RefusesBy false file before = IsRefusedFor (IsPresentationFault before.shelf.holds file) file
 
--- The file of the presentation isn't refused, nor that of its log where its lines answer, nor a line of the input by the
--- presentation that the file holds, and the input isn't too long.
+-- The file of the presentation isn't refused, nor that of its log where its lines answer, nor a line of the input by
+-- the presentation that the file holds, and the input isn't too long.
 pub record IsUnrefusedBy (by_log : Bool) (file : List ℕ) (before : Outside) : Type 0 where
   pub file_is : IsUnrefused (IsPresentationFault before.shelf.holds file)
   pub log_is : IsTrue by_log → (parts : PresentationParts)
@@ -47,8 +47,8 @@ pub record IsUnrefusedBy (by_log : Bool) (file : List ℕ) (before : Outside) : 
       → ¬ IsFirstRefused parts (IsLeastIn parts) before.input.left number fault
   pub short : length before.input.left ≤ most_input
 
--- One file is read, or two, and nothing is stored. Another is the same but for its workers, its batches and what answers:
--- both answer with the least words of the presentation.
+-- One file is read, or two, and nothing is stored. Another is the same but for its workers, its batches and what
+-- answers: both answer with the least words of the presentation.
 abbrev pub wordreduce_promise : Given → Promise Given
 wordreduce_promise given = record {
   means = MeansBy given.by_log given.file;

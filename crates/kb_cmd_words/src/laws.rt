@@ -18,8 +18,8 @@ pub fn no_presentation_is_confluent_and_not()
         → ¬ OrientedAreNotConfluent parts u v }
 {}
 
-/// The lines of a justified log generate the congruence of the relations, if both sides of each relation have one normal
-/// form by them: each line follows from the relations, and each relation from the lines.
+/// The lines of a justified log generate the congruence of the relations, if both sides of each relation have one
+/// normal form by them: each line follows from the relations, and each relation from the lines.
 pub fn lines_generate_the_congruence()
     ensures { (parts : PresentationParts) (log : Log) → IsJustifiedBy parts log
         → AreJoined (lines_of log) (relations parts)

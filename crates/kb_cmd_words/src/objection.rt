@@ -22,10 +22,11 @@ use std::alloc::Global;
 /// What stands against answers by the lines of a log.
 #[derive(Drop)]
 pub enum Objection {
-    /// The log isn't justified: the line of this number is the first for which there is a reason, and this is its first.
+    /// The log isn't justified: the line of this number is the first for which there is a reason, and this is its
+    /// first.
     Unjustified { line: u64, why: Why },
-    /// By the lines the sides of the relation of this number, and of none before it, have different normal forms: the left
-    /// side has `u`, and the right side `v`.
+    /// By the lines the sides of the relation of this number, and of none before it, have different normal forms: the
+    /// left side has `u`, and the right side `v`.
     RelationApart { relation: u64, u: Word, v: Word },
     /// The lines aren't confluent: `u` and `v` are congruent, different and irreducible.
     NotConfluent { u: Word, v: Word },

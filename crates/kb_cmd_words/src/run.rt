@@ -43,8 +43,8 @@ impl WordReduce {
     ghost use Rattle.kb_task.specs.Promises.{Keeps};
     ghost use Rattle.kb_cmd_words.specs.WordReduce.{wordreduce_promise};
 
-    /// Runs the command. What it writes to `err` only shows that it lives. Workers are threads of `rt`, and pass the gate
-    /// where they answer words.
+    /// Runs the command. What it writes to `err` only shows that it lives. Workers are threads of `rt`, and pass the
+    /// gate where they answer words.
     pub fn run<T: Threads + Wait + Sync, G: Gate, F: Shelf, I: Source, O: Sink, E: Sink>(
         self,
         rt: &T,

@@ -76,8 +76,8 @@ fn look_for_more<R: HasAutomaton + Send + Sync, G: Gate, W: Watch, T: Threads + 
     }
 }
 
-/// Settles a book after a pass that entered overlaps. Where that leads to no line more than were given, one worker makes
-/// a pass.
+/// Settles a book after a pass that entered overlaps. Where that leads to no line more than were given, one worker
+/// makes a pass.
 fn go_on<R: Reducer, W: Watch>(
     alloc: Global,
     book: Book<R>,

@@ -7,20 +7,20 @@
 //!   book that is halted at a limit, with a pair that waits. Either carries the book, whose lines are
 //!   the log; with `Confluent` the rules of all its lines are confluent, and generate the congruence of
 //!   the relations (`IsCompleted` of `specs/Completing.antt`).
-//! - [`grow`] is one round of it: it answers `More` as soon as there is a line more, and nothing is pending. It is given
-//!   the `kb_share::Finder` of the book, or a new one, and leaves it to the next round (`KnowsGrown`).
+//! - [`grow`] is one round of it: it answers `More` as soon as there is a line more, and nothing is pending. It is
+//!   given the `kb_share::Finder` of the book, or a new one, and leaves it to the next round (`KnowsGrown`).
 //!
 //! That `More` can't come for ever rests on the limit of lines, and says nothing of whether the
 //! presentation has a finite complete system.
 //!
 //! # How it goes
 //!
-//! Knuth, Bendix, Simple Word Problems in Universal Algebras; Holt, Eick, O'Brien, Handbook of
-//! Computational Group Theory, 12.2. The book is settled: lines are made until nothing is pending
-//! (`kb_share`). Then a pass of the workers enters overlaps that are apart (`kb_threads`), and the book is settled
-//! again. A pass that enters nothing is the proof of confluence, so there is no check beside the passes. A pass that
-//! entered something leads to a line, for what it entered is apart; what a pass of threads says of its book doesn't show
-//! that, so where no line came of it one worker makes a pass, whose first entry becomes one (`growing`, `ending`).
+//! Knuth, Bendix, Simple Word Problems in Universal Algebras; Holt, Eick, O'Brien, Handbook of Computational Group
+//! Theory, 12.2. The book is settled: lines are made until nothing is pending (`kb_share`). Then a pass of the
+//! workers enters overlaps that are apart (`kb_threads`), and the book is settled again. A pass that enters nothing
+//! is the proof of confluence, so there is no check beside the passes. A pass that entered something leads to a line,
+//! for what it entered is apart; what a pass of threads says of its book doesn't show that, so where no line came of
+//! it one worker makes a pass, whose first entry becomes one (`growing`, `ending`).
 //!
 //! Why the answer is right: where nothing is pending the live rules generate the congruence of the
 //! relations, whatever events led there (`kb_machine::courses_are_sound`), and where they are

@@ -78,7 +78,8 @@ goes_on n x y a c over_x over_y first second is =
 
 -- ---- a word with a letter more, or none
 
--- the word of at most k letters is the other one without what it has at the place k: the letter, or none for the padding
+-- the word of at most k letters is the other one without what it has at the place k: the letter, or none for the
+-- padding
 pub record IsLonger (n k : ℕ) (w : List ℕ) (c : ℕ) (longer : List ℕ) : Type 0 where
   pub over : IsOver n longer
   pub front : take k longer ≡ w

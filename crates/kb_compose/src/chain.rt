@@ -16,9 +16,9 @@ use kb_fsamin::canonical;
 use kb_word::Word;
 use std::alloc::Global;
 
-/// An automaton of the pairs (u, v) of words such that the acceptor accepts u and following the word's letters from u, by
-/// their multipliers, leads to v: the canonical one, but where the word is empty the identity with the acceptor's
-/// states.
+/// An automaton of the pairs (u, v) of words such that the acceptor accepts u and following the word's letters from
+/// u, by their multipliers, leads to v: the canonical one, but where the word is empty the identity with the
+/// acceptor's states.
 pub fn along(
     alloc: Global,
     acceptor: &Fsa,

@@ -11,8 +11,8 @@ use kb_fsa::{Alphabet, Ended};
 use kb_word::Memory;
 use std::alloc::Global;
 
-/// The moves, which may be in any order, in groups, one for each symbol that may follow, by ascending symbols, each with
-/// which word has ended then.
+/// The moves, which may be in any order, in groups, one for each symbol that may follow, by ascending symbols, each
+/// with which word has ended then.
 pub(crate) fn grouped_by_sort(
     alloc: Global,
     alphabet: Alphabet,

@@ -4,21 +4,22 @@
 //! word w, of any length, such that the first automaton accepts (u, w) and the second one (w, v). It answers
 //! `TooManyStates` exactly where there are more different sets of pairs of states, to which texts lead, than the limit.
 //!
-//! `along` composes the multipliers of a word's letters one after another, from the identity on an acceptor on: it returns
-//! an automaton of exactly the pairs (u, v) such that u is accepted and following the word from u leads to v. Each
-//! composite is made canonical before the next, and the last one too; `TooManyStates` comes exactly where one of them
-//! counts more than the limit.
+//! `along` composes the multipliers of a word's letters one after another, from the identity on an acceptor on: it
+//! returns an automaton of exactly the pairs (u, v) such that u is accepted and following the word from u leads to v.
+//! Each composite is made canonical before the next, and the last one too; `TooManyStates` comes exactly where one of
+//! them counts more than the limit.
 //!
 //! # How it works
 //!
-//! The composite is a subset construction: a text of a pair (u, v) leads to the set of the pairs (p, q) of states such
-//! that, for some middle word w no longer than the text, (u, w) leads to p and (w, v) to q. Where the letters of two of
-//! the words are both padding, an accepting state stays where it is. Beside each set stands which of the outer words has
-//! ended, since a state that stays may have moves that no padded text could take; sets are counted without it, so that
-//! there are at most three times as many places as sets.
+//! The composite is a subset construction: a text of a pair (u, v) leads to the set of the pairs (p, q) of states
+//! such that, for some middle word w no longer than the text, (u, w) leads to p and (w, v) to q. Where the letters of
+//! two of the words are both padding, an accepting state stays where it is. Beside each set stands which of the outer
+//! words has ended, since a state that stays may have moves that no padded text could take; sets are counted without
+//! it, so that there are at most three times as many places as sets.
 //!
-//! From a pair the moves of p are taken one after another, and for each the block of the moves of q whose first letter
-//! is the middle one, so that no middle letter is tried in vain. A set is the ascending list of the numbers of its pairs.
+//! From a pair the moves of p are taken one after another, and for each the block of the moves of q whose first
+//! letter is the middle one, so that no middle letter is tried in vain. A set is the ascending list of the numbers of
+//! its pairs.
 //!
 //! A set accepts where the middle word may go on, behind both outer words, to acceptance: all pairs of all sets are the
 //! seeds of one graph, whose live states are marked backwards.

@@ -107,7 +107,8 @@ inverse_relation parts (suc place) y is =
 
 -- ---- the relations of the marked presentation
 
--- a relation of the marked presentation is one of the presentation, or sends a generator of the subgroup behind the marker
+-- a relation of the marked presentation is one of the presentation, or sends a generator of the subgroup behind the
+-- marker
 pub data IsMarkedRelation (n : ℕ) (generators : List (List ℕ)) (given : List Pair) (pair : Pair) : Type 0 where
   was_given : OneOf given pair → IsMarkedRelation n generators given pair
   marks : (h : List ℕ) → IsGenerator generators h → pair ≡ marker_equation n h → IsMarkedRelation n generators given pair

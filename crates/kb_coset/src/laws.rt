@@ -52,7 +52,8 @@ pub fn least_marked_words_are_least_in_cosets()
         × IsLeastInCoset (Below parts.order) (relations parts) generators u m }
 {}
 
-/// Two words are in one right coset exactly where the least words of their cosets are equal. So a coset has one least word.
+/// Two words are in one right coset exactly where the least words of their cosets are equal. So a coset has one least
+/// word.
 pub fn cosets_are_told_by_their_least_words()
     ensures { (order : WordOrder) (given : List Pair) (generators : List Letters)
         (u v m k : Letters)

@@ -139,8 +139,8 @@ members_from number (comparisons ∷ row) =
 abbrev pub shows_any_less : List Comparisons → Bool
 shows_any_less row = any_less (get_or row 0 no_comparisons)
 
--- ---- steps by one letter: for difference 1, difference 2, and so on, each letter beside it, or the padding, that leads
--- to a difference that is kept, with the number of that
+-- ---- steps by one letter: for difference 1, difference 2, and so on, each letter beside it, or the padding, that
+-- leads to a difference that is kept, with the number of that
 
 abbrev pub Steps : Type 0
 Steps = List (List (ℕ × ℕ))

@@ -13,12 +13,12 @@
 //! is another word that is read beside one of its suffixes, and no longer than that suffix; what counts of it is the
 //! number of their difference, and how it compares with the suffix.
 //!
-//! The sets of rivals are the states of a machine that `kb_explore` explores. By a letter it leads each rival on, beside
-//! each letter and the padding by which the difference machine leads to a difference that is kept, and a new suffix
-//! begins; where a rival is less and back at the empty difference, it leads nowhere. A set has the rivals of each
-//! difference together, since only four things can be true of how one compares. The steps that lead to kept
-//! differences, which are few of all, are listed first, so that a set is made in one pass over those of its differences,
-//! with no sort.
+//! The sets of rivals are the states of a machine that `kb_explore` explores. By a letter it leads each rival on,
+//! beside each letter and the padding by which the difference machine leads to a difference that is kept, and a new
+//! suffix begins; where a rival is less and back at the empty difference, it leads nowhere. A set has the rivals of
+//! each difference together, since only four things can be true of how one compares. The steps that lead to kept
+//! differences, which are few of all, are listed first, so that a set is made in one pass over those of its
+//! differences, with no sort.
 //!
 //! # The multipliers
 //!
@@ -27,19 +27,19 @@
 //! empty difference to the normal form of x, each difference on the way being kept. So v is the element u x. An
 //! acceptor of one word for each element, with a multiplier of each generator, is an automatic structure.
 //!
-//! The public contract: [`multiplier`] returns the automaton of exactly these pairs, and [`multipliers`] one automaton
-//! with labels, in which the pairs of each generator's multiplier have a label of their own. Each answers `TooManyStates` exactly where texts of pairs lead to more different places than
-//! the limit. A place is where the reading of two words stands: the acceptor's state after each word, or that the word
-//! has ended, which it may where it is accepted, and the number of the difference. Over the acceptor of the same
-//! differences the pairs are those of `DifferenceMultiplier` of `kb_diff`, as the law
-//! [`pairs_over_the_difference_acceptor`] says.
+//! The public contract: [`multiplier`] returns the automaton of exactly these pairs, and [`multipliers`] one
+//! automaton with labels, in which the pairs of each generator's multiplier have a label of their own. Each answers
+//! `TooManyStates` exactly where texts of pairs lead to more different places than the limit. A place is where the
+//! reading of two words stands: the acceptor's state after each word, or that the word has ended, which it may where
+//! it is accepted, and the number of the difference. Over the acceptor of the same differences the pairs are those of
+//! `DifferenceMultiplier` of `kb_diff`, as the law [`pairs_over_the_difference_acceptor`] says.
 //!
 //! Places are the states of a machine that `kb_explore` explores. Its moves from a place are those of two tracks
 //! crossed, each track with the acceptor's moves and with padding where its word may end, by ascending symbols; the
 //! difference machine's table tells which of them lead to a difference that is kept. Which places texts lead to does
-//! not depend on the generator, so that one exploration serves all multipliers: they have one set of moves, and differ
-//! in the difference at which they accept. Its number is the label (`kb_labelled`), and the moves are there once. Nothing
-//! is reduced to the fewest states: `kb_fsamin` does that, of all multipliers together.
+//! not depend on the generator, so that one exploration serves all multipliers: they have one set of moves, and
+//! differ in the difference at which they accept. Its number is the label (`kb_labelled`), and the moves are there
+//! once. Nothing is reduced to the fewest states: `kb_fsamin` does that, of all multipliers together.
 //!
 //! # Where things are
 //!

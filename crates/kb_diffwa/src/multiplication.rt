@@ -57,8 +57,8 @@ pub fn multiplier<R: Reducer>(
     Ok(Fsa::new(Alphabet::Pair(n), exploration.table))
 }
 
-/// The multipliers of all generators as one automaton of pairs: they have one set of moves, and differ in nothing but the
-/// difference at which they accept, whose number is the label.
+/// The multipliers of all generators as one automaton of pairs: they have one set of moves, and differ in nothing but
+/// the difference at which they accept, whose number is the label.
 #[derive(Drop)]
 pub struct AllMultipliers {
     /// The pairs of all multipliers, each with the number of the difference to which it leads.

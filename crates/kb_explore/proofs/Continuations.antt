@@ -44,7 +44,8 @@ nothing_before_empty (x ∷ u) (earlier e h) = h
 pub not_before : (u v : List ℕ) → Less u v → ¬ Less v u
 not_before u v one other = shortlex_irreflexive u (shortlex_transitive u v u one other)
 
--- where t is no less than the word, and that with the letter no less than the other, t with the letter is no less either
+-- where t is no less than the word, and that with the letter no less than the other, t with the letter is no less
+-- either
 pub not_less_continued : (t word other : List ℕ) (x : ℕ) → ¬ Less t word → ¬ Less (word ++ x ∷ []) other → ¬ Less (t ++ x ∷ []) other
 not_less_continued t word other x one two less =
     elim (shortlex_total t word) [

@@ -8,7 +8,8 @@ use Rattle.indexmap.proofs.IndexTableLemmas.Probe.{pigeonhole}
 use Rattle.kb_fsa.specs.Counted.{MoreThan}
 use Rattle.kb_explore.specs.Machine.{Machine, leads, HasMoreStates}
 
--- texts that count one way and lead to different things count another way too, where they still lead to different things
+-- texts that count one way and lead to different things count another way too, where they still lead to different
+-- things
 pub MoreThan-kept : {Counts Counts' : List ℕ → Type 0} {Same Same' : List ℕ → List ℕ → Type 0} {m : ℕ} → MoreThan Counts Same m
     → ((text : List ℕ) → Counts text → Counts' text)
     → ((text other : List ℕ) → Counts text → Counts other → Same' text other → Same text other)

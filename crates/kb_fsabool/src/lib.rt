@@ -2,8 +2,8 @@
 //!
 //! The public contract: `and`, `or`, `not` and `symmetric_difference` give an automaton of exactly the stated
 //! language, `not` for pairs among the padded texts, and `equal` says that two languages are the same or gives the
-//! shortlex least text in exactly one. Each answers `TooManyStates` exactly where its construction counts more states than the limit,
-//! by the definitions in `specs/Counted.antt` of `kb_fsa`.
+//! shortlex least text in exactly one. Each answers `TooManyStates` exactly where its construction counts more states
+//! than the limit, by the definitions in `specs/Counted.antt` of `kb_fsa`.
 //!
 //! Each operation is a machine that `kb_explore` explores: pairs of states, or a state with which words of a
 //! pair have ended. Rows are merged move by move, so that nothing costs states times symbols, but for `not`,

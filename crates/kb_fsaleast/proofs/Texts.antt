@@ -41,7 +41,8 @@ not_less_longer text other x not_less less =
     let one = length-append text (x ∷ []) in
     not_less (shortlex_transitive text (text ++ x ∷ []) other (shorter (omega arith)) less)
 
--- where the text is no less than the word, and that with the symbol no less than the other, the text with the symbol is no less either
+-- where the text is no less than the word, and that with the symbol no less than the other, the text with the symbol
+-- is no less either
 pub not_less_continued : (text word other : List ℕ) (x : ℕ) → ¬ Less text word → ¬ Less (word ++ x ∷ []) other → ¬ Less (text ++ x ∷ []) other
 not_less_continued text word other x one two less =
     elim (shortlex_total text word) [

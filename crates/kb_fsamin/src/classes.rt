@@ -1,6 +1,7 @@
 //! Which states are alike: from alike states each text leads to one label, or to none.
 //!
-//! States that lead to no acceptance are left out; the others fall into classes by whether they accept, and by which label.
+//! States that lead to no acceptance are left out; the others fall into classes by whether they accept, and by which
+//! label.
 //!
 //! The classes are split by splitters, the smaller half first: Hopcroft, "An n log n algorithm for
 //! minimizing states in a finite automaton", 1971, in the form for automata that lack moves of

@@ -5,12 +5,12 @@
 //! language are equal. A canonical automaton has exactly the states and moves (transitions) that accepted texts need.
 //!
 //! Automata that have one set of moves are made small together: of an automaton with labels (`kb_labelled`)
-//! [`reduced_by_labels`] returns one that gives each text the same label and has no more states. For that states are one
-//! from which each text leads to the same label; states of one right language are so where all labels are the same.
-//! Nothing is promised of how few states are left.
+//! [`reduced_by_labels`] returns one that gives each text the same label and has no more states. For that states are
+//! one from which each text leads to the same label; states of one right language are so where all labels are the
+//! same. Nothing is promised of how few states are left.
 //!
-//! Below are `kb_fsa` with the definitions and the moves backwards, `kb_labelled` with labels, and `kb_explore` with the
-//! numbering.
+//! Below are `kb_fsa` with the definitions and the moves backwards, `kb_labelled` with labels, and `kb_explore` with
+//! the numbering.
 //!
 //! # Where the proofs are
 //!

@@ -11,8 +11,8 @@ use kb_labelled::Labelled;
 use kb_word::Memory;
 use std::alloc::Global;
 
-/// An automaton that gives each text the same label, if it has one, and has no more states: of states from which each text
-/// leads to the same label one is left, and none of those that lead to no label.
+/// An automaton that gives each text the same label, if it has one, and has no more states: of states from which each
+/// text leads to the same label one is left, and none of those that lead to no label.
 pub fn reduced_by_labels(alloc: Global, labelled: &Labelled) -> Result<Labelled, Memory>
     ensures alphabet { IfOk result (λ made.
         made.automaton.alphabet ≡ labelled.now.automaton.alphabet) }

@@ -37,8 +37,8 @@ pub record FindsAt (group : Group) (most : ℕ) (equality : Equality) (index pla
 abbrev pub mark : ℕ → ℕ → Seen
 mark index place = record { word = []; equality = index; place = place }
 
--- The listing has the differences of the equalities before the end, other than the empty word, each where it is first seen,
--- in the order of equalities and places.
+-- The listing has the differences of the equalities before the end, other than the empty word, each where it is first
+-- seen, in the order of equalities and places.
 pub record AreListedBefore (group : Group) (equalities : List Equality) (kept : List Seen)
     (end : Seen) : Type 0 where
   pub each : All (IsFirstSeen group equalities) kept

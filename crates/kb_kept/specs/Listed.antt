@@ -63,8 +63,8 @@ pub record IsMissing (group : Group) (equalities : List Equality) (kept : List S
   pub first_seen : IsFirstSeen group equalities needed
   pub missing : ¬ Contains (listed_words kept) needed.word
 
--- The listing has the differences of the equalities other than the empty word, each where it is first seen, in the order of
--- equalities and places: all of them, or those before the one for which there is no room.
+-- The listing has the differences of the equalities other than the empty word, each where it is first seen, in the
+-- order of equalities and places: all of them, or those before the one for which there is no room.
 pub record AreListed (group : Group) (equalities : List Equality) (kept : List Seen)
     (needed : Option Seen) : Type 0 where
   pub each : All (IsFirstSeen group equalities) kept

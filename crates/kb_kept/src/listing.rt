@@ -15,7 +15,8 @@ use kb_rules::{Reducer, Workspace};
 use kb_word::{Memory, Word};
 use std::alloc::Global;
 
-/// The word differences of equalities, in first-seen order and without the empty word, up to one for which there was no room.
+/// The word differences of equalities, in first-seen order and without the empty word, up to one for which there was
+/// no room.
 #[derive(Debug, Drop)]
 pub struct Listing {
     /// The equalities.
@@ -110,7 +111,8 @@ impl Found {
         Ok(None)
     }
 
-    /// Lists the difference at a place of an equality, unless it is known already. It is returned where there is no room.
+    /// Lists the difference at a place of an equality, unless it is known already. It is returned where there is no
+    /// room.
     fn list_place<R: Reducer>(
         &mut self,
         alloc: Global,

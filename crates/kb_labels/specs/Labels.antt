@@ -97,7 +97,8 @@ abbrev pub AreEqualSides : List Pair → List Pair → Type 0
 AreEqualSides relations rules = (rule : Pair) → OneOf rules rule
     → Congruent (OneOf relations) rule.0 rule.1
 
--- words that are congruent by the relations have one normal form by the rules, as confluent rules of the congruence give
+-- words that are congruent by the relations have one normal form by the rules, as confluent rules of the congruence
+-- give
 abbrev pub HaveOneNormalForm : List Pair → List Pair → Type 0
 HaveOneNormalForm relations rules = (u v m n : List ℕ) → Congruent (OneOf relations) u v
     → NormalForm rules u m → NormalForm rules v n → m ≡ n

@@ -8,7 +8,8 @@ use Rattle.kb_fsa.specs.Table.{Table, IsTable, moves_of, step, target}
 use Rattle.kb_fsa.proofs.Lookups.{IsRow-moves_of, entry_from_lookup, lookup_from_entry, lookup_from_target, target_some}
 use Rattle.kb_fsadet.proofs.Sets.{Contains-cons_cases, Contains-here, Contains-none, Contains-there}
 
-pub contains_map : {X Y : Type 0} (f : X → Y) (xs : List X) (y : Y) → Contains (map f xs) y → (x : X) × (Contains xs x × (f x ≡ y))
+pub contains_map : {X Y : Type 0} (f : X → Y) (xs : List X) (y : Y) → Contains (map f xs) y
+    → (x : X) × (Contains xs x × (f x ≡ y))
 contains_map f [] y at = absurd (Contains-none y at)
 contains_map f (x ∷ xs) y at = elim (Contains-cons_cases (f x) (map f xs) y at) [
   | inl is ↦ (x, (Contains-here x xs, is))
@@ -48,7 +49,8 @@ flat_map_contains {X} {Y} f (z ∷ xs) x y at inside =
     ])
 
 -- a move of a table's state leads where the state's step does
-pub step_of_move : (table : Table) → IsTable table → (state symbol to : ℕ) → Contains (moves_of table state) (symbol, to)
+pub step_of_move : (table : Table) → IsTable table → (state symbol to : ℕ)
+    → Contains (moves_of table state) (symbol, to)
     → (step table state symbol ≡ to) × ((0 < symbol) × (to ≢ 0))
 step_of_move table is state symbol to at =
     let row = moves_of table state in

@@ -7,8 +7,8 @@
 //! A branching machine reads a pair, and guesses the lesser word, its rival, letter by letter. Its states are those
 //! of the automaton after the pair and after the pair with the rival, with how the rival compares with the second
 //! word. A lesser word is no longer, so that the rival ends where the text of the pair does, at the latest.
-//! `kb_branching` explores the machine. What comes of it isn't made deterministic: `kb_firstwords` reads its first words,
-//! and `kb_fsaleast` finds the least of them. So the time grows with the states of the machine and their moves
+//! `kb_branching` explores the machine. What comes of it isn't made deterministic: `kb_firstwords` reads its first
+//! words, and `kb_fsaleast` finds the least of them. So the time grows with the states of the machine and their moves
 //! (transitions); no clause says so.
 //!
 //! In `specs/`, `Later` has what is returned, `Rivalry` the machine, `Containing` what lists have that are made from

@@ -1,4 +1,5 @@
--- Lists of names and of numbers can be written, are shallow, and have no field twice; and their names and numbers are spelled.
+-- Lists of names and of numbers can be written, are shallow, and have no field twice; and their names and numbers are
+-- spelled.
 use Rattle.std.proofs.Common.{ℕ, ◌<◌, ◌≤◌, ◌⊎◌, inl, inr, ℤ, pos, List, [], ◌∷◌, arith}
 use Rattle.std.specs.List.{All}
 use Rattle.std.proofs.Math.Nat.{max-le}

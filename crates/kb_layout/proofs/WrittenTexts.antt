@@ -1,4 +1,5 @@
--- Texts of records that are written without their trees: texts one behind another, lists of names, and the lines of fields.
+-- Texts of records that are written without their trees: texts one behind another, lists of names, and the lines of
+-- fields.
 use Rattle.std.proofs.Common.{◌≡◌, ℕ, suc, List, [], ◌∷◌, ◌++◌, refl, sym, ap, ◌∙◌, append_assoc, append-nil}
 use Rattle.std.specs.Prelude.{codes}
 use Rattle.kb_record.specs.Tree.{record_value, list_value, Fields, no_fields, field}

@@ -49,8 +49,8 @@ impl Batch {
         }
     }
 
-    /// Takes bytes of the input: takes each line that ends in them, answers the lines that were taken whenever they make
-    /// a batch, and keeps what has come of the next line.
+    /// Takes bytes of the input: takes each line that ends in them, answers the lines that were taken whenever they
+    /// make a batch, and keeps what has come of the next line.
     pub(crate) fn take_bytes<A: Answerer + Sync, G: Gate, T: Threads + Wait + Sync, O: Sink>(
         &mut self,
         rt: &T,
@@ -87,8 +87,8 @@ impl Batch {
         Ok(())
     }
 
-    /// Takes the last bytes that are taken of the input: answers all lines that ended, and hands the line that has begun
-    /// on to the progress.
+    /// Takes the last bytes that are taken of the input: answers all lines that ended, and hands the line that has
+    /// begun on to the progress.
     pub(crate) fn take_last<A: Answerer + Sync, G: Gate, T: Threads + Wait + Sync, O: Sink>(
         &mut self,
         rt: &T,

@@ -39,7 +39,8 @@ pub enum LoggedEnding {
     },
 }
 
-/// Completes a presentation within limits, by one worker in the caller's thread, makes its word acceptor, and keeps the log.
+/// Completes a presentation within limits, by one worker in the caller's thread, makes its word acceptor, and keeps
+/// the log.
 pub fn complete_with_log<W: Watch, T: Threads + Wait + Sync>(
     rt: &T,
     alloc: Global,
@@ -63,8 +64,8 @@ pub fn complete_with_log<W: Watch, T: Threads + Wait + Sync>(
     }
 }
 
-/// The end of a completion that came to the reduced complete system: with the word acceptor and the log, or with the log
-/// alone where the acceptor has too many states.
+/// The end of a completion that came to the reduced complete system: with the word acceptor and the log, or with the
+/// log alone where the acceptor has too many states.
 fn completed<R: Reducer>(
     alloc: Global,
     presentation: &Presentation,

@@ -23,7 +23,8 @@ factor_transitive w v x one two =
     (outer.whole ∙ ap (λ middle. outer.before ++ middle ++ outer.after) inner.whole
     ∙ append-between outer.before inner.before x inner.after outer.after)
 
--- Where the left side of each pair has that of another as a factor, what the others don't reduce the pairs don't either.
+-- Where the left side of each pair has that of another as a factor, what the others don't reduce the pairs don't
+-- either.
 pub irreducible_by_factors : (others allowed : Pair → Type 0) (w : List ℕ)
     → ((pair : Pair) → allowed pair → (rule : Pair) × others rule × IsFactor pair.0 rule.0)
     → IsIrreducible others w → IsIrreducible allowed w

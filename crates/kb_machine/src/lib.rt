@@ -23,12 +23,12 @@
 //! which reducts are taken and which lines are replaced when, and each event is one step, so that
 //! what is shown of every run holds of any interleaving of workers.
 //!
-//! The public contract is the law [`courses_are_sound`]: along every course the live rules and the
-//! pending pairs generate the congruence of the relations, the log is justified line by line,
-//! each left side has a live one as a factor, and a halt has its limit and a pair that waits. By
-//! [`courses_bring_no_letters`] all words are over the letters of the relations. `specs/States.antt` has the states, `specs/Course.antt` what is said of courses.
-//! `proofs/Invariant.antt` has what each event keeps, from which soundness follows; there is a file
-//! of lemmas for each event or two.
+//! The public contract is the law [`courses_are_sound`]: along every course the live rules and the pending pairs
+//! generate the congruence of the relations, the log is justified line by line, each left side has a live one as a
+//! factor, and a halt has its limit and a pair that waits. By [`courses_bring_no_letters`] all words are over the
+//! letters of the relations. `specs/States.antt` has the states, `specs/Course.antt` what is said of courses.
+//! `proofs/Invariant.antt` has what each event keeps, from which soundness follows; there is a file of lemmas for
+//! each event or two.
 //!
 //! Below are `kb_word` and `kb_rules`.
 #![tactic(auto)]

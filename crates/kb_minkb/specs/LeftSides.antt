@@ -27,8 +27,8 @@ LeadsSomewhere automaton w = state_after automaton.table w ≢ 0
 abbrev pub AcceptsEachState : Automaton → Type 0
 AcceptsEachState acceptor = (w : List ℕ) → LeadsSomewhere acceptor w → Accepts acceptor w
 
--- What is counted of a word: that it is the empty one; or the two states to which it leads, itself and without its first
--- letter; or that it leads to none, but does without its first letter, and without its last.
+-- What is counted of a word: that it is the empty one; or the two states to which it leads, itself and without its
+-- first letter; or that it leads to none, but does without its first letter, and without its last.
 pub data HasPlace (acceptor : Automaton) (w : List ℕ) : LeftPlace → Type 0 where
   at_start : w ≡ [] → HasPlace acceptor w Start
   inside : {own behind : ℕ} → w ≢ [] → state_after acceptor.table w ≡ own

@@ -37,8 +37,8 @@ fn not_below(moves: &[(u32, u32)], guess: usize, symbol: u32) -> usize {
     place
 }
 
-/// The target by the symbol, and 0 where there is no move by it, if the guess tells: the symbol is that of the guessed move,
-/// or lies between it and the one before.
+/// The target by the symbol, and 0 where there is no move by it, if the guess tells: the symbol is that of the
+/// guessed move, or lies between it and the one before.
 fn target_at(moves: &[(u32, u32)], guess: usize, symbol: u32) -> Option<u32>
     requires { IsRow moves.now }
     ensures { IfSome result (λ state. state ≡ target moves.now symbol) }

@@ -14,9 +14,8 @@ ghost use Rattle.kb_minkb.specs.LeftSides.{AcceptsEachState, IsLeftSide};
 ghost use Rattle.kb_minkb.specs.Rules.{IsRule};
 ghost use Rattle.kb_minkb.specs.OwnSystem.{IsOwn};
 
-/// In the group's own structure, the left sides are exactly those of the rules of the reduced complete system, also where
-/// there are infinitely many.
-/// Holt, Eick, O'Brien, Handbook of Computational Group Theory, 12.2 and 13.1.
+/// In the group's own structure, the left sides are exactly those of the rules of the reduced complete system, also
+/// where there are infinitely many. Holt, Eick, O'Brien, Handbook of Computational Group Theory, 12.2 and 13.1.
 pub fn own_left_sides_are_reduced()
     ensures { (order : WordOrder) (relations : List Pair) (acceptor : Automaton)
         (multipliers : List Automaton) → IsOwn order relations acceptor multipliers

@@ -86,7 +86,8 @@ pub(crate) fn next_place(acceptor: &Fsa, place: LeftPlace, letter: u32) -> Optio
     }
 }
 
-/// The place of a word after which the acceptor has the first state, and without its first letter the second; 0 is none.
+/// The place of a word after which the acceptor has the first state, and without its first letter the second; 0 is
+/// none.
 fn place_of(own: u32, behind: u32) -> Option<LeftPlace>
     ensures { result ≡ place_of own behind }
 {

@@ -113,8 +113,8 @@ impl Machine for Rules<'_> {
 }
 
 impl Rules<'_> {
-    /// The place of a text with the symbol behind it, where the text has this place, these marks tell by which symbols its
-    /// states have moves, and the first word has this place with its letter behind it.
+    /// The place of a text with the symbol behind it, where the text has this place, these marks tell by which
+    /// symbols its states have moves, and the first word has this place with its letter behind it.
     fn next(
         &self,
         alloc: Global,
@@ -171,8 +171,8 @@ fn place_by_letter(
     }
 }
 
-/// The place of a text with the symbol behind it, by the states after the text, and the place of the first word with its
-/// letter behind it.
+/// The place of a text with the symbol behind it, by the states after the text, and the place of the first word with
+/// its letter behind it.
 fn place_by(
     alloc: Global,
     symbols: PairSymbols,
@@ -197,7 +197,8 @@ fn place_by(
     }
 }
 
-/// The place with the states after the symbol, unless there is none. No states are looked for after a symbol without a mark.
+/// The place with the states after the symbol, unless there is none. No states are looked for after a symbol without
+/// a mark.
 fn place_after(
     alloc: Global,
     multipliers: &[Fsa],
@@ -268,7 +269,8 @@ fn accepts_with(symbols: PairSymbols, multiplier: &Fsa, state: u32, second: u32)
     multiplier.is_accepting(multiplier.step(state, symbol))
 }
 
-/// The multipliers' states after the symbol. Guesses of the places of their moves by it are kept for the symbols to come.
+/// The multipliers' states after the symbol. Guesses of the places of their moves by it are kept for the symbols to
+/// come.
 fn next_states(
     alloc: Global,
     multipliers: &[Fsa],

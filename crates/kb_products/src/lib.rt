@@ -19,13 +19,13 @@
 //! # How it works
 //!
 //! In a hyperbolic group an image mostly differs from its word near the end alone. So the word that is reached is
-//! kept, and beside it, for each multiplier, the states in which it reads that word beside itself, from letter to letter, as far
-//! as they are known: its trail (`specs/Trails.antt`). First it is tried whether the image has the letter behind the
-//! word, or the word's last letter gone. Otherwise an image is looked for that keeps the whole word and has letters
-//! behind it; then one that keeps all of it but its last letter, its last three, its last seven, and so on. Each time
-//! the multiplier goes on from the state that its trail has there. Where no image is found that keeps some letters, the
-//! least second word beside the whole word is the image. When the word has changed from some place on, each trail is
-//! cut there.
+//! kept, and beside it, for each multiplier, the states in which it reads that word beside itself, from letter to
+//! letter, as far as they are known: its trail (`specs/Trails.antt`). First it is tried whether the image has the
+//! letter behind the word, or the word's last letter gone. Otherwise an image is looked for that keeps the whole word
+//! and has letters behind it; then one that keeps all of it but its last letter, its last three, its last seven, and
+//! so on. Each time the multiplier goes on from the state that its trail has there. Where no image is found that
+//! keeps some letters, the least second word beside the whole word is the image. When the word has changed from some
+//! place on, each trail is cut there.
 //!
 //! So the time for a letter grows with how far from its end the word changes, and with the states that the multiplier
 //! has beside that end; no clause says so. `docs/performance.md` has figures.

@@ -34,8 +34,8 @@ pub fn a_printed_log_has_no_fault()
         → error ≡ errors.Memory }
 {}
 
-/// Bytes have one fault at most, want of memory aside. So where [`read_log`](crate::read_log) refuses them, it names the
-/// one line, or the version, that there is to name.
+/// Bytes have one fault at most, want of memory aside. So where [`read_log`](crate::read_log) refuses them, it names
+/// the one line, or the version, that there is to name.
 pub fn bytes_have_one_log_fault()
     ensures { (names : List (List ℕ)) (bytes : List ℕ) (one other : SomeError) → AreReadableNames names
         → length bytes < 2 ^ 64 → one ≢ errors.Memory → other ≢ errors.Memory
@@ -50,8 +50,8 @@ pub fn logs_of_completions_are_read_again()
         → length (text_of_log parts.names log) ≤ 2 ^ 24 → IsReadAgain parts.names log }
 {}
 
-/// A log has one answer: what `Yes` says of it excludes what any `No` says, and what is said by two different answers `No`
-/// isn't both true. So [`verify`](crate::verify) answers `Yes` of each log of which what `Yes` says is true.
+/// A log has one answer: what `Yes` says of it excludes what any `No` says, and what is said by two different answers
+/// `No` isn't both true. So [`verify`](crate::verify) answers `Yes` of each log of which what `Yes` says is true.
 pub fn a_log_is_verified_in_one_way()
     ensures { (order : SomeOrder) (relations : List Pair) (log : SomeLog) (one other : Answer)
         → VerifiedSays (Below order) relations log one

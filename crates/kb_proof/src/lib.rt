@@ -24,16 +24,17 @@
 //! (`specs/Faults.antt`). Whether lines and relations that a log names are there is asked by [`verify`].
 //!
 //! The laws complete that: by [`a_printed_log_has_no_fault`] no bytes are both read and refused, and by
-//! [`a_text_is_of_one_log`] what is read of a printed log is that log; by [`bytes_have_one_log_fault`] a refusal names the
-//! one fault that there is. They ask, as [`read_log`] does, that the names are Names and none is `IdWord`
-//! (`AreReadableNames`), as the names of presentation files are. By [`logs_of_completions_are_read_again`] the log of a
-//! completion is one that can be read again, up to the length that a file may have (`specs/Completions.antt`).
+//! [`a_text_is_of_one_log`] what is read of a printed log is that log; by [`bytes_have_one_log_fault`] a refusal
+//! names the one fault that there is. They ask, as [`read_log`] does, that the names are Names and none is `IdWord`
+//! (`AreReadableNames`), as the names of presentation files are. By [`logs_of_completions_are_read_again`] the log of
+//! a completion is one that can be read again, up to the length that a file may have (`specs/Completions.antt`).
 //!
-//! [`verify`] checks a log over a presentation (`specs/Verifying.antt`). It answers `Yes` exactly where each line follows
-//! from the relations and the lines before it (`IsJustified` of `kb_machine`), and so does that of the pair that waits,
-//! neither of whose words an earlier line reduces. Else it answers `No`, with the number of the first line for which
-//! there is a reason, and the first reason ([`Why`]). By [`a_log_is_verified_in_one_way`] one answer at most may be
-//! given of a log, and by [`logs_that_say_the_same_have_one_answer`] that answer depends on its text alone.
+//! [`verify`] checks a log over a presentation (`specs/Verifying.antt`). It answers `Yes` exactly where each line
+//! follows from the relations and the lines before it (`IsJustified` of `kb_machine`), and so does that of the pair
+//! that waits, neither of whose words an earlier line reduces. Else it answers `No`, with the number of the first
+//! line for which there is a reason, and the first reason ([`Why`]). By [`a_log_is_verified_in_one_way`] one answer
+//! at most may be given of a log, and by [`logs_that_say_the_same_have_one_answer`] that answer depends on its text
+//! alone.
 //!
 //! # How it is made
 //!
@@ -59,9 +60,10 @@
 //! - `proofs/HeaderLemmas.antt`: the first line. `proofs/PrintLemmas.antt`: what is printed piece by piece.
 //! - `proofs/SameLemmas.antt`, `proofs/FaultLemmas.antt`, `proofs/OneFault.antt`: the laws of texts.
 //! - `proofs/TextLengths.antt`, `proofs/Completions.antt`: what a short text bounds, and the law of completions.
-//! - `proofs/Standing.antt`: a line without a fault follows, and a justified log has no fault. `proofs/FirstFaults.antt`,
-//!   `proofs/OneAnswer.antt`: the answers. `proofs/Replays.antt`: steps. `proofs/Naming.antt`, `proofs/Factors.antt`,
-//!   `proofs/Marking.antt`: origins. `proofs/Leaving.antt`: normal forms. `proofs/Listed.antt`: lines by their numbers.
+//! - `proofs/Standing.antt`: a line without a fault follows, and a justified log has no fault.
+//!   `proofs/FirstFaults.antt`, `proofs/OneAnswer.antt`: the answers. `proofs/Replays.antt`: steps.
+//!   `proofs/Naming.antt`, `proofs/Factors.antt`, `proofs/Marking.antt`: origins. `proofs/Leaving.antt`: normal
+//!   forms. `proofs/Listed.antt`: lines by their numbers.
 //!
 //! Below are `kb_machine`, which has lines, `kb_word`, whose presentations name letters, `kb_lexing`, whose numbers
 //! versions are, `kb_overlap`, which has critical pairs, and `kb_rules` and `kb_index`, which reduce words.

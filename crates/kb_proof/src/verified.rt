@@ -21,7 +21,7 @@ pub enum Why {
 pub enum Verified {
     /// It is, and so is the pair that waits, if there is one.
     Yes,
-    /// It isn't: the line of this number, from 1 on, is the least for which there is a reason, and this is its first. The
-    /// pair that waits has the number after the last line.
+    /// It isn't: the line of this number, from 1 on, is the least for which there is a reason, and this is its first.
+    /// The pair that waits has the number after the last line.
     No { line: u64, why: Why },
 }

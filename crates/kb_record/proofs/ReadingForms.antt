@@ -1,4 +1,5 @@
--- What a reading tells of the tokens: the tree that it gives has them; where it can't go on, or a bracket is too deep, what was passed begins some tree's tokens.
+-- What a reading tells of the tokens: the tree that it gives has them; where it can't go on, or a bracket is too
+-- deep, what was passed begins some tree's tokens.
 use Rattle.std.proofs.Common.{◌≡◌, ℕ, suc, ◌+◌, ◌≤◌, ℤ, List, [], ◌∷◌, ◌++◌, refl, sym, ap, ◌∙◌, subst, arith, append_assoc, append-nil, ⊎_elim}
 use Rattle.kb_lexing.specs.Token.{Token, name, number, comma, rec_word}
 use Rattle.kb_lexing.specs.Possible.{IsExpected}

@@ -1,4 +1,5 @@
--- Rows of items: what is read is a row; where it can't go on, or a bracket is too deep, what was passed begins some row.
+-- Rows of items: what is read is a row; where it can't go on, or a bracket is too deep, what was passed begins some
+-- row.
 use Rattle.std.proofs.Common.{◌≡◌, ℕ, zero, suc, ◌+◌, ◌<◌, ◌≤◌, max, List, [], ◌∷◌, ◌++◌, length, Bool, true, false, if◌then◌else◌, refl, sym, ap, ◌∙◌, subst, arith, append_assoc, append-nil}
 use Rattle.std.proofs.lemmas.List.{length-append}
 use Rattle.kb_lexing.specs.Token.{Token, comma}

@@ -265,7 +265,8 @@ impl<'a> Cursor<'a> {
         matches!(self.peek(), Some(Token::Comma | Token::CloseSquare))
     }
 
-    /// Room for the places of a list of which one was read: for that one, where the list ends behind it, or else for two.
+    /// Room for the places of a list of which one was read: for that one, where the list ends behind it, or else for
+    /// two.
     pub fn room(&self) -> usize {
         if matches!(self.peek(), Some(Token::CloseSquare)) {
             1

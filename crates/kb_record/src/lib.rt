@@ -8,14 +8,15 @@
 //!
 //! # The public contract
 //!
-//! [`parse`] returns the one tree that the bytes have, or their one fault with its place: they are no text, and the longest
-//! front of them with which some text begins has so many bytes; or a front with which some text, however deep, begins has a
-//! 65th bracket open, and the first such bracket stands there. [`parse_expr`] does the same for a word
-//! alone. A word in a tree is kept as it is written, as the text that begins with it. The laws [`a_text_has_one_tree`], [`a_text_has_one_fault`] and [`a_text_that_is_read_has_no_fault`], and those of words, say
-//! that the tree is unique, that bytes have one fault at most, and that no bytes are both read and refused. [`word_of`] evaluates a
-//! word over a presentation, or returns the first fault from the left, and [`parse_word`] is both in one call. By
-//! [`a_word_that_is_read_has_no_fault`] bytes that mean a word are not refused but for want of memory, by
-//! [`a_word_has_one_meaning`] they mean one word, and by [`a_word_has_one_fault`] others have one fault.
+//! [`parse`] returns the one tree that the bytes have, or their one fault with its place: they are no text, and the
+//! longest front of them with which some text begins has so many bytes; or a front with which some text, however
+//! deep, begins has a 65th bracket open, and the first such bracket stands there. [`parse_expr`] does the same for a
+//! word alone. A word in a tree is kept as it is written, as the text that begins with it. The laws
+//! [`a_text_has_one_tree`], [`a_text_has_one_fault`] and [`a_text_that_is_read_has_no_fault`], and those of words,
+//! say that the tree is unique, that bytes have one fault at most, and that no bytes are both read and refused.
+//! [`word_of`] evaluates a word over a presentation, or returns the first fault from the left, and [`parse_word`] is
+//! both in one call. By [`a_word_that_is_read_has_no_fault`] bytes that mean a word are not refused but for want of
+//! memory, by [`a_word_has_one_meaning`] they mean one word, and by [`a_word_has_one_fault`] others have one fault.
 //!
 //! A list is one tree, in whichever form it is kept: [`Value::place_count`](Value) and [`Value::place`](Value) read it
 //! place by place, and [`Place`] hands out a row of words, of numbers, or of pairs, as it stands.
@@ -26,33 +27,36 @@
 //!
 //! - `kb_lexing` makes the tokens of the bytes one by one, each as long as possible, up to the first byte that belongs
 //!   to none; so tokens take no memory.
-//! - `cursor` goes over the tokens; `records` reads trees by recursive descent, and `passing` passes the words in them: a
-//!   word is checked, and kept as the text that begins with it. They recurse into brackets alone, of which 64 may be open; what is joined by `*` or `,` is read in loops. Each
-//!   function is proved to compute a function on token lists of `specs/Reading.antt`, and what those say of the
-//!   grammar, `specs/Grammar.antt`, is proved in `proofs/`.
-//! - `passed` goes over the tokens of refused bytes once more, up to the last one that was passed: `kb_lexing` says its place.
-//! - `longer` appends a place to a list that is read: a list of words, of numbers, or of lists of words, of numbers or of
-//!   pairs stays in arrays (`kb_ragged`) as long as its places allow, which takes a small
-//!   part of the memory of a tree of values. `listed` reads the places of a list in any form.
-//! - `evaluation` evaluates a word as it is read, without a tree, so that a line takes no memory but that of its words;
-//!   `meaning` has what its names, powers and products mean. `written` reads a word of a tree again: it evaluates it, tells
-//!   whether it is a name, and has `words` make the tree of its factors for who prints it.
+//! - `cursor` goes over the tokens; `records` reads trees by recursive descent, and `passing` passes the words in
+//!   them: a word is checked, and kept as the text that begins with it. They recurse into brackets alone, of which 64
+//!   may be open; what is joined by `*` or `,` is read in loops. Each function is proved to compute a function on
+//!   token lists of `specs/Reading.antt`, and what those say of the grammar, `specs/Grammar.antt`, is proved in
+//!   `proofs/`.
+//! - `passed` goes over the tokens of refused bytes once more, up to the last one that was passed: `kb_lexing` says
+//!   its place.
+//! - `longer` appends a place to a list that is read: a list of words, of numbers, or of lists of words, of numbers
+//!   or of pairs stays in arrays (`kb_ragged`) as long as its places allow, which takes a small part of the memory of
+//!   a tree of values. `listed` reads the places of a list in any form.
+//! - `evaluation` evaluates a word as it is read, without a tree, so that a line takes no memory but that of its
+//!   words; `meaning` has what its names, powers and products mean. `written` reads a word of a tree again: it
+//!   evaluates it, tells whether it is a name, and has `words` make the tree of its factors for who prints it.
 //!
 //! # Where the proofs are
 //!
-//! - `proofs/ReadingForms.antt`, with `RowForms`, `WordForms`, `ValueForms`, `ValueParts` and `TextForms`: the tree that is read has
-//!   the tokens; where the reading can't go on, or a bracket is too deep, what was passed begins some tree's tokens, completed by
-//!   those of `PlainTokens`. `LastRec`: no word or value ends with `rec`.
-//! - `proofs/Elsewhere.antt`, with `KeptTokens`, `KeptWords`, `KeptValues` and `KeptLists`: tokens are read in the same way before
-//!   others that can't be read there either, and with other names. `Halting`, with `RawForms`: so where the reading can't go on,
-//!   with which tokens some word or text goes on there, and with which none does.
-//! - `proofs/FormFaults.antt`, with `ByteFaults` and `LastPassed`: so the bytes have the fault that is named, with its place.
-//!   `OneFault`: they have one at most.
+//! - `proofs/ReadingForms.antt`, with `RowForms`, `WordForms`, `ValueForms`, `ValueParts` and `TextForms`: the tree
+//!   that is read has the tokens; where the reading can't go on, or a bracket is too deep, what was passed begins
+//!   some tree's tokens, completed by those of `PlainTokens`. `LastRec`: no word or value ends with `rec`.
+//! - `proofs/Elsewhere.antt`, with `KeptTokens`, `KeptWords`, `KeptValues` and `KeptLists`: tokens are read in the
+//!   same way before others that can't be read there either, and with other names. `Halting`, with `RawForms`: so
+//!   where the reading can't go on, with which tokens some word or text goes on there, and with which none does.
+//! - `proofs/FormFaults.antt`, with `ByteFaults` and `LastPassed`: so the bytes have the fault that is named, with
+//!   its place. `OneFault`: they have one at most.
 //! - `proofs/Finds.antt`, with `FoundWords` and `FoundValues`: the tokens of a tree are read as that tree, unless it
 //!   nests too deep. `Unique`: so tokens have one tree.
 //! - `proofs/OpenBrackets.antt`, with `Balanced`: no front of a tree's tokens has more brackets open than the tree
 //!   nests. `Shallow`: so a text that nests no deeper than it may isn't too deep.
-//! - `proofs/TokensToBytes.antt`: from what is read of the tokens to what the bytes are. `TextFronts`: how many brackets are open.
+//! - `proofs/TokensToBytes.antt`: from what is read of the tokens to what the bytes are. `TextFronts`: how many
+//!   brackets are open.
 //! - `proofs/Deeper.antt`: a word that is read within other brackets is read alone. `BareNames`: when a word is a name.
 //! - `proofs/WordMeanings.antt`, `proofs/WordFaults.antt`: names, repetitions and powers; bytes that mean a word have
 //!   no fault.

@@ -1,7 +1,7 @@
 //! Lists that grow place by place, each in the smallest form that has room for it.
 //!
-//! A list of words or of numbers, or of lists of words, of numbers or of pairs of numbers, stays in a form of its own while
-//! its places allow; a place that doesn't fit makes it a list of any values.
+//! A list of words or of numbers, or of lists of words, of numbers or of pairs of numbers, stays in a form of its own
+//! while its places allow; a place that doesn't fit makes it a list of any values.
 
 ghost use Rattle.std.specs.Prelude.{◌≡◌, ◌++◌, ◌∷◌, [], map, Some, None, IfOk, IfSome};
 ghost use Rattle.std.specs.Option.{option_map};

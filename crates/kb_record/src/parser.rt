@@ -44,7 +44,7 @@ pub fn parse<'a>(alloc: Global, bytes: &'a [u8]) -> Result<Rec<'a>, RecordError>
 
 /// Reads a word, alone or as a line of its own.
 ///
-/// As with [`parse`], the bytes are refused exactly where they have a fault, with its place, but for want of memory.
+/// As with [`parse`], the bytes are refused exactly where they have a fault, with its place.
 pub fn parse_expr<'a>(bytes: &'a [u8]) -> Result<Expr<'a>, RecordError>
     ensures read { IfOk result (λ word. WordOf bytes.now (word_view word)) }
     ensures shallow { IfOk result (λ word. word_nesting (word_view word) ≤ deepest) }

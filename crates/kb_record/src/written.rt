@@ -1,7 +1,7 @@
 //! Words as they are written, read again by who needs them.
 //!
-//! A text that begins with no word stands for no factors: so each of these calls has an answer, and none is met in a tree
-//! that was read.
+//! A text that begins with no word stands for no factors: so each of these calls has an answer, and none is met in a
+//! tree that was read.
 
 ghost use Rattle.std.specs.Prelude.{◌≡◌, ◌≢◌, ℕ, List, Some, None, IfOk, IfSome, IfNone};
 ghost use Rattle.std.specs.Bool.{MatchBool};

@@ -45,8 +45,8 @@ impl<'a, R: Reducer> Making for ByRules<'a, R> {
     }
 }
 
-/// The normal forms of words, in their order, by so many workers, each a thread where there are several. A worker comes to
-/// the gate before it draws a word.
+/// The normal forms of words, in their order, by so many workers, each a thread where there are several. A worker
+/// comes to the gate before it draws a word.
 pub fn batch_rules<R: Reducer + Sync, G: Gate, T: Threads + Wait + Sync>(
     rt: &T,
     alloc: Global,

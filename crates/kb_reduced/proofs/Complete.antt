@@ -37,7 +37,8 @@ reduced_same same reduced = record {
   sorted = reduced.sorted;
 }
 
--- It can't be that a word has no least congruent word. Which word that is, nobody says: the congruence needn't be decidable.
+-- It can't be that a word has no least congruent word. Which word that is, nobody says: the congruence needn't be
+-- decidable.
 not_without_least : {below : List ℕ → List ℕ → Type 0} (pairs : List Pair) (w u : List ℕ) → Accessible below u
     → Congruent (OneOf pairs) w u → ((m : List ℕ) → ¬ IsLeast below pairs w m) → ⊥
 not_without_least pairs w u (accessible lower) congruent none =

@@ -19,8 +19,8 @@ use Rattle.kb_reducedrounds.proofs.Elements.{AreSame, IsCompleteGroup, cancel_fr
 use Rattle.kb_reducedrounds.proofs.Letters.{letter_alone, padding_empty}
 
 module _ (presentation : Presentation) (rules : List Pair) (is : IsCompleteGroup presentation rules) (words : List (List ℕ)) where
-  -- Behind these words the difference at each place is among the words: the irreducible word by which what is read of both
-  -- differs.
+  -- Behind these words the difference at each place is among the words: the irreducible word by which what is read of
+  -- both differs.
   abbrev pub AreKept : List ℕ → List ℕ → List ℕ → List ℕ → Type 0
   AreKept front other u v = (place : ℕ) (e : List ℕ) → 0 < place → IsIrreducible (OneOf rules) e
       → AreSame presentation ((front ++ take place u) ++ e) (other ++ take place v) → Contains words e

@@ -46,7 +46,8 @@ module _ (presentation : Presentation) (rules : List Pair) (is : IsCompleteGroup
   }
 
   module _ (kept : (rule : Pair) → OneOf rules rule → HaveDifferences (group_of presentation rules) words rule.0 rule.1) where
-    -- a word that is accepted is irreducible: the differences of a rule show that its left side is greater than its right side
+    -- a word that is accepted is irreducible: the differences of a rule show that its left side is greater than its
+    -- right side
     pub accepted_irreducible : (w : List ℕ) → DifferenceAcceptor (group_of presentation rules) words w → IsIrreducible (OneOf rules) w
     accepted_irreducible w accepted before rule after one whole =
         let same = is.complete.same.covers rule one in

@@ -1,5 +1,5 @@
--- Where exactly the least words are accepted, and multipliers relate only them, to products alone and to all extensions,
--- no certificate but a word without image is possible.
+-- Where exactly the least words are accepted, and multipliers relate only them, to products alone and to all
+-- extensions, no certificate but a word without image is possible.
 use Rattle.std.proofs.Common.{◌↔◌, ℕ, List, [], ◌∷◌, ◌++◌, subst, sym, inl, inr}
 use Rattle.kb_word.specs.Words.{OneOf}
 use Rattle.kb_word.specs.Relations.{IsOver}

@@ -20,8 +20,8 @@ pub record GoesOnAt (relations : List Sides) (acceptor : Automaton) (multipliers
   pub few : (relation : Sides) → slice_get relations index ≡ Some relation
       → ¬ CountedRelation acceptor multipliers relation limit
 
--- The relation isn't counted above the limit, and the word is the least from which its sides lead apart, where words can
--- be followed by the automata.
+-- The relation isn't counted above the limit, and the word is the least from which its sides lead apart, where words
+-- can be followed by the automata.
 pub record IsApartFrom (acceptor : Automaton) (multipliers : List Automaton) (limit : ℕ)
     (relation : Sides) (word : List ℕ) : Type 0 where
   pub few : ¬ CountedRelation acceptor multipliers relation limit

@@ -26,9 +26,9 @@
 //! last letter, so that a text with a longer first word may come first. From the least word both sides are then
 //! followed.
 //!
-//! One relation is asked without regard to the others, so this is a search of `kb_search` whose places are the relations.
-//! A place has where the search stops (`specs/Stops.antt`): the word, or the count. Both sides are followed after the
-//! search, at the first relation alone.
+//! One relation is asked without regard to the others, so this is a search of `kb_search` whose places are the
+//! relations. A place has where the search stops (`specs/Stops.antt`): the word, or the count. Both sides are
+//! followed after the search, at the first relation alone.
 //!
 //! # Where the proofs are
 //!

@@ -75,8 +75,8 @@ pub(crate) fn canonical_multipliers<R: Reducer, T: Threads + Wait + Sync>(
     }
 }
 
-/// The canonical multipliers, by so many workers. What was explored is made small once for all of them, and is let go before
-/// the first of them is made canonical.
+/// The canonical multipliers, by so many workers. What was explored is made small once for all of them, and is let go
+/// before the first of them is made canonical.
 fn canonical_forms<T: Threads + Wait + Sync>(
     rt: &T,
     alloc: Global,

@@ -44,8 +44,8 @@ pub(crate) fn compare<R: Files + AllocGlobal + Print + Threads + Wait + Sync>(
     Ok(())
 }
 
-/// Prints how large the automata of a group are, whether its acceptor is that of its rules, and whether they are found to be
-/// the group's own; whether both hold.
+/// Prints how large the automata of a group are, whether its acceptor is that of its rules, and whether they are
+/// found to be the group's own; whether both hold.
 fn compare_group<R: Files + AllocGlobal + Print + Threads + Wait + Sync>(
     rt: &R,
     name: &str,

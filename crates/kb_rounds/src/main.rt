@@ -1,12 +1,11 @@
 //! Makes the word acceptors and multipliers of groups by word differences, and compares and measures them.
 //!
-//! Each automaton is proved to accept exactly what the differences say. What no clause says is seen
-//! here: that the calls succeed where there are memory and room, how the automata are printed, and
-//! that the differences of a complete system's rules are enough for its acceptor, which is then
-//! that of the words that the rules leave. The program goes over the groups of `data/`, each with a
-//! complete system of rules by the shortlex order, as `kb kbprog FILE` stores it in `FILE.kbprog`,
-//! checks whether the automata are the group's own structure, and ends with status 1 where an acceptor differs from that
-//! of the rules or automata aren't found to be the group's own:
+//! Each automaton is proved to accept exactly what the differences say. What no clause says is seen here: that the
+//! calls succeed where there are memory and room, how the automata are printed, and that the differences of a
+//! complete system's rules are enough for its acceptor, which is then that of the words that the rules leave. The
+//! program goes over the groups of `data/`, each with a complete system of rules by the shortlex order, as `kb kbprog
+//! FILE` stores it in `FILE.kbprog`, checks whether the automata are the group's own structure, and ends with status
+//! 1 where an acceptor differs from that of the rules or automata aren't found to be the group's own:
 //!
 //! - the infinite cyclic group, whose automata it prints, and the free abelian group of rank 2,
 //! - the Coxeter group B3, the symmetries of the cube, each of whose generators is its own inverse,

@@ -157,8 +157,8 @@ impl Rules {
     }
 }
 
-/// Makes room for one more rule. A list that is full grows by a sixteenth of its length, so that little of its memory is
-/// never used.
+/// Makes room for one more rule. A list that is full grows by a sixteenth of its length, so that little of its memory
+/// is never used.
 fn make_room(rules: &mut Vec<Rule>) -> Result<(), Memory>
     ensures { rules.new.items ≡ rules.old.items }
 {

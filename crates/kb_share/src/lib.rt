@@ -11,11 +11,11 @@
 //!   (`Settles` and `SettleSays` of `specs/Settling.antt`). The book keeps its problem and its
 //!   lines, and nothing is published or entered meanwhile.
 //! - [`line_made`] is what follows on each line that is made: other lines are simplified by it. A [`Finder`] finds at
-//!   least all of them, where it knows the book (`Knows` of `specs/Finding.antt`). One finder serves a book as long as it
-//!   lives, so that each line is met once.
+//!   least all of them, where it knows the book (`Knows` of `specs/Finding.antt`). One finder serves a book as long
+//!   as it lives, so that each line is met once.
 //! - Both keep the live rules interreduced (`StaysReduced` of `specs/Interreduced.antt`): where no live left side has
-//!   another one as a factor, none has afterwards; where no live right side is reducible, none is afterwards, unless the
-//!   log is full, with as many lines as it may have. A halt at the length of a word excuses nothing.
+//!   another one as a factor, none has afterwards; where no live right side is reducible, none is afterwards, unless
+//!   the log is full, with as many lines as it may have. A halt at the length of a word excuses nothing.
 //! - A [`Watch`] sees the book after each line that is made of a pending pair, to show progress.
 //! - [`book_is_sound`] brings what holds of every book.
 //!
@@ -43,8 +43,8 @@
 //!
 //! `specs/Versions.antt` has the versions, and `specs/Passes.antt` what a worker enters.
 //!
-//! Below are `kb_index`, whose automaton serves for reducing and for overlaps, `kb_overlap`, which finds all overlaps of a
-//! left side with others and tells whether they are joined, and `kb_book`.
+//! Below are `kb_index`, whose automaton serves for reducing and for overlaps, `kb_overlap`, which finds all overlaps
+//! of a left side with others and tells whether they are joined, and `kb_book`.
 #![tactic(auto)]
 
 mod deciding;

@@ -39,8 +39,8 @@ pub enum Cert {
         u: Word,
         v: Word,
     },
-    /// Followed from u the left side of the relation with this number, from 1 on, leads to a, and its right side to another
-    /// word b.
+    /// Followed from u the left side of the relation with this number, from 1 on, leads to a, and its right side to
+    /// another word b.
     N8 {
         relation: usize,
         u: Word,

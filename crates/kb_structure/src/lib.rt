@@ -16,15 +16,14 @@
 //!
 //! # The public contract
 //!
-//! It is laws, and the type [`Cert`] of certificates. By [`axioms_make_automatic_structures`] a structure that satisfies
-//! the axioms is the group's own, and by [`automatic_structures_satisfy_the_axioms`] the group's own satisfies them, if
-//! its images are given. What speaks against an axiom is a certificate, of one of the kinds N1 to N8
-//! (`specs/Certificates.antt`). By
-//! [`automatic_structures_have_no_certificate`] there is none against the group's own structure, and by
-//! [`axioms_hold_without_certificate`] the axioms hold where there is none. Two of them have to be given for that,
-//! since no certificate shows only that they can't fail: that accepted words have images, and that the multipliers
-//! are true to the group. The latter holds exactly where label words agree, which are finitely many for each state of a
-//! multiplier (`specs/Labels.antt`): by [`label_words_make_multipliers_true`], and by
+//! It is laws, and the type [`Cert`] of certificates. By [`axioms_make_automatic_structures`] a structure that
+//! satisfies the axioms is the group's own, and by [`automatic_structures_satisfy_the_axioms`] the group's own
+//! satisfies them, if its images are given. What speaks against an axiom is a certificate, of one of the kinds N1 to
+//! N8 (`specs/Certificates.antt`). By [`automatic_structures_have_no_certificate`] there is none against the group's
+//! own structure, and by [`axioms_hold_without_certificate`] the axioms hold where there is none. Two of them have to
+//! be given for that, since no certificate shows only that they can't fail: that accepted words have images, and that
+//! the multipliers are true to the group. The latter holds exactly where label words agree, which are finitely many
+//! for each state of a multiplier (`specs/Labels.antt`): by [`label_words_make_multipliers_true`], and by
 //! [`label_words_of_true_multipliers_agree`] for labels that are differences of words.
 //!
 //! The laws hold by any order of words that a presentation may have. But for those on labels they don't ask for

@@ -16,8 +16,8 @@ use std::sync::Wait;
 use std::test::Fail;
 use std::thread::Threads;
 
-/// What is found of an acceptor and a first multiplier with these states, beside the second multiplier of the free group
-/// of rank one, in the group with these equations.
+/// What is found of an acceptor and a first multiplier with these states, beside the second multiplier of the free
+/// group of rank one, in the group with these equations.
 fn found<R: Abort + Threads + Wait + Sync>(
     rt: &R,
     alloc: Global,

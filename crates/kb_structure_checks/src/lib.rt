@@ -4,8 +4,8 @@
 //! That a call succeeds where there is memory is stated by no contract, since want of memory is an answer that is free.
 //! Here the calls of `kb_axioms` are made, and their answers compared with known ones:
 //!
-//! - `files`: an acceptor, multipliers and a presentation from their texts. The acceptor and the multipliers of the free
-//!   group of rank one are what the others change.
+//! - `files`: an acceptor, multipliers and a presentation from their texts. The acceptor and the multipliers of the
+//!   free group of rank one are what the others change.
 //! - `certificates`: the automata that pass, a certificate of each kind, and a count above the limit.
 //! - `truth`: label words that agree, and others.
 //! - `answered`: what the whole check answers by too few rules.

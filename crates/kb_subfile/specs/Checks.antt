@@ -1,8 +1,8 @@
 -- The checks of a file of a subgroup's generators, in the order in which it is refused.
 use Rattle.std.specs.Prelude.{◌≡◌, ℕ, ◌<◌, ◌⊎◌}
 
--- What is looked at: the names of fields; whether the field of the generators is there, whether it is a list of words, and
--- whether those are few enough; and whether each word can be read.
+-- What is looked at: the names of fields; whether the field of the generators is there, whether it is a list of
+-- words, and whether those are few enough; and whether each word can be read.
 pub data Step : Type 0 where
   field_names : Step
   is_there : Step

@@ -23,10 +23,10 @@ const MOST_EQUATIONS: usize = 65535;
 
 /// Reads a file of a subgroup's generators, which are words of a presentation.
 ///
-/// The bytes are a text of a record with the field that the head of the crate names. A refusal names the first fault that
-/// they have, in the order of refusals, and bytes that say generators have none
-/// ([`a_subgroup_file_has_no_fault`](crate::a_subgroup_file_has_no_fault)): so bytes are refused exactly where they have a
-/// fault, or memory runs out.
+/// The bytes are a text of a record with the field that the head of the crate names. A refusal names the first fault
+/// that they have, in the order of refusals, and bytes that say generators have none
+/// ([`a_subgroup_file_has_no_fault`](crate::a_subgroup_file_has_no_fault)): so bytes are refused exactly where they
+/// have a fault, or memory runs out.
 pub fn read(alloc: Global, bytes: &[u8], presentation: &Presentation) -> Result<Vec<Word>, SubError>
     ensures read { IfOk result
         (λ generators. GeneratorsOf bytes.now (parts_of presentation.now) generators.items) }

@@ -174,8 +174,8 @@ module _ (limits : Limits) (parts : PresentationParts) (state : State) (halt : H
         interreduced = interreduced;
       }
 
--- The end of a completion at a halt, where the problem, the log, the line that waits, the rules and the limit have names of
--- their own.
+-- The end of a completion at a halt, where the problem, the log, the line that waits, the rules and the limit have
+-- names of their own.
 pub ends_halted : (limits : Limits) (parts : PresentationParts) (problem : Problem) (state : State) (journal : List Event) (halt : Halt) (origin : Origin)
     (rest : List Origin) (lines : List Line) (waiting : Line) (rules : List Pair) (reached : Reached)
     → problem ≡ problem_of limits parts → IsSound problem state → state.halt ≡ Some halt → state.pending ≡ origin ∷ rest

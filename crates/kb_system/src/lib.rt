@@ -8,12 +8,12 @@
 //!
 //! A presentation has one completion (`specs/OneCompletion.antt`).
 //!
-//! [`word_acceptor`] makes the word acceptor of the reduced complete system, in three steps: the left
-//! sides have no other letters than the relations, the automaton of the irreducible words accepts
-//! exactly the least ones, and the canonical automaton of that language is the word acceptor. Where the automaton of the
-//! left sides has no more states than the acceptor may have, the log can't be asked for any more, and is let go before.
-//! [`halted`] reads the evidence from the book of a completion that halted, for which
-//! `kb_machine::courses_are_sound` has said all along that it holds.
+//! [`word_acceptor`] makes the word acceptor of the reduced complete system, in three steps: the left sides have no
+//! other letters than the relations, the automaton of the irreducible words accepts exactly the least ones, and the
+//! canonical automaton of that language is the word acceptor. Where the automaton of the left sides has no more
+//! states than the acceptor may have, the log can't be asked for any more, and is let go before. [`halted`] reads the
+//! evidence from the book of a completion that halted, for which `kb_machine::courses_are_sound` has said all along
+//! that it holds.
 //!
 //! Below are `kb_complete`, which completes, and `kb_wa` and `kb_fsamin`, which make the acceptor.
 #![tactic(auto)]

@@ -75,8 +75,8 @@ module _ {IsFault : FileFault → Type 0} {file : List ℕ} {Holds : Type 0} (na
 
 -- ---- two files
 
--- A run over two files: it ended at the load of the first; or at that of the next, by what the first holds; or both hold
--- what they have to, and no file is refused for what is found at a load.
+-- A run over two files: it ended at the load of the first; or at that of the next, by what the first holds; or both
+-- hold what they have to, and no file is refused for what is found at a load.
 pub data ReadsTwo {Held : Type 0} (IsFault : FileFault → Type 0) (file : List ℕ) (Holds : Held → Type 0) (IsNextFault : Held → FileFault → Type 0)
     (next : List ℕ) (HoldsNext : Held → Type 0) (status : Status) : Type 0 where
   ends_first : EndsAtLoad IsFault file status → ReadsTwo IsFault file Holds IsNextFault next HoldsNext status

@@ -1,4 +1,5 @@
--- The log of a completion, stored beside its presentation, is read: a file's presentation has few relations, and no long ones.
+-- The log of a completion, stored beside its presentation, is read: a file's presentation has few relations, and no
+-- long ones.
 use Rattle.std.proofs.Common.{◌≡◌, ◌∙◌, ℕ, zero, suc, ◌+◌, ◌≤◌, Bool, true, false, nat_lt, if◌then◌else◌, List, [], ◌∷◌, ◌++◌, length, Option, None, Some, Result, Ok, Err, refl, sym, ap, subst, inl, inr, arith, length-append}
 use Rattle.std.specs.Prelude.{All}
 use Rattle.std.proofs.lemmas.Bool.{ltb-false, cases_order}

@@ -19,8 +19,8 @@ pub record Promise (Task : Type 0) : Type 1 where
   pub settled_stores : List ℕ → Type 0
   -- the names of the files that it reads
   pub reads : List ℕ → Type 0
-  -- the file of this name is the first that has a fault as it is loaded, of those that it reads in their order, and this
-  -- is the fault
+  -- the file of this name is the first that has a fault as it is loaded, of those that it reads in their order, and
+  -- this is the fault
   pub refuses : Outside → List ℕ → FileFault → Type 0
   -- nothing of what it reads is refused; the statuses with which it then ends, where no device fails
   pub is_unrefused : Outside → Type 0

@@ -58,9 +58,9 @@ pub enum FileFault {
     Subgroup(SubError),
     /// It holds a log without derivations, where they are needed.
     NoDerivations,
-    /// It holds a log whose lines don't settle whether automata are a group's own: they aren't confluent, and by them the
-    /// label and another label word of a state of the multiplier of this generator, and of none before it, have these
-    /// different normal forms.
+    /// It holds a log whose lines don't settle whether automata are a group's own: they aren't confluent, and by them
+    /// the label and another label word of a state of the multiplier of this generator, and of none before it, have
+    /// these different normal forms.
     LogUnresolved {
         generator: OwnedText,
         label: OwnedText,

@@ -7,7 +7,8 @@ use Rattle.kb_share.specs.Later.{OnlyEnters}
 use Rattle.kb_threads.specs.declared.passed.Passed.{Passed}
 use Rattle.kb_threads.specs.declared.passed.Passed.TheVariants as passed
 
--- the completion after overlaps were entered and nothing else happened, or the very one, and its live rules are confluent
+-- the completion after overlaps were entered and nothing else happened, or the very one, and its live rules are
+-- confluent
 abbrev pub PassSays : {R : Type 0} → Course → Passed R → Type 0
 PassSays before (passed.Entered after) = OnlyEnters before after.course
 PassSays before (passed.Confluent after) =

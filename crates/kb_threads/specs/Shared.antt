@@ -24,7 +24,8 @@ pub record LockedParts : Type 0 where
   pub course : Course
   pub entered : ℕ
 
--- the completion that was given, into which overlaps were entered: an entry more for each time that a worker was told so
+-- the completion that was given, into which overlaps were entered: an entry more for each time that a worker was told
+-- so
 pub record IsStageOf (given : Course) (locked : LockedParts) : Type 0 where
   pub only : OnlyEnters given locked.course
   pub entries : entries locked.course.journal ≡ entries given.journal + locked.entered

@@ -54,8 +54,9 @@ impl<'g, G: Gate> Workers<'g, G> {
         }
     }
 
-    /// Makes a pass over a book whose last version has its live lines. One worker enters all overlaps that are apart, in
-    /// their order (`OneByOne`); more of them enter the shortest, also where few lines are live and one does it alone.
+    /// Makes a pass over a book whose last version has its live lines. One worker enters all overlaps that are apart,
+    /// in their order (`OneByOne`); more of them enter the shortest, also where few lines are live and one does it
+    /// alone.
     pub fn pass<R: HasAutomaton + Send + Sync, T: Threading + Wait + Sync>(
         &self,
         rt: &T,

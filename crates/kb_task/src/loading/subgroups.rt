@@ -95,8 +95,8 @@ fn subgroup_of(
     }
 }
 
-/// The presentation of a group by shortlex to which the marker of cosets can be added, that the file of this name holds; or the
-/// status of a run that ends there.
+/// The presentation of a group by shortlex to which the marker of cosets can be added, that the file of this name
+/// holds; or the status of a run that ends there.
 pub fn load_markable<F: Shelf>(
     alloc: Global,
     file: OwnedText,
@@ -124,7 +124,8 @@ pub fn load_markable<F: Shelf>(
     }
 }
 
-/// The presentation of a group by shortlex to which the marker of cosets can be added, that the file of this name holds.
+/// The presentation of a group by shortlex to which the marker of cosets can be added, that the file of this name
+/// holds.
 fn markable_in<F: Shelf>(alloc: Global, name: &str, shelf: &mut F) -> Result<Presentation, LoadStop>
     ensures holds { IsTrue (F.state shelf.old).told
         → IfOk result (λ presentation.

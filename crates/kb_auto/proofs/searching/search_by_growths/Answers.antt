@@ -37,30 +37,30 @@ live_rules_are_of_the_group-requires g c =
 pub answer_by_complete-requires-clause-problem : goal.answer_by_complete-requires-clause-problem
 answer_by_complete-requires-clause-problem g c κs within =
     let says =
-    grown_said c.growths.book.course c.in_ok-next.field-0 (grown.Confluent c.in-Confluent.rules c.in-Confluent.ended) c.in-Confluent.is
+    grown_said c.growths.book.course c.in_ok-next.field-0 (grown.Confluent c.in-Confluent.rules c.in-Confluent.end) c.in-Confluent.is
     c.in_ok-next.ensures.says in
     says.0.later.problem ∙ c.growths.invariant.problem
 
 pub answer_by_complete-requires-clause-completed : goal.answer_by_complete-requires-clause-completed
 answer_by_complete-requires-clause-completed g c κs within =
-    (grown_said c.growths.book.course c.in_ok-next.field-0 (grown.Confluent c.in-Confluent.rules c.in-Confluent.ended) c.in-Confluent.is
+    (grown_said c.growths.book.course c.in_ok-next.field-0 (grown.Confluent c.in-Confluent.rules c.in-Confluent.end) c.in-Confluent.is
     c.in_ok-next.ensures.says).1
 
 pub answer_at_halt-requires-clause-problem : goal.answer_at_halt-requires-clause-problem
 answer_at_halt-requires-clause-problem g c κs within =
     let says =
-    grown_said c.growths.book.course c.in_ok-next.field-0 (grown.Halted c.in-Halted.ended) c.in-Halted.is c.in_ok-next.ensures.says in
+    grown_said c.growths.book.course c.in_ok-next.field-0 (grown.Halted c.in-Halted.end) c.in-Halted.is c.in_ok-next.ensures.says in
     says.0.later.problem ∙ c.growths.invariant.problem
 
 pub answer_at_halt-requires-clause-halted : goal.answer_at_halt-requires-clause-halted
 answer_at_halt-requires-clause-halted g c κs within =
-    (grown_said c.growths.book.course c.in_ok-next.field-0 (grown.Halted c.in-Halted.ended) c.in-Halted.is c.in_ok-next.ensures.says).1
+    (grown_said c.growths.book.course c.in_ok-next.field-0 (grown.Halted c.in-Halted.end) c.in-Halted.is c.in_ok-next.ensures.says).1
 
 pub answer_at_halt-requires-clause-reduced : goal.answer_at_halt-requires-clause-reduced
 answer_at_halt-requires-clause-reduced g c κs within =
     let says =
-    grown_said c.growths.book.course c.in_ok-next.field-0 (grown.Halted c.in-Halted.ended) c.in-Halted.is c.in_ok-next.ensures.says in
-    still_reduced c.growths.book.course c.in-Halted.ended.course c.growths.invariant.reduced says.0
+    grown_said c.growths.book.course c.in_ok-next.field-0 (grown.Halted c.in-Halted.end) c.in-Halted.is c.in_ok-next.ensures.says in
+    still_reduced c.growths.book.course c.in-Halted.end.course c.growths.invariant.reduced says.0
 
 pub try_rules-requires-clause-letters : goal.try_rules-requires-clause-letters
 try_rules-requires-clause-letters g c κs within =
