@@ -77,7 +77,7 @@ fn next_row<M: Machine>(
         → (most ≡ limit) × HasMoreStates (M.machine machine.now) limit }
 {
     let moves = machine.moves(alloc, &seen.states[rows.len()])?;
-    let mut row = Vec::new(alloc);
+    let mut row = Vec::with_capacity(alloc, moves.len())?;
     for (symbol, state) in moves {
         let origin = (rows.len() as u32 + 1, symbol);
         let number = number::<M>(limit, seen, state, origin)?;

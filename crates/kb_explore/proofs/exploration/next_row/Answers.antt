@@ -21,7 +21,7 @@ loop-symbol-init g c =
         state,
         (
           c.index.ensures,
-          subst P (sym c.new-row.ensures.items)
+          subst P (sym c.in_ok-row.ensures.items)
               (Partway-begun state c.requires.progress c.index.ensures),
         ),
       ),
