@@ -37,11 +37,12 @@ pub(crate) fn split_by_splitters(
         return Ok(of);
     }
     let Backward { edges, symbols } = moves;
+    let edges = edges.as_slice();
+    // What is only needed to make these is let go before blocks and cords are there.
+    let incoming = incoming(alloc, edges, start.len())?;
     let mut cords = by_symbol(alloc, symbols.as_slice())?;
     drop(symbols);
     let mut blocks = Partition::new(alloc, of, count)?;
-    let edges = edges.as_slice();
-    let incoming = incoming(alloc, edges, start.len())?;
     refine(alloc, edges, &incoming, start, &mut blocks, &mut cords)?;
     classes_of_blocks(alloc, start, &blocks)
 }
