@@ -1,8 +1,10 @@
 -- Places of lists, by number.
-use Rattle.std.proofs.Common.{◌≡◌, ℕ, zero, suc, ◌<◌, List, [], ◌∷◌, length, slice_get, Option, Some, None, refl, ap, ◌∙◌, arith}
+use Rattle.std.proofs.Common.{◌≡◌, ℕ, zero, suc, ◌<◌, List, [], ◌∷◌, length, map, get_or, slice_get, Option, Some, None, option_map, refl, ap, ◌∙◌, arith}
+use Rattle.std.proofs.lemmas.Option.{slice_get-get_or, slice_get-map}
 use Rattle.kb_record.specs.Tree.{Value, list_value, place, no_places}
-use Rattle.kb_record.specs.View.{places_of}
+use Rattle.kb_record.specs.View.{places_of, written_place}
 use Rattle.kb_record.specs.Listed.{listed, HasPlaces}
+use Rattle.kb_record.specs.declared.tree.PlaceText.{PlaceText}
 use Rattle.kb_fields.specs.Fields.{value_at, place_count}
 
 pub value_at-places_of : (ps : List (Option Value)) (k : ℕ) (p : Option Value) → slice_get ps k ≡ Some p → (value_at (places_of ps) k ≡ p) × (k < place_count (places_of ps))
@@ -36,3 +38,12 @@ two_in (p ∷ (q ∷ (r ∷ ps))) v w two first second = absurd (omega (arith, t
 pub two_listed : (value v w : Value) → HasPlaces value (listed value) → length (listed value) ≡ 2 → slice_get (listed value) 0 ≡ Some (Some v)
     → slice_get (listed value) 1 ≡ Some (Some w) → value ≡ list_value (place v (place w no_places))
 two_listed value v w is two first second = is ∙ ap (λ ps. list_value (places_of ps)) (two_in (listed value) (Some v) (Some w) two first second)
+
+-- ---- places as they are written
+
+-- what a list is taken to have behind its places
+abbrev pub beyond : PlaceText
+beyond = record { text = record { ref_ptr = (0, 0); now = [] } }
+
+pub seen_at : (places : List PlaceText) (k : ℕ) → k < length places → slice_get (map written_place places) k ≡ Some (written_place (get_or places k beyond))
+seen_at places k within = slice_get-map written_place places k ∙ ap (option_map written_place) (slice_get-get_or places k beyond within)

@@ -12,10 +12,9 @@ use Rattle.std.proofs.lemmas.Bool.{cases_lt, false≢true}
 use Rattle.std.proofs.lemmas.Slice.Eq.{bytes_eq-Decides}
 use Rattle.std.proofs.lemmas.Map.Text.{is_eq-slice_cmp}
 use Rattle.kb_record.specs.Tree.{Value, record_value, list_value}
-use Rattle.kb_record.specs.View.{value_view, places_of, number_place, row_place, entry_place, entries_place, text_place, word_place, words_place}
-use Rattle.kb_record.specs.declared.tree.Expr.{Expr}
+use Rattle.kb_record.specs.View.{value_view, places_of, number_place, row_place, entry_place, entries_place}
 use Rattle.kb_record.specs.declared.tree.Value as code
-use Rattle.kb_fields.specs.Fields.{fields_view, places_view, field_names, StandsTwice, HasFieldTwice, SomeFieldHasTwice, SomePlaceHasTwice}
+use Rattle.kb_fields.specs.Fields.{fields_view, field_names, StandsTwice, HasFieldTwice, HasFieldTwiceAt, SomeFieldHasTwice, SomePlaceHasTwice}
 
 abbrev pub text_cmp : Bor (List ℕ) → Bor (List ℕ) → Ordering
 text_cmp x y = slice_cmp nat_cmp x.now y.now
@@ -43,10 +42,7 @@ text_same e = cc
 field_same : {a b : Bor (List ℕ) × code.Value} → Some a ≡ Some b → a ≡ b
 field_same e = cc
 
-value_same : {a b : code.Value} → Some (Some a) ≡ Some (Some b) → a ≡ b
-value_same e = cc
-
-place_same : {a b : Option code.Value} → Some a ≡ Some b → a ≡ b
+place_same : {a b : Option Value} → Some a ≡ Some b → a ≡ b
 place_same e = cc
 
 -- what the set has after an insertion
@@ -103,18 +99,18 @@ in_some_field [] q e = absurd e
 in_some_field (f ∷ fs) q (inl here) = record { k = 0; f = f; at = refl; twice = here }
 in_some_field (f ∷ fs) q (inr later) = let rest = in_some_field fs q later in record { k = suc rest.k; f = rest.f; at = rest.at; twice = rest.twice }
 
--- the name stands twice in the value of this place
-pub record InPlace (ps : List (Option code.Value)) (q : List ℕ) : Type 0 where
+-- the name stands twice at this place
+pub record InPlace (ps : List (Option Value)) (q : List ℕ) : Type 0 where
   pub k : ℕ
-  pub v : code.Value
-  pub at : slice_get ps k ≡ Some (Some v)
-  pub twice : HasFieldTwice (value_view v) q
+  pub p : Option Value
+  pub at : slice_get ps k ≡ Some p
+  pub twice : HasFieldTwiceAt p q
 
-pub in_some_place : (ps : List (Option code.Value)) (q : List ℕ) → SomePlaceHasTwice (places_view ps) q → InPlace ps q
+pub in_some_place : (ps : List (Option Value)) (q : List ℕ) → SomePlaceHasTwice (places_of ps) q → InPlace ps q
 in_some_place [] q e = absurd e
-in_some_place (Some v ∷ ps) q (inl here) = record { k = 0; v = v; at = refl; twice = here }
-in_some_place (Some v ∷ ps) q (inr later) = let rest = in_some_place ps q later in record { k = suc rest.k; v = rest.v; at = rest.at; twice = rest.twice }
-in_some_place (None ∷ ps) q later = let rest = in_some_place ps q later in record { k = suc rest.k; v = rest.v; at = rest.at; twice = rest.twice }
+in_some_place (Some v ∷ ps) q (inl here) = record { k = 0; p = Some v; at = refl; twice = here }
+in_some_place (Some v ∷ ps) q (inr later) = let rest = in_some_place ps q later in record { k = suc rest.k; p = rest.p; at = rest.at; twice = rest.twice }
+in_some_place (None ∷ ps) q later = let rest = in_some_place ps q later in record { k = suc rest.k; p = rest.p; at = rest.at; twice = rest.twice }
 
 abbrev names_in : List (Bor (List ℕ) × code.Value) → List (List ℕ)
 names_in fs = map (λ (f : Bor (List ℕ) × code.Value). f.0.now) fs
@@ -145,13 +141,12 @@ none_twice fs n seen whole first within q (inr later) =
     let inside = slice_get_within fs found.k found.f found.at in
     within found.k found.f (omega (arith, inside)) found.at q found.twice
 
-pub no_place_twice : (ps : List (Option code.Value)) (n : ℕ) → length ps ≤ n
-    → ((k : ℕ) (v : code.Value) → k < n → slice_get ps k ≡ Some (Some v) → (q : List ℕ) → HasFieldTwice (value_view v) q → ⊥)
-    → (q : List ℕ) → HasFieldTwice (list_value (places_view ps)) q → ⊥
+pub no_place_twice : (ps : List (Option Value)) (n : ℕ) → length ps ≤ n → ((k : ℕ) (p : Option Value) → k < n → slice_get ps k ≡ Some p → (q : List ℕ) → HasFieldTwiceAt p q → ⊥)
+    → (q : List ℕ) → HasFieldTwice (list_value (places_of ps)) q → ⊥
 no_place_twice ps n whole within q later =
     let found = in_some_place ps q later in
-    let inside = slice_get_within ps found.k (Some found.v) found.at in
-    within found.k found.v (omega (arith, inside)) found.at q found.twice
+    let inside = slice_get_within ps found.k found.p found.at in
+    within found.k found.p (omega (arith, inside)) found.at q found.twice
 
 pub not_false : (b : Bool) → not b ≡ false → b ≡ true
 not_false true e = refl
@@ -176,49 +171,25 @@ within_more fs n f at before here k g h is q twice = go (cases_lt k n)
         let P : Bor (List ℕ) × code.Value → Type 0 = λ e. HasFieldTwice (value_view e.1) q in
         here q (subst P (sym found) twice)
 
--- one more place, which is empty or has a value in which nothing stands twice
-pub places_more : (ps : List (Option code.Value)) (n : ℕ) (p : Option code.Value) → slice_get ps n ≡ Some p
-    → ((k : ℕ) (v : code.Value) → k < n → slice_get ps k ≡ Some (Some v) → (q : List ℕ) → HasFieldTwice (value_view v) q → ⊥)
-    → ((v : code.Value) → p ≡ Some v → (q : List ℕ) → HasFieldTwice (value_view v) q → ⊥)
-    → (k : ℕ) (v : code.Value) → k < n + 1 → slice_get ps k ≡ Some (Some v) → (q : List ℕ) → HasFieldTwice (value_view v) q → ⊥
-places_more ps n p at before here k v h is q twice = go (cases_lt k n)
+-- one more place, in which nothing stands twice
+pub places_more : (ps : List (Option Value)) (n : ℕ) (p : Option Value) → slice_get ps n ≡ Some p
+    → ((k : ℕ) (r : Option Value) → k < n → slice_get ps k ≡ Some r → (q : List ℕ) → HasFieldTwiceAt r q → ⊥) → ((q : List ℕ) → HasFieldTwiceAt p q → ⊥)
+    → (k : ℕ) (r : Option Value) → k < n + 1 → slice_get ps k ≡ Some r → (q : List ℕ) → HasFieldTwiceAt r q → ⊥
+places_more ps n p at before here k r h is q twice = go (cases_lt k n)
   where
     go : (k < n) ⊎ (n ≤ k) → ⊥
-    go (inl less) = before k v less is q twice
+    go (inl less) = before k r less is q twice
     go (inr last) =
         let same : n ≡ k = omega (arith, h, last) in
-        here v (place_same (sym at ∙ (ap (slice_get ps) same ∙ is))) q twice
-
-pub at_value : (p : Option code.Value) (u : code.Value) → p ≡ Some u → ((q : List ℕ) → HasFieldTwice (value_view u) q → ⊥)
-    → (v : code.Value) → p ≡ Some v → (q : List ℕ) → HasFieldTwice (value_view v) q → ⊥
-at_value p u is none v other q twice =
-    let same = some_value (sym is ∙ other) in
-    let P : code.Value → Type 0 = λ x. HasFieldTwice (value_view x) q in
-    none q (subst P (sym same) twice)
-  where
-    some_value : {a b : code.Value} → Some a ≡ Some b → a ≡ b
-    some_value e = cc
+        let found : p ≡ r = place_same (sym at ∙ (ap (slice_get ps) same ∙ is)) in
+        let P : Option Value → Type 0 = λ x. HasFieldTwiceAt x q in
+        here q (subst P (sym found) twice)
 
 -- numbers, and lists of them, hold no records
 pub no_number_twice : (numbers : List ℤ) (q : List ℕ) → SomePlaceHasTwice (places_of (map number_place numbers)) q → ⊥
 no_number_twice [] q e = absurd e
 no_number_twice (z ∷ numbers) q (inl here) = absurd here
 no_number_twice (z ∷ numbers) q (inr later) = no_number_twice numbers q later
-
--- nor do words
-behind_text : (text : List ℕ) (others : List (Option Value)) (q : List ℕ) → (SomePlaceHasTwice (places_of others) q → ⊥) → SomePlaceHasTwice (places_of (text_place text ∷ others)) q → ⊥
-behind_text [] others q none later = none later
-behind_text (byte ∷ bytes) others q none (inl here) = absurd here
-behind_text (byte ∷ bytes) others q none (inr later) = none later
-
-pub no_word_twice : (words : List Expr) (q : List ℕ) → SomePlaceHasTwice (places_of (map word_place words)) q → ⊥
-no_word_twice [] q e = absurd e
-no_word_twice (word ∷ words) q e = behind_text word.text.now (map word_place words) q (no_word_twice words q) e
-
-pub no_words_twice : (rows : List (List Expr)) (q : List ℕ) → SomePlaceHasTwice (places_of (map words_place rows)) q → ⊥
-no_words_twice [] q e = absurd e
-no_words_twice (row ∷ rows) q (inl here) = no_word_twice row q here
-no_words_twice (row ∷ rows) q (inr later) = no_words_twice rows q later
 
 pub no_row_twice : (rows : List (List ℤ)) (q : List ℕ) → SomePlaceHasTwice (places_of (map row_place rows)) q → ⊥
 no_row_twice [] q e = absurd e

@@ -1,5 +1,5 @@
 -- The first name that is repeated in fields and in places, one by one.
-use Rattle.std.proofs.Common.{◌≡◌, ℕ, suc, ◌+◌, ◌<◌, true, false, List, [], ◌∷◌, ◌++◌, map, length, take, drop, get_or, slice_get, Option, Some, None, refl, sym, ap, subst, ◌∙◌, add-one}
+use Rattle.std.proofs.Common.{◌≡◌, ℕ, suc, ◌+◌, ◌<◌, true, false, List, [], ◌∷◌, ◌++◌, map, length, take, drop, get_or, slice_get, Option, Some, None, sym, ap, subst, ◌∙◌, add-one}
 use Rattle.std.specs.Borrow.{Bor}
 use Rattle.std.specs.BTreeSet.{BTreeSet}
 use Rattle.std.specs.List.{Contains}
@@ -7,9 +7,10 @@ use Rattle.std.proofs.Math.Seq.{drop-cons}
 use Rattle.std.proofs.lemmas.Bool.{false≢true}
 use Rattle.std.proofs.lemmas.List.{take_more}
 use Rattle.std.proofs.lemmas.Option.{slice_get_within, get_or_from_slice_get}
-use Rattle.kb_record.specs.View.{value_view}
+use Rattle.kb_record.specs.Tree.{Value}
+use Rattle.kb_record.specs.View.{value_view, places_of}
 use Rattle.kb_record.specs.declared.tree.Value as code
-use Rattle.kb_fields.specs.Fields.{fields_view, places_view, HasFieldTwice, Naming, namings, namings_behind, namings_in}
+use Rattle.kb_fields.specs.Fields.{fields_view, HasFieldTwice, HasFieldTwiceAt, IsFirstRepeatedAt, Naming, namings, namings_behind, namings_in}
 use Rattle.kb_fields.proofs.BeforeLemmas.{has_place, place_of, stands_before, among_first}
 use Rattle.kb_fields.proofs.NamingLemmas.{IsFirst, first_here, first_later, first_behind, first_front, none_within}
 use Rattle.kb_fields.proofs.RepeatLemmas.{has, HasSeen, name_at}
@@ -22,8 +23,8 @@ abbrev pub from_field : List (Bor (List ℕ) × code.Value) → ℕ → List Nam
 from_field fs k = namings_behind (take k (names_of fs)) (fields_view (drop k fs))
 
 -- the names from the k-th place on
-abbrev pub from_place : List (Option code.Value) → ℕ → List Naming
-from_place ps k = namings_in (places_view (drop k ps))
+abbrev pub from_place : List (Option Value) → ℕ → List Naming
+from_place ps k = namings_in (places_of (drop k ps))
 
 -- a name that is the first from there on is the first of all
 abbrev pub FirstOfAll : List Naming → List Naming → Type 0
@@ -78,33 +79,25 @@ module _ (fs : List (Bor (List ℕ) × code.Value)) (k : ℕ) (f : Bor (List ℕ
         whole name (subst P (sym one_more) (first_later naming _ name new
         (first_behind (namings (value_view f.1)) (from_field fs (k + 1)) name (none_within (value_view f.1) once) found)))
 
-module _ (ps : List (Option code.Value)) (k : ℕ) (p : Option code.Value) (at : slice_get ps k ≡ Some p) (all : List Naming)
-    (whole : FirstOfAll (from_place ps k) all) where
+module _ (ps : List (Option Value)) (k : ℕ) (p : Option Value) (at : slice_get ps k ≡ Some p) (all : List Naming) (whole : FirstOfAll (from_place ps k) all) where
   places_are : drop k ps ≡ p ∷ drop (k + 1) ps
   places_are =
-      drop-cons ps k p (slice_get_within ps k p at) ∙ ap (λ (q : Option code.Value). q ∷ drop (suc k) ps) (get_or_from_slice_get ps k p p at)
+      drop-cons ps k p (slice_get_within ps k p at) ∙ ap (λ (q : Option Value). q ∷ drop (suc k) ps) (get_or_from_slice_get ps k p p at)
       ∙ ap (λ (n : ℕ). p ∷ drop n ps) (sym (add-one k))
 
-  value_more : (v : code.Value) → p ≡ Some v → from_place ps k ≡ namings (value_view v) ++ from_place ps (k + 1)
-  value_more v is =
-      ap (λ (qs : List (Option code.Value)). namings_in (places_view qs)) places_are
-      ∙ ap (λ (q : Option code.Value). namings_in (places_view (q ∷ drop (k + 1) ps))) is
+  from_here : from_place ps k ≡ namings_in (places_of (p ∷ drop (k + 1) ps))
+  from_here = ap (λ (qs : List (Option Value)). namings_in (places_of qs)) places_are
 
-  pub repeated_at_place : (v : code.Value) → p ≡ Some v → (name : List ℕ) → IsFirst (namings (value_view v)) name → IsFirst all name
-  repeated_at_place v is name found =
-      let P : List Naming → Type 0 = λ ns. IsFirst ns name in
-      whole name (subst P (sym (value_more v is)) (first_front (namings (value_view v)) (from_place ps (k + 1)) name found))
-
-  pub repeated_behind : ((v : code.Value) → p ≡ Some v → (q : List ℕ) → HasFieldTwice (value_view v) q → ⊥) → FirstOfAll (from_place ps (k + 1)) all
-  repeated_behind once = of p refl
+  pub repeated_at_place : (name : List ℕ) → IsFirstRepeatedAt p name → IsFirst all name
+  repeated_at_place name found = whole name (subst (λ (ns : List Naming). IsFirst ns name) (sym from_here) (of p found))
     where
-      of : (q : Option code.Value) → p ≡ q → FirstOfAll (from_place ps (k + 1)) all
-      of None is name found =
-          let P : List Naming → Type 0 = λ ns. IsFirst ns name in
-          let empty : from_place ps k ≡ from_place ps (k + 1) =
-          ap (λ (qs : List (Option code.Value)). namings_in (places_view qs)) places_are
-          ∙ ap (λ (q : Option code.Value). namings_in (places_view (q ∷ drop (k + 1) ps))) is in
-          whole name (subst P (sym empty) found)
-      of (Some v) is name found =
-          let P : List Naming → Type 0 = λ ns. IsFirst ns name in
-          whole name (subst P (sym (value_more v is)) (first_behind (namings (value_view v)) (from_place ps (k + 1)) name (none_within (value_view v) (once v is)) found))
+      of : (q : Option Value) → IsFirstRepeatedAt q name → IsFirst (namings_in (places_of (q ∷ drop (k + 1) ps))) name
+      of None h = absurd h
+      of (Some v) h = first_front (namings v) (from_place ps (k + 1)) name h
+
+  pub repeated_behind : ((q : List ℕ) → HasFieldTwiceAt p q → ⊥) → FirstOfAll (from_place ps (k + 1)) all
+  repeated_behind once name found = whole name (subst (λ (ns : List Naming). IsFirst ns name) (sym from_here) (of p once))
+    where
+      of : (q : Option Value) → ((r : List ℕ) → HasFieldTwiceAt q r → ⊥) → IsFirst (namings_in (places_of (q ∷ drop (k + 1) ps))) name
+      of None none = found
+      of (Some v) none = first_behind (namings v) (from_place ps (k + 1)) name (none_within v none) found

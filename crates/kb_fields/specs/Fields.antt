@@ -47,6 +47,11 @@ abbrev mutual
       HasFieldTwice value name ⊎ SomePlaceHasTwice others name
   SomePlaceHasTwice (empty_place others) name = SomePlaceHasTwice others name
 
+-- the same of what stands at a place
+abbrev pub HasFieldTwiceAt : Option Value → List ℕ → Type 0
+HasFieldTwiceAt None name = ⊥
+HasFieldTwiceAt (Some value) name = HasFieldTwice value name
+
 -- a field's name, and the names that stand before it in its record
 pub record Naming : Type 0 where
   pub name : List ℕ
@@ -83,6 +88,11 @@ pub record IsRepeatedAt (names : List Naming) (place : ℕ) (name : List ℕ) : 
 -- of the names that stand twice in a record, the one whose second place comes first in the text
 abbrev pub IsFirstRepeated : Value → List ℕ → Type 0
 IsFirstRepeated value name = IsFirstFault ◌<◌ (IsRepeatedAt (namings value)) name
+
+-- the same of what stands at a place
+abbrev pub IsFirstRepeatedAt : Option Value → List ℕ → Type 0
+IsFirstRepeatedAt None name = ⊥
+IsFirstRepeatedAt (Some value) name = IsFirstRepeated value name
 
 -- the value is a Name: a word of one factor that is a bare name
 abbrev pub bare_name : List ℕ → Value

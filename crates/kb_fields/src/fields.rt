@@ -2,11 +2,11 @@
 
 ghost use Rattle.std.specs.Prelude.{◌≡◌, ℕ, List, IfOk, IfSome, IfNone};
 ghost use Rattle.std.specs.Option.{option_map};
-ghost use Rattle.kb_record.specs.Tree.{record_value};
-ghost use Rattle.kb_record.specs.View.{value_view};
-ghost use Rattle.kb_fields.specs.Fields.{fields_view, value_of, HasFieldTwice, IsFirstRepeated};
+ghost use Rattle.kb_record.specs.Tree.{list_value, record_value};
+ghost use Rattle.kb_record.specs.View.{value_view, written_place};
+ghost use Rattle.kb_fields.specs.Fields.{fields_view, places_view, value_of, HasFieldTwice, HasFieldTwiceAt, IsFirstRepeated, IsFirstRepeatedAt};
 
-use kb_record::Value;
+use kb_record::{PlaceText, Value, WrittenPlaces};
 use kb_word::{Memory, OwnedText};
 use std::alloc::Global;
 use std::collections::BTreeSet;
@@ -49,7 +49,7 @@ pub fn repeated_name<'a>(
     Ok(None)
 }
 
-/// The same of the records in a value. Lists of words, or of numbers, hold none.
+/// The same of the records in a value. Lists of numbers hold none.
 #[cycle(repeats)]
 fn repeated_within<'a>(alloc: Global, value: &Value<'a>) -> Result<Option<OwnedText>, Memory>
     ensures some { IfOk result (λ found. IfSome found (IsFirstRepeated (value_view value.now))) }
@@ -58,16 +58,43 @@ fn repeated_within<'a>(alloc: Global, value: &Value<'a>) -> Result<Option<OwnedT
 {
     match value {
         Value::Record(fields) => repeated_name(alloc, fields.as_slice()),
-        Value::List(places) => {
-            for place in places {
-                if let Some(value) = place {
-                    if let Some(name) = repeated_within(alloc, value)? {
-                        return Ok(Some(name));
-                    }
-                }
-            }
-            Ok(None)
-        }
+        Value::List(places) => repeated_in_list(alloc, places),
         _ => Ok(None),
+    }
+}
+
+/// The same of the records at the places of a list.
+#[cycle(repeats)]
+fn repeated_in_list<'a>(
+    alloc: Global,
+    places: &WrittenPlaces<'a>,
+) -> Result<Option<OwnedText>, Memory>
+    ensures some { IfOk result
+        (λ found. IfSome found (IsFirstRepeated (list_value (places_view places.now)))) }
+    ensures none { IfOk result
+        (λ found. IfNone found
+        ((name : List ℕ) → ¬ HasFieldTwice (list_value (places_view places.now)) name)) }
+{
+    for place in 0..places.len() {
+        if let Some(name) = repeated_at(alloc, places.get(place))? {
+            return Ok(Some(name));
+        }
+    }
+    Ok(None)
+}
+
+/// The same of the records at a place of a list.
+#[cycle(repeats)]
+fn repeated_at<'a>(alloc: Global, place: PlaceText<'a>) -> Result<Option<OwnedText>, Memory>
+    ensures some { IfOk result
+        (λ found. IfSome found (IsFirstRepeatedAt (written_place place.entry))) }
+    ensures none { IfOk result
+        (λ found. IfNone found
+        ((name : List ℕ) → ¬ HasFieldTwiceAt (written_place place.entry) name)) }
+{
+    let value = place.value(alloc)?;
+    match value {
+        Some(value) => repeated_within(alloc, &value),
+        None => Ok(None),
     }
 }

@@ -1,13 +1,13 @@
 //! Names of generators.
 
-ghost use Rattle.std.specs.Prelude.{◌≡◌, ◌↔◌, ◌≤◌, ◌<◌, [], ◌∷◌, ◌++◌, ◌⊎◌, List, ℕ, map, length, Contains, IsTrue, IsFalse, IfOk, IfErr};
+ghost use Rattle.std.specs.Prelude.{◌≡◌, ◌↔◌, ◌≤◌, ◌<◌, [], ◌∷◌, ◌++◌, ◌⊎◌, List, ℕ, map, length, Contains, IsTrue, IsFalse, OnOk, IfOk, IfErr};
 ghost use Rattle.kb_record.specs.Tree as tree;
 ghost use Rattle.kb_record.specs.View.{value_view};
 ghost use Rattle.kb_fields.specs.Fields.{IsListOf};
 ghost use Rattle.kb_fields.specs.Generators.{most_generators, AreGeneratorNames, IsReserved, HasNamesFault};
 
 use crate::error::NamesFault;
-use crate::values::names_listed;
+use crate::values::{lists_names, names_listed};
 use kb_record::Value;
 use kb_word::{Memory, Names, OwnedText};
 use std::alloc::Global;
@@ -21,13 +21,30 @@ pub fn names_of<'a>(alloc: Global, value: &Value<'a>) -> Result<Names, NamesFaul
     ensures names { IfOk result AreGeneratorNames }
     ensures fault { IfErr result (HasNamesFault (value_view value.now)) }
 {
+    check_length(value)?;
     let Some(listed) = names_listed(alloc, value)? else {
         return Err(NamesFault::WrongKind);
     };
-    if listed.len() > MOST_GENERATORS {
-        return Err(NamesFault::TooMany);
-    }
     free_names(alloc, listed.as_slice())
+}
+
+/// Refuses a list that is too long for names of generators, before memory is taken for it.
+fn check_length<'a>(value: &Value<'a>) -> Result<(), NamesFault>
+    ensures few { OnOk result ((names : List (List ℕ)) → IsListOf names (value_view value.now)
+        → length names ≤ most_generators) }
+    ensures fault { IfErr result (HasNamesFault (value_view value.now)) }
+{
+    let Some(count) = value.place_count() else {
+        return Ok(());
+    };
+    if count <= MOST_GENERATORS {
+        return Ok(());
+    }
+    if lists_names(value, count) {
+        Err(NamesFault::TooMany)
+    } else {
+        Err(NamesFault::WrongKind)
+    }
 }
 
 /// These names, where none of them is taken. The first that stands earlier too, or is `IdWord` or `_`, is refused.

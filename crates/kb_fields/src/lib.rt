@@ -54,4 +54,4 @@ pub use fields::{field_named, repeated_name};
 pub use generators::names_of;
 pub use laws::{a_value_has_one_names_fault, names_of_generators_have_no_fault};
 pub use numbers::{number_at, number_of, numbers_listed};
-pub use values::bare_name;
+pub use values::{bare_name, written_name};

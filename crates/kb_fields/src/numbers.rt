@@ -29,7 +29,7 @@ pub fn number_at(place: Place<'_, '_>) -> Option<i64>
 {
     match place {
         Place::Number(number) => Some(number),
-        Place::Value(value) => number_of(value),
+        Place::Text(text) => text.number(),
         _ => None,
     }
 }

@@ -4,7 +4,7 @@ ghost use Rattle.std.specs.Prelude.{◌≡◌, ◌<◌, ◌≤◌, ◌⊎◌, �
 ghost use Rattle.std.specs.BTreeMap.{get};
 ghost use Rattle.std.specs.Ordering.{nat_cmp};
 ghost use Rattle.kb_record.specs.Tree.{list_value};
-ghost use Rattle.kb_record.specs.View.{value_view, row_place, entries_place, words_place};
+ghost use Rattle.kb_record.specs.View.{value_view, row_place, entries_place, written_place};
 ghost use Rattle.kb_record.specs.Listed.{place_view};
 ghost use Rattle.kb_fsa.specs.Table.{Ascends};
 ghost use Rattle.kb_fsafile.specs.Kinds.{list_of_numbers, IsNumberOf, IsTargetOf};
@@ -19,7 +19,7 @@ use crate::format::Format;
 use crate::values::{entries_listed, number_within, target_within};
 use kb_fields::numbers_listed;
 use kb_fsa::Row;
-use kb_record::{Expr, Place, Value};
+use kb_record::{Place, PlaceText, Value};
 use kb_word::Memory;
 use std::alloc::Global;
 use std::collections::BTreeMap;
@@ -63,9 +63,20 @@ fn read_dense_row(
     match place {
         Place::Numbers(numbers) => whole_row(alloc, numbers, size, count),
         Place::Entries(entries) => row_without_targets(alloc, entries, size, count),
-        Place::Words(words) => words_without_targets(alloc, words, size, count),
-        Place::Value(value) => listed_row(alloc, value, size, count),
+        Place::Text(text) => written_row(alloc, text, size, count),
         _ => Err(no_row()),
+    }
+}
+
+/// The row at a place, as it is written, that lists a target for each symbol.
+fn written_row(alloc: Global, text: PlaceText<'_>, size: u32, count: u32) -> Result<Row, FsaError>
+    ensures read { IfOk result (IsRowAt size count Dense (written_place text.entry)) }
+    ensures fault { IfErr result (IsFirstOfRow Dense size count (written_place text.entry)) }
+{
+    let value = text.value(alloc)?;
+    match value {
+        Some(value) => listed_row(alloc, &value, size, count),
+        None => Err(no_row()),
     }
 }
 
@@ -91,22 +102,6 @@ fn row_without_targets(
     ensures fault { IfErr result (IsFirstOfRow Dense size count (entries_place entries.now)) }
 {
     if !entries.is_empty() {
-        return Err(no_row());
-    }
-    whole_row(alloc, &[], size, count)
-}
-
-/// The row of a list of words, which is a list of targets only where it is empty.
-fn words_without_targets<'a>(
-    alloc: Global,
-    words: &[Expr<'a>],
-    size: u32,
-    count: u32,
-) -> Result<Row, FsaError>
-    ensures read { IfOk result (IsRowAt size count Dense (words_place words.now)) }
-    ensures fault { IfErr result (IsFirstOfRow Dense size count (words_place words.now)) }
-{
-    if !words.is_empty() {
         return Err(no_row());
     }
     whole_row(alloc, &[], size, count)
@@ -167,9 +162,25 @@ fn read_sparse_row(
     match place {
         Place::Entries(entries) => sparse_row(alloc, entries, size, count),
         Place::Numbers(numbers) => row_without_entries(alloc, numbers, size, count),
-        Place::Words(words) => words_without_entries(alloc, words, size, count),
-        Place::Value(value) => listed_sparse_row(alloc, value, size, count),
+        Place::Text(text) => written_sparse_row(alloc, text, size, count),
         _ => Err(no_row()),
+    }
+}
+
+/// The row at a place, as it is written, that lists symbols, each with its target.
+fn written_sparse_row(
+    alloc: Global,
+    text: PlaceText<'_>,
+    size: u32,
+    count: u32,
+) -> Result<Row, FsaError>
+    ensures read { IfOk result (IsRowAt size count Sparse (written_place text.entry)) }
+    ensures fault { IfErr result (IsFirstOfRow Sparse size count (written_place text.entry)) }
+{
+    let value = text.value(alloc)?;
+    match value {
+        Some(value) => listed_sparse_row(alloc, &value, size, count),
+        None => Err(no_row()),
     }
 }
 
@@ -200,22 +211,6 @@ fn row_without_entries(
     ensures fault { IfErr result (IsFirstOfRow Sparse size count (row_place numbers.now)) }
 {
     if !numbers.is_empty() {
-        return Err(no_row());
-    }
-    sparse_row(alloc, &[], size, count)
-}
-
-/// The row of a list of words, which is a list of entries only where it is empty.
-fn words_without_entries<'a>(
-    alloc: Global,
-    words: &[Expr<'a>],
-    size: u32,
-    count: u32,
-) -> Result<Row, FsaError>
-    ensures read { IfOk result (IsRowAt size count Sparse (words_place words.now)) }
-    ensures fault { IfErr result (IsFirstOfRow Sparse size count (words_place words.now)) }
-{
-    if !words.is_empty() {
         return Err(no_row());
     }
     sparse_row(alloc, &[], size, count)

@@ -2,12 +2,12 @@
 
 ghost use Rattle.std.specs.Prelude.{◌≡◌, ◌≢◌, ◌<◌, ◌≤◌, ◌∷◌, [], ℕ, ℤ, pos, List, Some, IfOk, IfSome, IfNone};
 ghost use Rattle.kb_record.specs.Tree.{string_value, list_value, range_value};
-ghost use Rattle.kb_record.specs.View.{value_view};
+ghost use Rattle.kb_record.specs.View.{value_view, written_place};
 ghost use Rattle.kb_record.specs.Listed.{place_view};
 ghost use Rattle.kb_fsafile.specs.Kinds.{entry_value, list_of_entries, IsNumberOf, IsTargetOf};
 
 use kb_fields::number_at;
-use kb_record::{Place, Value};
+use kb_record::{Place, PlaceText, Value};
 use kb_word::Memory;
 use std::alloc::Global;
 
@@ -50,7 +50,8 @@ pub fn entries_listed<'a>(
     };
     let mut entries = Vec::with_capacity(alloc, count)?;
     for place in 0..count {
-        let Some(entry) = entry_at(value.place(place)) else {
+        let found = entry_at(alloc, value.place(place))?;
+        let Some(entry) = found else {
             return Ok(None);
         };
         entries.push(entry)?;
@@ -59,15 +60,30 @@ pub fn entries_listed<'a>(
 }
 
 /// The two numbers at a place that holds a list of two numbers.
-fn entry_at(place: Place<'_, '_>) -> Option<(i64, i64)>
-    ensures found { IfSome result (λ entry. place_view place.entry ≡ Some (entry_value entry)) }
-    ensures none { IfNone result
-        ((entry : ℤ × ℤ) → place_view place.entry ≢ Some (entry_value entry)) }
+fn entry_at(alloc: Global, place: Place<'_, '_>) -> Result<Option<(i64, i64)>, Memory>
+    ensures found { IfOk result (λ entry. IfSome entry
+        (λ entry. place_view place.entry ≡ Some (entry_value entry))) }
+    ensures none { IfOk result (λ entry. IfNone entry
+        ((entry : ℤ × ℤ) → place_view place.entry ≢ Some (entry_value entry))) }
 {
     match place {
-        Place::Numbers(numbers) => pair_of(numbers),
-        Place::Value(value) => two_numbers(value),
-        _ => None,
+        Place::Numbers(numbers) => Ok(pair_of(numbers)),
+        Place::Text(text) => written_entry(alloc, text),
+        _ => Ok(None),
+    }
+}
+
+/// The same of a place as it is written.
+fn written_entry(alloc: Global, text: PlaceText<'_>) -> Result<Option<(i64, i64)>, Memory>
+    ensures found { IfOk result (λ entry. IfSome entry
+        (λ entry. written_place text.entry ≡ Some (entry_value entry))) }
+    ensures none { IfOk result (λ entry. IfNone entry
+        ((entry : ℤ × ℤ) → written_place text.entry ≢ Some (entry_value entry))) }
+{
+    let value = text.value(alloc)?;
+    match value {
+        Some(value) => Ok(two_numbers(&value)),
+        None => Ok(None),
     }
 }
 

@@ -1,14 +1,13 @@
 -- The printed texts of trees as pieces: words, records, and lists in any form.
-use Rattle.std.proofs.Common.{◌≡◌, ℕ, suc, ◌<◌, List, [], ◌∷◌, ◌++◌, length, Option, Some, None, option_map, ℤ, map, true, false, refl, sym, ap, ◌∙◌, arith, append_assoc, append-nil}
+use Rattle.std.proofs.Common.{◌≡◌, ℕ, zero, suc, ◌+◌, ◌<◌, List, [], ◌∷◌, ◌++◌, length, drop, Option, Some, None, option_map, ℤ, map, true, false, refl, sym, ap, ◌∙◌, arith, append_assoc, append-nil}
 use Rattle.std.specs.Prelude.{codes, slice_get}
 use Rattle.std.specs.Borrow.{Bor}
 use Rattle.std.specs.Option.{IsSome}
 use Rattle.std.proofs.lemmas.Option.{slice_get-get_or, none-some}
-use Rattle.kb_record.specs.Tree.{Value as ValueTree, record_value}
-use Rattle.kb_record.specs.View.{factor_view, factors_view, value_view, fields_view, places_of, number_place, text_place, word_place}
+use Rattle.kb_record.specs.Tree.{Value as ValueTree, record_value, list_value}
+use Rattle.kb_record.specs.View.{factor_view, factors_view, value_view, fields_view, places_of, number_place}
 use Rattle.kb_layout.specs.Layout.{word_text, factor_text, more_factors_text, line_of, line_of_fields, line_of_more_fields, indent, text_of_value, text_of_fields, are_lists, is_table}
-use Rattle.kb_layout.specs.Printing.{pieces, line_of_field, text_of_field, line_of_place, list_place}
-use Rattle.kb_record.specs.declared.tree.Expr.{Expr}
+use Rattle.kb_layout.specs.Printing.{pieces, line_of_field, text_of_field, line_at, list_place, holds_list}
 use Rattle.kb_record.specs.declared.tree.Factor.{Factor}
 use Rattle.kb_record.specs.declared.tree.Value.{Value}
 
@@ -62,26 +61,16 @@ record_pieces_at level fs =
 
 -- ---- lists
 
-pub place_some : (p : Option Value) (v : Value) (half mid : List ℕ) → p ≡ Some v → mid ≡ half ++ line_of (value_view v) → mid ≡ half ++ line_of_place (option_map value_view) p
-place_some p v half mid is e = e ∙ ap (λ q. half ++ line_of_place (option_map value_view) q) (sym is)
+pub place_some : (p : Option ValueTree) (v : ValueTree) (half mid : List ℕ) → Some v ≡ p → mid ≡ half ++ line_of v → mid ≡ half ++ line_at p
+place_some p v half mid is e = e ∙ ap (λ q. half ++ line_at q) is
 
-pub place_none : (p : Option Value) (half : List ℕ) → ((v : Value) → p ≡ Some v → ⊥) → half ≡ half ++ line_of_place (option_map value_view) p
-place_none None half none = sym (append-nil half)
-place_none (Some v) half none = absurd (none v refl)
+pub place_none : (p : Option ValueTree) (half : List ℕ) → None ≡ p → half ≡ half ++ line_at p
+place_none p half is = sym (append-nil half) ∙ ap (λ q. half ++ line_at q) is
 
 -- a list of numbers is no table
 pub numbers_no_table : (numbers : List ℤ) → is_table (places_of (map number_place numbers)) ≡ false
 numbers_no_table [] = refl
 numbers_no_table (z ∷ numbers) = refl
-
--- nor is a list of words
-pub words_no_table : (words : List Expr) → is_table (places_of (map word_place words)) ≡ false
-words_no_table [] = refl
-words_no_table (word ∷ words) = here word.text.now
-  where
-    here : (text : List ℕ) → is_table (places_of (text_place text ∷ map word_place words)) ≡ false
-    here [] = refl
-    here (byte ∷ bytes) = refl
 
 -- ---- lists of lists that are kept side by side
 
@@ -104,3 +93,45 @@ lists_are_lists seen (xs ∷ lists) = lists_are_lists seen lists
 pub lists_are_table : {A : Type 0} (seen : A → Option ValueTree) (lists : List (List A)) → 0 < length lists → is_table (places_of (map (list_place seen) lists)) ≡ true
 lists_are_table seen [] some = absurd (omega (arith, some))
 lists_are_table seen (xs ∷ lists) some = lists_are_lists seen lists
+
+-- ---- places one by one
+
+from_here : (ps : List (Option ValueTree)) (k : ℕ) (p : Option ValueTree) → slice_get ps k ≡ Some p → drop k ps ≡ p ∷ drop (suc k) ps
+from_here [] k p e = absurd (none-some _ e)
+from_here (q ∷ ps) zero p e = ap (λ x. x ∷ ps) (same e)
+  where
+    same : {a b : Option ValueTree} → Some a ≡ Some b → a ≡ b
+    same h = cc
+from_here (q ∷ ps) (suc k) p e = from_here ps k p e
+
+-- the places from one on are that one and the later ones
+pub places_from : (ps : List (Option ValueTree)) (k : ℕ) (p : Option ValueTree) → slice_get ps k ≡ Some p → drop k ps ≡ p ∷ drop (k + 1) ps
+places_from ps k p e = let next : suc k ≡ k + 1 = omega arith in from_here ps k p e ∙ ap (λ n. p ∷ drop n ps) next
+
+-- a place that holds a list, and others
+pub one_list_more : (p : Option ValueTree) (ps : List (Option ValueTree)) → holds_list p ≡ true → are_lists (places_of (p ∷ ps)) ≡ are_lists (places_of ps)
+one_list_more (Some (list_value places)) ps e = refl
+one_list_more _ ps e = cc
+
+-- a place that holds none
+pub no_lists : (p : Option ValueTree) (ps : List (Option ValueTree)) → holds_list p ≡ false → are_lists (places_of (p ∷ ps)) ≡ false
+no_lists (Some (list_value places)) ps e = cc
+no_lists None ps e = refl
+no_lists (Some v) ps e = refl
+
+-- where some are no lists, there is no table
+pub no_table_in : (ps : List (Option ValueTree)) → are_lists (places_of ps) ≡ false → is_table (places_of ps) ≡ false
+no_table_in [] e = cc
+no_table_in (None ∷ ps) e = e
+no_table_in (Some v ∷ ps) e = e
+
+-- where there is a place and all are lists, there is a table
+pub table_in : (ps : List (Option ValueTree)) → (length ps ≡ 0 → ⊥) → are_lists (places_of ps) ≡ true → true ≡ is_table (places_of ps)
+table_in [] some e = absurd (some refl)
+table_in (None ∷ ps) some e = sym e
+table_in (Some v ∷ ps) some e = sym e
+
+-- where there is no place, there is none
+pub no_table_without : (ps : List (Option ValueTree)) → length ps ≡ 0 → false ≡ is_table (places_of ps)
+no_table_without [] none = refl
+no_table_without (p ∷ ps) none = absurd (omega (arith, none))

@@ -1,19 +1,18 @@
-//! The printed texts of the lists that keep their numbers or words side by side. Where memory runs out, a
+//! The printed texts of the lists that keep their numbers side by side. Where memory runs out, a
 //! part of a text may have been appended.
 
 ghost use Rattle.std.specs.Prelude.{◌≡◌, ◌++◌, OnOk, OnErr, Option};
 ghost use Rattle.kb_record.specs.Tree as tree;
-ghost use Rattle.kb_record.specs.View.{number_place, entry_place, word_place};
+ghost use Rattle.kb_record.specs.View.{number_place, entry_place};
 ghost use Rattle.kb_layout.specs.Layout.{line_of, text_of_value};
 ghost use Rattle.kb_layout.specs.Printing.{Appended, line_of_place, list_of, list_place};
 
 use crate::printing::{print_blanks, print_number};
-use crate::trees::{one_level_in, print_close, print_expr};
+use crate::trees::{one_level_in, print_close};
 use kb_ragged::Ragged;
-use kb_record::Expr;
 use kb_word::Memory;
 
-/// What such a list holds: a number, an entry of two numbers, or a word or an empty place.
+/// What such a list holds: a number, or an entry of two numbers.
 pub(crate) trait Item: Copy {
     /// The place of a tree that the item stands for.
     ghost seen: { Self → Option tree.Value };
@@ -38,17 +37,6 @@ impl Item for (i64, i64) {
 
     fn print(&self, out: &mut Vec<u8>) -> Result<(), Memory> {
         print_items(&[self.0, self.1], out)
-    }
-}
-
-impl Item for Expr<'_> {
-    ghost seen = { word_place };
-
-    fn print(&self, out: &mut Vec<u8>) -> Result<(), Memory> {
-        if !self.is_word() {
-            return Ok(());
-        }
-        print_expr(self, out)
     }
 }
 

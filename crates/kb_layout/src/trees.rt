@@ -2,16 +2,17 @@
 
 ghost use Rattle.std.specs.Prelude.{◌≡◌, ◌++◌, OnOk, OnErr, IfOk, suc, codes, [], ◌∷◌};
 ghost use Rattle.kb_record.specs.Tree.{string_value, record_value, list_value, range_value};
-ghost use Rattle.kb_record.specs.View.{text_view, value_view, fields_view, places_view, factor_view, factors_view, word_view};
+ghost use Rattle.kb_record.specs.View.{text_view, value_view, fields_view, places_view, factor_view, factors_view, word_view, written_place};
 ghost use Rattle.kb_layout.specs.Layout.{printed, power_text, word_text, factor_text, line_of, indent, text_of_value};
 ghost use Rattle.kb_layout.specs.Layout as layout;
 ghost use Rattle.std.specs.Option.{option_map};
-ghost use Rattle.kb_layout.specs.Printing.{Appended, row_of_place, holds_list};
+ghost use Rattle.kb_layout.specs.Printing.{Appended, line_of_place, row_of_place, holds_list};
 
 use crate::printing::{print_blanks, print_number};
 use crate::rows::{print_items, print_lists, print_lists_on_line};
-use kb_record::{Expr, Factor, Rec, Value};
+use kb_record::{Expr, Factor, PlaceText, Rec, Value, WrittenPlaces};
 use kb_word::Memory;
+use std::alloc::Global;
 
 /// Appends the printed text of a record: a line for each field, and for each place of a list of lists.
 pub fn print(text: &Rec<'_>, out: &mut Vec<u8>) -> Result<(), Memory>
@@ -47,10 +48,8 @@ fn print_value(level: usize, value: &Value<'_>, out: &mut Vec<u8>) -> Result<(),
 {
     match value {
         Value::Record(fields) => print_record(level, fields.as_slice(), out),
-        Value::List(places) => print_list(level, places.as_slice(), out),
+        Value::List(places) => print_list(level, places, out),
         Value::Numbers(numbers) => print_items(numbers.as_slice(), out),
-        Value::Words(words) => print_items(words.as_slice(), out),
-        Value::WordRows(rows) => print_lists(level, rows, out),
         Value::Rows(rows) => print_lists(level, rows, out),
         Value::Entries(rows) => print_lists(level, rows, out),
         _ => print_on_line(value, out),
@@ -90,64 +89,67 @@ fn print_field(level: usize, name: &str, value: &Value<'_>, out: &mut Vec<u8>) -
 }
 
 /// Appends a list at a level: where each place holds a list, each is on a line of its own.
-fn print_list(level: usize, places: &[Option<Value<'_>>], out: &mut Vec<u8>) -> Result<(), Memory>
+fn print_list(level: usize, places: &WrittenPlaces<'_>, out: &mut Vec<u8>) -> Result<(), Memory>
     ensures printed { OnOk result (out.new.items
         ≡ out.old.items ++ text_of_value level (list_value (places_view places.now))) }
     ensures kept { OnErr result (Appended out.old.items out.new.items) }
 {
-    if !is_table(places) {
+    let table = is_table(*out.allocator(), places)?;
+    if !table {
         return print_list_on_line(places, out);
     }
     let inside = one_level_in(level)?;
     out.push(b'[')?;
     let mut before: &[u8] = b"\n";
-    for place in places {
+    for place in 0..places.len() {
         out.extend_from_slice(before)?;
-        print_row(inside, place, out)?;
+        print_row(inside, places.get(place), out)?;
         before = b",\n";
     }
     print_close(level, b']', out)
 }
 
 /// Appends the value of a place at a level, on one line.
-fn print_row(level: usize, place: &Option<Value<'_>>, out: &mut Vec<u8>) -> Result<(), Memory>
-    ensures printed { OnOk result (out.new.items
-        ≡ out.old.items ++ row_of_place level (option_map value_view) place.now) }
+fn print_row(level: usize, place: PlaceText<'_>, out: &mut Vec<u8>) -> Result<(), Memory>
+    ensures printed { OnOk result
+        (out.new.items ≡ out.old.items ++ row_of_place level written_place place.entry) }
     ensures kept { OnErr result (Appended out.old.items out.new.items) }
 {
     print_blanks(level, out)?;
-    match place {
-        Some(value) => print_on_line(value, out),
-        None => Ok(()),
-    }
+    print_place(place, out)
 }
 
 /// Whether there is a place, and each place holds a list.
-fn is_table(places: &[Option<Value<'_>>]) -> bool
-    ensures { result ≡ layout.is_table (places_view places.now) }
+fn is_table(alloc: Global, places: &WrittenPlaces<'_>) -> Result<bool, Memory>
+    ensures { IfOk result (λ table. table ≡ layout.is_table (places_view places.now)) }
 {
-    for place in places {
-        if !is_list(place) {
-            return false;
+    let count = places.len();
+    if count == 0 {
+        return Ok(false);
+    }
+    for place in 0..count {
+        if !is_list(alloc, places.get(place))? {
+            return Ok(false);
         }
     }
-    !places.is_empty()
+    Ok(true)
 }
 
 /// Whether the place holds a list.
-fn is_list(place: &Option<Value<'_>>) -> bool
-    ensures { result ≡ holds_list (option_map value_view place.now) }
+fn is_list(alloc: Global, place: PlaceText<'_>) -> Result<bool, Memory>
+    ensures { IfOk result (λ list. list ≡ holds_list (written_place place.entry)) }
+{
+    let value = place.value(alloc)?;
+    Ok(is_list_value(&value))
+}
+
+/// Whether there is a value, and it is a list.
+fn is_list_value(value: &Option<Value<'_>>) -> bool
+    ensures { result ≡ holds_list (option_map value_view value.now) }
 {
     matches!(
-        place,
-        Some(
-            Value::List(_)
-                | Value::Words(_)
-                | Value::WordRows(_)
-                | Value::Numbers(_)
-                | Value::Rows(_)
-                | Value::Entries(_)
-        )
+        value,
+        Some(Value::List(_) | Value::Numbers(_) | Value::Rows(_) | Value::Entries(_))
     )
 }
 
@@ -191,10 +193,8 @@ fn print_on_line(value: &Value<'_>, out: &mut Vec<u8>) -> Result<(), Memory>
         Value::Number(number) => print_number(*number, out),
         Value::String(text) => print_string(text, out),
         Value::Record(fields) => print_record_on_line(fields.as_slice(), out),
-        Value::List(places) => print_list_on_line(places.as_slice(), out),
+        Value::List(places) => print_list_on_line(places, out),
         Value::Numbers(numbers) => print_items(numbers.as_slice(), out),
-        Value::Words(words) => print_items(words.as_slice(), out),
-        Value::WordRows(rows) => print_lists_on_line(rows, out),
         Value::Rows(rows) => print_lists_on_line(rows, out),
         Value::Entries(rows) => print_lists_on_line(rows, out),
         Value::Range(from, to) => print_range(*from, *to, out),
@@ -223,22 +223,34 @@ fn print_record_on_line(fields: &[(&str, Value<'_>)], out: &mut Vec<u8>) -> Resu
 
 /// Appends a list on one line.
 #[cycle(lines)]
-fn print_list_on_line(places: &[Option<Value<'_>>], out: &mut Vec<u8>) -> Result<(), Memory>
+fn print_list_on_line(places: &WrittenPlaces<'_>, out: &mut Vec<u8>) -> Result<(), Memory>
     ensures printed { OnOk result (out.new.items
         ≡ out.old.items ++ line_of (list_value (places_view places.now))) }
     ensures kept { OnErr result (Appended out.old.items out.new.items) }
 {
     out.push(b'[')?;
     let mut before: &[u8] = b"";
-    for place in places {
+    for place in 0..places.len() {
         out.extend_from_slice(before)?;
-        if let Some(value) = place {
-            print_on_line(value, out)?;
-        }
+        print_place(places.get(place), out)?;
         before = b",";
     }
     out.push(b']')?;
     Ok(())
+}
+
+/// Appends what stands at a place of a list, on one line.
+#[cycle(lines)]
+fn print_place(place: PlaceText<'_>, out: &mut Vec<u8>) -> Result<(), Memory>
+    ensures printed { OnOk result
+        (out.new.items ≡ out.old.items ++ line_of_place written_place place.entry) }
+    ensures kept { OnErr result (Appended out.old.items out.new.items) }
+{
+    let value = place.value(*out.allocator())?;
+    match value {
+        Some(value) => print_on_line(&value, out),
+        None => Ok(()),
+    }
 }
 
 /// Appends a range.
@@ -267,7 +279,7 @@ fn print_string(text: &str, out: &mut Vec<u8>) -> Result<(), Memory>
 }
 
 /// Appends a word as it is written.
-pub(crate) fn print_expr(word: &Expr<'_>, out: &mut Vec<u8>) -> Result<(), Memory>
+fn print_expr(word: &Expr<'_>, out: &mut Vec<u8>) -> Result<(), Memory>
     ensures printed { OnOk result (out.new.items ≡ out.old.items ++ word_text (word_view word.now)) }
     ensures kept { OnErr result (Appended out.old.items out.new.items) }
 {

@@ -1,15 +1,13 @@
 -- Pairs of words, and lists of equations.
 use Rattle.std.proofs.Common.{◌≡◌, ℕ, ◌+◌, ℤ, List, [], ◌∷◌, ◌++◌, map, take, slice_get, Option, Some, None, Ok, refl, sym, ap, subst, ◌∙◌}
-use Rattle.std.specs.Borrow.{Bor}
 use Rattle.kb_word.specs.Words.{Pair}
 use Rattle.kb_record.specs.Meaning.{word_meaning}
 use Rattle.kb_record.specs.Tree.{Factors, Value, list_value, word_value, Places, no_places, place}
-use Rattle.kb_record.specs.View.{places_of, row_place, entries_place, word_view, word_place, words_place}
+use Rattle.kb_record.specs.View.{places_of, row_place, entries_place}
 use Rattle.kb_record.specs.Listed.{place_view}
 use Rattle.kb_record.specs.declared.listed.Place.{Place}
 use Rattle.kb_record.specs.declared.listed.Place.TheVariants as places
-use Rattle.kb_record.specs.declared.tree.Expr.{Expr}
-use Rattle.kb_record.specs.declared.tree.Value as code
+use Rattle.kb_record.specs.declared.tree.PlaceText.{PlaceText}
 use Rattle.kb_presfile.specs.Kinds.{equation_value, list_of_equations}
 use Rattle.kb_presfile.specs.Holds.{IsEquation, AreMeanings, AreEquations}
 use Rattle.kb_fields.proofs.ListingLemmas.{places_of-injective, one_place_more}
@@ -23,47 +21,11 @@ no_entries : (entries : List (ℤ × ℤ)) (sides : Factors × Factors) → entr
 no_entries [] sides e = cc
 no_entries (entry ∷ entries) sides e = cc
 
-pub no_equation : (p : Place) → ((v : Bor code.Value) → p ≡ places.Value v → ⊥) → ((v : Bor (List Expr)) → p ≡ places.Words v → ⊥) → (sides : Factors × Factors) → place_view p ≡ Some (equation_value sides) → ⊥
-no_equation places.Empty other no_words sides e = cc
-no_equation (places.Value v) other no_words sides e = absurd (other v refl)
-no_equation (places.Word word) other no_words sides e = cc
-no_equation (places.Words words) other no_words sides e = absurd (no_words words refl)
-no_equation (places.Number z) other no_words sides e = cc
-no_equation (places.Numbers numbers) other no_words sides e = no_row numbers.now sides e
-no_equation (places.Entries entries) other no_words sides e = no_entries entries.now sides e
-
--- the places of a list of words that is an equation
-sides_are : (words : List Expr) (sides : Factors × Factors) → words_place words ≡ Some (equation_value sides) → map word_place words ≡ Some (word_value sides.0) ∷ Some (word_value sides.1) ∷ []
-sides_are words sides e = places_of-injective (map word_place words) (Some (word_value sides.0) ∷ Some (word_value sides.1) ∷ []) (same_places _ _ e)
-  where
-    same_places : (ps qs : Places) → Some (list_value ps) ≡ Some (list_value qs) → ps ≡ qs
-    same_places ps qs h = cc
-
--- two words are an equation, and no other list of words and empty places is one
-pub two_sides : (words : List Expr) (left right : Expr) → words ≡ left ∷ right ∷ [] → word_place left ≡ Some (word_value (word_view left)) → word_place right ≡ Some (word_value (word_view right))
-    → words_place words ≡ Some (equation_value (word_view left, word_view right))
-two_sides words left right e there here =
-    ap words_place e ∙ ap (λ (p : Option Value). Some (list_value (places_of (p ∷ word_place right ∷ [])))) there
-    ∙ ap (λ (p : Option Value). Some (list_value (places_of (Some (word_value (word_view left)) ∷ p ∷ [])))) here
-
-pub not_two : (words : List Expr) → ((left right : Expr) → words ≡ left ∷ right ∷ [] → ⊥) → (sides : Factors × Factors) → words_place words ≡ Some (equation_value sides) → ⊥
-not_two words none sides e = go words none (sides_are words sides e)
-  where
-    go : (ws : List Expr) → ((left right : Expr) → ws ≡ left ∷ right ∷ [] → ⊥) → map word_place ws ≡ Some (word_value sides.0) ∷ Some (word_value sides.1) ∷ [] → ⊥
-    go [] n h = cc
-    go (v ∷ []) n h = cc
-    go (v ∷ w ∷ []) n h = n v w refl
-    go (v ∷ w ∷ x ∷ ws) n h = cc
-
-pub no_left : (words : List Expr) (left right : Expr) → words ≡ left ∷ right ∷ [] → word_place left ≡ None → (sides : Factors × Factors) → words_place words ≡ Some (equation_value sides) → ⊥
-no_left words left right e none sides is =
-    let two : word_place left ∷ word_place right ∷ [] ≡ Some (word_value sides.0) ∷ Some (word_value sides.1) ∷ [] = sym (ap (map word_place) e) ∙ sides_are words sides is in
-    cc
-
-pub no_right : (words : List Expr) (left right : Expr) → words ≡ left ∷ right ∷ [] → word_place right ≡ None → (sides : Factors × Factors) → words_place words ≡ Some (equation_value sides) → ⊥
-no_right words left right e none sides is =
-    let two : word_place left ∷ word_place right ∷ [] ≡ Some (word_value sides.0) ∷ Some (word_value sides.1) ∷ [] = sym (ap (map word_place) e) ∙ sides_are words sides is in
-    cc
+pub no_equation : (p : Place) → ((text : PlaceText) → p ≡ places.Text text → ⊥) → (sides : Factors × Factors) → place_view p ≡ Some (equation_value sides) → ⊥
+no_equation (places.Text text) other sides e = absurd (other text refl)
+no_equation (places.Number z) other sides e = cc
+no_equation (places.Numbers numbers) other sides e = no_row numbers.now sides e
+no_equation (places.Entries entries) other sides e = no_entries entries.now sides e
 
 pub list_of_equations-places_of : (sides : List (Factors × Factors)) → list_of_equations sides ≡ places_of (map (λ (s : Factors × Factors). Some (equation_value s)) sides)
 list_of_equations-places_of [] = refl

@@ -81,12 +81,13 @@ fn equation_at(
         (IsMemoryOr
         (PlaceHasFault presentation.now.names presentation.now.inv (place_view place.entry))) }
 {
-    let Some((left, right)) = sides_at(place) else {
+    let sides = sides_at(alloc, place)?;
+    let Some((left, right)) = sides else {
         return Err(PresError::WrongKind {
             field: Field::Equations,
         });
     };
-    let left = word_of(alloc, left, presentation)?;
-    let right = word_of(alloc, right, presentation)?;
+    let left = word_of(alloc, &left, presentation)?;
+    let right = word_of(alloc, &right, presentation)?;
     Ok((left, right))
 }

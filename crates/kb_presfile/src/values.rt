@@ -1,16 +1,15 @@
 //! The kinds of values that a presentation's fields hold.
 
-ghost use Rattle.std.specs.Prelude.{◌≡◌, ◌≢◌, ℕ, List, [], ◌∷◌, map, Option, Some, MatchOption, IfOk, IfSome, IfNone};
+ghost use Rattle.std.specs.Prelude.{◌≡◌, ◌≢◌, ℕ, List, map, Option, Some, MatchOption, IfOk, IfSome, IfNone};
 ghost use Rattle.std.specs.Option.{option_copied, option_map};
 ghost use Rattle.kb_record.specs.Tree.{Factors, string_value, list_value, word_value};
-ghost use Rattle.kb_record.specs.View.{value_view, word_view, words_place};
-ghost use Rattle.kb_record.specs.declared.tree.Expr as code;
+ghost use Rattle.kb_record.specs.View.{value_view, word_view, written_place};
 ghost use Rattle.kb_record.specs.Listed.{place_view};
 ghost use Rattle.kb_fields.specs.Fields as fields;
 ghost use Rattle.kb_presfile.specs.Kinds.{list_of_places, equation_value};
 
-use kb_fields::bare_name;
-use kb_record::{Expr, Place, Value};
+use kb_fields::written_name;
+use kb_record::{Expr, Place, PlaceText, Value};
 use kb_word::Memory;
 use std::alloc::Global;
 
@@ -60,65 +59,65 @@ fn name_or_empty<'a>(place: Place<'_, 'a>) -> Option<Option<&'a str>>
         ((name : Option (List ℕ)) → place_view place.entry ≢ option_map fields.bare_name name) }
 {
     match place {
-        Place::Empty => Some(None),
-        Place::Value(value) => bare_name(value).map(Some),
-        Place::Word(word) => word.bare_name().map(Some),
+        Place::Text(text) => written_or_empty(text),
         _ => None,
     }
+}
+
+/// The same of a place as it is written.
+fn written_or_empty<'a>(text: PlaceText<'a>) -> Option<Option<&'a str>>
+    ensures found { IfSome result
+        (λ name. written_place text.entry ≡ option_map fields.bare_name (option_copied name)) }
+    ensures none { IfNone result
+        ((name : Option (List ℕ)) → written_place text.entry ≢ option_map fields.bare_name name) }
+{
+    if text.is_empty() {
+        return Some(None);
+    }
+    let name = written_name(text)?;
+    Some(Some(name))
 }
 
 /// The two words of a place of a list that holds a list of two words.
-pub fn sides_at<'r, 'a>(place: Place<'r, 'a>) -> Option<(&'r Expr<'a>, &'r Expr<'a>)>
-    ensures found { IfSome result
+pub fn sides_at<'a>(
+    alloc: Global,
+    place: Place<'_, 'a>,
+) -> Result<Option<(Expr<'a>, Expr<'a>)>, Memory>
+    ensures found { IfOk result (λ sides. IfSome sides
         (λ sides. place_view place.entry
-        ≡ Some (equation_value (word_view sides.0.now, word_view sides.1.now))) }
-    ensures none { IfNone result
-        ((sides : Factors × Factors) → place_view place.entry ≢ Some (equation_value sides)) }
+        ≡ Some (equation_value (word_view sides.0, word_view sides.1)))) }
+    ensures none { IfOk result (λ sides. IfNone sides
+        ((sides : Factors × Factors) → place_view place.entry ≢ Some (equation_value sides))) }
 {
     match place {
-        Place::Value(value) => two_words(value),
-        Place::Words(words) => sides_in(words),
-        _ => None,
+        Place::Text(text) => written_sides(alloc, text),
+        _ => Ok(None),
     }
 }
 
-/// The two words of a list of words and empty places that has them and no more.
-fn sides_in<'r, 'a>(words: &'r [Expr<'a>]) -> Option<(&'r Expr<'a>, &'r Expr<'a>)>
-    ensures found { IfSome result
-        (λ sides. words_place words.now
-        ≡ Some (equation_value (word_view sides.0.now, word_view sides.1.now))) }
-    ensures none { IfNone result
-        ((sides : Factors × Factors) → words_place words.now ≢ Some (equation_value sides)) }
+/// The same of a place as it is written.
+fn written_sides<'a>(
+    alloc: Global,
+    text: PlaceText<'a>,
+) -> Result<Option<(Expr<'a>, Expr<'a>)>, Memory>
+    ensures found { IfOk result (λ sides. IfSome sides
+        (λ sides. written_place text.entry
+        ≡ Some (equation_value (word_view sides.0, word_view sides.1)))) }
+    ensures none { IfOk result (λ sides. IfNone sides
+        ((sides : Factors × Factors) → written_place text.entry ≢ Some (equation_value sides))) }
 {
-    let Some((left, right)) = two_of(words) else {
-        return None;
-    };
-    if !left.is_word() {
-        return None;
-    }
-    if !right.is_word() {
-        return None;
-    }
-    Some((left, right))
-}
-
-/// The two places of a list, where it has two.
-fn two_of<'r, 'a>(words: &'r [Expr<'a>]) -> Option<(&'r Expr<'a>, &'r Expr<'a>)>
-    ensures found { IfSome result (λ two. words.now ≡ two.0.now ∷ two.1.now ∷ []) }
-    ensures none { IfNone result
-        ((left right : code.Expr) → words.now ≢ left ∷ right ∷ []) }
-{
-    match words {
-        [left, right] => Some((left, right)),
-        _ => None,
+    let value = text.value(alloc)?;
+    match value {
+        Some(value) => Ok(two_words(&value)),
+        None => Ok(None),
     }
 }
 
 /// The words of a value that is a list of two words.
-fn two_words<'r, 'a>(value: &'r Value<'a>) -> Option<(&'r Expr<'a>, &'r Expr<'a>)>
+fn two_words<'a>(value: &Value<'a>) -> Option<(Expr<'a>, Expr<'a>)>
     ensures found { IfSome result
         (λ sides. value_view value.now
-        ≡ equation_value (word_view sides.0.now, word_view sides.1.now)) }
+        ≡ equation_value (word_view sides.0, word_view sides.1)) }
     ensures none { IfNone result
         ((sides : Factors × Factors) → value_view value.now ≢ equation_value sides) }
 {
@@ -129,15 +128,14 @@ fn two_words<'r, 'a>(value: &'r Value<'a>) -> Option<(&'r Expr<'a>, &'r Expr<'a>
 }
 
 /// The word at a place of a list.
-fn word_at<'r, 'a>(place: Place<'r, 'a>) -> Option<&'r Expr<'a>>
+fn word_at<'a>(place: Place<'_, 'a>) -> Option<Expr<'a>>
     ensures found { IfSome result
-        (λ word. place_view place.entry ≡ Some (word_value (word_view word.now))) }
+        (λ word. place_view place.entry ≡ Some (word_value (word_view word))) }
     ensures none { IfNone result
         ((word : Factors) → place_view place.entry ≢ Some (word_value word)) }
 {
     match place {
-        Place::Value(Value::Word(word)) => Some(word),
-        Place::Word(word) => Some(word),
+        Place::Text(text) => text.word(),
         _ => None,
     }
 }

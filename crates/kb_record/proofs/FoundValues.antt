@@ -282,3 +282,11 @@ mutual
 
 pub fields_found : (fs : Fields) → AreFields fs → (d : ℕ) (rest : List Token) → Finds d (suc (fields_nesting fs)) (list_of_fields fs) rest (read_fields d (field_tokens fs ++ close_round ∷ rest))
 fields_found fs good d rest = fields_of_row fs d rest (λ d' n has few. row_of_fields fs good d' n rest has few)
+
+-- a list behind its open bracket
+pub list_found : (ps : Places) → IsValue (list_value ps) → (d : ℕ) (rest : List Token) → Finds d (suc (places_nesting ps)) (list_value ps) rest (read_list d (place_tokens ps ++ close_square ∷ rest))
+list_found no_places good d rest = list_of_row no_places good.0 good.1 d rest (λ d' n has few. absurd has) (λ d' v others e. cc)
+list_found (place v ps) good d rest =
+    list_of_row (place v ps) good.0 good.1 d rest (λ d' n has few. row_of_places (place v ps) good.1 d' n rest has few)
+    (λ d'. tail_found v ps d' rest (λ n has few. row_of_places ps good.1.1 d' n rest has few))
+list_found (empty_place ps) good d rest = list_of_row (empty_place ps) good.0 good.1 d rest (λ d' n has few. row_of_places (empty_place ps) good.1 d' n rest has few) (λ d' v others e. cc)

@@ -2,9 +2,13 @@ pub mod Balanced
 pub mod BareNames
 pub mod Deeper
 pub mod Depths
+pub mod Ends
 pub mod Finds
 pub mod FoundValues
 pub mod FoundWords
+pub mod Nested
+pub mod NumberLists
+pub mod PlaceTexts
 pub mod PlainTokens
 pub mod LastPassed
 pub mod LastRec
@@ -29,7 +33,6 @@ pub mod Unique
 pub mod ValueForms
 pub mod ValueParts
 pub mod Views
-pub mod Taken
 pub mod TokensToBytes
 pub mod OpenBrackets
 pub mod Shallow

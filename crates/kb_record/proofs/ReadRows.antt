@@ -1,13 +1,12 @@
 -- Items in a row, one at a time.
-use Rattle.std.proofs.Common.{◌≡◌, ℕ, zero, suc, ◌-◌, ◌<◌, List, [], ◌∷◌, ◌++◌, map, length, Bool, true, false, if◌then◌else◌, Option, Some, None, Result, Ok, Err, ℤ, refl, sym, ap, ◌∙◌, subst, arith, append_assoc}
-use Rattle.std.specs.Prelude.{IfOk}
+use Rattle.std.proofs.Common.{◌≡◌, ℕ, zero, suc, ◌-◌, ◌<◌, List, [], ◌∷◌, ◌++◌, map, length, Bool, true, false, if◌then◌else◌, Option, Some, None, Result, Err, ℤ, refl, sym, ap, ◌∙◌, subst, arith, append_assoc}
 use Rattle.std.proofs.lemmas.List.{map-append}
 use Rattle.kb_lexing.specs.Token.{Token, number}
 use Rattle.kb_lexing.specs.declared.place.Expected.{Expected}
 use Rattle.kb_lexing.specs.declared.place.Expected.TheVariants as wanted
 use Rattle.kb_record.specs.Tree.{Value as ValueTree}
 use Rattle.kb_record.specs.View.{value_view}
-use Rattle.kb_record.specs.Listed.{listed, HasPlaces}
+use Rattle.kb_record.specs.Listed.{HasPlaces}
 use Rattle.kb_record.specs.Reading.{Reading, read, unexpected, too_deep, Parse, and_then, reading_map, read_number, Reads, joined, behind, passes, passes_to, passes_comma, comma_unless, past, after_items, first_place, list_from, read_places, numbered_list, number_behind, number_with}
 use Rattle.kb_record.specs.declared.tree.Value.{Value as ValueType}
 use Rattle.kb_record.specs.declared.cursor.Mark.{Mark}
@@ -96,19 +95,16 @@ pub number_shorter : (tokens rest : List Token) (z : ℤ) → read_number tokens
 number_shorter (number y ∷ tokens) rest z e = let same : tokens ≡ rest = cc in subst (λ r. length r < length (number y ∷ tokens)) same (omega arith)
 number_shorter _ rest z e = cc
 
--- the code's list is the one with the places that were read
-as_list : (result : Result ValueType Stop) (reading : Reading (List (Option ValueTree))) (rest : List Token) → Reads reading (λ v. listed (value_view v)) result rest → IfOk result (λ list. HasPlaces (value_view list) (listed (value_view list)))
-    → Reads (list_from reading) value_view result rest
-as_list (Ok v) reading rest h has = ap list_from h ∙ ap (λ x. read x rest) (sym has)
-as_list (Err (Unexpected expected)) reading rest h has = ap list_from h
-as_list (Err TooDeep) reading rest h has = ap list_from h
-as_list (Err Memory) reading rest h has = tt
-
 -- behind the number that comes first and a comma the places are read
 pub numbered_reads : (value : Parse ValueTree) (z : ℤ) (tokens others : List Token) (result : Result ValueType Stop) (rest : List Token) → behind Dots tokens ≡ None → passes_comma CloseSquare wanted.Dots tokens ≡ read true others
-    → Reads (after_items (first_place (Some z)) (read_places value others)) (λ v. listed (value_view v)) result rest → IfOk result (λ list. HasPlaces (value_view list) (listed (value_view list))) → Reads (number_with value z tokens) value_view result rest
-numbered_reads value z tokens others result rest none comes h has =
+    → Reads (list_from (after_items (first_place (Some z)) (read_places value others))) value_view result rest → Reads (number_with value z tokens) value_view result rest
+numbered_reads value z tokens others result rest none comes h =
     let whole : number_with value z tokens ≡ list_from (after_items (first_place (Some z)) (read_places value others)) =
     ap (number_behind value z tokens) none ∙ ap (numbered_list value z) comes in
     let P : Reading ValueTree → Type 0 = λ r. Reads r value_view result rest in
-    subst P (sym whole) (as_list result (after_items (first_place (Some z)) (read_places value others)) rest h has)
+    subst P (sym whole) h
+
+-- behind it the list may end
+pub number_alone : (value : Parse ValueTree) (z : ℤ) (tokens others : List Token) (list : ValueTree) → behind Dots tokens ≡ None → passes_comma CloseSquare wanted.Dots tokens ≡ read false others → HasPlaces list (first_place (Some z))
+    → number_with value z tokens ≡ read list others
+number_alone value z tokens others list none ends has = ap (number_behind value z tokens) none ∙ ap (numbered_list value z) ends ∙ ap (λ v. read v others) (sym has)

@@ -1,13 +1,13 @@
 -- The views of values, a level at a time.
-use Rattle.std.proofs.Common.{◌≡◌, ℕ, List, [], ◌∷◌, length, map, Bool, true, false, not, nat_eq, eqb-true, refl, ap, rules, Option, Some, None, ℤ, Vec, Global, sym, ◌∙◌, arith}
-use Rattle.std.specs.Bool.{MatchBool}
+use Rattle.std.proofs.Common.{◌≡◌, ℕ, List, [], ◌∷◌, map, refl, ap, rules, Option, Some, None, ℤ, Vec, Global, sym, ◌∙◌}
 use Rattle.std.specs.Borrow.{Bor}
 use Rattle.kb_record.specs.Tree.{field, record_value, list_value, word_value, Value as ValueTree}
-use Rattle.kb_record.specs.View.{value_view, word_view, first_word, text_place, fields_of, places_of, places_view, word_place, words_place, number_place, row_place, entry_place, entries_place, field_view}
+use Rattle.kb_record.specs.View.{value_view, word_view, fields_of, places_of, places_view, number_place, row_place, entries_place, field_view}
 use Rattle.kb_record.specs.Reading.{fields_from}
-use Rattle.kb_record.specs.Listed.{places_in, listed, HasPlaces, pair_row}
+use Rattle.kb_record.specs.Listed.{places_in, listed, HasPlaces}
 use Rattle.kb_record.specs.declared.tree.Expr.{Expr}
-use Rattle.kb_record.specs.declared.tree.Value.{Value, Record, List as Listed, Numbers, Rows, Entries, Word, Words, WordRows, the_lemmas}
+use Rattle.kb_record.specs.declared.tree.WrittenPlaces.{WrittenPlaces}
+use Rattle.kb_record.specs.declared.tree.Value.{Value, Record, List as Listed, Numbers, Rows, Entries, Word, the_lemmas}
 
 -- the fields in two ways
 pub fields_alike : (fs : List (Bor (List ℕ) × Value)) → fields_from (map field_view fs) ≡ fields_of (map (λ (f : Bor (List ℕ) × Value). (f.0, value_view f.1)) fs)
@@ -20,14 +20,8 @@ view-Record v = search (rules, the_lemmas)
 pub view-Word : (word : Expr) → value_view (Word word) ≡ word_value (word_view word)
 view-Word word = search (rules, the_lemmas)
 
-pub view-List : (v : Vec (Option Value) Global) → value_view (Listed v) ≡ list_value (places_view v.items)
-view-List v = search (rules, the_lemmas)
-
-pub view-Words : (words : Vec Expr Global) → HasPlaces (value_view (Words words)) (map word_place words.items)
-view-Words words = search (rules, the_lemmas)
-
-pub view-WordRows : (rows : List (List Expr)) → HasPlaces (value_view (WordRows rows)) (map words_place rows)
-view-WordRows rows = search (rules, the_lemmas)
+pub view-List : (places : WrittenPlaces) → value_view (Listed places) ≡ list_value (places_view places)
+view-List places = search (rules, the_lemmas)
 
 pub view-Numbers : (v : Vec ℤ Global) → HasPlaces (value_view (Numbers v)) (map number_place v.items)
 view-Numbers v = search (rules, the_lemmas)
@@ -37,13 +31,6 @@ view-Rows rows = search (rules, the_lemmas)
 
 pub view-Entries : (rows : List (List (ℤ × ℤ))) → HasPlaces (value_view (Entries rows)) (map entries_place rows)
 view-Entries rows = search (rules, the_lemmas)
-
--- a text is a word's, or that of an empty place
-pub shown_or_empty : (text : List ℕ) (empty : Bool) → empty ≡ nat_eq (length text) 0 → MatchBool (not empty) (text_place text ≡ Some (word_value (first_word text))) (text_place text ≡ None)
-shown_or_empty [] true e = refl
-shown_or_empty [] false e = cc
-shown_or_empty (byte ∷ bytes) false e = refl
-shown_or_empty (byte ∷ bytes) true e = let none = eqb-true (length (byte ∷ bytes)) 0 (sym e) in absurd (omega (arith, none))
 
 -- the places of a list are those that it was made of
 pub places_in-of : (ps : List (Option ValueTree)) → places_in (places_of ps) ≡ ps
@@ -56,11 +43,3 @@ listed-is value ps e = ap listed e ∙ places_in-of ps
 
 pub has_its_places : (value : ValueTree) (ps : List (Option ValueTree)) → HasPlaces value ps → HasPlaces value (listed value)
 has_its_places value ps e = e ∙ ap (λ qs. list_value (places_of qs)) (sym (listed-is value ps e))
-
--- rows of two numbers are entries
-pub row-pairs : (pairs : List (ℤ × ℤ)) → map row_place (map pair_row pairs) ≡ map entry_place pairs
-row-pairs [] = refl
-row-pairs (pair ∷ pairs) = ap (λ ps. entry_place pair ∷ ps) (row-pairs pairs)
-
-pub view-pairs : (rows : List (List ℤ)) (pairs : List (ℤ × ℤ)) → rows ≡ map pair_row pairs → value_view (Rows rows) ≡ list_value (places_of (map entry_place pairs))
-view-pairs rows pairs e = view-Rows rows ∙ ap (λ ps. list_value (places_of ps)) (ap (map row_place) e ∙ row-pairs pairs)

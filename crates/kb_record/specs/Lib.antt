@@ -4,9 +4,11 @@ pub mod Tree
 pub mod Grammar
 pub mod Meaning
 pub mod Nesting
+pub mod Ends
 pub mod Lists
 pub mod View
 pub mod Listed
+pub mod Numbers
 pub use Rattle.kb_lexing.specs.Lexemes
 pub mod Faults
 pub mod Reading

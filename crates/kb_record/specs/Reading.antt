@@ -45,6 +45,10 @@ Reads reading view (Err Memory) rest = Unit {0}
 abbrev pub remaining : Cursor → List Token
 remaining cursor = tokens_from cursor.next.lexeme
 
+-- the text that the cursor goes over, from its beginning on
+abbrev pub whole_of : Cursor → List ℕ
+whole_of cursor = cursor.next.whole.now
+
 -- those behind the next one
 abbrev pub behind_next : Cursor → List Token
 behind_next cursor = drop 1 (remaining cursor)

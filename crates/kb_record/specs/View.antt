@@ -1,16 +1,18 @@
 -- The trees of `specs/Tree.antt` that the types of the code stand for.
-use Rattle.std.specs.Prelude.{ℕ, List, [], ◌∷◌, Option, Some, None, map}
+use Rattle.std.specs.Prelude.{ℕ, List, [], ◌∷◌, Option, Some, None, map, drop, if◌then◌else◌}
 use Rattle.std.specs.Borrow.{Bor}
-use Rattle.std.specs.Option.{option_map}
+use Rattle.kb_lexing.specs.Token.{Token}
 use Rattle.kb_lexing.proofs.FrontTokens.{tokens_of}
 use Rattle.kb_record.specs.Tree.{Factor as FactorTree, named, grouped, Factors, no_factors, factor, Value as ValueTree, number_value, string_value, record_value, list_value, range_value, word_value, Fields, Places, TextTree}
 use Rattle.kb_record.specs.Nesting.{deepest}
-use Rattle.kb_record.specs.Reading.{Reading, read, unexpected, too_deep, read_word}
+use Rattle.kb_record.specs.Reading.{Reading, read, unexpected, too_deep, begins_word, ends_place, read_word, read_value}
 use Rattle.kb_record.specs.declared.tree.Factor.{Factor, fold-Factor}
 use Rattle.kb_record.specs.declared.tree.Factor.TheOpen.{Factor-F}
 use Rattle.kb_record.specs.declared.tree.Value.{Value, fold-Value}
 use Rattle.kb_record.specs.declared.tree.Value.TheOpen.{Value-F}
 use Rattle.kb_record.specs.declared.tree.Expr.{Expr}
+use Rattle.kb_record.specs.declared.tree.PlaceText.{PlaceText}
+use Rattle.kb_record.specs.declared.tree.WrittenPlaces.{WrittenPlaces}
 use Rattle.kb_record.specs.declared.tree.Rec.{Rec}
 pub use Rattle.kb_record.specs.Lists.{factors_of, fields_of, places_of, number_place, row_place, entry_place, entries_place}
 
@@ -42,26 +44,39 @@ one_name name = factor (named name None) no_factors
 abbrev pub word_view : Expr → Factors
 word_view word = first_word word.text.now
 
--- the word that stands first in a text as a place of a list; no text is an empty place
-abbrev pub text_place : List ℕ → Option ValueTree
-text_place [] = None
-text_place (byte ∷ bytes) = Some (word_value (first_word (byte ∷ bytes)))
+-- the value that is read; a text that can't be read stands for an empty string, and is in no tree that was read
+abbrev pub value_in : Reading ValueTree → ValueTree
+value_in (read tree rest) = tree
+value_in (unexpected expected rest) = string_value []
+value_in (too_deep rest) = string_value []
 
--- a word of a list, or an empty place, as a place of that list
-abbrev pub word_place : Expr → Option ValueTree
-word_place word = text_place word.text.now
+-- the value that stands first
+abbrev pub first_value : List Token → ValueTree
+first_value tokens =
+    if begins_word tokens then word_value (factors_in (read_word deepest tokens)) else value_in
+    (read_value deepest tokens)
 
--- words and empty places as a list at a place
-abbrev pub words_place : List Expr → Option ValueTree
-words_place words = Some (list_value (places_of (map word_place words)))
+-- what stands at the place of a list that begins here
+abbrev pub first_place_in : List Token → Option ValueTree
+first_place_in tokens = if ends_place tokens then None else Some (first_value tokens)
+
+-- what stands at a place of a list
+abbrev pub written_place : PlaceText → Option ValueTree
+written_place place = first_place_in (tokens_of place.text.now)
+
+-- what stands at the place of a list that begins behind so many bytes of a text
+abbrev pub place_from : List ℕ → ℕ → Option ValueTree
+place_from text begin = first_place_in (tokens_of (drop begin text))
+
+-- what stands at the places of a list, one by one
+abbrev pub written_places : WrittenPlaces → List (Option ValueTree)
+written_places places = map (place_from places.text.now) places.begins.items
 
 abbrev pub value_step : Value-F ValueTree → ValueTree
 value_step (Value-F.Number z) = number_value z
 value_step (Value-F.String text) = string_value text.now
 value_step (Value-F.Record fields) = record_value (fields_of fields.items)
-value_step (Value-F.List places) = list_value (places_of places.items)
-value_step (Value-F.Words words) = list_value (places_of (map word_place words.items))
-value_step (Value-F.WordRows rows) = list_value (places_of (map words_place rows))
+value_step (Value-F.List places) = list_value (places_of (written_places places))
 value_step (Value-F.Numbers numbers) = list_value (places_of (map number_place numbers.items))
 value_step (Value-F.Rows rows) = list_value (places_of (map row_place rows))
 value_step (Value-F.Entries rows) = list_value (places_of (map entries_place rows))
@@ -85,8 +100,8 @@ abbrev pub fields_view : List (Bor (List ℕ) × Value) → Fields
 fields_view fields = fields_of (map (λ (f : Bor (List ℕ) × Value). (f.0, value_view f.1)) fields)
 
 -- the places of a list as the code has them, as a tree
-abbrev pub places_view : List (Option Value) → Places
-places_view places = places_of (map (option_map value_view) places)
+abbrev pub places_view : WrittenPlaces → Places
+places_view places = places_of (written_places places)
 
 -- a field, and the name and the fields of a text, as they are read
 abbrev pub field_view : Bor (List ℕ) × Value → List ℕ × ValueTree

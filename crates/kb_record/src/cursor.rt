@@ -4,10 +4,10 @@ ghost use Rattle.std.specs.Prelude.{◌≡◌, ◌∷◌, [], Some, None, MatchO
 ghost use Rattle.kb_record.specs.declared.cursor.Stop.TheVariants as stops;
 ghost use Rattle.std.specs.Bool.{MatchBool};
 ghost use Rattle.kb_record.specs.Nesting.{deepest};
-ghost use Rattle.kb_record.specs.View.{factors_in, value_view, word_view};
+ghost use Rattle.kb_record.specs.View.{factors_in, first_place_in, place_from, value_view, word_view};
 ghost use Rattle.kb_lexing.specs.Lexemes.{token_view};
 ghost use Rattle.kb_lexing.proofs.FrontTokens.{tokens_of};
-ghost use Rattle.kb_record.specs.Reading.{Reads, remaining, behind_next, is_mark, behind, read_name, read_number, read_scalar, begins_word, first_name, first_number, read_word, ends_place, ended, passes_comma};
+ghost use Rattle.kb_record.specs.Reading.{Reads, remaining, whole_of, behind_next, is_mark, behind, read_name, read_number, read_scalar, begins_word, first_name, first_number, read_word, ends_place, ended, passes_comma};
 
 use crate::next::{Next, next_in};
 use crate::passed::token_count;
@@ -89,7 +89,7 @@ impl<T: Drop> From<AllocFailed<T>> for Stop {
 }
 
 /// Goes over the tokens of a text, which it makes one by one.
-#[derive(Drop)]
+#[derive(Clone, Copy)]
 pub(crate) struct Cursor<'a> {
     next: Next<'a>,
 }
@@ -100,7 +100,7 @@ impl<'a> Cursor<'a> {
         ensures { remaining result ≡ tokens_of text.now }
     {
         Cursor {
-            next: next_in(text),
+            next: next_in(text, text),
         }
     }
 
@@ -115,18 +115,21 @@ impl<'a> Cursor<'a> {
 
     /// Passes the next token.
     fn advance(&mut self)
-        ensures { remaining self.new ≡ behind_next self.old }
+        ensures passes { remaining self.new ≡ behind_next self.old }
+        ensures whole { whole_of self.new ≡ whole_of self.old }
     {
         if let Some(lexeme) = self.next.lexeme {
-            self.next = next_in(lexeme.rest);
+            self.next = next_in(self.next.whole, lexeme.rest);
         }
     }
 
     /// Passes the mark, if it comes next.
     pub fn take(&mut self, mark: Mark) -> bool
-        ensures { MatchBool result (behind mark (remaining self.old) ≡ Some (remaining self.new))
+        ensures passes { MatchBool result
+            (behind mark (remaining self.old) ≡ Some (remaining self.new))
             ((behind mark (remaining self.old) ≡ None)
             × (remaining self.new ≡ remaining self.old)) }
+        ensures whole { whole_of self.new ≡ whole_of self.old }
     {
         let Some(token) = self.peek() else {
             return false;
@@ -140,10 +143,11 @@ impl<'a> Cursor<'a> {
 
     /// Passes the mark, which has to come next.
     pub fn expect(&mut self, mark: Mark, expected: Expected) -> Result<(), Stop>
-        ensures { MatchResult result
+        ensures passes { MatchResult result
             (λ _. behind mark (remaining self.old) ≡ Some (remaining self.new))
             (λ stop. (behind mark (remaining self.old) ≡ None)
             × (remaining self.new ≡ remaining self.old) × (stop ≡ stops.Unexpected expected)) }
+        ensures whole { whole_of self.new ≡ whole_of self.old }
     {
         if self.take(mark) {
             Ok(())
@@ -155,8 +159,9 @@ impl<'a> Cursor<'a> {
     /// Passes the comma that goes on with a list or a record, or the mark that closes it. Answers
     /// whether it goes on.
     pub fn passes_comma(&mut self, close: Mark, expected: Expected) -> Result<bool, Stop>
-        ensures { Reads (passes_comma close expected (remaining self.old)) (λ more. more) result
-            (remaining self.new) }
+        ensures reads { Reads (passes_comma close expected (remaining self.old)) (λ more. more)
+            result (remaining self.new) }
+        ensures whole { whole_of self.new ≡ whole_of self.old }
     {
         if self.take(close) {
             return Ok(false);
@@ -167,8 +172,9 @@ impl<'a> Cursor<'a> {
 
     /// Passes the name that has to come next.
     pub fn name(&mut self) -> Result<&'a str, Stop>
-        ensures { Reads (read_name (remaining self.old)) (λ name. name.now) result
+        ensures reads { Reads (read_name (remaining self.old)) (λ name. name.now) result
             (remaining self.new) }
+        ensures whole { whole_of self.new ≡ whole_of self.old }
     {
         match self.peek() {
             Some(Token::Name(name)) => {
@@ -181,8 +187,9 @@ impl<'a> Cursor<'a> {
 
     /// Passes the number that has to come next.
     pub fn number(&mut self) -> Result<i64, Stop>
-        ensures { Reads (read_number (remaining self.old)) (λ number. number) result
+        ensures reads { Reads (read_number (remaining self.old)) (λ number. number) result
             (remaining self.new) }
+        ensures whole { whole_of self.new ≡ whole_of self.old }
     {
         match self.peek() {
             Some(Token::Number(number)) => {
@@ -195,7 +202,9 @@ impl<'a> Cursor<'a> {
 
     /// Passes the number or the string that has to come next.
     pub fn scalar(&mut self) -> Result<Value<'a>, Stop>
-        ensures { Reads (read_scalar (remaining self.old)) value_view result (remaining self.new) }
+        ensures reads { Reads (read_scalar (remaining self.old)) value_view result
+            (remaining self.new) }
+        ensures whole { whole_of self.new ≡ whole_of self.old }
     {
         match self.peek() {
             Some(Token::Number(number)) => {
@@ -226,12 +235,27 @@ impl<'a> Cursor<'a> {
         }
     }
 
+    /// Where in the text the place of a list begins that comes next, which isn't passed.
+    pub fn place(&self) -> usize
+        ensures { place_from (whole_of self.now) result ≡ first_place_in (remaining self.now) }
+    {
+        self.next.whole.len() - self.next.text.len()
+    }
+
+    /// The text from its beginning on.
+    pub fn whole(&self) -> &'a [u8]
+        ensures { result.now ≡ whole_of self.now }
+    {
+        self.next.whole
+    }
+
     /// Passes the name that comes next, if one does.
     pub fn take_name(&mut self) -> Option<&'a str>
-        ensures { MatchOption result
+        ensures passes { MatchOption result
             ((first_name (remaining self.old) ≡ None)
             × (remaining self.new ≡ remaining self.old))
             (λ name. first_name (remaining self.old) ≡ Some (name.now, remaining self.new)) }
+        ensures whole { whole_of self.new ≡ whole_of self.old }
     {
         match self.peek() {
             Some(Token::Name(name)) => {
@@ -244,10 +268,11 @@ impl<'a> Cursor<'a> {
 
     /// Passes the number that comes next, if one does.
     pub fn take_number(&mut self) -> Option<i64>
-        ensures { MatchOption result
+        ensures passes { MatchOption result
             ((first_number (remaining self.old) ≡ None)
             × (remaining self.new ≡ remaining self.old))
             (λ number. first_number (remaining self.old) ≡ Some (number, remaining self.new)) }
+        ensures whole { whole_of self.new ≡ whole_of self.old }
     {
         match self.peek() {
             Some(Token::Number(number)) => {
@@ -263,16 +288,6 @@ impl<'a> Cursor<'a> {
         ensures { result ≡ ends_place (remaining self.now) }
     {
         matches!(self.peek(), Some(Token::Comma | Token::CloseSquare))
-    }
-
-    /// Room for the places of a list of which one was read: for that one, where the list ends behind it, or else for
-    /// two.
-    pub fn room(&self) -> usize {
-        if matches!(self.peek(), Some(Token::CloseSquare)) {
-            1
-        } else {
-            2
-        }
     }
 
     /// How many tokens of the text were passed.

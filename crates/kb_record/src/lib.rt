@@ -19,7 +19,9 @@
 //! memory, by [`a_word_has_one_meaning`] they mean one word, and by [`a_word_has_one_fault`] others have one fault.
 //!
 //! A list is one tree, in whichever form it is kept: [`Value::place_count`](Value) and [`Value::place`](Value) read it
-//! place by place, and [`Place`] hands out a row of words, of numbers, or of pairs, as it stands.
+//! place by place, and [`Place`] hands out a row of numbers, or of pairs, as it stands. Any other list keeps where in the
+//! text each of its places begins ([`WrittenPlaces`]): four bytes a place, whatever stands there. Who needs a place takes
+//! the text that begins with it ([`PlaceText`]), and reads it again.
 //!
 //! Want of memory may be returned by each call that takes memory, and by no other.
 //!
@@ -34,12 +36,14 @@
 //!   `proofs/`.
 //! - `passed` goes over the tokens of refused bytes once more, up to the last one that was passed: `kb_lexing` says
 //!   its place.
-//! - `longer` appends a place to a list that is read: a list of words, of numbers, or of lists of words, of numbers
-//!   or of pairs stays in arrays (`kb_ragged`) as long as its places allow, which takes a small part of the memory of
-//!   a tree of values. `listed` reads the places of a list in any form.
+//! - `numbers` reads a list of numbers, or of lists of numbers or of pairs, into arrays (`kb_ragged`), in which a
+//!   number takes 8 bytes. It gives up at the first token that doesn't fit, and then the list is read from its beginning
+//!   as any other: `records` reads each place, and keeps where it begins alone. So a table of numbers is gone through once, and
+//!   no token is made more than five times. `listed` reads the places of a list in any form.
 //! - `evaluation` evaluates a word as it is read, without a tree, so that a line takes no memory but that of its
 //!   words; `meaning` has what its names, powers and products mean. `written` reads a word of a tree again: it
-//!   evaluates it, tells whether it is a name, and has `words` make the tree of its factors for who prints it.
+//!   evaluates it, tells whether it is a name, and has `words` make the tree of its factors for who prints it. It also
+//!   reads what stands at a place of a list: a number, a word, or any value, of which the lists keep where they begin.
 //!
 //! # Where the proofs are
 //!
@@ -57,11 +61,13 @@
 //!   nests. `Shallow`: so a text that nests no deeper than it may isn't too deep.
 //! - `proofs/TokensToBytes.antt`: from what is read of the tokens to what the bytes are. `TextFronts`: how many
 //!   brackets are open.
-//! - `proofs/Deeper.antt`: a word that is read within other brackets is read alone. `BareNames`: when a word is a name.
+//! - `proofs/Deeper.antt`: a word or a value that is read within other brackets is read alone; `PlaceTexts`: so the
+//!   text of a place tells what stands there. `BareNames`: when a word is a name. `NumberLists`: the tokens of lists of
+//!   numbers.
 //! - `proofs/WordMeanings.antt`, `proofs/WordFaults.antt`: names, repetitions and powers; bytes that mean a word have
 //!   no fault.
-//! - `proofs/ReadRows.antt`, `PassedMarks`, `Depths`, `Views`: one step of the functions and of the
-//!   trees. `Taken`: lists that are gone through place by place.
+//! - `proofs/ReadRows.antt`, `PassedMarks`, `Depths`, `Views`: one step of the functions and of the trees. `Nested`:
+//!   the parts of a value nest no deeper than it does.
 //!
 //! Below are `kb_lexing`, `kb_ragged`, and `kb_word`, whose words and presentations are the answers.
 #![tactic(auto)]
@@ -71,9 +77,9 @@ mod error;
 mod evaluation;
 mod laws;
 mod listed;
-mod longer;
 mod meaning;
 mod next;
+mod numbers;
 mod parser;
 mod passed;
 mod passing;
@@ -91,5 +97,5 @@ pub use laws::{
 };
 pub use listed::Place;
 pub use parser::{parse, parse_expr, parse_word};
-pub use tree::{Expr, Factor, Rec, Value};
+pub use tree::{Expr, Factor, PlaceText, Rec, Value, WrittenPlaces};
 pub use written::word_of;

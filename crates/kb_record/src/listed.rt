@@ -1,24 +1,17 @@
 //! The places of lists, in whichever form a list is kept.
 
 ghost use Rattle.std.specs.Prelude.{◌≡◌, ◌≢◌, ◌<◌, length, slice_get, Some, IfSome, IfNone};
-ghost use Rattle.std.specs.Option.{option_map};
 ghost use Rattle.kb_record.specs.Tree.{Places, list_value};
-ghost use Rattle.kb_record.specs.View.{value_view, word_place};
+ghost use Rattle.kb_record.specs.View.{value_view};
 ghost use Rattle.kb_record.specs.Listed.{listed, HasPlaces, place_view};
 
-use crate::tree::{Expr, Value};
+use crate::tree::{PlaceText, Value};
 
 /// What stands at a place of a list.
 #[derive(Debug, Drop)]
 pub enum Place<'r, 'a> {
-    /// Nothing.
-    Empty,
-    /// Any value.
-    Value(&'r Value<'a>),
-    /// A word.
-    Word(&'r Expr<'a>),
-    /// A list of words and empty places.
-    Words(&'r [Expr<'a>]),
+    /// Whatever it is, as it is written.
+    Text(PlaceText<'a>),
     /// A number.
     Number(i64),
     /// A list of numbers.
@@ -41,8 +34,6 @@ impl<'a> Value<'a> {
             Value::Numbers(numbers) => Some(numbers.len()),
             Value::Rows(rows) => Some(rows.len()),
             Value::Entries(rows) => Some(rows.len()),
-            Value::Words(words) => Some(words.len()),
-            Value::WordRows(rows) => Some(rows.len()),
             _ => None,
         }
     }
@@ -53,34 +44,11 @@ impl<'a> Value<'a> {
         ensures { slice_get (listed (value_view self.now)) place ≡ Some (place_view result) }
     {
         match self {
-            Value::List(places) => place_of(&places[place]),
+            Value::List(places) => Place::Text(places.get(place)),
             Value::Numbers(numbers) => Place::Number(numbers[place]),
             Value::Rows(rows) => Place::Numbers(rows.get(place).unwrap()),
             Value::Entries(rows) => Place::Entries(rows.get(place).unwrap()),
-            Value::Words(words) => word_at(&words[place]),
-            Value::WordRows(rows) => Place::Words(rows.get(place).unwrap()),
             _ => unreachable!(),
         }
-    }
-}
-
-/// What stands at a place of a list of any values.
-fn place_of<'r, 'a>(place: &'r Option<Value<'a>>) -> Place<'r, 'a>
-    ensures { place_view result ≡ option_map value_view place.now }
-{
-    match place {
-        Some(value) => Place::Value(value),
-        None => Place::Empty,
-    }
-}
-
-/// What stands at a place of a list of words and empty places.
-fn word_at<'r, 'a>(word: &'r Expr<'a>) -> Place<'r, 'a>
-    ensures { place_view result ≡ word_place word.now }
-{
-    if word.is_word() {
-        Place::Word(word)
-    } else {
-        Place::Empty
     }
 }

@@ -2,8 +2,8 @@
 //!
 //! The clauses `shorter` are for the end of the recursion alone: what is passed takes tokens.
 
-ghost use Rattle.std.specs.Prelude.{◌≤◌, length, OnOk};
-ghost use Rattle.kb_record.specs.Reading.{remaining, read_word, read_group, read_factor};
+ghost use Rattle.std.specs.Prelude.{◌≡◌, ◌≤◌, length, OnOk};
+ghost use Rattle.kb_record.specs.Reading.{remaining, whole_of, read_word, read_group, read_factor};
 ghost use Rattle.kb_record.specs.Evaluation.{Passes};
 
 use crate::cursor::{Cursor, Mark, Stop};
@@ -15,6 +15,7 @@ use kb_lexing::Expected;
 pub(crate) fn pass_word(tokens: &mut Cursor<'_>, depth: usize) -> Result<(), Stop>
     ensures reads { Passes (read_word depth (remaining tokens.old)) result (remaining tokens.new) }
     ensures shorter { OnOk result (length (remaining tokens.new) ≤ length (remaining tokens.old)) }
+    ensures whole { OnOk result (whole_of tokens.new ≡ whole_of tokens.old) }
 {
     loop {
         pass_factor(tokens, depth)?;
@@ -29,6 +30,7 @@ pub(crate) fn pass_word(tokens: &mut Cursor<'_>, depth: usize) -> Result<(), Sto
 fn pass_factor(tokens: &mut Cursor<'_>, depth: usize) -> Result<(), Stop>
     ensures reads { Passes (read_factor depth (remaining tokens.old)) result (remaining tokens.new) }
     ensures shorter { OnOk result (length (remaining tokens.new) ≤ length (remaining tokens.old)) }
+    ensures whole { OnOk result (whole_of tokens.new ≡ whole_of tokens.old) }
 {
     if tokens.take(Mark::OpenRound) {
         pass_group(tokens, depth)?;
@@ -45,6 +47,7 @@ fn pass_factor(tokens: &mut Cursor<'_>, depth: usize) -> Result<(), Stop>
 fn pass_group(tokens: &mut Cursor<'_>, depth: usize) -> Result<(), Stop>
     ensures reads { Passes (read_group depth (remaining tokens.old)) result (remaining tokens.new) }
     ensures shorter { OnOk result (length (remaining tokens.new) ≤ length (remaining tokens.old)) }
+    ensures whole { OnOk result (whole_of tokens.new ≡ whole_of tokens.old) }
 {
     if depth == 0 {
         return Err(Stop::TooDeep);

@@ -2,29 +2,35 @@
 //!
 //! The clauses `shorter` are for the end of the recursion alone: what is read takes tokens.
 
-ghost use Rattle.std.specs.Prelude.{◌≡◌, ◌≤◌, length, map, OnOk, IfOk, option_map};
+ghost use Rattle.std.specs.Prelude.{◌≡◌, ◌≤◌, ◌∷◌, [], length, map, Some, OnOk, IfOk};
 ghost use Rattle.kb_lexing.specs.declared.place.Expected.TheVariants as wanted;
 ghost use Rattle.kb_record.specs.declared.cursor.Mark.TheVariants as marks;
-ghost use Rattle.kb_record.specs.Tree.{word_value};
+ghost use Rattle.kb_record.specs.Tree.{number_value, word_value};
 ghost use Rattle.kb_record.specs.Nesting.{deepest};
-ghost use Rattle.kb_record.specs.Reading.{Reads, remaining, row, passes_comma, place_with, field_with, range_from, read_list, read_fields, read_record, read_word, reading_map, read_value, read_places, number_with, after_items, first_place};
-ghost use Rattle.kb_record.specs.View.{value_view, field_view};
-ghost use Rattle.kb_record.specs.Listed.{listed, HasPlaces};
+ghost use Rattle.kb_record.specs.Reading.{Reads, remaining, whole_of, row, passes_comma, place_with, field_with, range_from, read_list, read_fields, read_record, read_word, reading_map, read_value, read_places, number_with, after_items, list_from};
+ghost use Rattle.kb_record.specs.View.{value_view, field_view, place_from};
+ghost use Rattle.kb_record.specs.Listed.{HasPlaces};
 
 use crate::cursor::{Cursor, Mark, Stop};
-use crate::longer::{longer, number_list};
+use crate::numbers::number_list;
 use crate::passing::pass_word;
-use crate::tree::Value;
+use crate::tree::{Value, WrittenPlaces};
 use kb_lexing::Expected;
+use kb_word::Memory;
 use std::alloc::Global;
 
 /// Reads a value, with brackets in brackets at most `depth` deep.
 #[cycle(values)]
-fn value<'a>(alloc: Global, tokens: &mut Cursor<'a>, depth: usize) -> Result<Value<'a>, Stop>
+pub(crate) fn value<'a>(
+    alloc: Global,
+    tokens: &mut Cursor<'a>,
+    depth: usize,
+) -> Result<Value<'a>, Stop>
     requires { depth ≤ deepest }
     ensures reads { Reads (read_value depth (remaining tokens.old)) value_view result
         (remaining tokens.new) }
     ensures shorter { OnOk result (length (remaining tokens.new) ≤ length (remaining tokens.old)) }
+    ensures whole { OnOk result (whole_of tokens.new ≡ whole_of tokens.old) }
 {
     if tokens.begins_word() {
         return word_value(tokens, depth);
@@ -45,6 +51,7 @@ fn word_value<'a>(tokens: &mut Cursor<'a>, depth: usize) -> Result<Value<'a>, St
         value_view
         result (remaining tokens.new) }
     ensures shorter { OnOk result (length (remaining tokens.new) ≤ length (remaining tokens.old)) }
+    ensures whole { OnOk result (whole_of tokens.new ≡ whole_of tokens.old) }
 {
     let word = tokens.word();
     pass_word(tokens, depth)?;
@@ -58,6 +65,7 @@ fn record<'a>(alloc: Global, tokens: &mut Cursor<'a>, depth: usize) -> Result<Va
     ensures reads { Reads (read_record depth (remaining tokens.old)) value_view result
         (remaining tokens.new) }
     ensures shorter { OnOk result (length (remaining tokens.new) ≤ length (remaining tokens.old)) }
+    ensures whole { OnOk result (whole_of tokens.new ≡ whole_of tokens.old) }
 {
     tokens.expect(Mark::OpenRound, Expected::Fields)?;
     let fields = fields(alloc, tokens, depth)?;
@@ -76,6 +84,7 @@ pub(crate) fn fields<'a>(
         (λ fields. map field_view fields.items)
         result (remaining tokens.new) }
     ensures shorter { OnOk result (length (remaining tokens.new) ≤ length (remaining tokens.old)) }
+    ensures whole { OnOk result (whole_of tokens.new ≡ whole_of tokens.old) }
 {
     if depth == 0 {
         return Err(Stop::TooDeep);
@@ -99,6 +108,7 @@ fn some_fields<'a>(
         (remaining tokens.old))
         (λ fields. map field_view fields.items) result (remaining tokens.new) }
     ensures shorter { OnOk result (length (remaining tokens.new) ≤ length (remaining tokens.old)) }
+    ensures whole { OnOk result (whole_of tokens.new ≡ whole_of tokens.old) }
 {
     let mut fields = Vec::with_capacity(alloc, 1)?;
     loop {
@@ -120,6 +130,7 @@ fn field<'a>(
     ensures reads { Reads (field_with (read_value depth) (remaining tokens.old)) field_view result
         (remaining tokens.new) }
     ensures shorter { OnOk result (length (remaining tokens.new) ≤ length (remaining tokens.old)) }
+    ensures whole { OnOk result (whole_of tokens.new ≡ whole_of tokens.old) }
 {
     let name = tokens.name()?;
     tokens.expect(Mark::Assign, Expected::Assign)?;
@@ -134,16 +145,36 @@ fn list<'a>(alloc: Global, tokens: &mut Cursor<'a>, depth: usize) -> Result<Valu
     ensures reads { Reads (read_list depth (remaining tokens.old)) value_view result
         (remaining tokens.new) }
     ensures shorter { OnOk result (length (remaining tokens.new) ≤ length (remaining tokens.old)) }
+    ensures whole { OnOk result (whole_of tokens.new ≡ whole_of tokens.old) }
+{
+    let start = *tokens;
+    let found = number_list(alloc, tokens, depth)?;
+    if let Some(list) = found {
+        return Ok(list);
+    }
+    *tokens = start;
+    any_list(alloc, tokens, depth)
+}
+
+/// Reads a list of any values or a range behind its open bracket, and the closing bracket.
+#[cycle(values)]
+fn any_list<'a>(alloc: Global, tokens: &mut Cursor<'a>, depth: usize) -> Result<Value<'a>, Stop>
+    requires { depth ≤ deepest }
+    ensures reads { Reads (read_list depth (remaining tokens.old)) value_view result
+        (remaining tokens.new) }
+    ensures shorter { OnOk result (length (remaining tokens.new) ≤ length (remaining tokens.old)) }
+    ensures whole { OnOk result (whole_of tokens.new ≡ whole_of tokens.old) }
 {
     if depth == 0 {
         return Err(Stop::TooDeep);
     }
     if tokens.take(Mark::CloseSquare) {
-        return Ok(Value::List(Vec::new(alloc)));
+        return Ok(list_with(tokens.whole(), Vec::new(alloc)));
     }
+    let first = tokens.place();
     match tokens.take_number() {
-        Some(first) => behind_number(alloc, tokens, depth - 1, first),
-        None => places(alloc, tokens, depth - 1, None),
+        Some(number) => behind_number(alloc, tokens, depth - 1, first, number),
+        None => without_number(alloc, tokens, depth - 1),
     }
 }
 
@@ -153,65 +184,128 @@ fn behind_number<'a>(
     alloc: Global,
     tokens: &mut Cursor<'a>,
     depth: usize,
-    first: i64,
+    first: usize,
+    number: i64,
 ) -> Result<Value<'a>, Stop>
-    requires { depth ≤ deepest }
-    ensures reads { Reads (number_with (read_value depth) first (remaining tokens.old)) value_view
+    requires within { depth ≤ deepest }
+    requires written { place_from (whole_of tokens.old) first ≡ Some (number_value number) }
+    ensures reads { Reads (number_with (read_value depth) number (remaining tokens.old)) value_view
         result (remaining tokens.new) }
     ensures shorter { OnOk result (length (remaining tokens.new) ≤ length (remaining tokens.old)) }
+    ensures whole { OnOk result (whole_of tokens.new ≡ whole_of tokens.old) }
 {
     if tokens.take(Mark::Dots) {
-        return range(tokens, first);
+        return range(tokens, number);
     }
+    let before = one_place(alloc, first)?;
     if !tokens.passes_comma(Mark::CloseSquare, Expected::Dots)? {
-        return Ok(number_list(alloc, Some(first))?);
+        return Ok(list_with(tokens.whole(), before));
     }
-    places(alloc, tokens, depth, Some(first))
+    list_of_places(alloc, tokens, depth, before)
 }
 
-/// Reads places joined by `,`, behind the number that may come first, and the closing bracket.
+/// A place that begins here.
+fn one_place(alloc: Global, begin: usize) -> Result<Vec<u32>, Memory>
+    ensures { IfOk result (λ begins. begins.items ≡ begin ∷ []) }
+{
+    let mut begins = Vec::with_capacity(alloc, 1)?;
+    begins.push(begin_of(begin)?)?;
+    Ok(begins)
+}
+
+/// The number as a `u32`. A text that is so long takes more memory than there is.
+fn begin_of(begin: usize) -> Result<u32, Memory>
+    ensures { IfOk result (λ number. number ≡ begin) }
+{
+    u32::try_from(begin).map_err(|_| Memory)
+}
+
+/// The list of the places that begin here in a text.
+fn list_with<'a>(text: &'a [u8], begins: Vec<u32>) -> Value<'a>
+    ensures { HasPlaces (value_view result) (map (place_from text.now) begins.items) }
+{
+    Value::List(WrittenPlaces { text, begins })
+}
+
+/// Reads a list in which no number comes first, behind its open bracket, and the closing bracket.
+#[cycle(values)]
+fn without_number<'a>(
+    alloc: Global,
+    tokens: &mut Cursor<'a>,
+    depth: usize,
+) -> Result<Value<'a>, Stop>
+    requires { depth ≤ deepest }
+    ensures reads { Reads (list_from (read_places (read_value depth) (remaining tokens.old)))
+        value_view
+        result (remaining tokens.new) }
+    ensures shorter { OnOk result (length (remaining tokens.new) ≤ length (remaining tokens.old)) }
+    ensures whole { OnOk result (whole_of tokens.new ≡ whole_of tokens.old) }
+{
+    let before = Vec::with_capacity(alloc, 1)?;
+    list_of_places(alloc, tokens, depth, before)
+}
+
+/// Reads the rest of a list behind the places that were read, and the closing bracket.
+#[cycle(values)]
+fn list_of_places<'a>(
+    alloc: Global,
+    tokens: &mut Cursor<'a>,
+    depth: usize,
+    before: Vec<u32>,
+) -> Result<Value<'a>, Stop>
+    requires { depth ≤ deepest }
+    ensures reads { Reads
+        (list_from (after_items (map (place_from (whole_of tokens.old)) before.items)
+        (read_places (read_value depth) (remaining tokens.old))))
+        value_view result (remaining tokens.new) }
+    ensures shorter { OnOk result (length (remaining tokens.new) ≤ length (remaining tokens.old)) }
+    ensures whole { OnOk result (whole_of tokens.new ≡ whole_of tokens.old) }
+{
+    let places = places(alloc, tokens, depth, before)?;
+    Ok(list_with(tokens.whole(), places))
+}
+
+/// Reads places joined by `,`, behind those that were read, and the closing bracket. Of each is kept where it begins.
 #[cycle(values)]
 fn places<'a>(
     alloc: Global,
     tokens: &mut Cursor<'a>,
     depth: usize,
-    first: Option<i64>,
-) -> Result<Value<'a>, Stop>
+    before: Vec<u32>,
+) -> Result<Vec<u32>, Stop>
     requires { depth ≤ deepest }
     ensures reads { Reads
-        (after_items (first_place first) (read_places (read_value depth) (remaining tokens.old)))
-        (λ list. listed (value_view list)) result (remaining tokens.new) }
-    ensures list { IfOk result (λ list. HasPlaces (value_view list) (listed (value_view list))) }
+        (after_items (map (place_from (whole_of tokens.old)) before.items)
+        (read_places (read_value depth) (remaining tokens.old)))
+        (λ places. map (place_from (whole_of tokens.old)) places.items) result
+        (remaining tokens.new) }
     ensures shorter { OnOk result (length (remaining tokens.new) ≤ length (remaining tokens.old)) }
+    ensures whole { OnOk result (whole_of tokens.new ≡ whole_of tokens.old) }
 {
-    let mut list = number_list(alloc, first)?;
+    let mut places = before;
     loop {
-        let place = place(alloc, tokens, depth)?;
-        list = longer(alloc, list, place, tokens.room())?;
+        places.push(place(alloc, tokens, depth)?)?;
         if !tokens.passes_comma(Mark::CloseSquare, Expected::Mark)? {
-            return Ok(list);
+            return Ok(places);
         }
     }
 }
 
-/// Reads a value, or nothing where a place is empty.
+/// Reads a value, or nothing where a place is empty, and keeps where it begins.
 #[cycle(values)]
-fn place<'a>(
-    alloc: Global,
-    tokens: &mut Cursor<'a>,
-    depth: usize,
-) -> Result<Option<Value<'a>>, Stop>
+fn place<'a>(alloc: Global, tokens: &mut Cursor<'a>, depth: usize) -> Result<u32, Stop>
     requires { depth ≤ deepest }
     ensures reads { Reads (place_with (read_value depth) (remaining tokens.old))
-        (option_map value_view)
-        result (remaining tokens.new) }
+        (place_from (whole_of tokens.old)) result (remaining tokens.new) }
     ensures shorter { OnOk result (length (remaining tokens.new) ≤ length (remaining tokens.old)) }
+    ensures whole { OnOk result (whole_of tokens.new ≡ whole_of tokens.old) }
 {
+    let begin = begin_of(tokens.place())?;
     if tokens.ends_place() {
-        return Ok(None);
+        return Ok(begin);
     }
-    let value = value(alloc, tokens, depth)?;
-    Ok(Some(value))
+    value(alloc, tokens, depth)?;
+    Ok(begin)
 }
 
 /// Reads the rest of a range behind its dots, and the closing bracket.
@@ -219,6 +313,7 @@ fn range<'a>(tokens: &mut Cursor<'a>, from: i64) -> Result<Value<'a>, Stop>
     ensures reads { Reads (range_from from (remaining tokens.old)) value_view result
         (remaining tokens.new) }
     ensures shorter { OnOk result (length (remaining tokens.new) ≤ length (remaining tokens.old)) }
+    ensures whole { OnOk result (whole_of tokens.new ≡ whole_of tokens.old) }
 {
     let to = tokens.number()?;
     tokens.expect(Mark::CloseSquare, Expected::Mark)?;

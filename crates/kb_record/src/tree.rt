@@ -11,11 +11,25 @@ pub enum Factor<'a> {
     Group(Vec<Factor<'a>>, Option<i64>),
 }
 
-/// A word as it is written: a text that begins with it. So it takes no memory, however long it is. In a list of words
-/// an empty text stands for an empty place.
+/// A word as it is written: a text that begins with it. So it takes no memory, however long it is.
 #[derive(Clone, Copy, Debug)]
 pub struct Expr<'a> {
     pub(crate) text: &'a [u8],
+}
+
+/// A place of a list as it is written: a text that begins with its value, or with the comma or the bracket behind it
+/// where the place is empty.
+#[derive(Clone, Copy, Debug)]
+pub struct PlaceText<'a> {
+    pub(crate) text: &'a [u8],
+}
+
+/// The places of a list as they are written: a text, and where in it each of them begins. So a place takes four bytes,
+/// whatever stands there.
+#[derive(Debug, Drop)]
+pub struct WrittenPlaces<'a> {
+    pub(crate) text: &'a [u8],
+    pub(crate) begins: Vec<u32>,
 }
 
 /// What a field or a place of a list may hold.
@@ -27,13 +41,10 @@ pub enum Value<'a> {
     String(&'a str),
     /// `rec( .. )`, its fields in the order of the text
     Record(Vec<(&'a str, Value<'a>)>),
-    /// `[ .. ]`, its places in order, of which some may be empty. It may be any list; a long list is one of the
-    /// next five where it can be.
-    List(Vec<Option<Value<'a>>>),
-    /// `[a,,b*c]`, a list of words and empty places
-    Words(Vec<Expr<'a>>),
-    /// `[[a,b*c],[,d]]`, a list of lists of words and empty places
-    WordRows(Ragged<Expr<'a>>),
+    /// `[ .. ]`, its places in order, of which some may be empty. It may be any list, but one that is read is kept as
+    /// one of the next three where it can be. Two kinds of lists aren't tried: rows of numbers of which the first has
+    /// none, and lists within 62 brackets or more.
+    List(WrittenPlaces<'a>),
     /// `[1,2]`, a list of numbers
     Numbers(Vec<i64>),
     /// `[[1,2],[3]]`, a list of lists of numbers

@@ -3,7 +3,7 @@
 //! The clauses `shorter` are for the end of the recursion alone: what is read takes tokens.
 
 ghost use Rattle.std.specs.Prelude.{◌≡◌, ◌≤◌, length, map, OnOk};
-ghost use Rattle.kb_record.specs.Reading.{Reads, remaining, row, passes, read_power, read_factor, read_group, read_word};
+ghost use Rattle.kb_record.specs.Reading.{Reads, remaining, whole_of, row, passes, read_power, read_factor, read_group, read_word};
 ghost use Rattle.kb_record.specs.View.{factor_view, factors_view};
 
 use crate::cursor::{Cursor, Mark, Stop};
@@ -69,6 +69,7 @@ pub(crate) fn power(tokens: &mut Cursor<'_>) -> Result<Option<i64>, Stop>
     ensures reads { Reads (read_power (remaining tokens.old)) (λ power. power) result
         (remaining tokens.new) }
     ensures shorter { OnOk result (length (remaining tokens.new) ≤ length (remaining tokens.old)) }
+    ensures whole { OnOk result (whole_of tokens.new ≡ whole_of tokens.old) }
 {
     if !tokens.take(Mark::Caret) {
         return Ok(None);

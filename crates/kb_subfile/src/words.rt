@@ -30,15 +30,14 @@ pub fn word_count<'a>(value: &Value<'a>) -> Option<usize>
 }
 
 /// The word at a place of a list.
-fn word_at<'r, 'a>(place: Place<'r, 'a>) -> Option<&'r Expr<'a>>
+fn word_at<'a>(place: Place<'_, 'a>) -> Option<Expr<'a>>
     ensures found { IfSome result
-        (λ word. place_view place.entry ≡ Some (word_value (word_view word.now))) }
+        (λ word. place_view place.entry ≡ Some (word_value (word_view word))) }
     ensures none { IfNone result
         ((word : Factors) → place_view place.entry ≢ Some (word_value word)) }
 {
     match place {
-        Place::Value(Value::Word(word)) => Some(word),
-        Place::Word(word) => Some(word),
+        Place::Text(text) => text.word(),
         _ => None,
     }
 }
@@ -82,5 +81,5 @@ fn meaning_at(
     let Some(word) = word_at(place) else {
         unreachable!();
     };
-    Ok(word_of(alloc, word, presentation)?)
+    Ok(word_of(alloc, &word, presentation)?)
 }

@@ -24,4 +24,4 @@ returns-in-Entries-clause-fault c =
 pub returns-in_default-clause-fault : goal.returns-in_default-clause-fault
 returns-in_default-clause-fault c =
     other_row_kind Sparse c.args.size c.args.count _ _ c.no_row.ensures (λ value is kind.
-    no_list_at c.args.place c.in_default.not-Value c.in_default.not-Numbers c.in_default.not-Entries c.in_default.not-Words (list_of_entries kind.0) (is ∙ ap Some kind.1))
+    no_list_at c.args.place c.in_default.not-Text c.in_default.not-Numbers c.in_default.not-Entries (list_of_entries kind.0) (is ∙ ap Some kind.1))

@@ -7,15 +7,15 @@ use Rattle.kb_fsafile.specs.Kinds.{entry_value, list_of_entries}
 use Rattle.kb_fsafile.proofs.KindLemmas.{list_of_entries-places_of}
 use Rattle.kb_fsafile.proofs.values.entries_listed.Goals as goal
 
-pub returns-in_default-entry_at-clause-other : goal.returns-in_default-entry_at-clause-other
-returns-in_default-entry_at-clause-other c =
+pub returns-in_default-found-clause-other : goal.returns-in_default-found-clause-other
+returns-in_default-found-clause-other c =
     value_other (λ (e : ℤ × ℤ). Some (entry_value e)) list_of_entries list_of_entries-places_of (value_view c.args.value.now) c.loop-place.place _ c.place.ensures
-    c.in_default-entry_at.ensures.none
+    (rw c.in_default-found.is at c.in_ok-found.ensures.none)
 
 pub loop-place-preserved : goal.loop-place-preserved
 loop-place-preserved c =
     one_place_more (λ (e : ℤ × ℤ). Some (entry_value e)) (listed (value_view c.args.value.now)) c.loop-place.place _ c.place.ensures c.loop-place.entries.items _
-    c.in-Some-entry_at.entry c.loop-place.invariant c.in-Some-entry_at.ensures.found c.in_ok-push.ensures.items
+    c.in-Some-found.entry c.loop-place.invariant (rw c.in-Some-found.is at c.in_ok-found.ensures.found) c.in_ok-push.ensures.items
 
 pub returns-clause-listed : goal.returns-clause-listed
 returns-clause-listed c =

@@ -10,4 +10,4 @@ returns-in-Numbers-clause-none c =
     none entry (numbers_of_entry c.in-Numbers.numbers.now entry (sym (ap place_view c.in-Numbers.is) ∙ e)))
 
 pub returns-in_default : goal.returns-in_default
-returns-in_default c = record { found = tt; none = no_entry_at c.args.place c.in_default.not-Value c.in_default.not-Numbers }
+returns-in_default c = record { found = tt; none = no_entry_at c.args.place c.in_default.not-Text c.in_default.not-Numbers }

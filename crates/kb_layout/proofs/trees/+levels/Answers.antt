@@ -1,12 +1,12 @@
 use Rattle.std.proofs.Common.{◌≡◌, ◌++◌, ◌∙◌, suc, [], sym, ap, append-nil}
 use Rattle.std.specs.Prelude.{codes}
 use Rattle.kb_record.specs.Tree.{record_value, list_value}
-use Rattle.kb_record.specs.View.{value_view, fields_view, places_view, number_place, word_place}
+use Rattle.kb_record.specs.View.{value_view, fields_view, places_view, number_place}
 use Rattle.kb_layout.specs.Layout.{indent, line_of, text_of_value}
 use Rattle.kb_layout.specs.Printing.{text_of_field, list_of}
 use Rattle.kb_layout.proofs.PrintedPieces.{on_err, ok_then, err_then, no_table, pieces_start, pieces_kept, pieces_kept_within, pieces_go, pieces_end}
-use Rattle.kb_layout.proofs.PrintedTrees.{record_pieces_at, numbers_no_table, words_no_table}
-use Rattle.kb_record.proofs.Views.{view-Record, view-List, view-Numbers, view-Words}
+use Rattle.kb_layout.proofs.PrintedTrees.{record_pieces_at, numbers_no_table}
+use Rattle.kb_record.proofs.Views.{view-Record, view-List, view-Numbers}
 use Rattle.kb_layout.proofs.trees.+levels.Goals as goal
 
 pub print_record-loop-name-init : goal.print_record-loop-name-init
@@ -42,8 +42,7 @@ print_value-returns-in-Record-clause-printed t c =
 
 pub print_value-returns-in-List-clause-printed : goal.print_value-returns-in-List-clause-printed
 print_value-returns-in-List-clause-printed t c =
-    let seen : value_view c.args.value.now ≡ list_value (places_view c.as_slice-in-List.result.now) =
-    ap value_view c.in-List.is ∙ view-List c.in-List.places ∙ ap (λ ps. list_value (places_view ps)) (sym c.as_slice-in-List.ensures.value) in
+    let seen : value_view c.args.value.now ≡ list_value (places_view c.in-List.places) = ap value_view c.in-List.is ∙ view-List c.in-List.places in
     rw seen c.print_list.ensures.printed
 
 pub print_value-returns-in-Numbers-clause-printed : goal.print_value-returns-in-Numbers-clause-printed
@@ -52,12 +51,4 @@ print_value-returns-in-Numbers-clause-printed t c =
     let seen : value_view c.args.value.now ≡ list_of number_place numbers = ap value_view c.in-Numbers.is ∙ view-Numbers c.in-Numbers.numbers in
     let line = ap (text_of_value c.args.level) seen ∙ no_table c.args.level number_place numbers (numbers_no_table numbers) in
     ok_then c.print_items.result c.print_items.ensures.printed (λ e. e ∙ ap (λ ns. c.args.out.now.items ++ line_of (list_of number_place ns)) c.as_slice-in-Numbers.ensures.value
-    ∙ ap (λ t. c.args.out.now.items ++ t) (sym line))
-
-pub print_value-returns-in-Words-clause-printed : goal.print_value-returns-in-Words-clause-printed
-print_value-returns-in-Words-clause-printed t c =
-    let words = c.in-Words.words.items in
-    let seen : value_view c.args.value.now ≡ list_of word_place words = ap value_view c.in-Words.is ∙ view-Words c.in-Words.words in
-    let line = ap (text_of_value c.args.level) seen ∙ no_table c.args.level word_place words (words_no_table words) in
-    ok_then c.print_items-in-Words.result c.print_items-in-Words.ensures.printed (λ e. e ∙ ap (λ ns. c.args.out.now.items ++ line_of (list_of word_place ns)) c.as_slice-in-Words.ensures.value
     ∙ ap (λ t. c.args.out.now.items ++ t) (sym line))

@@ -1,17 +1,22 @@
-use Rattle.std.proofs.Common.{◌≡◌, ◌++◌, ◌∙◌, ℕ, List, [], option_map, sym, ap, append-nil, Vec, Global}
+use Rattle.std.proofs.Common.{◌≡◌, ◌++◌, ◌∙◌, [], Some, length, map, get_or, option_map, refl, sym, ap, append-nil, arith}
+use Rattle.std.proofs.lemmas.List.{map-id}
+use Rattle.std.proofs.lemmas.Option.{slice_get_read}
 use Rattle.std.specs.Prelude.{codes}
-use Rattle.kb_record.specs.Tree.{record_value}
-use Rattle.kb_record.specs.View.{value_view, fields_view}
+use Rattle.kb_record.specs.Tree.{record_value, list_value}
+use Rattle.kb_record.specs.View.{value_view, fields_view, places_of, places_view, written_place, written_places}
+use Rattle.kb_record.specs.Nesting.{value_nesting}
+use Rattle.kb_layout.specs.Layout.{line_of}
 use Rattle.kb_layout.specs.Printing.{line_of_field}
-use Rattle.kb_layout.proofs.PrintedPieces.{on_err, list_start, list_end, pieces_start, pieces_kept, pieces_kept_within, pieces_go, pieces_end, kept_behind, both_behind}
+use Rattle.kb_layout.proofs.PrintedPieces.{on_err, ok_then, list_start, list_end, pieces_start, pieces_kept, pieces_kept_within, pieces_go, pieces_go_at, pieces_end, kept_behind, both_behind}
 use Rattle.kb_layout.proofs.PrintedTrees.{record_pieces, place_some, place_none}
-use Rattle.kb_record.proofs.Views.{view-Record}
+use Rattle.kb_record.proofs.Views.{view-Record, view-List}
+use Rattle.kb_record.proofs.ValueParts.{place_nesting}
+use Rattle.kb_record.proofs.Nested.{field_nested, place_nested}
 use Rattle.kb_layout.proofs.trees.+lines.Goals as goal
-use Rattle.kb_layout.proofs.trees.+lines.Goals.{print_list_on_line-in-Some+in_ok-print_on_line, print_list_on_line-in_default}
 
 pub print_list_on_line-loop-place-init : goal.print_list_on_line-loop-place-init
 print_list_on_line-loop-place-init t c =
-    list_start (option_map value_view) c.args.places.now c.args.out.now.items c.push.new.self.items c.in_ok-push.ensures.items
+    list_start (λ p. p) (written_places c.args.places.now) c.args.out.now.items c.push.new.self.items c.in_ok-push.ensures.items
 
 pub print_list_on_line-returns-in_err-extend_from_slice-clause-kept : goal.print_list_on_line-returns-in_err-extend_from_slice-clause-kept
 print_list_on_line-returns-in_err-extend_from_slice-clause-kept t c =
@@ -23,7 +28,9 @@ print_list_on_line-returns-in_err-push-2-clause-kept t c =
 
 pub print_list_on_line-returns-clause-printed : goal.print_list_on_line-returns-clause-printed
 print_list_on_line-returns-clause-printed t c =
-    list_end (option_map value_view) _ _ _ _ _ _ c.loop-place.invariant c.loop-place-test.false c.in_ok-push-2.ensures.items
+    let places = written_places c.args.places.now in
+    list_end (λ p. p) places _ _ _ _ _ c.loop-place.invariant (omega (arith, c.len-place-end.ensures)) c.in_ok-push-2.ensures.items
+    ∙ ap (λ ps. c.args.out.now.items ++ line_of (list_value (places_of ps))) (map-id places)
 
 pub print_record_on_line-loop-name-init : goal.print_record_on_line-loop-name-init
 print_record_on_line-loop-name-init t c =
@@ -57,18 +64,50 @@ print_on_line-returns-in-Record-clause-printed t c =
     ap value_view c.in-Record.is ∙ view-Record c.in-Record.fields ∙ ap (λ fs. record_value (fields_view fs)) (sym c.as_slice.ensures.value) in
     rw seen c.print_record_on_line.ensures.printed
 
-pub print_list_on_line-returns-in_err-print_on_line-clause-kept : goal.print_list_on_line-returns-in_err-print_on_line-clause-kept
-print_list_on_line-returns-in_err-print_on_line-clause-kept t c =
-    on_err _ (pieces_kept_within _ _ _ _ _ _ _ _ _ _ _ c.loop-place.invariant c.in_ok-extend_from_slice.ensures.items c.in_err-print_on_line.ensures.kept)
+pub print_list_on_line-returns-in_err-print_place-clause-kept : goal.print_list_on_line-returns-in_err-print_place-clause-kept
+print_list_on_line-returns-in_err-print_place-clause-kept t c =
+    on_err _ (pieces_kept_within _ _ _ _ _ _ _ _ _ _ _ c.loop-place.invariant c.in_ok-extend_from_slice.ensures.items c.in_err-print_place.ensures.kept)
 
 pub print_list_on_line-loop-place-preserved : goal.print_list_on_line-loop-place-preserved
 print_list_on_line-loop-place-preserved t c =
-    pieces_go _ _ _ _ _ _ _ _ _ c.place-item.result _ _ c.loop-place.invariant c.loop-place-test.true c.place-item.is c.in_ok-extend_from_slice.ensures.items (
-    elim c.match-place.branch [
-      | print_list_on_line-in-Some+in_ok-print_on_line w ↦
-          ap items w.out-is ∙ place_some _ _ _ _ w.in-Some.is w.in_ok-print_on_line.ensures.printed
-      | print_list_on_line-in_default w ↦ ap items w.out-is ∙ place_none _ _ w.in_default.not-Some
-    ])
-  where
-    items : Vec ℕ Global → List ℕ
-    items v = v.items
+    pieces_go_at _ _ _ _ _ _ _ _ c.loop-place.place (written_place c.get.result) _ _ c.loop-place.invariant c.get.ensures c.in_ok-extend_from_slice.ensures.items c.in_ok-print_place.ensures.printed
+
+pub print_place-returns-in-Some-clause-printed : goal.print_place-returns-in-Some-clause-printed
+print_place-returns-in-Some-clause-printed t c =
+    ok_then c.print_on_line.result c.print_on_line.ensures.printed (place_some (written_place c.args.place) (value_view c.in-Some.value) c.args.out.now.items _ (ap (option_map value_view) (sym c.in-Some.is) ∙ c.in_ok-value.ensures))
+
+pub print_place-returns-in-None-clause-printed : goal.print_place-returns-in-None-clause-printed
+print_place-returns-in-None-clause-printed t c = place_none (written_place c.args.place) c.args.out.now.items (ap (option_map value_view) (sym c.in-None.is) ∙ c.in_ok-value.ensures)
+
+-- ---- that what is called is about less
+
+pub print_on_line-print_record_on_line-requires : goal.print_on_line-print_record_on_line-requires
+print_on_line-print_record_on_line-requires t c =
+    let seen : value_view c.args.value.now ≡ record_value (fields_view c.as_slice.result.now) =
+    ap value_view c.in-Record.is ∙ view-Record c.in-Record.fields ∙ ap (λ fs. record_value (fields_view fs)) (sym c.as_slice.ensures.value) in
+    let low = ap value_nesting seen in
+    omega (arith, low)
+
+pub print_on_line-print_list_on_line-requires : goal.print_on_line-print_list_on_line-requires
+print_on_line-print_list_on_line-requires t c =
+    let seen : value_view c.args.value.now ≡ list_value (places_view c.in-List.places) = ap value_view c.in-List.is ∙ view-List c.in-List.places in
+    let low = ap value_nesting seen in
+    omega (arith, low)
+
+pub print_record_on_line-print_on_line-requires : goal.print_record_on_line-print_on_line-requires
+print_record_on_line-print_on_line-requires t c =
+    let fs = c.args.fields.now in
+    let f = c.loop-name-item.result in
+    let low = field_nested fs c.loop-name.name-index f (slice_get_read fs (length fs) c.loop-name.name-index f refl c.loop-name-test.true c.loop-name-item.is) in
+    omega (arith, low)
+
+pub print_list_on_line-print_place-requires : goal.print_list_on_line-print_place-requires
+print_list_on_line-print_place-requires t c =
+    let low = place_nested (written_places c.args.places.now) c.loop-place.place (written_place c.get.result) c.get.ensures in
+    omega (arith, low)
+
+pub print_place-print_on_line-requires : goal.print_place-print_on_line-requires
+print_place-print_on_line-requires t c =
+    let seen : Some (value_view c.in-Some.value) ≡ written_place c.args.place = ap (option_map value_view) (sym c.in-Some.is) ∙ c.in_ok-value.ensures in
+    let low = ap place_nesting seen in
+    omega (arith, low)

@@ -1,7 +1,6 @@
-use Rattle.std.proofs.Common.{option_map}
-use Rattle.kb_record.specs.View.{value_view}
+use Rattle.kb_record.specs.View.{written_places}
 use Rattle.kb_layout.proofs.PrintedPieces.{IsTableUpTo}
 use Rattle.kb_layout.proofs.trees.print_list.Given as goal
 
 abbrev pub invariant-loop-place : goal.invariant-loop-place
-invariant-loop-place l = IsTableUpTo l.level (option_map value_view) l.places l.fn.out.items l.place-index l.before l.out.items
+invariant-loop-place l = IsTableUpTo l.level (λ p. p) (written_places l.places) l.fn.out.items l.place l.before l.out.items

@@ -16,16 +16,16 @@ pub factor-returns-then-take-clause-reads : goal.factor-returns-then-take-clause
 factor-returns-then-take-clause-reads t c =
     let inside = c.in_ok-inside.ensures.reads in (
       grouped inside.0 c.in_ok-exponent.exponent,
-      group_then (read_group c.args.depth) (remaining c.args.tokens.now) (remaining c.take.new.self) (remaining c.group.new.tokens) (remaining c.power.new.tokens) inside.0 c.in_ok-exponent.exponent c.if-take.ensures inside.1 c.in_ok-exponent.ensures.reads,
+      group_then (read_group c.args.depth) (remaining c.args.tokens.now) (remaining c.take.new.self) (remaining c.group.new.tokens) (remaining c.power.new.tokens) inside.0 c.in_ok-exponent.exponent c.if-take.ensures.passes inside.1 c.in_ok-exponent.ensures.reads,
       (λ wanted. c.raised.ensures (product_meaning c.args.presentation.now.names c.args.presentation.now.inv [] inside.0) (inside.2 wanted)),
     )
 
 pub factor-returns-clause-reads : goal.factor-returns-clause-reads
 factor-returns-clause-reads t c =
-    let same : remaining c.take.new.self ≡ remaining c.args.tokens.now = c.if-take.ensures.1 in
-    let spelled : read_name (remaining c.args.tokens.now) ≡ read c.in_ok-name.name.now (remaining c.name.new.self) = ap read_name (sym same) ∙ c.in_ok-name.ensures in (
+    let same : remaining c.take.new.self ≡ remaining c.args.tokens.now = c.if-take.ensures.passes.1 in
+    let spelled : read_name (remaining c.args.tokens.now) ≡ read c.in_ok-name.name.now (remaining c.name.new.self) = ap read_name (sym same) ∙ c.in_ok-name.ensures.reads in (
       named c.in_ok-name.name.now c.in_ok-exponent-2.exponent,
-      name_then (read_group c.args.depth) (remaining c.args.tokens.now) (remaining c.name.new.self) (remaining c.power-2.new.tokens) c.in_ok-name.name.now c.in_ok-exponent-2.exponent c.if-take.ensures.0 spelled c.in_ok-exponent-2.ensures.reads,
+      name_then (read_group c.args.depth) (remaining c.args.tokens.now) (remaining c.name.new.self) (remaining c.power-2.new.tokens) c.in_ok-name.name.now c.in_ok-exponent-2.exponent c.if-take.ensures.passes.0 spelled c.in_ok-exponent-2.ensures.reads,
       (λ wanted. c.raised-2.ensures (name_meaning c.args.presentation.now.names c.in_ok-name.name.now) (c.named-letter.ensures wanted)),
     )
 
@@ -60,7 +60,7 @@ product-returns-then-not-take-clause-reads t c =
     let inverses = c.args.presentation.now.inv in
     let items = l.invariant.0 in
     let f = c.in_ok-next.ensures.reads.0 in
-    let star : passes Star (remaining c.factor.new.tokens) ≡ read false (remaining c.take.new.self) = not_passed Star _ _ c.if-not-take.ensures.0 c.if-not-take.ensures.1 in
+    let star : passes Star (remaining c.factor.new.tokens) ≡ read false (remaining c.take.new.self) = not_passed Star _ _ c.if-not-take.ensures.passes.0 c.if-not-take.ensures.passes.1 in
     let read_all = last (read_factor c.args.depth) (passes Star) items l.invariant.1 (remaining l.tokens) (remaining c.factor.new.tokens) (remaining c.take.new.self) f (omega (arith, l.invariant.2)) c.in_ok-next.ensures.reads.1 star in
     let whole = product_meaning names inverses [] (before items (factor f no_factors)) in
     let same : before items (factor f no_factors) ≡ factors_of (items ++ f ∷ []) = sym (before_one_more items f no_factors) ∙ before_none (items ++ f ∷ []) in (
@@ -79,9 +79,9 @@ product-loop-so_far-preserved t c =
     let inverses = c.args.presentation.now.inv in
     let items = l.invariant.0 in
     let f = c.in_ok-next.ensures.reads.0 in
-    let star : passes Star (remaining c.factor.new.tokens) ≡ read true (remaining c.take.new.self) = passed Star _ _ c.if-not-take.ensures in
+    let star : passes Star (remaining c.factor.new.tokens) ≡ read true (remaining c.take.new.self) = passed Star _ _ c.if-not-take.ensures.passes in
     let next = turn (read_factor c.args.depth) (passes Star) items l.invariant.1 (remaining l.tokens) (remaining c.factor.new.tokens) (remaining c.take.new.self) f (omega (arith, l.invariant.2)) c.in_ok-next.ensures.reads.1 star in
-    let shorter = behind-shorter Star (remaining c.factor.new.tokens) (remaining c.take.new.self) c.if-not-take.ensures in
+    let shorter = behind-shorter Star (remaining c.factor.new.tokens) (remaining c.take.new.self) c.if-not-take.ensures.passes in
     let fewer = c.in_ok-next.ensures.shorter in (
       items ++ f ∷ [],
       l.invariant.1 - 1,

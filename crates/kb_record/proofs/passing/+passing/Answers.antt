@@ -1,4 +1,4 @@
-use Rattle.std.proofs.Common.{◌≡◌, ◌-◌, suc, List, [], ◌∷◌, ◌++◌, Err, length, true, false, sym, ap, ◌∙◌, arith, rules}
+use Rattle.std.proofs.Common.{◌≡◌, ◌-◌, suc, List, [], ◌∷◌, ◌++◌, Err, length, true, false, refl, sym, ap, ◌∙◌, arith, rules}
 use Rattle.kb_record.specs.Tree.{Factor, Factors, named, grouped}
 use Rattle.kb_record.specs.Reading.{Reads, read, remaining, passes, joined, reading_map, after_items, read_name, read_factor, read_group}
 use Rattle.kb_record.specs.View.{factors_of}
@@ -13,17 +13,17 @@ pub pass_factor-returns-then-take-clause-reads : goal.pass_factor-returns-then-t
 pass_factor-returns-then-take-clause-reads t c =
     let inside = c.in_ok-pass_group.ensures.reads in (
       grouped inside.0 c.in_ok-power.field-0,
-      group_then (read_group c.args.depth) (remaining c.args.tokens.now) (remaining c.take.new.self) (remaining c.pass_group.new.tokens) (remaining c.power.new.tokens) inside.0 c.in_ok-power.field-0 c.if-take.ensures inside.1 c.in_ok-power.ensures.reads,
+      group_then (read_group c.args.depth) (remaining c.args.tokens.now) (remaining c.take.new.self) (remaining c.pass_group.new.tokens) (remaining c.power.new.tokens) inside.0 c.in_ok-power.field-0 c.if-take.ensures.passes inside.1 c.in_ok-power.ensures.reads,
       tt,
     )
 
 pub pass_factor-returns-clause-reads : goal.pass_factor-returns-clause-reads
 pass_factor-returns-clause-reads t c =
-    let same : remaining c.take.new.self ≡ remaining c.args.tokens.now = c.if-take.ensures.1 in
+    let same : remaining c.take.new.self ≡ remaining c.args.tokens.now = c.if-take.ensures.passes.1 in
     let text = c.in_ok-name.field-0.now in
-    let spelled : read_name (remaining c.args.tokens.now) ≡ read text (remaining c.name.new.self) = ap read_name (sym same) ∙ c.in_ok-name.ensures in (
+    let spelled : read_name (remaining c.args.tokens.now) ≡ read text (remaining c.name.new.self) = ap read_name (sym same) ∙ c.in_ok-name.ensures.reads in (
       named text c.in_ok-power-2.field-0,
-      name_then (read_group c.args.depth) (remaining c.args.tokens.now) (remaining c.name.new.self) (remaining c.power-2.new.tokens) text c.in_ok-power-2.field-0 c.if-take.ensures.0 spelled c.in_ok-power-2.ensures.reads,
+      name_then (read_group c.args.depth) (remaining c.args.tokens.now) (remaining c.name.new.self) (remaining c.power-2.new.tokens) text c.in_ok-power-2.field-0 c.if-take.ensures.passes.0 spelled c.in_ok-power-2.ensures.reads,
       tt,
     )
 
@@ -34,6 +34,7 @@ pass_word-loop-tokens-init t c = (
   omega arith,
   omega arith,
   none_before (joined (read_factor c.args.depth) (passes Star) (suc (length (remaining c.args.tokens.now))) (remaining c.args.tokens.now)),
+  refl,
 )
 
 pub pass_word-returns-in_err-pass_factor-clause-reads : goal.pass_word-returns-in_err-pass_factor-clause-reads
@@ -55,25 +56,29 @@ pass_word-returns-then-not-take-clause-reads t c =
     let l = c.loop-tokens in
     let items = l.invariant.0 in
     let f = c.in_ok-pass_factor.ensures.reads.0 in
-    let star : passes Star (remaining c.pass_factor.new.tokens) ≡ read false (remaining c.take.new.self) = not_passed Star _ _ c.if-not-take.ensures.0 c.if-not-take.ensures.1 in
+    let star : passes Star (remaining c.pass_factor.new.tokens) ≡ read false (remaining c.take.new.self) = not_passed Star _ _ c.if-not-take.ensures.passes.0 c.if-not-take.ensures.passes.1 in
     let read_all = last (read_factor c.args.depth) (passes Star) items l.invariant.1 (remaining l.tokens) (remaining c.pass_factor.new.tokens) (remaining c.take.new.self) f (omega (arith, l.invariant.2)) c.in_ok-pass_factor.ensures.reads.1 star in (
       factors_of (items ++ f ∷ []),
       read_word_is c.args.depth (remaining c.args.tokens.now) ∙ ap (reading_map factors_of) (l.invariant.4 ∙ read_all),
       tt,
     )
 
+pub pass_word-returns-then-not-take-clause-whole : goal.pass_word-returns-then-not-take-clause-whole
+pass_word-returns-then-not-take-clause-whole t c = c.take.ensures.whole ∙ c.in_ok-pass_factor.ensures.whole ∙ c.loop-tokens.invariant.5
+
 pub pass_word-loop-tokens-preserved : goal.pass_word-loop-tokens-preserved
 pass_word-loop-tokens-preserved t c =
     let l = c.loop-tokens in
     let items = l.invariant.0 in
     let f = c.in_ok-pass_factor.ensures.reads.0 in
-    let star : passes Star (remaining c.pass_factor.new.tokens) ≡ read true (remaining c.take.new.self) = passed Star _ _ c.if-not-take.ensures in
+    let star : passes Star (remaining c.pass_factor.new.tokens) ≡ read true (remaining c.take.new.self) = passed Star _ _ c.if-not-take.ensures.passes in
     let next = turn (read_factor c.args.depth) (passes Star) items l.invariant.1 (remaining l.tokens) (remaining c.pass_factor.new.tokens) (remaining c.take.new.self) f (omega (arith, l.invariant.2)) c.in_ok-pass_factor.ensures.reads.1 star in
-    let shorter = behind-shorter Star (remaining c.pass_factor.new.tokens) (remaining c.take.new.self) c.if-not-take.ensures in
+    let shorter = behind-shorter Star (remaining c.pass_factor.new.tokens) (remaining c.take.new.self) c.if-not-take.ensures.passes in
     let fewer = c.in_ok-pass_factor.ensures.shorter in (
       items ++ f ∷ [],
       l.invariant.1 - 1,
       omega (arith, l.invariant.2),
       omega (arith, l.invariant.3),
       l.invariant.4 ∙ next,
+      c.take.ensures.whole ∙ c.in_ok-pass_factor.ensures.whole ∙ l.invariant.5,
     )

@@ -7,6 +7,6 @@ use Rattle.kb_record.proofs.records.range.Goals as goal
 
 pub returns-clause-shorter : goal.returns-clause-shorter
 returns-clause-shorter c =
-    let number = number_shorter (remaining c.args.tokens.now) (remaining c.number.new.self) c.in_ok-to.to c.in_ok-to.ensures in
-    let closed = behind-shorter CloseSquare (remaining c.number.new.self) (remaining c.expect.new.self) c.in_ok-expect.ensures in
+    let number = number_shorter (remaining c.args.tokens.now) (remaining c.number.new.self) c.in_ok-to.to c.in_ok-to.ensures.reads in
+    let closed = behind-shorter CloseSquare (remaining c.number.new.self) (remaining c.expect.new.self) c.in_ok-expect.ensures.passes in
     omega arith

@@ -27,7 +27,7 @@ word-returns-then-not-take-clause-reads t c =
     let l = c.loop-factors in
     let x = c.in_ok-factor.field-0 in
     let item : read_factor c.args.depth (remaining l.tokens) ≡ read (factor_view x) (remaining c.factor.new.tokens) = c.in_ok-factor.ensures.reads in
-    let star : passes Star (remaining c.factor.new.tokens) ≡ read false (remaining c.take.new.self) = not_passed Star _ _ c.if-not-take.ensures.0 c.if-not-take.ensures.1 in
+    let star : passes Star (remaining c.factor.new.tokens) ≡ read false (remaining c.take.new.self) = not_passed Star _ _ c.if-not-take.ensures.passes.0 c.if-not-take.ensures.passes.1 in
     let pushed : c.push.new.self.items ≡ l.factors.items ++ x ∷ [] = search rules in
     let read_all = last (read_factor c.args.depth) (passes Star) (map factor_view l.factors.items) l.invariant.0 (remaining l.tokens) (remaining c.factor.new.tokens) (remaining c.take.new.self) (factor_view x) (omega (arith, l.invariant.1)) item star in
     read_word_is c.args.depth (remaining c.args.tokens.now) ∙ ap (reading_map factors_of) (l.invariant.3 ∙ read_all) ∙ ap (λ fs. read (factors_of fs) (remaining c.take.new.self)) (map_one_more factor_view l.factors.items _ x pushed)
@@ -37,10 +37,10 @@ word-loop-factors-preserved t c =
     let l = c.loop-factors in
     let x = c.in_ok-factor.field-0 in
     let item : read_factor c.args.depth (remaining l.tokens) ≡ read (factor_view x) (remaining c.factor.new.tokens) = c.in_ok-factor.ensures.reads in
-    let star : passes Star (remaining c.factor.new.tokens) ≡ read true (remaining c.take.new.self) = passed Star _ _ c.if-not-take.ensures in
+    let star : passes Star (remaining c.factor.new.tokens) ≡ read true (remaining c.take.new.self) = passed Star _ _ c.if-not-take.ensures.passes in
     let pushed : c.push.new.self.items ≡ l.factors.items ++ x ∷ [] = search rules in
     let next = turn (read_factor c.args.depth) (passes Star) (map factor_view l.factors.items) l.invariant.0 (remaining l.tokens) (remaining c.factor.new.tokens) (remaining c.take.new.self) (factor_view x) (omega (arith, l.invariant.1)) item star in
-    let shorter = behind-shorter Star (remaining c.factor.new.tokens) (remaining c.take.new.self) c.if-not-take.ensures in
+    let shorter = behind-shorter Star (remaining c.factor.new.tokens) (remaining c.take.new.self) c.if-not-take.ensures.passes in
     let fewer = c.in_ok-factor.ensures.shorter in (
       l.invariant.0 - 1,
       omega (arith, l.invariant.1),

@@ -7,6 +7,6 @@ use Rattle.kb_record.proofs.words.power.Goals as goal
 
 pub returns-clause-shorter : goal.returns-clause-shorter
 returns-clause-shorter c =
-    let caret = behind-shorter Caret (remaining c.args.tokens.now) (remaining c.take.new.self) c.if-not-take.ensures in
-    let number = number_shorter (remaining c.take.new.self) (remaining c.number.new.self) c.in_ok-number.field-0 c.in_ok-number.ensures in
+    let caret = behind-shorter Caret (remaining c.args.tokens.now) (remaining c.take.new.self) c.if-not-take.ensures.passes in
+    let number = number_shorter (remaining c.take.new.self) (remaining c.number.new.self) c.in_ok-number.field-0 c.in_ok-number.ensures.reads in
     omega arith

@@ -3,9 +3,9 @@ use Rattle.std.specs.Option.{IsSome}
 use Rattle.std.proofs.lemmas.List.{length-map}
 use Rattle.std.proofs.lemmas.Option.{slice_get-map, slice_get_read}
 use Rattle.kb_record.specs.Tree.{Value as ValueTree}
-use Rattle.kb_record.specs.View.{value_view, number_place, row_place, entries_place, word_place, words_place}
+use Rattle.kb_record.specs.View.{value_view, number_place, row_place, entries_place, written_place, written_places}
 use Rattle.kb_record.specs.Listed.{listed, HasPlaces}
-use Rattle.kb_record.proofs.Views.{view-List, view-Numbers, view-Rows, view-Entries, view-Words, view-WordRows, listed-is}
+use Rattle.kb_record.proofs.Views.{view-List, view-Numbers, view-Rows, view-Entries, listed-is}
 use Rattle.kb_record.proofs.tree.Value.place.Goals as goal
 
 -- a place of the list is one of what it is made of
@@ -16,15 +16,15 @@ within value f xs place e l = let n = ap length (listed-is value (map f xs) e) �
 at : {X : Type 0} (value : ValueTree) (f : X → Option ValueTree) (xs : List X) (place : ℕ) (x : X) → HasPlaces value (map f xs) → slice_get xs place ≡ Some x → slice_get (listed value) place ≡ Some (f x)
 at value f xs place x e g = ap (λ ps. slice_get ps place) (listed-is value (map f xs) e) ∙ slice_get-map f xs place ∙ ap (option_map f) g
 
+pub get-requires : goal.get-requires
+get-requires c =
+    let places = c.in-List.places in
+    let is : HasPlaces (value_view c.args.self.now) (written_places places) = ap value_view c.in-List.is ∙ view-List places in
+    let n = ap length (listed-is (value_view c.args.self.now) (written_places places) is) in
+    omega (arith, n, c.requires)
+
 pub index-requires : goal.index-requires
 index-requires c =
-    let places = c.in-List.places in
-    let is : HasPlaces (value_view c.args.self.now) (map (option_map value_view) places.items) = ap value_view c.in-List.is ∙ view-List places in
-    let few = within _ _ places.items c.args.place is c.requires in
-    omega (arith, few, places.ok)
-
-pub index-requires-in-Numbers : goal.index-requires-in-Numbers
-index-requires-in-Numbers c =
     let numbers = c.in-Numbers.numbers in
     let is : HasPlaces (value_view c.args.self.now) (map number_place numbers.items) = ap value_view c.in-Numbers.is ∙ view-Numbers numbers in
     let few = within _ _ numbers.items c.args.place is c.requires in
@@ -43,7 +43,7 @@ pub unwrap-requires : goal.unwrap-requires
 unwrap-requires c =
     let rows = c.in-Rows.rows in
     let is : HasPlaces (value_view c.args.self.now) (map row_place rows) = ap value_view c.in-Rows.is ∙ view-Rows rows in
-    some-within rows c.args.place c.get.result _ (within _ _ rows c.args.place is c.requires) c.get.ensures
+    some-within rows c.args.place c.get-in-Rows.result _ (within _ _ rows c.args.place is c.requires) c.get-in-Rows.ensures
 
 pub unwrap-requires-in-Entries : goal.unwrap-requires-in-Entries
 unwrap-requires-in-Entries c =
@@ -54,18 +54,16 @@ unwrap-requires-in-Entries c =
 pub returns-in-List : goal.returns-in-List
 returns-in-List c =
     let places = c.in-List.places in
-    let is : HasPlaces (value_view c.args.self.now) (map (option_map value_view) places.items) = ap value_view c.in-List.is ∙ view-List places in
-    let few = within _ _ places.items c.args.place is c.requires in
-    let found : slice_get places.items c.args.place ≡ Some c.index.result.now = slice_get_read places.items (length places.items) c.args.place _ refl few c.index.ensures in
-    at _ _ places.items c.args.place _ is found ∙ ap Some (sym c.place_of.ensures)
+    let is : HasPlaces (value_view c.args.self.now) (written_places places) = ap value_view c.in-List.is ∙ view-List places in
+    ap (λ ps. slice_get ps c.args.place) (listed-is (value_view c.args.self.now) (written_places places) is) ∙ c.get.ensures
 
 pub returns-in-Numbers : goal.returns-in-Numbers
 returns-in-Numbers c =
     let numbers = c.in-Numbers.numbers in
     let is : HasPlaces (value_view c.args.self.now) (map number_place numbers.items) = ap value_view c.in-Numbers.is ∙ view-Numbers numbers in
     let few = within _ _ numbers.items c.args.place is c.requires in
-    let found : slice_get numbers.items c.args.place ≡ Some c.index-in-Numbers.result.now = slice_get_read numbers.items (length numbers.items) c.args.place _ refl few c.index-in-Numbers.ensures in
-    let fits : SFits w64 c.index-in-Numbers.result.now = search rules in
+    let found : slice_get numbers.items c.args.place ≡ Some c.index.result.now = slice_get_read numbers.items (length numbers.items) c.args.place _ refl few c.index.ensures in
+    let fits : SFits w64 c.index.result.now = search rules in
     at _ _ numbers.items c.args.place _ is found ∙ ap (λ z. Some (number_place z)) (sym (to_z-of_z fits))
 
 pub returns-in-Rows : goal.returns-in-Rows
@@ -80,32 +78,4 @@ returns-in-Entries c =
     let rows = c.in-Entries.rows in
     let is : HasPlaces (value_view c.args.self.now) (map entries_place rows) = ap value_view c.in-Entries.is ∙ view-Entries rows in
     let found : slice_get rows c.args.place ≡ Some c.unwrap-in-Entries.result.now = search rules in
-    at _ _ rows c.args.place _ is found
-
-pub index-requires-in-Words : goal.index-requires-in-Words
-index-requires-in-Words c =
-    let words = c.in-Words.words in
-    let is : HasPlaces (value_view c.args.self.now) (map word_place words.items) = ap value_view c.in-Words.is ∙ view-Words words in
-    let few = within _ _ words.items c.args.place is c.requires in
-    omega (arith, few, words.ok)
-
-pub returns-in-Words : goal.returns-in-Words
-returns-in-Words c =
-    let words = c.in-Words.words in
-    let is : HasPlaces (value_view c.args.self.now) (map word_place words.items) = ap value_view c.in-Words.is ∙ view-Words words in
-    let few = within _ _ words.items c.args.place is c.requires in
-    let found : slice_get words.items c.args.place ≡ Some c.index-in-Words.result.now = slice_get_read words.items (length words.items) c.args.place _ refl few c.index-in-Words.ensures in
-    at _ _ words.items c.args.place _ is found ∙ ap Some (sym c.word_at.ensures)
-
-pub unwrap-requires-in-WordRows : goal.unwrap-requires-in-WordRows
-unwrap-requires-in-WordRows c =
-    let rows = c.in-WordRows.rows in
-    let is : HasPlaces (value_view c.args.self.now) (map words_place rows) = ap value_view c.in-WordRows.is ∙ view-WordRows rows in
-    some-within rows c.args.place c.get-in-WordRows.result _ (within _ _ rows c.args.place is c.requires) c.get-in-WordRows.ensures
-
-pub returns-in-WordRows : goal.returns-in-WordRows
-returns-in-WordRows c =
-    let rows = c.in-WordRows.rows in
-    let is : HasPlaces (value_view c.args.self.now) (map words_place rows) = ap value_view c.in-WordRows.is ∙ view-WordRows rows in
-    let found : slice_get rows c.args.place ≡ Some c.unwrap-in-WordRows.result.now = search rules in
     at _ _ rows c.args.place _ is found

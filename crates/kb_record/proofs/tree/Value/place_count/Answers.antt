@@ -1,9 +1,9 @@
-use Rattle.std.proofs.Common.{rules, ◌≡◌, length, map, ap, ◌∙◌, ℕ, List, Option, option_map}
+use Rattle.std.proofs.Common.{rules, ◌≡◌, length, map, ap, sym, ◌∙◌, ℕ, List, Option}
 use Rattle.std.proofs.lemmas.List.{length-map}
 use Rattle.kb_record.specs.Tree.{Value as ValueTree}
-use Rattle.kb_record.specs.View.{value_view, number_place, row_place, entries_place, word_place, words_place}
+use Rattle.kb_record.specs.View.{value_view, number_place, row_place, entries_place, written_places}
 use Rattle.kb_record.specs.Listed.{listed, HasPlaces}
-use Rattle.kb_record.proofs.Views.{view-List, view-Numbers, view-Rows, view-Entries, view-Words, view-WordRows, listed-is, has_its_places}
+use Rattle.kb_record.proofs.Views.{view-List, view-Numbers, view-Rows, view-Entries, listed-is, has_its_places}
 use Rattle.kb_record.proofs.tree.Value.place_count.Goals as goal
 
 -- the places, and how many of them there are
@@ -13,9 +13,8 @@ counted value ps count e n = (has_its_places value ps e, ap length (listed-is va
 pub returns-in-List-clause-list : goal.returns-in-List-clause-list
 returns-in-List-clause-list c =
     let places = c.in-List.places in
-    let is : HasPlaces (value_view c.args.self.now) (map (option_map value_view) places.items) = ap value_view c.in-List.is ∙ view-List places in
-    let count : length places.items ≡ c.len.result = search rules in
-    counted _ _ c.len.result is (length-map places.items (option_map value_view) ∙ count)
+    let is : HasPlaces (value_view c.args.self.now) (written_places places) = ap value_view c.in-List.is ∙ view-List places in
+    counted _ _ c.len.result is (sym c.len.ensures)
 
 pub returns-in-Numbers-clause-list : goal.returns-in-Numbers-clause-list
 returns-in-Numbers-clause-list c =
@@ -37,17 +36,3 @@ returns-in-Entries-clause-list c =
     let is : HasPlaces (value_view c.args.self.now) (map entries_place rows) = ap value_view c.in-Entries.is ∙ view-Entries rows in
     let count : length rows ≡ c.len-in-Entries.result = search rules in
     counted _ _ c.len-in-Entries.result is (length-map rows entries_place ∙ count)
-
-pub returns-in-Words-clause-list : goal.returns-in-Words-clause-list
-returns-in-Words-clause-list c =
-    let words = c.in-Words.words in
-    let is : HasPlaces (value_view c.args.self.now) (map word_place words.items) = ap value_view c.in-Words.is ∙ view-Words words in
-    let count : length words.items ≡ c.len-in-Words.result = search rules in
-    counted _ _ c.len-in-Words.result is (length-map words.items word_place ∙ count)
-
-pub returns-in-WordRows-clause-list : goal.returns-in-WordRows-clause-list
-returns-in-WordRows-clause-list c =
-    let rows = c.in-WordRows.rows in
-    let is : HasPlaces (value_view c.args.self.now) (map words_place rows) = ap value_view c.in-WordRows.is ∙ view-WordRows rows in
-    let count : length rows ≡ c.len-in-WordRows.result = search rules in
-    counted _ _ c.len-in-WordRows.result is (length-map rows words_place ∙ count)

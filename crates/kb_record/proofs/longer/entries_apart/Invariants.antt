@@ -1,7 +1,0 @@
-use Rattle.std.proofs.Common.{◌≡◌, map, take}
-use Rattle.std.specs.Option.{option_map}
-use Rattle.kb_record.specs.View.{value_view, entries_place}
-use Rattle.kb_record.proofs.longer.entries_apart.Given as goal
-
-abbrev pub invariant-loop-place : goal.invariant-loop-place
-invariant-loop-place l = map entries_place (take l.place l.rows) ≡ map (option_map value_view) l.places.items
