@@ -1,4 +1,3 @@
-pub mod BeforeLemmas
 pub mod FirstFaultLemmas
 pub mod ListingLemmas
 pub mod NameFaults

@@ -1,27 +1,19 @@
 -- Names that stand twice among the fields of records, field by field.
-use Rattle.std.proofs.Common.{◌≡◌, ℕ, suc, ◌+◌, ◌<◌, ◌≤◌, ℤ, Bool, true, false, not, cond, List, [], ◌∷◌, map, length, get_or, slice_get, Option, Some, None, Ordering, ◌⊎◌, inl, inr, refl, sym, ap, subst, ◌∙◌, arith}
+use Rattle.std.proofs.Common.{◌≡◌, ℕ, suc, ◌+◌, ◌<◌, ◌≤◌, ℤ, Bool, true, false, cond, List, [], ◌∷◌, map, length, get_or, slice_get, Option, Some, None, ◌⊎◌, inl, inr, refl, sym, ap, subst, ◌∙◌, arith}
 use Rattle.std.specs.Borrow.{Bor}
-use Rattle.std.specs.BTreeSet.{BTreeSet, contains, Updates}
-use Rattle.std.specs.Ordering.{nat_cmp}
-use Rattle.std.specs.Cmp.Lexicographic.{slice_cmp}
+use Rattle.std.specs.BTreeSet.{BTreeSet, Updates}
 use Rattle.std.specs.Str.{bytes_eq}
 use Rattle.std.specs.Option.{option_map}
 use Rattle.std.proofs.lemmas.List.{length-map}
 use Rattle.std.proofs.lemmas.Option.{slice_get-map, slice_get_read, slice_get_within}
 use Rattle.std.proofs.lemmas.Bool.{cases_lt, false≢true}
 use Rattle.std.proofs.lemmas.Slice.Eq.{bytes_eq-Decides}
-use Rattle.std.proofs.lemmas.Map.Text.{is_eq-slice_cmp}
 use Rattle.kb_record.specs.Tree.{Value, record_value, list_value}
 use Rattle.kb_record.specs.View.{value_view, places_of, number_place, row_place, entry_place, entries_place}
 use Rattle.kb_record.specs.declared.tree.Value as code
+use Rattle.kb_record.specs.NamesMet.{text_cmp, has}
+use Rattle.kb_record.proofs.OpenLemmas.{has_after, cond_same}
 use Rattle.kb_fields.specs.Fields.{fields_view, field_names, StandsTwice, HasFieldTwice, HasFieldTwiceAt, SomeFieldHasTwice, SomePlaceHasTwice}
-
-abbrev pub text_cmp : Bor (List ℕ) → Bor (List ℕ) → Ordering
-text_cmp x y = slice_cmp nat_cmp x.now y.now
-
--- whether a set of texts has the text
-abbrev pub has : BTreeSet (Bor (List ℕ)) → List ℕ → Bool
-has seen text = contains text_cmp seen (record { ref_ptr = (0, 0); now = text })
 
 -- The set has the first n of the names, none of which stands twice.
 pub record HasSeen (names : List (List ℕ)) (n : ℕ) (seen : BTreeSet (Bor (List ℕ))) : Type 0 where
@@ -44,16 +36,6 @@ field_same e = cc
 
 place_same : {a b : Option Value} → Some a ≡ Some b → a ≡ b
 place_same e = cc
-
--- what the set has after an insertion
-has_after : (seen new : BTreeSet (Bor (List ℕ))) (k : Bor (List ℕ)) → Updates text_cmp seen new k true → (q : List ℕ)
-    → has new q ≡ cond (bytes_eq k.now q) true (has seen q)
-has_after seen new k updates q =
-    updates.0 (record { ref_ptr = (0, 0); now = q }) ∙ ap (λ b. cond b true (has seen q)) (is_eq-slice_cmp k.now q)
-
-cond_same : (b : Bool) → cond b true true ≡ true
-cond_same true = refl
-cond_same false = refl
 
 -- one more name, which is new
 pub seen_more : (names : List (List ℕ)) (n : ℕ) (seen new : BTreeSet (Bor (List ℕ))) (k : Bor (List ℕ)) → HasSeen names n seen → slice_get names n ≡ Some k.now
@@ -147,14 +129,6 @@ no_place_twice ps n whole within q later =
     let found = in_some_place ps q later in
     let inside = slice_get_within ps found.k found.p found.at in
     within found.k found.p (omega (arith, inside)) found.at q found.twice
-
-pub not_false : (b : Bool) → not b ≡ false → b ≡ true
-not_false true e = refl
-not_false false e = cc
-
-pub not_true : (b : Bool) → not b ≡ true → b ≡ false
-not_true true e = cc
-not_true false e = refl
 
 -- one more field, in whose value nothing stands twice
 pub within_more : (fs : List (Bor (List ℕ) × code.Value)) (n : ℕ) (f : Bor (List ℕ) × code.Value) → slice_get fs n ≡ Some f

@@ -11,9 +11,11 @@ use Rattle.kb_record.specs.Tree.{Value}
 use Rattle.kb_record.specs.View.{value_view, places_of}
 use Rattle.kb_record.specs.declared.tree.Value as code
 use Rattle.kb_fields.specs.Fields.{fields_view, HasFieldTwice, HasFieldTwiceAt, IsFirstRepeatedAt, Naming, namings, namings_behind, namings_in}
-use Rattle.kb_fields.proofs.BeforeLemmas.{has_place, place_of, stands_before, among_first}
-use Rattle.kb_fields.proofs.NamingLemmas.{IsFirst, first_here, first_later, first_behind, first_front, none_within}
-use Rattle.kb_fields.proofs.RepeatLemmas.{has, HasSeen, name_at}
+use Rattle.kb_record.proofs.BeforeLemmas.{has_place, place_of, stands_before, among_first}
+use Rattle.kb_record.specs.Repeats.{IsFirst}
+use Rattle.kb_record.proofs.NamingLemmas.{first_here, first_later, first_behind, first_front, none_within}
+use Rattle.kb_record.specs.NamesMet.{has}
+use Rattle.kb_fields.proofs.RepeatLemmas.{HasSeen, name_at}
 
 abbrev pub names_of : List (Bor (List ℕ) × code.Value) → List (List ℕ)
 names_of fs = map (λ (f : Bor (List ℕ) × code.Value). f.0.now) fs

@@ -7,7 +7,7 @@ use Rattle.std.proofs.lemmas.List.{length-map, length-take-le, map-append, take-
 use Rattle.std.proofs.lemmas.Option.{none-some, same_Some, slice_get-map, slice_get-get_or, slice_get_within}
 use Rattle.kb_fields.specs.Fields.{StandsTwice}
 use Rattle.kb_fields.specs.Generators.{most_generators, IsReserved, IsTaken, IsTakenAt, IsFirstTaken, AreGeneratorNames}
-use Rattle.kb_fields.proofs.BeforeLemmas.{has_place, place_of, stands_before, among_first}
+use Rattle.kb_record.proofs.BeforeLemmas.{has_place, place_of, stands_before, among_first}
 
 -- a name that is taken is so among the names, and among the first of them where it is one of these
 pub taken_among : (names : List (List ℕ)) (k j : ℕ) (name : List ℕ) → j < k → IsTakenAt names j name → IsTaken (take k names) name

@@ -3,10 +3,10 @@
 ghost use Rattle.std.specs.Prelude.{◌≡◌, ℕ, List, IfOk, IfSome, IfNone};
 ghost use Rattle.std.specs.Option.{option_map};
 ghost use Rattle.kb_record.specs.Tree.{list_value, record_value};
-ghost use Rattle.kb_record.specs.View.{value_view, written_place};
-ghost use Rattle.kb_fields.specs.Fields.{fields_view, places_view, value_of, HasFieldTwice, HasFieldTwiceAt, IsFirstRepeated, IsFirstRepeatedAt};
+ghost use Rattle.kb_record.specs.View.{value_view};
+ghost use Rattle.kb_fields.specs.Fields.{fields_view, places_view, value_of, HasFieldTwice, IsFirstRepeated};
 
-use kb_record::{PlaceText, Value, WrittenPlaces};
+use kb_record::{Value, WrittenPlaces};
 use kb_word::{Memory, OwnedText};
 use std::alloc::Global;
 use std::collections::BTreeSet;
@@ -64,7 +64,6 @@ fn repeated_within<'a>(alloc: Global, value: &Value<'a>) -> Result<Option<OwnedT
 }
 
 /// The same of the records at the places of a list.
-#[cycle(repeats)]
 fn repeated_in_list<'a>(
     alloc: Global,
     places: &WrittenPlaces<'a>,
@@ -76,25 +75,9 @@ fn repeated_in_list<'a>(
         ((name : List ℕ) → ¬ HasFieldTwice (list_value (places_view places.now)) name)) }
 {
     for place in 0..places.len() {
-        if let Some(name) = repeated_at(alloc, places.get(place))? {
-            return Ok(Some(name));
+        if let Some(name) = places.get(place).repeated_name(alloc)? {
+            return Ok(Some(OwnedText::from_str(alloc, name)?));
         }
     }
     Ok(None)
-}
-
-/// The same of the records at a place of a list.
-#[cycle(repeats)]
-fn repeated_at<'a>(alloc: Global, place: PlaceText<'a>) -> Result<Option<OwnedText>, Memory>
-    ensures some { IfOk result
-        (λ found. IfSome found (IsFirstRepeatedAt (written_place place.entry))) }
-    ensures none { IfOk result
-        (λ found. IfNone found
-        ((name : List ℕ) → ¬ HasFieldTwiceAt (written_place place.entry) name)) }
-{
-    let value = place.value(alloc)?;
-    match value {
-        Some(value) => repeated_within(alloc, &value),
-        None => Ok(None),
-    }
 }

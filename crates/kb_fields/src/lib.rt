@@ -17,14 +17,15 @@
 //! # How it is made
 //!
 //! - `fields` looks up fields, and finds names that stand twice by a set of the names seen. It recurses into
-//!   values, whose nesting the parser bounds.
+//!   records, whose nesting the parser bounds; at a place of a list `kb_record` finds them in one pass, however deep
+//!   it is.
 //! - `values` tells Names and lists of Names apart from other values, and `numbers` numbers and lists of numbers.
 //!   Lists are read place by place, in whichever form they are kept; one kept as numbers is copied at once.
 //! - `generators` joins them to names of generators: each name is pushed in turn, and one that was there is taken.
 //!
 //! Definitions speak of the tree of the text (`specs/Tree.antt` of `kb_record`): `specs/Fields.antt` of fields and
-//! of values, `specs/Generators.antt` of names of generators, and `specs/FirstFaults.antt` says what the first fault is of
-//! those that checks find.
+//! of values, `specs/Generators.antt` of names of generators. Of `kb_record` too are names that stand twice in a record
+//! (`specs/Repeats.antt`), and what the first fault is of those that checks find (`specs/FirstFaults.antt`).
 //!
 //! # Where the proofs are
 //!
@@ -33,9 +34,9 @@
 //! - `proofs/ViewLemmas.antt`: the trees of words of one factor.
 //! - `proofs/PlaceLemmas.antt`, `proofs/ListingLemmas.antt`, `proofs/NumberLemmas.antt`: places of lists, and lists
 //!   whose places are all of one form.
-//! - `proofs/NamingLemmas.antt`, `proofs/RepeatLemmas.antt`, `proofs/RepeatOrder.antt`: names that stand twice in a
-//!   record, and the first of them in the text.
-//! - `proofs/BeforeLemmas.antt`, `proofs/TakenLemmas.antt`: names that stand among the first, and taken names.
+//! - `proofs/RepeatLemmas.antt`, `proofs/RepeatOrder.antt`: names that stand twice in a record, and the first of them
+//!   in the text, over `proofs/NamingLemmas.antt` of `kb_record`.
+//! - `proofs/TakenLemmas.antt`: taken names.
 //! - `proofs/FirstFaultLemmas.antt`, `proofs/NameFaults.antt`: first faults, and those of names of generators.
 //! - `proofs/Outcomes.antt`: what follows from a clause on an outcome.
 //!

@@ -3,7 +3,6 @@ use Rattle.std.proofs.Common.{◌≡◌, ℕ, ◌-◌, ◌≤◌, List, [], ◌+
 use Rattle.std.proofs.Math.Seq.{drop-append_seam}
 use Rattle.std.proofs.lemmas.List.{take-append-drop, length-drop}
 use Rattle.kb_lexing.specs.Lexemes.{IsFirstLexeme}
-use Rattle.kb_lexing.specs.Spelling.{after_gap}
 use Rattle.kb_lexing.specs.declared.token.Lexeme.{Lexeme}
 use Rattle.kb_lexing.proofs.Lexings.{gap_front}
 use Rattle.kb_record.specs.Ends.{EndsWith}

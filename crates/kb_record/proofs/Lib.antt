@@ -8,7 +8,13 @@ pub mod FoundValues
 pub mod FoundWords
 pub mod Nested
 pub mod NumberLists
+pub mod NamingLemmas
+pub mod BeforeLemmas
+pub mod MetLemmas
+pub mod OnceLemmas
+pub mod OpenLemmas
 pub mod PlaceTexts
+pub mod PlaceRepeats
 pub mod PlainTokens
 pub mod LastPassed
 pub mod LastRec

@@ -60,7 +60,7 @@ first_number_is (number y ∷ tokens) rest z e =
 first_number_is _ rest z e = cc
 
 -- the tokens of what is read, which is none of the texts that can't be read
-tokens_read : (v : Value) (tokens : List Token) (reading : Reading Value) → Meets value_form deepest (suc deepest) tokens reading → value_in reading ≡ v → (string_value [] ≡ v → ⊥) → (rest : List Token) × IsValue v × (tokens ≡ value_tokens v ++ rest)
+pub tokens_read : (v : Value) (tokens : List Token) (reading : Reading Value) → Meets value_form deepest (suc deepest) tokens reading → value_in reading ≡ v → (string_value [] ≡ v → ⊥) → (rest : List Token) × IsValue v × (tokens ≡ value_tokens v ++ rest)
 tokens_read v tokens (read tree rest) h e differs = (rest, subst IsValue e h.good, h.whole ∙ ap (λ x. value_tokens x ++ rest) e)
 tokens_read v tokens (unexpected expected rest) h e differs = absurd (differs e)
 tokens_read v tokens (too_deep rest) h e differs = absurd (differs e)
@@ -85,7 +85,7 @@ no_first_number tokens z none =
 
 -- ---- words
 
-begins_word-word : (fs : Factors) → IsWord fs → (ts : List Token) → begins_word (word_tokens fs ++ ts) ≡ true
+pub begins_word-word : (fs : Factors) → IsWord fs → (ts : List Token) → begins_word (word_tokens fs ++ ts) ≡ true
 begins_word-word no_factors good ts = absurd good
 begins_word-word (factor (named text power) fs) good ts = refl
 begins_word-word (factor (grouped inside power) fs) good ts = refl

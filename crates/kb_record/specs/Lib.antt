@@ -8,6 +8,9 @@ pub mod Ends
 pub mod Lists
 pub mod View
 pub mod Listed
+pub mod FirstFaults
+pub mod Repeats
+pub mod NamesMet
 pub mod Numbers
 pub use Rattle.kb_lexing.specs.Lexemes
 pub mod Faults

@@ -34,6 +34,12 @@ and_then (too_deep rest) next = too_deep rest
 abbrev pub reading_map : {A B : Type 0} → (A → B) → Reading A → Reading B
 reading_map f reading = and_then reading (λ tree rest. read (f tree) rest)
 
+-- a tree is read
+abbrev pub IsRead : {A : Type 0} → Reading A → Type 0
+IsRead (read tree rest) = Unit {0}
+IsRead (unexpected expected rest) = ⊥
+IsRead (too_deep rest) = ⊥
+
 -- what the code answers, and the tokens that it leaves
 abbrev pub Reads : {A B : Type 0} → Reading A → (B → A) → Result B Stop → List Token → Type 0
 Reads reading view (Ok found) rest = reading ≡ read (view found) rest

@@ -1,5 +1,5 @@
 -- The trees of `specs/Tree.antt` that the types of the code stand for.
-use Rattle.std.specs.Prelude.{ℕ, List, [], ◌∷◌, Option, Some, None, map, drop, if◌then◌else◌}
+use Rattle.std.specs.Prelude.{ℕ, List, [], Option, Some, None, map, drop, if◌then◌else◌}
 use Rattle.std.specs.Borrow.{Bor}
 use Rattle.kb_lexing.specs.Token.{Token}
 use Rattle.kb_lexing.proofs.FrontTokens.{tokens_of}

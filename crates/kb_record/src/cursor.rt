@@ -114,7 +114,7 @@ impl<'a> Cursor<'a> {
     }
 
     /// Passes the next token.
-    fn advance(&mut self)
+    pub fn advance(&mut self)
         ensures passes { remaining self.new ≡ behind_next self.old }
         ensures whole { whole_of self.new ≡ whole_of self.old }
     {

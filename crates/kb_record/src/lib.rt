@@ -21,7 +21,8 @@
 //! A list is one tree, in whichever form it is kept: [`Value::place_count`](Value) and [`Value::place`](Value) read it
 //! place by place, and [`Place`] hands out a row of numbers, or of pairs, as it stands. Any other list keeps where in the
 //! text each of its places begins ([`WrittenPlaces`]): four bytes a place, whatever stands there. Who needs a place takes
-//! the text that begins with it ([`PlaceText`]), and reads it again.
+//! the text that begins with it ([`PlaceText`]), and reads it again. [`PlaceText::repeated_name`](PlaceText) answers
+//! the name that stands twice in a record there, nested ones too, whatever is inside.
 //!
 //! Want of memory may be returned by each call that takes memory, and by no other.
 //!
@@ -40,6 +41,8 @@
 //!   number takes 8 bytes. It gives up at the first token that doesn't fit, and then the list is read from its beginning
 //!   as any other: `records` reads each place, and keeps where it begins alone. So a table of numbers is gone through once, and
 //!   no token is made more than five times. `listed` reads the places of a list in any form.
+//! - `repeats` goes over the tokens of a place once, with the names of each record that is open, for a name that stands
+//!   there twice; only where it finds one is the place read, to see that it can be.
 //! - `evaluation` evaluates a word as it is read, without a tree, so that a line takes no memory but that of its
 //!   words; `meaning` has what its names, powers and products mean. `written` reads a word of a tree again: it
 //!   evaluates it, tells whether it is a name, and has `words` make the tree of its factors for who prints it. It also
@@ -64,6 +67,9 @@
 //! - `proofs/Deeper.antt`: a word or a value that is read within other brackets is read alone; `PlaceTexts`: so the
 //!   text of a place tells what stands there. `BareNames`: when a word is a name. `NumberLists`: the tokens of lists of
 //!   numbers.
+//! - `proofs/MetLemmas.antt`: the names that a pass over a value's tokens meets are those of its fields; `OpenLemmas`:
+//!   the sets that the pass keeps. `NamingLemmas`, `BeforeLemmas`, `OnceLemmas`: names that stand twice in a record,
+//!   and the first of them in the text; `PlaceRepeats`: so the pass finds the first at a place.
 //! - `proofs/WordMeanings.antt`, `proofs/WordFaults.antt`: names, repetitions and powers; bytes that mean a word have
 //!   no fault.
 //! - `proofs/ReadRows.antt`, `PassedMarks`, `Depths`, `Views`: one step of the functions and of the trees. `Nested`:
@@ -84,6 +90,7 @@ mod parser;
 mod passed;
 mod passing;
 mod records;
+mod repeats;
 mod tree;
 mod words;
 mod written;

@@ -1,11 +1,10 @@
-use Rattle.std.proofs.Common.{◌≡◌, ◌≤◌, ℕ, List, map, length, Some, sym, ap, ◌∙◌, arith}
+use Rattle.std.proofs.Common.{◌≡◌, ℕ, List, map, length, Some, sym, ap, ◌∙◌, arith}
 use Rattle.std.proofs.lemmas.List.{length-map}
 use Rattle.kb_record.specs.View.{value_view}
 use Rattle.kb_record.specs.Tree.{Value, list_value}
 use Rattle.kb_record.specs.Listed.{listed}
 use Rattle.kb_record.proofs.Views.{listed-is}
 use Rattle.kb_fields.specs.Fields.{bare_name, list_of_names, IsListOf}
-use Rattle.kb_fields.specs.Generators.{most_generators}
 use Rattle.kb_fields.proofs.ListingLemmas.{list_of_names-places_of}
 use Rattle.kb_fields.proofs.generators.check_length.Goals as goal
 

@@ -3,7 +3,7 @@ use Rattle.std.specs.Option.{IsSome}
 use Rattle.std.proofs.lemmas.List.{length-map}
 use Rattle.std.proofs.lemmas.Option.{slice_get-map, slice_get_read}
 use Rattle.kb_record.specs.Tree.{Value as ValueTree}
-use Rattle.kb_record.specs.View.{value_view, number_place, row_place, entries_place, written_place, written_places}
+use Rattle.kb_record.specs.View.{value_view, number_place, row_place, entries_place, written_places}
 use Rattle.kb_record.specs.Listed.{listed, HasPlaces}
 use Rattle.kb_record.proofs.Views.{view-List, view-Numbers, view-Rows, view-Entries, listed-is}
 use Rattle.kb_record.proofs.tree.Value.place.Goals as goal
