@@ -1,4 +1,5 @@
 pub mod CheckLemmas
+pub mod EmptyPlaces
 pub mod EquationFaults
 pub mod EquationLemmas
 pub mod FaultLemmas

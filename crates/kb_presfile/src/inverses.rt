@@ -1,13 +1,13 @@
 //! The field `inverses`: the generators' inverses.
 
-ghost use Rattle.std.specs.Prelude.{◌≡◌, ◌≢◌, ◌↔◌, ◌⊎◌, ◌≤◌, ◌<◌, ℕ, List, map, length, codes, IsTrue, IsSome, IsNone, IfOk, IfErr, IfSome, IfNone, Option, Some, None};
+ghost use Rattle.std.specs.Prelude.{◌≡◌, ◌≢◌, ◌⊎◌, ◌≤◌, ◌<◌, ◌++◌, ℕ, List, map, length, replicate, codes, IsTrue, IsSome, IsNone, IfOk, IfErr, IfSome, IfNone, Option, Some, None};
 ghost use Rattle.std.specs.Option.{option_copied};
 ghost use Rattle.kb_word.specs.Relations.{inverse_letter};
 ghost use Rattle.kb_record.specs.Meaning.{letter_from};
 ghost use Rattle.kb_fields.specs.Fields.{fields_view, value_of};
 ghost use Rattle.kb_presfile.specs.Holds.{HasNames, HasInverses, place_at, HoldsPlaces, StandFor, AreMutual, GivesInverses};
 ghost use Rattle.kb_fields.specs.FirstFaults.{IsFirstFault};
-ghost use Rattle.kb_presfile.specs.Checks.{is_there, is_of_kind};
+ghost use Rattle.kb_presfile.specs.Checks.{is_of_kind};
 ghost use Rattle.kb_presfile.specs.Faults.{IsMemoryOr, PlaceIsUnknown, PlacesHaveFault, IsOneSided, IsFirstFrom};
 ghost use Rattle.kb_presfile.specs.declared.error.Field.TheVariants as kinds;
 
@@ -33,7 +33,7 @@ pub fn read_inverses<'a>(
     inverses_at(alloc, places.as_slice(), names)
 }
 
-/// The names at the places for inverses; none where the field is absent.
+/// The names at the places for inverses, at most one for each generator; none where the field is absent.
 fn read_places<'a>(
     alloc: Global,
     fields: &[(&'a str, Value<'a>)],
@@ -41,41 +41,21 @@ fn read_places<'a>(
 ) -> Result<Vec<Option<&'a str>>, PresError>
     requires { HasNames (fields_view fields.now) names.now }
     ensures placed { IfOk result
-        (λ places. HoldsPlaces (value_of (fields_view fields.now) (codes "inverses"))
-        (map option_copied places.items)) }
-    ensures none_past { IfOk result
-        (λ places. (k : ℕ) → length names.now ≤ k
-        → place_at (map option_copied places.items) k ≡ None) }
+        (λ places. (more : ℕ) × HoldsPlaces (value_of (fields_view fields.now) (codes "inverses"))
+        (map option_copied places.items ++ replicate more None)) }
+    ensures few { IfOk result (λ places. length places.items ≤ length names.now) }
     ensures fault { IfErr result
         (IsFirstFrom (fields_view fields.now) (is_of_kind kinds.Inverses)) }
 {
     let Some(value) = field_named(fields, "inverses") else {
         return Ok(Vec::new(alloc));
     };
-    let Some(places) = places_listed(alloc, value)? else {
-        return Err(PresError::WrongKind {
+    match places_listed(alloc, value, names.len())? {
+        Some(places) => Ok(places),
+        None => Err(PresError::WrongKind {
             field: Field::Inverses,
-        });
-    };
-    if !none_past(places.as_slice(), names.len()) {
-        return Err(PresError::WrongKind {
-            field: Field::Inverses,
-        });
+        }),
     }
-    Ok(places)
-}
-
-/// Whether the places from `count` on are empty.
-fn none_past(places: &[Option<&str>], count: usize) -> bool
-    ensures { IsTrue result
-        ↔ ((k : ℕ) → count ≤ k → place_at (map option_copied places.now) k ≡ None) }
-{
-    for place in count..places.len() {
-        if name_at(places, place).is_some() {
-            return false;
-        }
-    }
-    true
 }
 
 /// The inverses that names at places give. All names are looked up before it is seen that inverses are mutual.

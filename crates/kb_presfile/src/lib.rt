@@ -46,8 +46,8 @@
 //!   the first fault.
 //! - `proofs/OneFault.antt`, `proofs/UniqueParts.antt`: a text's fields, and bytes, have one fault at most, or say one
 //!   presentation.
-//! - `proofs/PlaceLemmas.antt`, `proofs/InverseLemmas.antt`, `proofs/LetterSteps.antt`: names at places, their
-//!   letters, and whether those are mutual.
+//! - `proofs/PlaceLemmas.antt`, `proofs/EmptyPlaces.antt`, `proofs/InverseLemmas.antt`, `proofs/LetterSteps.antt`:
+//!   names at places, empty places behind them, their letters, and whether those are mutual.
 //! - `proofs/EquationLemmas.antt`, `proofs/OverLemmas.antt`, `proofs/WeightLemmas.antt`: lists of equations, letters of
 //!   words that are generators, and numbers that are weights.
 //!

@@ -1,12 +1,13 @@
 //! The kinds of values that a presentation's fields hold.
 
-ghost use Rattle.std.specs.Prelude.{◌≡◌, ◌≢◌, ℕ, List, map, Option, Some, MatchOption, IfOk, IfSome, IfNone};
+ghost use Rattle.std.specs.Prelude.{◌≡◌, ◌≢◌, ◌≤◌, ◌++◌, ℕ, List, length, map, replicate, Option, Some, None, IfOk, IfSome, IfNone};
 ghost use Rattle.std.specs.Option.{option_copied, option_map};
 ghost use Rattle.kb_record.specs.Tree.{Factors, string_value, list_value, word_value};
 ghost use Rattle.kb_record.specs.View.{value_view, word_view, written_place};
 ghost use Rattle.kb_record.specs.Listed.{place_view};
 ghost use Rattle.kb_fields.specs.Fields as fields;
 ghost use Rattle.kb_presfile.specs.Kinds.{list_of_places, equation_value};
+ghost use Rattle.kb_presfile.specs.Holds.{place_at};
 
 use kb_fields::written_name;
 use kb_record::{Expr, Place, PlaceText, Value};
@@ -24,29 +25,37 @@ pub fn string_of<'r, 'a>(value: &'r Value<'a>) -> Option<&'r str>
     }
 }
 
-/// The names at the places of a value that is a list of Names and empty places.
+/// The names at the first `count` places of a value that is a list of Names and empty places, empty from `count` on.
+/// `None` of other values.
 pub fn places_listed<'a>(
     alloc: Global,
     value: &Value<'a>,
+    count: usize,
 ) -> Result<Option<Vec<Option<&'a str>>>, Memory>
     ensures listed { IfOk result
         (λ places. IfSome places
-        (λ places. value_view value.now
-        ≡ list_value (list_of_places (map option_copied places.items)))) }
+        (λ places. (more : ℕ) × (value_view value.now
+        ≡ list_value (list_of_places (map option_copied places.items ++ replicate more None))))) }
+    ensures few { IfOk result (λ places. IfSome places (λ places. length places.items ≤ count)) }
     ensures other { IfOk result
         (λ places. IfNone places
         ((places : List (Option (List ℕ)))
-        → value_view value.now ≢ list_value (list_of_places places))) }
+        → value_view value.now ≡ list_value (list_of_places places)
+        → (k : ℕ) × (count ≤ k) × (place_at places k ≢ None))) }
 {
-    let Some(count) = value.place_count() else {
+    let Some(all) = value.place_count() else {
         return Ok(None);
     };
-    let mut names = Vec::with_capacity(alloc, count)?;
-    for place in 0..count {
+    let mut names = Vec::with_capacity(alloc, all.min(count))?;
+    for place in 0..all {
         let Some(name) = name_or_empty(value.place(place)) else {
             return Ok(None);
         };
-        names.push(name)?;
+        if place < count {
+            names.push(name)?;
+        } else if name.is_some() {
+            return Ok(None);
+        }
     }
     Ok(Some(names))
 }
