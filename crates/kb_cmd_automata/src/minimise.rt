@@ -2,7 +2,7 @@
 
 use crate::files::FileToOut;
 use kb_io::{Shelf, Sink, Source};
-use kb_task::{Kind, Status, Task, load_automaton, store_canonical};
+use kb_task::{Kind, Status, Task, load_language, store_canonical};
 use std::alloc::Global;
 
 /// Stores the canonical automaton of the language of the automaton in a file.
@@ -41,7 +41,7 @@ impl Minimise {
         let _ = input;
         let _ = out;
         let files = self.files;
-        match load_automaton(alloc, Kind::WordsOrPairs, files.file, shelf) {
+        match load_language(alloc, Kind::WordsOrPairs, files.file, shelf) {
             Ok(given) => store_canonical(alloc, &given.names, &given.fsa, files.out, shelf),
             Err(status) => status,
         }

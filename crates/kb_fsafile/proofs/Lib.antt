@@ -8,7 +8,10 @@ pub mod NoFault
 pub mod NumberLemmas
 pub mod OneFault
 pub mod Owners
+pub mod PairStates
+pub mod ReachedStates
 pub mod Refused
+pub mod RenamedRows
 pub mod RowFaults
 pub mod RowLemmas
 pub mod TableLemmas

@@ -196,6 +196,21 @@ pub table_fault : (bytes : List ℕ) (names : List (List ℕ)) (alphabet : Alpha
 table_fault bytes names alphabet read error of_text fault =
     text_fault bytes of_text.text error of_text.formed of_text.shallow (cleaning_fault of_text.text.fields names alphabet read error of_text.has.holds fault)
 
+-- so is what cleaning is refused for, or want of memory
+pub table_or_memory : (bytes : List ℕ) (names : List (List ℕ)) (alphabet : Alphabet) (read : Table) (error : FsaError) → TableOf bytes names alphabet read
+    → IsMemoryOr (IsCleaningFault alphabet read) error → HasFsaFault bytes error
+table_or_memory bytes names alphabet read errors.Memory of_text fault = tt
+table_or_memory bytes names alphabet read error of_text fault = table_fault bytes names alphabet read error of_text fault
+
+pub cleaning_or_memory : (alphabet : Alphabet) (read same : Table) (error : FsaError) → same ≡ read → IsCleaningFault alphabet same error
+    → IsMemoryOr (IsCleaningFault alphabet read) error
+cleaning_or_memory alphabet read same errors.Memory is fault = tt
+cleaning_or_memory alphabet read same error is fault =
+    let P : Table → Type 0 = λ table. IsCleaningFault alphabet table error in subst P is fault
+
+pub want_of_memory : (IsFault : FsaError → Type 0) (error : FsaError) → error ≡ errors.Memory → IsMemoryOr IsFault error
+want_of_memory IsFault error is = let P : FsaError → Type 0 = λ e. IsMemoryOr IsFault e in subst P (sym is) tt
+
 -- ---- automata
 
 -- an accepted text is padded

@@ -6,3 +6,4 @@ pub mod Faults
 pub mod Reading
 pub mod RowsRead
 pub mod Refusals
+pub mod Languages

@@ -30,6 +30,9 @@
 //! [`a_text_says_one_automaton`] they are read in one way at most. So, want of memory apart, the bytes alone say whether
 //! they are refused, and for what.
 //!
+//! [`read_language`] is for who needs the language alone. It refuses the same bytes, and returns an automaton that
+//! accepts the same texts (`LanguageOf` of `specs/Languages.antt`): of the states that texts lead to, unless these are most.
+//!
 //! # How it is made
 //!
 //! - `fields` looks up fields of their kinds, and `values` tells strings, ranges and lists of pairs of numbers from
@@ -38,6 +41,8 @@
 //!   to 10^18 before the rows are seen to be as many, so the accepting states are marked after the rows.
 //! - `rows` reads the rows of a table, dense or sparse, as ascending symbols with targets that are states. A row that
 //!   the tree keeps as numbers is read where it stands, and a sparse row needs no map where its symbols ascend.
+//! - `raw_table` keeps the rows side by side until the tree of the text is let go, and `reached` finds the states that
+//!   texts lead to, so that others never take a row of their own where they are many.
 //! - `kb_padding` drops moves of automata of pairs, or refuses them. By then the tree of the text is let go.
 //! - `reader` joins them, each step a function called in the order of the refusals.
 //!
@@ -47,10 +52,12 @@
 //! `Holds`, the order of the checks in `Checks`, where fields stand in `Standing`, and what each check finds in
 //! `Faults`; what the functions for fields and rows return in `Reading` and `RowsRead`. In `proofs/`, `CheckLemmas` has
 //! that of two checks one comes first, `FirstLemmas`, `Refused` and `RowFaults` that what a function refuses is the first
-//! fault, `NoFault` that checks find nothing in what is read, and `OneFault` and `UniqueAutomaton` the laws.
+//! fault, `NoFault` that checks find nothing in what is read, and `OneFault` and `UniqueAutomaton` the laws;
+//! `ReachedStates` has the table as a machine, and `RenamedRows` and `PairStates` that an automaton of pairs may be
+//! cleaned after the states are left out that no text leads to.
 //!
-//! Below are `kb_record` (trees), `kb_fields` (fields), `kb_fsa` (automata) and `kb_padding` (moves that no
-//! padded text takes).
+//! Below are `kb_record` (trees), `kb_fields` (fields), `kb_fsa` (automata), `kb_explore` (states that texts lead to) and
+//! `kb_padding` (moves that no padded text takes).
 #![tactic(auto)]
 
 mod accepting;
@@ -61,6 +68,8 @@ mod format;
 mod header;
 mod initial;
 mod laws;
+mod raw_table;
+mod reached;
 mod reader;
 mod rows;
 mod states;
@@ -72,4 +81,4 @@ pub use laws::{
     a_text_says_one_automaton, an_automaton_file_has_no_fault, an_automaton_file_has_one_fault,
     fields_of_automata_have_one_fault,
 };
-pub use reader::read;
+pub use reader::{read, read_language};

@@ -14,7 +14,7 @@ use crate::error::{Field, FsaError};
 use crate::fields::{needed_list, needed_record, needed_string, optional_number};
 use crate::format::Format;
 use crate::rows::read_row;
-use kb_fsa::Row;
+use kb_ragged::Ragged;
 use kb_record::Value;
 use std::alloc::Global;
 
@@ -24,10 +24,10 @@ pub fn read_rows<'a>(
     fields: &[(&'a str, Value<'a>)],
     size: u32,
     count: u64,
-) -> Result<Vec<Row>, FsaError>
+) -> Result<Ragged<(u32, u32)>, FsaError>
     requires sized { HasSize (fields_view fields.now) size }
     requires counted { HoldsStates (fields_view fields.now) count }
-    ensures read { IfOk result (λ rows. HasRows (fields_view fields.now) size count rows.items) }
+    ensures read { IfOk result (HasRows (fields_view fields.now) size count) }
     ensures fault { IfErr result
         (IsFirstFrom (order_of table_field) (fields_view fields.now)) }
 {
@@ -80,17 +80,17 @@ fn rows_listed<'a>(
     format: Format,
     size: u32,
     count: u32,
-) -> Result<Vec<Row>, FsaError>
+) -> Result<Ragged<(u32, u32)>, FsaError>
     requires { length (listed (value_view list.now)) ≡ count }
     ensures read { IfOk result
-        (λ rows. AreRowsAt size count format
-        (places_of (listed (value_view list.now))) rows.items) }
+        (AreRowsAt size count format (places_of (listed (value_view list.now)))) }
     ensures fault { IfErr result
         (IsFirstOfRows format size count (places_of (listed (value_view list.now)))) }
 {
-    let mut rows = Vec::with_capacity(alloc, count as usize)?;
+    let mut rows = Ragged::new(alloc)?;
     for place in 0..count as usize {
-        rows.push(read_row(alloc, list.place(place), format, size, count)?)?;
+        let row = read_row(alloc, list.place(place), format, size, count)?;
+        rows.push(row.as_slice())?;
     }
     Ok(rows)
 }

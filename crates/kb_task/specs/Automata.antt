@@ -1,8 +1,9 @@
 -- Files of automata.
-use Rattle.std.specs.Prelude.{◌≡◌, ◌≢◌, ℕ, List}
+use Rattle.std.specs.Prelude.{◌≡◌, ◌≢◌, ℕ, List, IsTrue}
+use Rattle.kb_io.specs.States.{ShelfState}
 use Rattle.kb_fsa.specs.declared.alphabet.Alphabet.{Alphabet}
 use Rattle.kb_fsa.specs.declared.alphabet.Alphabet.TheVariants.{Plain, Pair}
-use Rattle.kb_fsa.specs.Language.{Automaton}
+use Rattle.kb_fsa.specs.Language.{Automaton, SameLanguage}
 use Rattle.kb_fsafile.specs.Holds.{AutomatonOf}
 use Rattle.kb_fsafile.specs.Faults.{HasFsaFault}
 use Rattle.kb_fsafile.specs.declared.error.FsaError.TheVariants as fsa_errors
@@ -18,6 +19,15 @@ pub record HoldsAutomaton (files : Files) (name : List ℕ) (names : List (List 
   pub bytes : List ℕ
   pub held : IsHeld files name bytes
   pub says : AutomatonOf bytes names automaton
+
+-- The automaton has the language of one over letters with these names that the file of this name holds; where what the
+-- shelf holds isn't known, of some automaton.
+pub record HoldsLanguage (shelf : ShelfState) (name : List ℕ) (names : List (List ℕ))
+    (automaton : Automaton) : Type 0 where
+  pub held : Automaton
+  pub holds : IsTrue shelf.told → HoldsAutomaton shelf.holds name names held
+  pub alphabet : automaton.alphabet ≡ held.alphabet
+  pub language : SameLanguage held automaton
 
 -- the alphabet is of the kind
 abbrev pub HasKind : Kind → Alphabet → Type 0

@@ -13,9 +13,10 @@
 //! fall, and that other files stay.
 //!
 //! - `status` is how a run ends, with its exit status and its messages.
-//! - `loading` loads files, and the presentations, automata and logs that they hold. By [`stored_logs_are_read`] the
-//!   log of a completion that is stored beside its presentation can be read (`specs/StoredLogs.antt`). By the laws
-//!   (`laws`) a file is refused for one reason at most: [`a_presentation_is_refused_for_one_reason`],
+//! - `loading` loads files, and the presentations, automata and logs that they hold; [`load_language`] loads an automaton
+//!   for its language alone, which takes less memory. By [`stored_logs_are_read`] the log of a completion that is stored
+//!   beside its presentation can be read (`specs/StoredLogs.antt`). By the laws (`laws`) a file is refused for one reason
+//!   at most: [`a_presentation_is_refused_for_one_reason`],
 //!   [`a_group_is_refused_for_one_reason`], [`an_automaton_is_refused_for_one_reason`],
 //!   [`a_second_automaton_is_refused_for_one_reason`], [`a_log_is_refused_for_one_reason`]; and by
 //!   [`files_are_refused_for_one_reason`] for none where it holds what is needed. `storing` stores
@@ -46,7 +47,7 @@ pub use laws::{
 };
 pub use lines::{print_limit, print_line, undecided_line, undecided_words_line, unjustified_line};
 pub use loading::automata::{
-    Kind, Loaded, load_acceptor, load_automaton, load_multiplier, load_second,
+    Kind, Loaded, load_acceptor, load_automaton, load_language, load_multiplier, load_second,
 };
 pub use loading::logs::{load_derivations, load_log, stored_logs_are_read};
 pub use loading::presentations::{load_group, load_presentation, load_shortlex};

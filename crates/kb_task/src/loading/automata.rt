@@ -5,7 +5,8 @@ ghost use Rattle.kb_io.specs.Outside.{outside};
 ghost use Rattle.kb_io.specs.States.{ShelfState, SourceState, SinkState};
 ghost use Rattle.kb_fsa.specs.Language.{generators};
 ghost use Rattle.kb_fsa.specs.declared.alphabet.Alphabet.TheVariants.{Plain, Pair};
-ghost use Rattle.kb_task.specs.Automata.{HoldsAutomaton, HasKind, IsAutomatonFault, IsSecondFault};
+ghost use Rattle.kb_fsafile.specs.Languages.{LanguageOf};
+ghost use Rattle.kb_task.specs.Automata.{HoldsAutomaton, HoldsLanguage, HasKind, IsAutomatonFault, IsSecondFault};
 ghost use Rattle.kb_task.specs.Loads.{Files, IsHeld, IsCause, EndsAtLoad, OnlyLoads, LoadIsCounted};
 ghost use Rattle.kb_task.specs.Runs.{FaultIsCounted};
 ghost use Rattle.kb_task.specs.declared.loading.automata.Kind.TheVariants.{Words, Pairs};
@@ -13,7 +14,7 @@ ghost use Rattle.kb_task.specs.declared.loading.automata.Kind.TheVariants.{Words
 use super::{LoadStop, load_text};
 use crate::status::{FileFault, Status};
 use kb_fsa::{Alphabet, Fsa};
-use kb_fsafile::{FsaError, read};
+use kb_fsafile::{FsaError, read, read_language};
 use kb_io::Shelf;
 use kb_word::{Names, OwnedText, Presentation};
 use std::alloc::Global;
@@ -58,6 +59,31 @@ pub fn load_automaton<F: Shelf>(
     ensures only_loads { OnlyLoads (F.state shelf.old) (F.state shelf.new) }
 {
     match automaton_in(alloc, kind, file.as_str(), shelf) {
+        Ok(loaded) => Ok(loaded),
+        Err(stop) => Err(stop.status(file)),
+    }
+}
+
+/// An automaton of the kind with the language of the one that the file of this name holds, or the status of a run that
+/// ends there. It has no states but those that texts lead to, and takes the less memory.
+pub fn load_language<F: Shelf>(
+    alloc: Global,
+    kind: Kind,
+    file: OwnedText,
+    shelf: &mut F,
+) -> Result<Loaded, Status>
+    ensures holds { IfOk result (λ loaded.
+        HoldsLanguage (F.state shelf.old) file loaded.names loaded.fsa) }
+    ensures kind { IfOk result (λ loaded. HasKind kind loaded.fsa.alphabet) }
+    ensures letters { IfOk result (λ loaded. length loaded.names ≡ generators loaded.fsa.alphabet) }
+    ensures ends { IsTrue (F.state shelf.old).told
+        → IfErr result (EndsAtLoad (IsAutomatonFault kind (F.state shelf.old).holds file) file) }
+    ensures fault { IfErr result (λ status. (input : SourceState) (output : SinkState)
+        → FaultIsCounted (outside (F.state shelf.old) input output)
+        (outside (F.state shelf.new) input output) status) }
+    ensures only_loads { OnlyLoads (F.state shelf.old) (F.state shelf.new) }
+{
+    match language_in(alloc, kind, file.as_str(), shelf) {
         Ok(loaded) => Ok(loaded),
         Err(stop) => Err(stop.status(file)),
     }
@@ -193,6 +219,49 @@ fn automaton_of_kind(alloc: Global, kind: Kind, bytes: &[u8]) -> Result<Loaded, 
     ensures unfailed { (a b : ShelfState) → IfErr result (LoadIsCounted a b) }
 {
     let loaded = match read(alloc, bytes) {
+        Ok((names, fsa)) => Loaded { names, fsa },
+        Err(FsaError::Memory) => return Err(LoadStop::Memory),
+        Err(fault) => return Err(LoadStop::Refused(FileFault::Automaton(fault))),
+    };
+    match (kind, loaded.fsa.alphabet()) {
+        (Kind::Words, Alphabet::Pair(_)) => Err(LoadStop::Refused(FileFault::NotPlain)),
+        (Kind::Pairs, Alphabet::Plain(_)) => Err(LoadStop::Refused(FileFault::NotPairs)),
+        _ => Ok(loaded),
+    }
+}
+
+/// An automaton of the kind with the language of the one that the file of this name holds.
+fn language_in<F: Shelf>(
+    alloc: Global,
+    kind: Kind,
+    name: &str,
+    shelf: &mut F,
+) -> Result<Loaded, LoadStop>
+    ensures holds { IfOk result (λ loaded.
+        HoldsLanguage (F.state shelf.old) name.now loaded.names loaded.fsa) }
+    ensures kind { IfOk result (λ loaded. HasKind kind loaded.fsa.alphabet) }
+    ensures letters { IfOk result (λ loaded. length loaded.names ≡ generators loaded.fsa.alphabet) }
+    ensures stops { IsTrue (F.state shelf.old).told
+        → IfErr result (IsCause (IsAutomatonFault kind (F.state shelf.old).holds name.now)) }
+    ensures counted { IfErr result (LoadIsCounted (F.state shelf.old) (F.state shelf.new)) }
+    ensures only_loads { OnlyLoads (F.state shelf.old) (F.state shelf.new) }
+{
+    match load_text(alloc, name, shelf) {
+        Ok(bytes) => language_of_kind(alloc, kind, &bytes),
+        Err(stop) => Err(stop),
+    }
+}
+
+/// An automaton of the kind with the language of the one that the bytes are a text of.
+fn language_of_kind(alloc: Global, kind: Kind, bytes: &[u8]) -> Result<Loaded, LoadStop>
+    ensures holds { IfOk result (λ loaded. LanguageOf bytes.now loaded.names loaded.fsa) }
+    ensures kind { IfOk result (λ loaded. HasKind kind loaded.fsa.alphabet) }
+    ensures letters { IfOk result (λ loaded. length loaded.names ≡ generators loaded.fsa.alphabet) }
+    ensures stops { (files : Files) (name : List ℕ) → IsHeld files name bytes.now
+        → IfErr result (IsCause (IsAutomatonFault kind files name)) }
+    ensures unfailed { (a b : ShelfState) → IfErr result (LoadIsCounted a b) }
+{
+    let loaded = match read_language(alloc, bytes) {
         Ok((names, fsa)) => Loaded { names, fsa },
         Err(FsaError::Memory) => return Err(LoadStop::Memory),
         Err(fault) => return Err(LoadStop::Refused(FileFault::Automaton(fault))),

@@ -15,15 +15,15 @@ overflow_cast-initial c =
 
 pub new-requires : goal.new-requires
 new-requires c =
-    table_of_rows (fields_view c.args.fields.now) c.args.size c.in_ok-count.count c.in_ok-initial.initial c.in_ok-rows.rows.items c.in_ok-answers.answers.items
+    table_of_rows (fields_view c.args.fields.now) c.args.size c.in_ok-count.count c.in_ok-initial.initial c.in_ok-rows.rows c.in_ok-answers.answers.items
     c.in_ok-rows.ensures.read (initial_within (fields_view c.args.fields.now) c.in_ok-count.count c.in_ok-initial.initial c.in_ok-initial.ensures.read)
-    (omega (arith, c.in_ok-answers.ensures.one_each, c.len.ensures, c.in_ok-rows.rows.ok))
+    (omega (arith, c.in_ok-answers.ensures.one_each, c.len.ensures))
 
 pub answers-requires : goal.answers-requires
 answers-requires c = λ state among.
     let has = c.in_ok-accepting.ensures.read in
     let bounds = among_within c.in_ok-count.count has.value c.in_ok-accepting.accepting has.stands state among in
-    (bounds.0, omega (arith, bounds.1, c.in_ok-rows.ensures.read.one_each, c.in_ok-rows.rows.ok, c.len.ensures))
+    (bounds.0, omega (arith, bounds.1, c.in_ok-rows.ensures.read.one_each, c.len.ensures))
 
 pub returns-in_err-initial-clause-fault : goal.returns-in_err-initial-clause-fault
 returns-in_err-initial-clause-fault c =
@@ -50,8 +50,8 @@ returns-in_err-rows-clause-fault c =
 pub returns-clause-read : goal.returns-clause-read
 returns-clause-read c =
     let P : Table → Type 0 = λ table. HasTable (fields_view c.args.fields.now) c.args.size table in
-    let all : length c.in_ok-answers.answers.items ≡ length c.in_ok-rows.rows.items =
-    omega (arith, c.in_ok-answers.ensures.one_each, c.len.ensures, c.in_ok-rows.rows.ok) in
+    let all : length c.in_ok-answers.answers.items ≡ length c.in_ok-rows.rows =
+    omega (arith, c.in_ok-answers.ensures.one_each, c.len.ensures) in
     subst P (sym c.new.ensures)
-    (table_held (fields_view c.args.fields.now) c.args.size c.in_ok-count.count c.in_ok-initial.initial c.in_ok-rows.rows.items c.in_ok-accepting.accepting
+    (table_held (fields_view c.args.fields.now) c.args.size c.in_ok-count.count c.in_ok-initial.initial c.in_ok-rows.rows c.in_ok-accepting.accepting
     c.in_ok-answers.answers.items c.in_ok-count.ensures.read c.in_ok-initial.ensures.read c.in_ok-accepting.ensures.read c.in_ok-rows.ensures.read all c.in_ok-answers.ensures.each)

@@ -77,7 +77,7 @@ returns-in-Ok-clause-read c =
     let listed_at = c.in_ok-list.ensures.found ∙ ap Some c.in_ok-list.ensures.listed in
     IfOk_then c.rows_listed.result c.rows_listed.ensures.read (λ rows are.
     has_rows (fields_view c.args.fields.now) (fields_view c.as_slice-table.result.now) c.args.size c.args.count c.in-Ok.count c.in_ok-format.format
-    (listed (value_view c.in_ok-list.list.now)) rows.items (is_record at) c.in_ok-check_default.ensures.ok c.in_ok-format.ensures.named
+    (listed (value_view c.in_ok-list.list.now)) rows (is_record at) c.in_ok-check_default.ensures.ok c.in_ok-format.ensures.named
     listed_at (omega (arith, counted)) c.in-Ok.ensures.0 c.in-Ok.ensures.1 are)
 
 pub returns-in-Ok-clause-fault : goal.returns-in-Ok-clause-fault

@@ -5,4 +5,4 @@ use Rattle.kb_fsafile.specs.RowsRead.{AreRowsAt}
 use Rattle.kb_fsafile.proofs.table.rows_listed.Given as goal
 
 abbrev pub invariant-loop-place : goal.invariant-loop-place
-invariant-loop-place l = AreRowsAt l.size l.count l.format (places_of (take l.place (listed (value_view l.list)))) l.rows.items
+invariant-loop-place l = AreRowsAt l.size l.count l.format (places_of (take l.place (listed (value_view l.list)))) l.rows
