@@ -395,20 +395,18 @@ def is_log_word(text, number):
 
 
 def is_origin(text):
-    """Numbers of lines and relations are below 2^32, places below 2^64."""
+    """Numbers of lines and relations, and places, are below 2^32."""
     found = ORIGIN.fullmatch(text)
     if not found:
         return False
-    at, line, other, place, killed, shortened = found.groups()
-    lines = [it for it in (at, line, other, killed, shortened) if it is not None]
-    return all(int(it) < 2**32 for it in lines) and (place is None or int(place) < 2**64)
+    return all(int(it) < 2**32 for it in found.groups() if it is not None)
 
 
 def is_derivation(text):
     if not STEPS.fullmatch(text):
         return False
     steps = [] if text == b"-" else [it.split(b"/") for it in text.split(b",")]
-    return all(int(place) < 2**64 and int(line) < 2**32 for place, line in steps)
+    return all(int(it) < 2**32 for step in steps for it in step)
 
 
 def is_log_line(words, mark, version, number):
