@@ -12,7 +12,7 @@ from readers import MOST_BYTES, Presentation, Refused, read_log
 LIMITS = ["--max-rules", "60", "--max-len", "30", "--max-states", "300", "--workers", "1"]
 MOST_SECONDS = 120
 # The room in memory that a run may take for itself, and for each byte of a text.
-OWN_BYTES, BYTES_PER_BYTE = 64 << 20, 160
+OWN_BYTES, BYTES_PER_BYTE = 64 << 20, 40
 
 
 class Run:
