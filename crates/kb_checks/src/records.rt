@@ -57,6 +57,10 @@ fn values_have_one_printed_text(rt: HostRuntime) -> Result<(), Fail> {
         assert_eq!(&rt; first.as_str(), whole.as_str(), "{value}");
         let second = printed_again(alloc, first.as_str())?;
         assert_eq!(&rt; second.as_str(), whole.as_str(), "{value} again");
+        // Behind so many blanks the field is long, and its value is kept as it was read.
+        let text = format!(in alloc; "N := rec(first := {value:>400}, last := 0)")?;
+        let third = printed_again(alloc, text.as_str())?;
+        assert_eq!(&rt; third.as_str(), whole.as_str(), "{value} behind blanks");
     }
     Ok(())
 }

@@ -9,7 +9,8 @@ use Rattle.std.proofs.lemmas.Option.{slice_get-map, slice_get_read, slice_get_wi
 use Rattle.std.proofs.lemmas.Bool.{cases_lt, false≢true}
 use Rattle.std.proofs.lemmas.Slice.Eq.{bytes_eq-Decides}
 use Rattle.kb_record.specs.Tree.{Value, record_value, list_value}
-use Rattle.kb_record.specs.View.{value_view, places_of, number_place, row_place, entry_place, entries_place}
+use Rattle.kb_record.specs.View.{field_view, places_of, value_of_place, number_place, row_place, entry_place, entries_place}
+use Rattle.kb_record.specs.declared.tree.Field.{Field}
 use Rattle.kb_record.specs.declared.tree.Value as code
 use Rattle.kb_record.specs.NamesMet.{text_cmp, has}
 use Rattle.kb_record.proofs.OpenLemmas.{has_after, cond_same}
@@ -31,7 +32,7 @@ seen_none names seen empty = record {
 text_same : {a b : List ℕ} → Some a ≡ Some b → a ≡ b
 text_same e = cc
 
-field_same : {a b : Bor (List ℕ) × code.Value} → Some a ≡ Some b → a ≡ b
+field_same : {a b : Field code.Value} → Some a ≡ Some b → a ≡ b
 field_same e = cc
 
 place_same : {a b : Option Value} → Some a ≡ Some b → a ≡ b
@@ -65,18 +66,22 @@ seen_more names n seen new k first at absent updates = record {
         let found = first.all q i (omega (arith, h, same)) at_i in
         false≢true (sym absent ∙ (ap (has seen) named ∙ found))
 
-pub names_of_fields : (fs : List (Bor (List ℕ) × code.Value)) → field_names (fields_view fs) ≡ map (λ (f : Bor (List ℕ) × code.Value). f.0.now) fs
+-- the names of fields, as the code has them
+abbrev pub names_in : List (Field code.Value) → List (List ℕ)
+names_in fs = map (λ (f : Field code.Value). (field_view f).0) fs
+
+names_of_fields : (fs : List (Field code.Value)) → field_names (fields_view fs) ≡ names_in fs
 names_of_fields [] = refl
-names_of_fields (f ∷ fs) = ap (λ (ns : List (List ℕ)). f.0.now ∷ ns) (names_of_fields fs)
+names_of_fields (f ∷ fs) = ap (λ (ns : List (List ℕ)). (field_view f).0 ∷ ns) (names_of_fields fs)
 
 -- the name stands twice in the value of this field
-pub record InField (fs : List (Bor (List ℕ) × code.Value)) (q : List ℕ) : Type 0 where
+pub record InField (fs : List (Field code.Value)) (q : List ℕ) : Type 0 where
   pub k : ℕ
-  pub f : Bor (List ℕ) × code.Value
+  pub f : Field code.Value
   pub at : slice_get fs k ≡ Some f
-  pub twice : HasFieldTwice (value_view f.1) q
+  pub twice : HasFieldTwice (field_view f).1 q
 
-pub in_some_field : (fs : List (Bor (List ℕ) × code.Value)) (q : List ℕ) → SomeFieldHasTwice (fields_view fs) q → InField fs q
+pub in_some_field : (fs : List (Field code.Value)) (q : List ℕ) → SomeFieldHasTwice (fields_view fs) q → InField fs q
 in_some_field [] q e = absurd e
 in_some_field (f ∷ fs) q (inl here) = record { k = 0; f = f; at = refl; twice = here }
 in_some_field (f ∷ fs) q (inr later) = let rest = in_some_field fs q later in record { k = suc rest.k; f = rest.f; at = rest.at; twice = rest.twice }
@@ -94,19 +99,16 @@ in_some_place (Some v ∷ ps) q (inl here) = record { k = 0; p = Some v; at = re
 in_some_place (Some v ∷ ps) q (inr later) = let rest = in_some_place ps q later in record { k = suc rest.k; p = rest.p; at = rest.at; twice = rest.twice }
 in_some_place (None ∷ ps) q later = let rest = in_some_place ps q later in record { k = suc rest.k; p = rest.p; at = rest.at; twice = rest.twice }
 
-abbrev names_in : List (Bor (List ℕ) × code.Value) → List (List ℕ)
-names_in fs = map (λ (f : Bor (List ℕ) × code.Value). f.0.now) fs
-
-module _ (fs : List (Bor (List ℕ) × code.Value)) (n : ℕ) (f : Bor (List ℕ) × code.Value) (within : n < length fs) (at : f ≡ get_or fs n f) where
+module _ (fs : List (Field code.Value)) (n : ℕ) (f : Field code.Value) (within : n < length fs) (at : f ≡ get_or fs n f) where
   pub field_at : slice_get fs n ≡ Some f
   field_at = slice_get_read fs (length fs) n f refl within at
 
-  pub name_at : slice_get (names_in fs) n ≡ Some f.0.now
-  name_at = slice_get-map (λ (g : Bor (List ℕ) × code.Value). g.0.now) fs n ∙ ap (option_map (λ (g : Bor (List ℕ) × code.Value). g.0.now)) field_at
+  pub name_at : slice_get (names_in fs) n ≡ Some (field_view f).0
+  name_at = slice_get-map (λ (g : Field code.Value). (field_view g).0) fs n ∙ ap (option_map (λ (g : Field code.Value). (field_view g).0)) field_at
 
 -- nothing stands twice where each field was seen
-pub none_twice : (fs : List (Bor (List ℕ) × code.Value)) (n : ℕ) (seen : BTreeSet (Bor (List ℕ))) → length fs ≤ n → HasSeen (names_in fs) n seen
-    → ((k : ℕ) (f : Bor (List ℕ) × code.Value) → k < n → slice_get fs k ≡ Some f → (q : List ℕ) → HasFieldTwice (value_view f.1) q → ⊥)
+pub none_twice : (fs : List (Field code.Value)) (n : ℕ) (seen : BTreeSet (Bor (List ℕ))) → length fs ≤ n → HasSeen (names_in fs) n seen
+    → ((k : ℕ) (f : Field code.Value) → k < n → slice_get fs k ≡ Some f → (q : List ℕ) → HasFieldTwice (field_view f).1 q → ⊥)
     → (q : List ℕ) → HasFieldTwice (record_value (fields_view fs)) q → ⊥
 none_twice fs n seen whole first within q (inl twice) = apart (subst P (names_of_fields fs) twice)
   where
@@ -116,7 +118,7 @@ none_twice fs n seen whole first within q (inl twice) = apart (subst P (names_of
     apart : StandsTwice (names_in fs) q → ⊥
     apart t =
         let inside = slice_get_within (names_in fs) t.again q t.at_again in
-        let count = length-map fs (λ (g : Bor (List ℕ) × code.Value). g.0.now) in
+        let count = length-map fs (λ (g : Field code.Value). (field_view g).0) in
         first.apart q t.first t.again t.later (omega (arith, inside, count)) t.at_first t.at_again
 none_twice fs n seen whole first within q (inr later) =
     let found = in_some_field fs q later in
@@ -131,10 +133,10 @@ no_place_twice ps n whole within q later =
     within found.k found.p (omega (arith, inside)) found.at q found.twice
 
 -- one more field, in whose value nothing stands twice
-pub within_more : (fs : List (Bor (List ℕ) × code.Value)) (n : ℕ) (f : Bor (List ℕ) × code.Value) → slice_get fs n ≡ Some f
-    → ((k : ℕ) (g : Bor (List ℕ) × code.Value) → k < n → slice_get fs k ≡ Some g → (q : List ℕ) → HasFieldTwice (value_view g.1) q → ⊥)
-    → ((q : List ℕ) → HasFieldTwice (value_view f.1) q → ⊥)
-    → (k : ℕ) (g : Bor (List ℕ) × code.Value) → k < n + 1 → slice_get fs k ≡ Some g → (q : List ℕ) → HasFieldTwice (value_view g.1) q → ⊥
+pub within_more : (fs : List (Field code.Value)) (n : ℕ) (f : Field code.Value) → slice_get fs n ≡ Some f
+    → ((k : ℕ) (g : Field code.Value) → k < n → slice_get fs k ≡ Some g → (q : List ℕ) → HasFieldTwice (field_view g).1 q → ⊥)
+    → ((q : List ℕ) → HasFieldTwice (field_view f).1 q → ⊥)
+    → (k : ℕ) (g : Field code.Value) → k < n + 1 → slice_get fs k ≡ Some g → (q : List ℕ) → HasFieldTwice (field_view g).1 q → ⊥
 within_more fs n f at before here k g h is q twice = go (cases_lt k n)
   where
     go : (k < n) ⊎ (n ≤ k) → ⊥
@@ -142,7 +144,7 @@ within_more fs n f at before here k g h is q twice = go (cases_lt k n)
     go (inr last) =
         let same : n ≡ k = omega (arith, h, last) in
         let found : f ≡ g = field_same (sym at ∙ (ap (slice_get fs) same ∙ is)) in
-        let P : Bor (List ℕ) × code.Value → Type 0 = λ e. HasFieldTwice (value_view e.1) q in
+        let P : Field code.Value → Type 0 = λ e. HasFieldTwice (field_view e).1 q in
         here q (subst P (sym found) twice)
 
 -- one more place, in which nothing stands twice
@@ -179,3 +181,8 @@ pub no_entries_twice : (rows : List (List (ℤ × ℤ))) (q : List ℕ) → Some
 no_entries_twice [] q e = absurd e
 no_entries_twice (row ∷ rows) q (inl here) = no_entry_twice row q here
 no_entries_twice (row ∷ rows) q (inr later) = no_entries_twice rows q later
+
+-- at a place in which nothing stands twice the value has nothing twice, a string for an empty place
+pub none_of_place : (p : Option Value) → ((q : List ℕ) → HasFieldTwiceAt p q → ⊥) → (q : List ℕ) → HasFieldTwice (value_of_place p) q → ⊥
+none_of_place None none q h = absurd h
+none_of_place (Some v) none q h = none q h

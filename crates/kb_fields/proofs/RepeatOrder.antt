@@ -1,5 +1,5 @@
 -- The first name that is repeated in fields and in places, one by one.
-use Rattle.std.proofs.Common.{◌≡◌, ℕ, suc, ◌+◌, ◌<◌, true, false, List, [], ◌∷◌, ◌++◌, map, length, take, drop, get_or, slice_get, Option, Some, None, sym, ap, subst, ◌∙◌, add-one}
+use Rattle.std.proofs.Common.{◌≡◌, ℕ, suc, ◌+◌, ◌<◌, true, false, List, [], ◌∷◌, ◌++◌, length, take, drop, get_or, slice_get, Option, Some, None, sym, ap, subst, ◌∙◌, add-one}
 use Rattle.std.specs.Borrow.{Bor}
 use Rattle.std.specs.BTreeSet.{BTreeSet}
 use Rattle.std.specs.List.{Contains}
@@ -8,21 +8,19 @@ use Rattle.std.proofs.lemmas.Bool.{false≢true}
 use Rattle.std.proofs.lemmas.List.{take_more}
 use Rattle.std.proofs.lemmas.Option.{slice_get_within, get_or_from_slice_get}
 use Rattle.kb_record.specs.Tree.{Value}
-use Rattle.kb_record.specs.View.{value_view, places_of}
+use Rattle.kb_record.specs.View.{field_view, places_of}
+use Rattle.kb_record.specs.declared.tree.Field.{Field}
 use Rattle.kb_record.specs.declared.tree.Value as code
 use Rattle.kb_fields.specs.Fields.{fields_view, HasFieldTwice, HasFieldTwiceAt, IsFirstRepeatedAt, Naming, namings, namings_behind, namings_in}
 use Rattle.kb_record.proofs.BeforeLemmas.{has_place, place_of, stands_before, among_first}
 use Rattle.kb_record.specs.Repeats.{IsFirst}
 use Rattle.kb_record.proofs.NamingLemmas.{first_here, first_later, first_behind, first_front, none_within}
 use Rattle.kb_record.specs.NamesMet.{has}
-use Rattle.kb_fields.proofs.RepeatLemmas.{HasSeen, name_at}
-
-abbrev pub names_of : List (Bor (List ℕ) × code.Value) → List (List ℕ)
-names_of fs = map (λ (f : Bor (List ℕ) × code.Value). f.0.now) fs
+use Rattle.kb_fields.proofs.RepeatLemmas.{HasSeen, names_in, name_at}
 
 -- the names from the k-th field on
-abbrev pub from_field : List (Bor (List ℕ) × code.Value) → ℕ → List Naming
-from_field fs k = namings_behind (take k (names_of fs)) (fields_view (drop k fs))
+abbrev pub from_field : List (Field code.Value) → ℕ → List Naming
+from_field fs k = namings_behind (take k (names_in fs)) (fields_view (drop k fs))
 
 -- the names from the k-th place on
 abbrev pub from_place : List (Option Value) → ℕ → List Naming
@@ -32,54 +30,54 @@ from_place ps k = namings_in (places_of (drop k ps))
 abbrev pub FirstOfAll : List Naming → List Naming → Type 0
 FirstOfAll rest all = (name : List ℕ) → IsFirst rest name → IsFirst all name
 
-module _ (fs : List (Bor (List ℕ) × code.Value)) (k : ℕ) (f : Bor (List ℕ) × code.Value) (within : k < length fs) (at : f ≡ get_or fs k f) where
+module _ (fs : List (Field code.Value)) (k : ℕ) (f : Field code.Value) (within : k < length fs) (at : f ≡ get_or fs k f) where
   abbrev naming : Naming
-  naming = record { name = f.0.now; before = take k (names_of fs) }
+  naming = record { name = (field_view f).0; before = take k (names_in fs) }
 
-  named : slice_get (names_of fs) k ≡ Some f.0.now
+  named : slice_get (names_in fs) k ≡ Some (field_view f).0
   named = name_at fs k f within at
 
   rest_is : drop k fs ≡ f ∷ drop (k + 1) fs
-  rest_is = drop-cons fs k f within ∙ ap (λ (g : Bor (List ℕ) × code.Value). g ∷ drop (suc k) fs) (sym at) ∙ ap (λ (n : ℕ). f ∷ drop n fs) (sym (add-one k))
+  rest_is = drop-cons fs k f within ∙ ap (λ (g : Field code.Value). g ∷ drop (suc k) fs) (sym at) ∙ ap (λ (n : ℕ). f ∷ drop n fs) (sym (add-one k))
 
-  names_more : take (k + 1) (names_of fs) ≡ take k (names_of fs) ++ f.0.now ∷ []
+  names_more : take (k + 1) (names_in fs) ≡ take k (names_in fs) ++ (field_view f).0 ∷ []
   names_more =
-      take_more (names_of fs) k f.0.now (slice_get_within (names_of fs) k f.0.now named)
-      ∙ ap (λ (n : List ℕ). take k (names_of fs) ++ n ∷ []) (get_or_from_slice_get (names_of fs) k f.0.now f.0.now named)
+      take_more (names_in fs) k (field_view f).0 (slice_get_within (names_in fs) k (field_view f).0 named)
+      ∙ ap (λ (n : List ℕ). take k (names_in fs) ++ n ∷ []) (get_or_from_slice_get (names_in fs) k (field_view f).0 (field_view f).0 named)
 
-  one_more : from_field fs k ≡ record { name = f.0.now; before = take k (names_of fs) } ∷ namings (value_view f.1) ++ from_field fs (k + 1)
+  one_more : from_field fs k ≡ record { name = (field_view f).0; before = take k (names_in fs) } ∷ namings (field_view f).1 ++ from_field fs (k + 1)
   one_more =
-      ap (λ (gs : List (Bor (List ℕ) × code.Value)). namings_behind (take k (names_of fs)) (fields_view gs)) rest_is
-      ∙ ap (λ (ns : List (List ℕ)). record { name = f.0.now; before = take k (names_of fs) } ∷ namings (value_view f.1) ++ namings_behind ns (fields_view (drop (k + 1) fs))) (sym names_more)
+      ap (λ (gs : List (Field code.Value)). namings_behind (take k (names_in fs)) (fields_view gs)) rest_is
+      ∙ ap (λ (ns : List (List ℕ)). record { name = (field_view f).0; before = take k (names_in fs) } ∷ namings (field_view f).1 ++ namings_behind ns (fields_view (drop (k + 1) fs))) (sym names_more)
 
   -- the field's name stands before, or is new
-  pub stands : (seen : BTreeSet (Bor (List ℕ))) → HasSeen (names_of fs) k seen → has seen f.0.now ≡ true → Contains (take k (names_of fs)) f.0.now
+  pub stands : (seen : BTreeSet (Bor (List ℕ))) → HasSeen (names_in fs) k seen → has seen (field_view f).0 ≡ true → Contains (take k (names_in fs)) (field_view f).0
   stands seen first found =
-      let before = first.old f.0.now found in
-      has_place (take k (names_of fs)) before.0 f.0.now (among_first (names_of fs) k before.0 f.0.now before.2 before.1)
+      let before = first.old (field_view f).0 found in
+      has_place (take k (names_in fs)) before.0 (field_view f).0 (among_first (names_in fs) k before.0 (field_view f).0 before.2 before.1)
 
-  pub is_new : (seen : BTreeSet (Bor (List ℕ))) → HasSeen (names_of fs) k seen → has seen f.0.now ≡ false → Contains (take k (names_of fs)) f.0.now → ⊥
+  pub is_new : (seen : BTreeSet (Bor (List ℕ))) → HasSeen (names_in fs) k seen → has seen (field_view f).0 ≡ false → Contains (take k (names_in fs)) (field_view f).0 → ⊥
   is_new seen first absent among =
-      let before = stands_before (names_of fs) k among.0 f.0.now (place_of (take k (names_of fs)) f.0.now among) in
-      false≢true (sym absent ∙ first.all f.0.now among.0 before.before before.at)
+      let before = stands_before (names_in fs) k among.0 (field_view f).0 (place_of (take k (names_in fs)) (field_view f).0 among) in
+      false≢true (sym absent ∙ first.all (field_view f).0 among.0 before.before before.at)
 
   module _ (all : List Naming) (whole : FirstOfAll (from_field fs k) all) where
-    pub repeated_here : Contains (take k (names_of fs)) f.0.now → IsFirst all f.0.now
+    pub repeated_here : Contains (take k (names_in fs)) (field_view f).0 → IsFirst all (field_view f).0
     repeated_here again =
-        let P : List Naming → Type 0 = λ ns. IsFirst ns f.0.now in
-        whole f.0.now (subst P (sym one_more) (first_here naming _ again))
+        let P : List Naming → Type 0 = λ ns. IsFirst ns (field_view f).0 in
+        whole (field_view f).0 (subst P (sym one_more) (first_here naming _ again))
 
-    pub repeated_inside : (name : List ℕ) → (Contains (take k (names_of fs)) f.0.now → ⊥) → IsFirst (namings (value_view f.1)) name → IsFirst all name
+    pub repeated_inside : (name : List ℕ) → (Contains (take k (names_in fs)) (field_view f).0 → ⊥) → IsFirst (namings (field_view f).1) name → IsFirst all name
     repeated_inside name new found =
         let P : List Naming → Type 0 = λ ns. IsFirst ns name in
-        whole name (subst P (sym one_more) (first_later naming _ name new (first_front (namings (value_view f.1)) (from_field fs (k + 1)) name found)))
+        whole name (subst P (sym one_more) (first_later naming _ name new (first_front (namings (field_view f).1) (from_field fs (k + 1)) name found)))
 
-    pub repeated_later : (Contains (take k (names_of fs)) f.0.now → ⊥) → ((q : List ℕ) → HasFieldTwice (value_view f.1) q → ⊥)
+    pub repeated_later : (Contains (take k (names_in fs)) (field_view f).0 → ⊥) → ((q : List ℕ) → HasFieldTwice (field_view f).1 q → ⊥)
         → FirstOfAll (from_field fs (k + 1)) all
     repeated_later new once name found =
         let P : List Naming → Type 0 = λ ns. IsFirst ns name in
         whole name (subst P (sym one_more) (first_later naming _ name new
-        (first_behind (namings (value_view f.1)) (from_field fs (k + 1)) name (none_within (value_view f.1) once) found)))
+        (first_behind (namings (field_view f).1) (from_field fs (k + 1)) name (none_within (field_view f).1 once) found)))
 
 module _ (ps : List (Option Value)) (k : ℕ) (p : Option Value) (at : slice_get ps k ≡ Some p) (all : List Naming) (whole : FirstOfAll (from_place ps k) all) where
   places_are : drop k ps ≡ p ∷ drop (k + 1) ps

@@ -3,6 +3,7 @@
 //! # The public contract
 //!
 //! - [`field_named`] looks a field up. Where a name stands twice, "the value of the field" is that of the first.
+//!   A value that is kept as it is written is read again, so the one refusal is want of memory.
 //! - [`repeated_name`] answers the name of a field that stands twice in some record, nested ones too, and none
 //!   where no name does: of several, the one whose second place comes first in the text.
 //! - [`bare_name`] takes a value that is a Name, [`number_of`] one that is a number and [`numbers_listed`] one that is
@@ -17,8 +18,8 @@
 //! # How it is made
 //!
 //! - `fields` looks up fields, and finds names that stand twice by a set of the names seen. It recurses into
-//!   records, whose nesting the parser bounds; at a place of a list `kb_record` finds them in one pass, however deep
-//!   it is.
+//!   records, whose nesting the parser bounds; at a place of a list, and in a field that is kept as it is written,
+//!   `kb_record` finds them in one pass, however deep it is.
 //! - `values` tells Names and lists of Names apart from other values, and `numbers` numbers and lists of numbers.
 //!   Lists are read place by place, in whichever form they are kept; one kept as numbers is copied at once.
 //! - `generators` joins them to names of generators: each name is pushed in turn, and one that was there is taken.

@@ -7,7 +7,7 @@ use Rattle.kb_fields.proofs.ListingLemmas.{some_value}
 use Rattle.kb_fsafile.specs.Checks.{FieldPlace, field_of, optional, need_of, FieldStep, field_presence, field_kind, field_value, field_elements, Check, no_field_twice, of_field, of_row, padded_texts, order_of, stage_of, number_of_step, Before}
 use Rattle.kb_fsafile.specs.Standing.{name_of, StandsIn, HasFieldKind}
 use Rattle.kb_fsafile.specs.Faults.{IsRefusedValue, HasRefusedElement, FindsInField, Finds, IsFirstOf}
-use Rattle.kb_fsafile.specs.Reading.{IsRefusalOf, IsMemoryOr, IsFreeBefore, IsFirstFrom}
+use Rattle.kb_fsafile.specs.Reading.{IsRefusalOf, IsOfOtherKind, IsMemoryOr, IsFreeBefore, IsFirstFrom}
 use Rattle.kb_fsafile.specs.declared.error.FsaError.{FsaError}
 use Rattle.kb_fsafile.specs.declared.error.FsaError.TheVariants as errors
 use Rattle.kb_fsafile.proofs.CheckLemmas.{same_field, order_small, order_positive}
@@ -95,8 +95,8 @@ module _ (given : Fields) (place : FieldPlace) (owner : Fields) (stands : Stands
       sooner (of_row k s) e (inr same) there = absurd same.1
       sooner padded_texts e (inr same) there = absurd same.1
 
-  -- the field isn't there, or of another kind
-  pub refused : (error : FsaError) → IsRefusalOf (field_of place) (need_of place) owner error → IsFirstFrom (order_of place) given error
+  -- the field isn't there, or of another kind, or memory ran out
+  pub refused : (error : FsaError) → IsMemoryOr (IsRefusalOf (field_of place) (need_of place) owner) error → IsFirstFrom (order_of place) given error
   refused (errors.MissingField field) r free = first_in_field field_presence _ (ap (λ f. errors.MissingField f) r.0, r.1, r.2) none free
     where
       none : (s : FieldStep) (e : FsaError) → number_of_step s < 0 → FindsInField given place owner s e → ⊥
@@ -108,7 +108,15 @@ module _ (given : Fields) (place : FieldPlace) (owner : Fields) (stands : Stands
       none field_kind e before found = omega (arith, before)
       none field_value e before found = omega (arith, before)
       none field_elements e before found = omega (arith, before)
+  refused errors.Memory r free = tt
   refused error r free = absurd r
+
+  -- the field's value is of another kind
+  pub kind_refused : (value : Value) (error : FsaError) → value_of owner (name_of (field_of place)) ≡ Some value → IsOfOtherKind (field_of place) value error
+      → IsFirstFrom (order_of place) given error
+  kind_refused value error is other =
+      let P : FsaError → Type 0 = λ e. IsFirstFrom (order_of place) given e in
+      subst P (sym other.0) (refused (errors.WrongKind (field_of place)) (refl, value, is, other.1))
 
   -- an optional field that isn't there
   pub absent_passed : need_of place ≡ optional → value_of owner (name_of (field_of place)) ≡ None → IsFreeBefore given (order_of place)

@@ -6,7 +6,7 @@ use Rattle.kb_fsa.specs.declared.alphabet.Alphabet.{Alphabet}
 use Rattle.kb_fsafile.specs.Kinds.{count_value, IsNumbers, StandsFor, IsNumberOf}
 use Rattle.kb_fsafile.specs.Holds.{HoldsRecord, HoldsAlphabet}
 use Rattle.kb_fsafile.specs.Checks.{Need, needed, Check, stage_of}
-use Rattle.kb_fsafile.specs.Standing.{name_of, IsAlphabetOf, HasNamesOf, HasFieldKind, ListsNames}
+use Rattle.kb_fsafile.specs.Standing.{name_of, IsAlphabetOf, IsBaseOf, HasNamesOf, HasFieldKind, ListsNames}
 use Rattle.kb_fsafile.specs.Faults.{Finds, IsFirstOf}
 use Rattle.kb_fsafile.specs.declared.accepting.Accepting.{Accepting}
 use Rattle.kb_fsafile.specs.declared.accepting.Accepting.TheVariants.{Listed, Range}
@@ -44,6 +44,10 @@ IsRefusalOf field need owner (errors.WrongKind other) =
     × (¬ HasFieldKind field value)
 IsRefusalOf field need owner _ = ⊥
 
+-- the refusal of a field whose value is of another kind
+abbrev pub IsOfOtherKind : Field → Value → FsaError → Type 0
+IsOfOtherKind field value error = (error ≡ errors.WrongKind field) × (¬ HasFieldKind field value)
+
 -- it has the fault, or it is want of memory
 abbrev pub IsMemoryOr : (FsaError → Type 0) → FsaError → Type 0
 IsMemoryOr Has errors.Memory = Unit {0}
@@ -57,10 +61,15 @@ pub record IsFreeBefore (given : Fields) (stage : ℕ) : Type 0 where
 abbrev pub IsFirstFrom : ℕ → Fields → FsaError → Type 0
 IsFirstFrom stage given error = IsFreeBefore given stage → IsMemoryOr (IsFirstOf given) error
 
--- so for each text whose alphabet is the record, of this type; for each whose names of letters it has
+-- so for each text whose alphabet is the record, of this type; whose base of an alphabet of pairs it is; whose names of
+-- letters it has
 abbrev pub IsFirstOfAlphabet : ℕ → List ℕ → Fields → FsaError → Type 0
 IsFirstOfAlphabet stage type letters error =
     (given : Fields) → IsAlphabetOf given letters type → IsFirstFrom stage given error
+
+abbrev pub IsFirstOfBase : ℕ → Fields → FsaError → Type 0
+IsFirstOfBase stage base error =
+    (given : Fields) → IsBaseOf given base → IsFirstFrom stage given error
 
 abbrev pub IsFirstOfNames : ℕ → Fields → FsaError → Type 0
 IsFirstOfNames stage letters error =

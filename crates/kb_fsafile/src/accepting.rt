@@ -12,7 +12,7 @@ use crate::error::{Field, FsaError};
 use crate::fields::needed_value;
 use crate::values::{number_within, range_of};
 use kb_fields::numbers_listed;
-use kb_record::Value;
+use kb_record::{RecordField, Value};
 use kb_word::Memory;
 use std::alloc::Global;
 
@@ -76,7 +76,7 @@ fn range_marks(alloc: Global, from: u64, to: u64, count: usize) -> Result<Vec<bo
 /// The accepting ones of so many states.
 pub fn read_accepting<'a>(
     alloc: Global,
-    fields: &[(&'a str, Value<'a>)],
+    fields: &[RecordField<'a>],
     count: u64,
 ) -> Result<Accepting, FsaError>
     requires { HoldsStates (fields_view fields.now) count }
@@ -84,7 +84,8 @@ pub fn read_accepting<'a>(
     ensures fault { IfErr result
         (IsFirstFrom (order_of accepting_field) (fields_view fields.now)) }
 {
-    let value = needed_value(fields, Field::Accepting)?;
+    let found = needed_value(alloc, fields, Field::Accepting)?;
+    let value = found.value();
     if let Some((from, to)) = range_of(value) {
         return range_within(from, to, count);
     }

@@ -8,16 +8,18 @@ ghost use Rattle.kb_fsafile.specs.Reading.{IsFirstFrom};
 
 use crate::error::{Field, FsaError};
 use crate::fields::needed_value;
-use kb_record::Value;
+use kb_record::{RecordField, Value};
+use std::alloc::Global;
 
 /// Refuses a file that doesn't say `isFSA := true`.
-pub fn check_is_fsa<'a>(fields: &[(&'a str, Value<'a>)]) -> Result<(), FsaError>
+pub fn check_is_fsa<'a>(alloc: Global, fields: &[RecordField<'a>]) -> Result<(), FsaError>
     ensures ok { OnOk result
         (value_of (fields_view fields.now) (codes "isFSA") ≡ Some (bare_name (codes "true"))) }
     ensures fault { IfErr result
         (IsFirstFrom (order_of is_fsa_field) (fields_view fields.now)) }
 {
-    if !is_true(needed_value(fields, Field::IsFsa)?) {
+    let value = needed_value(alloc, fields, Field::IsFsa)?;
+    if !is_true(value.value()) {
         return Err(FsaError::WrongKind {
             field: Field::IsFsa,
         });

@@ -10,13 +10,13 @@ use crate::error::{Field, FsaError};
 use crate::fields::needed_value;
 use crate::values::number_within;
 use kb_fields::numbers_listed;
-use kb_record::Value;
+use kb_record::RecordField;
 use std::alloc::Global;
 
 /// The initial state of so many, and 0 where there is none.
 pub fn read_initial<'a>(
     alloc: Global,
-    fields: &[(&'a str, Value<'a>)],
+    fields: &[RecordField<'a>],
     count: u64,
 ) -> Result<u64, FsaError>
     requires { HoldsStates (fields_view fields.now) count }
@@ -24,8 +24,8 @@ pub fn read_initial<'a>(
     ensures fault { IfErr result
         (IsFirstFrom (order_of initial_field) (fields_view fields.now)) }
 {
-    let value = needed_value(fields, Field::Initial)?;
-    let Some(numbers) = numbers_listed(alloc, value)? else {
+    let value = needed_value(alloc, fields, Field::Initial)?;
+    let Some(numbers) = numbers_listed(alloc, value.value())? else {
         return Err(FsaError::WrongKind {
             field: Field::Initial,
         });

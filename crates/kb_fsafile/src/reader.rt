@@ -28,7 +28,7 @@ use crate::states::count_states;
 use crate::table::read_rows;
 use kb_fsa::{Alphabet, Fsa, PairSymbols, Table};
 use kb_padding::without_misplaced;
-use kb_record::{Rec, Value, parse};
+use kb_record::{Rec, RecordField, parse};
 use kb_word::Names;
 use std::alloc::Global;
 
@@ -79,7 +79,7 @@ fn text_of<'a>(alloc: Global, bytes: &'a [u8]) -> Result<Rec<'a>, FsaError>
 /// The letters and the table that fields say. Field by field, in the order in which a file is refused.
 fn lettered_table<'a>(
     alloc: Global,
-    fields: &[(&'a str, Value<'a>)],
+    fields: &[RecordField<'a>],
 ) -> Result<(Letters, RawTable), FsaError>
     ensures read { IfOk result
         (λ found. HasLetteredTable (fields_view fields.now) found.0.names
@@ -87,7 +87,7 @@ fn lettered_table<'a>(
     ensures fault { IfErr result (IsMemoryOr (IsFirstOf (fields_view fields.now))) }
 {
     check_once(alloc, fields)?;
-    check_is_fsa(fields)?;
+    check_is_fsa(alloc, fields)?;
     let letters = read_alphabet(alloc, fields)?;
     let table = read_table(alloc, fields, letters.size)?;
     Ok((letters, table))
@@ -96,7 +96,7 @@ fn lettered_table<'a>(
 /// The table that fields say, as it stands.
 fn read_table<'a>(
     alloc: Global,
-    fields: &[(&'a str, Value<'a>)],
+    fields: &[RecordField<'a>],
     size: u32,
 ) -> Result<RawTable, FsaError>
     requires { HasSize (fields_view fields.now) size }
@@ -104,7 +104,7 @@ fn read_table<'a>(
     ensures fault { IfErr result
         (IsFirstFrom (order_of states_field) (fields_view fields.now)) }
 {
-    let count = count_states(fields)?;
+    let count = count_states(alloc, fields)?;
     let initial = read_initial(alloc, fields, count)?;
     let accepting = read_accepting(alloc, fields, count)?;
     let rows = read_rows(alloc, fields, size, count)?;

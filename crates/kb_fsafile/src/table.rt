@@ -11,17 +11,17 @@ ghost use Rattle.kb_fsafile.specs.Reading.{IsFirstFrom, IsFirstOfTable};
 ghost use Rattle.kb_fsafile.specs.RowsRead.{HasRows, AreRowsAt, IsFirstOfRows};
 
 use crate::error::{Field, FsaError};
-use crate::fields::{needed_list, needed_record, needed_string, optional_number};
+use crate::fields::{needed_list, needed_string, needed_value, optional_number, record_in};
 use crate::format::Format;
 use crate::rows::read_row;
 use kb_ragged::Ragged;
-use kb_record::Value;
+use kb_record::{RecordField, Value};
 use std::alloc::Global;
 
 /// The rows of so many states over so many symbols. More than a `u32` can number take more memory than there is.
 pub fn read_rows<'a>(
     alloc: Global,
-    fields: &[(&'a str, Value<'a>)],
+    fields: &[RecordField<'a>],
     size: u32,
     count: u64,
 ) -> Result<Ragged<(u32, u32)>, FsaError>
@@ -31,27 +31,28 @@ pub fn read_rows<'a>(
     ensures fault { IfErr result
         (IsFirstFrom (order_of table_field) (fields_view fields.now)) }
 {
-    let table = needed_record(fields, Field::Table)?.as_slice();
-    check_default(table)?;
-    let format = read_format(table)?;
-    let (list, length) = needed_list(table, Field::Transitions)?;
+    let value = needed_value(alloc, fields, Field::Table)?;
+    let table = record_in(value.value(), Field::Table)?.as_slice();
+    check_default(alloc, table)?;
+    let format = read_format(alloc, table)?;
+    let (list, length) = needed_list(alloc, table, Field::Transitions)?;
     if length as u64 != count {
         return Err(FsaError::StatesWrong);
     }
     match u32::try_from(count) {
-        Ok(count) => rows_listed(alloc, list, format, size, count),
+        Ok(count) => rows_listed(alloc, list.value(), format, size, count),
         Err(_) => Err(FsaError::Memory),
     }
 }
 
 /// Refuses another default target than 0, which stands where none is given.
-fn check_default<'a>(table: &[(&'a str, Value<'a>)]) -> Result<(), FsaError>
+fn check_default<'a>(alloc: Global, table: &[RecordField<'a>]) -> Result<(), FsaError>
     ensures ok { OnOk result
         (HasNoDefault (value_of (fields_view table.now) (codes "defaultTarget"))) }
     ensures fault { IfErr result
         (IsFirstOfTable (order_of default_field) (fields_view table.now)) }
 {
-    let Some(target) = optional_number(table, Field::DefaultTarget)? else {
+    let Some(target) = optional_number(alloc, table, Field::DefaultTarget)? else {
         return Ok(());
     };
     if target != 0 {
@@ -61,13 +62,13 @@ fn check_default<'a>(table: &[(&'a str, Value<'a>)]) -> Result<(), FsaError>
 }
 
 /// The format of the table.
-fn read_format<'a>(table: &[(&'a str, Value<'a>)]) -> Result<Format, FsaError>
+fn read_format<'a>(alloc: Global, table: &[RecordField<'a>]) -> Result<Format, FsaError>
     ensures named { IfOk result
         (λ format. HoldsString (fields_view table.now) (codes "format") (format_name format)) }
     ensures fault { IfErr result
         (IsFirstOfTable (order_of table_format_field) (fields_view table.now)) }
 {
-    match Format::named(needed_string(table, Field::Format)?) {
+    match Format::named(needed_string(alloc, table, Field::Format)?) {
         Some(format) => Ok(format),
         None => Err(FsaError::NotDeterministic),
     }

@@ -5,10 +5,11 @@ use Rattle.std.specs.Borrow.{Bor}
 use Rattle.std.specs.Option.{IsSome}
 use Rattle.std.proofs.lemmas.Option.{slice_get-get_or, none-some}
 use Rattle.kb_record.specs.Tree.{Value as ValueTree, record_value, list_value}
-use Rattle.kb_record.specs.View.{factor_view, factors_view, value_view, fields_view, places_of, number_place}
+use Rattle.kb_record.specs.View.{factor_view, factors_view, fields_view, places_of, number_place}
 use Rattle.kb_layout.specs.Layout.{word_text, factor_text, more_factors_text, line_of, line_of_fields, line_of_more_fields, indent, text_of_value, text_of_fields, are_lists, is_table}
 use Rattle.kb_layout.specs.Printing.{pieces, line_of_field, text_of_field, line_at, list_place, holds_list}
 use Rattle.kb_record.specs.declared.tree.Factor.{Factor}
+use Rattle.kb_record.specs.declared.tree.Field.{Field}
 use Rattle.kb_record.specs.declared.tree.Value.{Value}
 
 -- ---- words
@@ -26,20 +27,20 @@ factor_pieces (f ∷ fs) = append-nil _ ∙ ap (λ t. factor_piece f ++ t) (sym 
 
 -- ---- records
 
-more_field_pieces : (fs : List (Bor (List ℕ) × Value)) → line_of_more_fields (fields_view fs) ≡ pieces line_of_field (codes ",") (codes ",") fs
+more_field_pieces : (fs : List (Field Value)) → line_of_more_fields (fields_view fs) ≡ pieces line_of_field (codes ",") (codes ",") fs
 more_field_pieces [] = refl
 more_field_pieces (f ∷ fs) =
     ap (λ t. codes "," ++ (line_of_field f ++ t)) (more_field_pieces fs)
 
-field_pieces : (fs : List (Bor (List ℕ) × Value)) → pieces line_of_field [] (codes ",") fs ≡ line_of_fields (fields_view fs)
+field_pieces : (fs : List (Field Value)) → pieces line_of_field [] (codes ",") fs ≡ line_of_fields (fields_view fs)
 field_pieces [] = refl
 field_pieces (f ∷ fs) =
     ap (λ t. line_of_field f ++ t) (sym (more_field_pieces fs))
 
-pub record_pieces : (fs : List (Bor (List ℕ) × Value)) → codes "rec(" ++ (pieces line_of_field [] (codes ",") fs ++ codes ")") ≡ line_of (record_value (fields_view fs))
+pub record_pieces : (fs : List (Field Value)) → codes "rec(" ++ (pieces line_of_field [] (codes ",") fs ++ codes ")") ≡ line_of (record_value (fields_view fs))
 record_pieces fs = ap (λ t. codes "rec(" ++ (t ++ codes ")")) (field_pieces fs)
 
-some_field_pieces_at : (level : ℕ) (f : Bor (List ℕ) × Value) (fs : List (Bor (List ℕ) × Value)) (after : List ℕ) → text_of_field level f ++ (pieces (text_of_field level) (codes ",\n") (codes ",\n") fs ++ (codes "\n" ++ after))
+some_field_pieces_at : (level : ℕ) (f : Field Value) (fs : List (Field Value)) (after : List ℕ) → text_of_field level f ++ (pieces (text_of_field level) (codes ",\n") (codes ",\n") fs ++ (codes "\n" ++ after))
     ≡ text_of_fields level (fields_view (f ∷ fs)) ++ after
 some_field_pieces_at level f [] after = simp append_assoc
 some_field_pieces_at level f (g ∷ fs) after =
@@ -47,13 +48,13 @@ some_field_pieces_at level f (g ∷ fs) after =
     let here : text_of_field level f ++ (codes ",\n" ++ (text_of_fields level (fields_view (g ∷ fs)) ++ after)) ≡ text_of_fields level (fields_view (f ∷ (g ∷ fs))) ++ after = simp append_assoc in
     ap (λ t. text_of_field level f ++ (codes ",\n" ++ t)) (append_assoc (text_of_field level g) (pieces (text_of_field level) (codes ",\n") (codes ",\n") fs) (codes "\n" ++ after) ∙ more) ∙ here
 
-field_pieces_at : (level : ℕ) (fs : List (Bor (List ℕ) × Value)) (after : List ℕ) → pieces (text_of_field level) (codes "\n") (codes ",\n") fs ++ (codes "\n" ++ after)
+field_pieces_at : (level : ℕ) (fs : List (Field Value)) (after : List ℕ) → pieces (text_of_field level) (codes "\n") (codes ",\n") fs ++ (codes "\n" ++ after)
     ≡ codes "\n" ++ (text_of_fields level (fields_view fs) ++ after)
 field_pieces_at level [] after = refl
 field_pieces_at level (f ∷ fs) after =
     ap (λ t. codes "\n" ++ t) (append_assoc (text_of_field level f) (pieces (text_of_field level) (codes ",\n") (codes ",\n") fs) (codes "\n" ++ after) ∙ some_field_pieces_at level f fs after)
 
-pub record_pieces_at : (level : ℕ) (fs : List (Bor (List ℕ) × Value)) → codes "rec(" ++ (pieces (text_of_field (suc level)) (codes "\n") (codes ",\n") fs ++ (codes "\n" ++ (indent level ++ codes ")")))
+pub record_pieces_at : (level : ℕ) (fs : List (Field Value)) → codes "rec(" ++ (pieces (text_of_field (suc level)) (codes "\n") (codes ",\n") fs ++ (codes "\n" ++ (indent level ++ codes ")")))
     ≡ text_of_value level (record_value (fields_view fs))
 record_pieces_at level fs =
     ap (λ t. codes "rec(" ++ t) (field_pieces_at (suc level) fs (indent level ++ codes ")"))

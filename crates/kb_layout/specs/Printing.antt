@@ -1,8 +1,8 @@
 -- Texts that are printed piece by piece.
 use Rattle.std.specs.Prelude.{◌≡◌, ℕ, List, [], ◌∷◌, ◌++◌, drop, codes, map, Bool, true, false, Option, Some, None}
-use Rattle.std.specs.Borrow.{Bor}
 use Rattle.kb_record.specs.Tree.{Value as ValueTree, list_value}
-use Rattle.kb_record.specs.View.{value_view, places_of}
+use Rattle.kb_record.specs.View.{field_view, places_of}
+use Rattle.kb_record.specs.declared.tree.Field.{Field}
 use Rattle.kb_record.specs.declared.tree.Value.{Value}
 use Rattle.kb_layout.specs.Layout.{line_of, text_of_value, indent}
 
@@ -23,13 +23,13 @@ pub record IsPrintedUpTo {A : Type 0} (text : A → List ℕ) (between ending : 
   pub to_come : whole ≡ done ++ (pieces text before between (drop index xs) ++ ending)
 
 -- `NAME := ` and a value on one line
-abbrev pub line_of_field : Bor (List ℕ) × Value → List ℕ
-line_of_field f = f.0.now ++ codes " := " ++ line_of (value_view f.1)
+abbrev pub line_of_field : Field Value → List ℕ
+line_of_field f = (field_view f).0 ++ codes " := " ++ line_of (field_view f).1
 
 -- the same at a level, on a line of its own
-abbrev pub text_of_field : ℕ → Bor (List ℕ) × Value → List ℕ
+abbrev pub text_of_field : ℕ → Field Value → List ℕ
 text_of_field level f =
-    indent level ++ f.0.now ++ codes " := " ++ text_of_value level (value_view f.1)
+    indent level ++ (field_view f).0 ++ codes " := " ++ text_of_value level (field_view f).1
 
 -- what stands at a place on one line, or nothing
 abbrev pub line_at : Option ValueTree → List ℕ

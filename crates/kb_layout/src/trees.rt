@@ -2,7 +2,7 @@
 
 ghost use Rattle.std.specs.Prelude.{◌≡◌, ◌++◌, OnOk, OnErr, IfOk, suc, codes, [], ◌∷◌};
 ghost use Rattle.kb_record.specs.Tree.{string_value, record_value, list_value, range_value};
-ghost use Rattle.kb_record.specs.View.{text_view, value_view, fields_view, places_view, factor_view, factors_view, word_view, written_place};
+ghost use Rattle.kb_record.specs.View.{text_view, value_view, field_view, fields_view, places_view, factor_view, factors_view, word_view, written_place};
 ghost use Rattle.kb_layout.specs.Layout.{printed, power_text, word_text, factor_text, line_of, indent, text_of_value};
 ghost use Rattle.kb_layout.specs.Layout as layout;
 ghost use Rattle.std.specs.Option.{option_map};
@@ -10,7 +10,7 @@ ghost use Rattle.kb_layout.specs.Printing.{Appended, line_of_place, row_of_place
 
 use crate::printing::{print_blanks, print_number};
 use crate::rows::{print_items, print_lists, print_lists_on_line};
-use kb_record::{Expr, Factor, PlaceText, Rec, Value, WrittenPlaces};
+use kb_record::{Expr, Factor, PlaceText, Rec, RecordField, Value, WrittenPlaces};
 use kb_word::Memory;
 use std::alloc::Global;
 
@@ -58,7 +58,7 @@ fn print_value(level: usize, value: &Value<'_>, out: &mut Vec<u8>) -> Result<(),
 
 /// Appends a record at a level, each field on a line of its own.
 #[cycle(levels)]
-fn print_record(level: usize, fields: &[(&str, Value<'_>)], out: &mut Vec<u8>) -> Result<(), Memory>
+fn print_record(level: usize, fields: &[RecordField<'_>], out: &mut Vec<u8>) -> Result<(), Memory>
     ensures printed { OnOk result (out.new.items
         ≡ out.old.items ++ text_of_value level (record_value (fields_view fields.now))) }
     ensures kept { OnErr result (Appended out.old.items out.new.items) }
@@ -66,9 +66,9 @@ fn print_record(level: usize, fields: &[(&str, Value<'_>)], out: &mut Vec<u8>) -
     let inside = one_level_in(level)?;
     out.extend_from_slice(b"rec(")?;
     let mut before: &[u8] = b"\n";
-    for (name, value) in fields {
+    for field in fields {
         out.extend_from_slice(before)?;
-        print_field(inside, name, value, out)?;
+        print_field(inside, field, out)?;
         before = b",\n";
     }
     print_close(level, b')', out)
@@ -76,16 +76,17 @@ fn print_record(level: usize, fields: &[(&str, Value<'_>)], out: &mut Vec<u8>) -
 
 /// Appends a field at a level, without what ends its line.
 #[cycle(levels)]
-fn print_field(level: usize, name: &str, value: &Value<'_>, out: &mut Vec<u8>) -> Result<(), Memory>
+fn print_field(level: usize, field: &RecordField<'_>, out: &mut Vec<u8>) -> Result<(), Memory>
     ensures printed { OnOk result (out.new.items
         ≡ out.old.items
-        ++ (indent level ++ name.now ++ codes " := "
-        ++ text_of_value level (value_view value.now))) }
+        ++ (indent level ++ (field_view field.now).0 ++ codes " := "
+        ++ text_of_value level (field_view field.now).1)) }
     ensures kept { OnErr result (Appended out.old.items out.new.items) }
 {
     print_blanks(level, out)?;
-    print_name(name, out)?;
-    print_value(level, value, out)
+    print_name(field.name(), out)?;
+    let value = field.value(*out.allocator())?;
+    print_value(level, value.value(), out)
 }
 
 /// Appends a list at a level: where each place holds a list, each is on a line of its own.
@@ -204,21 +205,33 @@ fn print_on_line(value: &Value<'_>, out: &mut Vec<u8>) -> Result<(), Memory>
 
 /// Appends a record on one line.
 #[cycle(lines)]
-fn print_record_on_line(fields: &[(&str, Value<'_>)], out: &mut Vec<u8>) -> Result<(), Memory>
+fn print_record_on_line(fields: &[RecordField<'_>], out: &mut Vec<u8>) -> Result<(), Memory>
     ensures printed { OnOk result (out.new.items
         ≡ out.old.items ++ line_of (record_value (fields_view fields.now))) }
     ensures kept { OnErr result (Appended out.old.items out.new.items) }
 {
     out.extend_from_slice(b"rec(")?;
     let mut before: &[u8] = b"";
-    for (name, value) in fields {
+    for field in fields {
         out.extend_from_slice(before)?;
-        print_name(name, out)?;
-        print_on_line(value, out)?;
+        print_field_on_line(field, out)?;
         before = b",";
     }
     out.push(b')')?;
     Ok(())
+}
+
+/// Appends a field on one line.
+#[cycle(lines)]
+fn print_field_on_line(field: &RecordField<'_>, out: &mut Vec<u8>) -> Result<(), Memory>
+    ensures printed { OnOk result (out.new.items
+        ≡ out.old.items
+        ++ ((field_view field.now).0 ++ codes " := " ++ line_of (field_view field.now).1)) }
+    ensures kept { OnErr result (Appended out.old.items out.new.items) }
+{
+    print_name(field.name(), out)?;
+    let value = field.value(*out.allocator())?;
+    print_on_line(value.value(), out)
 }
 
 /// Appends a list on one line.

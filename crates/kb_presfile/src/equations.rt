@@ -13,7 +13,7 @@ ghost use Rattle.kb_presfile.specs.declared.error.Field.TheVariants as kinds;
 use crate::error::{Field, PresError};
 use crate::fields::needed;
 use crate::values::sides_at;
-use kb_record::{Place, Value, word_of};
+use kb_record::{Place, RecordField, Value, word_of};
 use kb_word::{Equations, Presentation, Word};
 use std::alloc::Global;
 
@@ -23,7 +23,7 @@ pub const MOST_EQUATIONS: usize = 65535;
 /// The equations, over a presentation that has the text's names and inverses.
 pub fn read_equations<'a>(
     alloc: Global,
-    fields: &[(&'a str, Value<'a>)],
+    fields: &[RecordField<'a>],
     presentation: &Presentation,
 ) -> Result<Equations, PresError>
     requires named { HasNames (fields_view fields.now) presentation.now.names }
@@ -34,7 +34,8 @@ pub fn read_equations<'a>(
     ensures fault { IfErr result
         (IsFirstFrom (fields_view fields.now) (is_there kinds.Equations)) }
 {
-    let list = needed(fields, Field::Equations)?;
+    let found = needed(alloc, fields, Field::Equations)?;
+    let list = found.value();
     let Some(count) = list.place_count() else {
         return Err(PresError::WrongKind {
             field: Field::Equations,

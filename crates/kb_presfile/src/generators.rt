@@ -11,17 +11,17 @@ ghost use Rattle.kb_presfile.specs.declared.error.Field.TheVariants as kinds;
 use crate::error::{Field, PresError};
 use crate::fields::needed;
 use kb_fields::names_of;
-use kb_record::Value;
+use kb_record::RecordField;
 use kb_word::Names;
 use std::alloc::Global;
 
 /// The generators' names, of which none stands twice or is `IdWord` or `_`.
-pub fn read_names<'a>(alloc: Global, fields: &[(&'a str, Value<'a>)]) -> Result<Names, PresError>
+pub fn read_names<'a>(alloc: Global, fields: &[RecordField<'a>]) -> Result<Names, PresError>
     ensures named { IfOk result (HasNames (fields_view fields.now)) }
     ensures names { IfOk result AreGeneratorNames }
     ensures fault { IfErr result
         (IsFirstFrom (fields_view fields.now) (is_there kinds.GeneratorOrder)) }
 {
-    let value = needed(fields, Field::GeneratorOrder)?;
-    Ok(names_of(alloc, value)?)
+    let found = needed(alloc, fields, Field::GeneratorOrder)?;
+    Ok(names_of(alloc, found.value())?)
 }

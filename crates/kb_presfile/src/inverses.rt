@@ -14,14 +14,14 @@ ghost use Rattle.kb_presfile.specs.declared.error.Field.TheVariants as kinds;
 use crate::error::{Field, PresError};
 use crate::values::places_listed;
 use kb_fields::field_named;
-use kb_record::Value;
+use kb_record::RecordField;
 use kb_word::{Inverses, Letter, Names, OwnedText};
 use std::alloc::Global;
 
 /// The generators' inverses.
 pub fn read_inverses<'a>(
     alloc: Global,
-    fields: &[(&'a str, Value<'a>)],
+    fields: &[RecordField<'a>],
     names: &Names,
 ) -> Result<Inverses, PresError>
     requires { HasNames (fields_view fields.now) names.now }
@@ -36,7 +36,7 @@ pub fn read_inverses<'a>(
 /// The names at the places for inverses, at most one for each generator; none where the field is absent.
 fn read_places<'a>(
     alloc: Global,
-    fields: &[(&'a str, Value<'a>)],
+    fields: &[RecordField<'a>],
     names: &Names,
 ) -> Result<Vec<Option<&'a str>>, PresError>
     requires { HasNames (fields_view fields.now) names.now }
@@ -47,10 +47,10 @@ fn read_places<'a>(
     ensures fault { IfErr result
         (IsFirstFrom (fields_view fields.now) (is_of_kind kinds.Inverses)) }
 {
-    let Some(value) = field_named(fields, "inverses") else {
+    let Some(found) = field_named(alloc, fields, "inverses")? else {
         return Ok(Vec::new(alloc));
     };
-    match places_listed(alloc, value, names.len())? {
+    match places_listed(alloc, found.value(), names.len())? {
         Some(places) => Ok(places),
         None => Err(PresError::WrongKind {
             field: Field::Inverses,

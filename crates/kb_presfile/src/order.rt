@@ -13,7 +13,7 @@ use crate::error::{Field, PresError};
 use crate::fields::needed;
 use crate::values::string_of;
 use kb_fields::{field_named, numbers_listed};
-use kb_record::Value;
+use kb_record::RecordField;
 use kb_word::{Memory, Names, WordOrder, WtLex};
 use std::alloc::Global;
 
@@ -30,15 +30,15 @@ pub enum Ordering {
 }
 
 /// The ordering that the file names. Another one is refused.
-pub fn read_ordering<'a>(fields: &[(&'a str, Value<'a>)]) -> Result<Ordering, PresError>
+pub fn read_ordering<'a>(alloc: Global, fields: &[RecordField<'a>]) -> Result<Ordering, PresError>
     ensures read { IfOk result (IsOrdering (fields_view fields.now)) }
     ensures fault { IfErr result
         (IsFirstFrom (fields_view fields.now) (is_of_kind kinds.Ordering)) }
 {
-    let Some(value) = field_named(fields, "ordering") else {
+    let Some(found) = field_named(alloc, fields, "ordering")? else {
         return Ok(Ordering::ShortLex);
     };
-    let Some(text) = string_of(value) else {
+    let Some(text) = string_of(found.value()) else {
         return Err(PresError::WrongKind {
             field: Field::Ordering,
         });
@@ -55,7 +55,7 @@ pub fn read_ordering<'a>(fields: &[(&'a str, Value<'a>)]) -> Result<Ordering, Pr
 /// The order of words of a file that names this ordering. By weight there is a weight for each generator.
 pub fn read_order<'a>(
     alloc: Global,
-    fields: &[(&'a str, Value<'a>)],
+    fields: &[RecordField<'a>],
     ordering: Ordering,
     names: &Names,
 ) -> Result<WordOrder, PresError>
@@ -74,7 +74,7 @@ pub fn read_order<'a>(
 /// The generators' weights, in a file whose order goes by weight.
 fn read_weights<'a>(
     alloc: Global,
-    fields: &[(&'a str, Value<'a>)],
+    fields: &[RecordField<'a>],
     names: &Names,
 ) -> Result<WtLex, PresError>
     requires ordering { IsOrdering (fields_view fields.now) orderings.WtLex }
@@ -83,7 +83,8 @@ fn read_weights<'a>(
     ensures fault { IfErr result
         (IsFirstFrom (fields_view fields.now) (is_there kinds.Weight)) }
 {
-    let Some(numbers) = numbers_listed(alloc, needed(fields, Field::Weight)?)? else {
+    let found = needed(alloc, fields, Field::Weight)?;
+    let Some(numbers) = numbers_listed(alloc, found.value())? else {
         return Err(PresError::WrongKind {
             field: Field::Weight,
         });

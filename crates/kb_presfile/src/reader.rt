@@ -13,7 +13,7 @@ use crate::generators::read_names;
 use crate::header::check_is_rws;
 use crate::inverses::read_inverses;
 use crate::order::{read_order, read_ordering};
-use kb_record::{Value, parse};
+use kb_record::{RecordField, parse};
 use kb_word::{Equations, Presentation};
 use std::alloc::Global;
 
@@ -32,17 +32,14 @@ pub fn read(alloc: Global, bytes: &[u8]) -> Result<Presentation, PresError>
 }
 
 /// The presentation that fields say. Field by field, in the order in which a file is refused.
-fn presentation_of<'a>(
-    alloc: Global,
-    fields: &[(&'a str, Value<'a>)],
-) -> Result<Presentation, PresError>
+fn presentation_of<'a>(alloc: Global, fields: &[RecordField<'a>]) -> Result<Presentation, PresError>
     ensures read { IfOk result
         (λ presentation. HoldsPresentation (fields_view fields.now) (parts_of presentation)) }
     ensures fault { IfErr result (IsMemoryOr (IsFirstOf (fields_view fields.now))) }
 {
     check_once(alloc, fields)?;
-    check_is_rws(fields)?;
-    let ordering = read_ordering(fields)?;
+    check_is_rws(alloc, fields)?;
+    let ordering = read_ordering(alloc, fields)?;
     let names = read_names(alloc, fields)?;
     let order = read_order(alloc, fields, ordering, &names)?;
     let inverses = read_inverses(alloc, fields, &names)?;

@@ -13,6 +13,7 @@ pub mod BeforeLemmas
 pub mod MetLemmas
 pub mod OnceLemmas
 pub mod OpenLemmas
+pub mod FieldTexts
 pub mod PlaceTexts
 pub mod PlaceRepeats
 pub mod PlainTokens

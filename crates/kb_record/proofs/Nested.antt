@@ -1,18 +1,18 @@
 -- The parts of a value nest no deeper than it does.
 use Rattle.std.proofs.Common.{◌≡◌, ℕ, zero, suc, ◌≤◌, List, [], ◌∷◌, Option, Some, None, slice_get, ap, arith}
-use Rattle.std.specs.Borrow.{Bor}
 use Rattle.kb_record.specs.Tree.{Value as ValueTree}
 use Rattle.kb_record.specs.Nesting.{value_nesting, fields_nesting, places_nesting}
-use Rattle.kb_record.specs.View.{value_view, fields_view, places_of}
+use Rattle.kb_record.specs.View.{field_view, fields_view, places_of}
+use Rattle.kb_record.specs.declared.tree.Field.{Field}
 use Rattle.kb_record.specs.declared.tree.Value.{Value}
 use Rattle.kb_record.proofs.ValueParts.{place_nesting}
 
-same_field : {f g : Bor (List ℕ) × Value} → Some f ≡ Some g → f ≡ g
+same_field : {f g : Field Value} → Some f ≡ Some g → f ≡ g
 same_field e = cc
 
-pub field_nested : (fs : List (Bor (List ℕ) × Value)) (k : ℕ) (f : Bor (List ℕ) × Value) → slice_get fs k ≡ Some f → value_nesting (value_view f.1) ≤ fields_nesting (fields_view fs)
+pub field_nested : (fs : List (Field Value)) (k : ℕ) (f : Field Value) → slice_get fs k ≡ Some f → value_nesting (field_view f).1 ≤ fields_nesting (fields_view fs)
 field_nested [] k f e = cc
-field_nested (g ∷ fs) zero f e = let same = ap (λ (h : Bor (List ℕ) × Value). value_nesting (value_view h.1)) (same_field e) in omega (arith, same)
+field_nested (g ∷ fs) zero f e = let same = ap (λ h. value_nesting (field_view h).1) (same_field e) in omega (arith, same)
 field_nested (g ∷ fs) (suc k) f e = let inside = field_nested fs k f e in omega (arith, inside)
 
 same_place : {p q : Option ValueTree} → Some p ≡ Some q → p ≡ q

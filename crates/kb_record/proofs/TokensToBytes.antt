@@ -15,7 +15,6 @@ use Rattle.kb_record.proofs.ReadingForms.{Stands, Meets}
 use Rattle.kb_record.proofs.WordForms.{word_form, word_meets}
 use Rattle.kb_record.proofs.TextForms.{Named, text_form, tree_of, TextMeets, text_meets}
 use Rattle.kb_record.proofs.Unique.{TextEnd}
-use Rattle.kb_record.proofs.Views.{fields_alike}
 use Rattle.kb_lexing.proofs.FrontTokens.{tokens_of, tokens_are}
 
 -- what is known of the bytes and whether they have tokens
@@ -92,4 +91,4 @@ text_shallow whole tokens left t e =
     (ended deepest tokens t (read_text deepest tokens) (text_meets deepest tokens) h.0).1.shallow
 
 pub text_alike : (text : RecType) → tree_of (rec_view text) ≡ text_view text
-text_alike text = let make : Fields → TextTree = λ fs. record { title = text.name.now; fields = fs } in ap make (fields_alike text.fields.items)
+text_alike text = refl

@@ -1,21 +1,26 @@
 -- The views of values, a level at a time.
 use Rattle.std.proofs.Common.{◌≡◌, ℕ, List, [], ◌∷◌, map, refl, ap, rules, Option, Some, None, ℤ, Vec, Global, sym, ◌∙◌}
-use Rattle.std.specs.Borrow.{Bor}
-use Rattle.kb_record.specs.Tree.{field, record_value, list_value, word_value, Value as ValueTree}
-use Rattle.kb_record.specs.View.{value_view, word_view, fields_of, places_of, places_view, number_place, row_place, entries_place, field_view}
-use Rattle.kb_record.specs.Reading.{fields_from}
+use Rattle.kb_record.specs.Tree.{record_value, list_value, word_value, Value as ValueTree}
+use Rattle.kb_record.specs.View.{value_view, value_step, field_step, field_view, word_view, fields_view, places_of, places_view, number_place, row_place, entries_place}
 use Rattle.kb_record.specs.Listed.{places_in, listed, HasPlaces}
 use Rattle.kb_record.specs.declared.tree.Expr.{Expr}
+use Rattle.kb_record.specs.declared.tree.Field.{Field}
+use Rattle.kb_record.specs.declared.tree.Value.{fold-Value}
+use Rattle.kb_record.specs.declared.tree.Value.TheShapes.{former-Value-Record-0-at-4}
 use Rattle.kb_record.specs.declared.tree.WrittenPlaces.{WrittenPlaces}
 use Rattle.kb_record.specs.declared.tree.Value.{Value, Record, List as Listed, Numbers, Rows, Entries, Word, the_lemmas}
 
--- the fields in two ways
-pub fields_alike : (fs : List (Bor (List ℕ) × Value)) → fields_from (map field_view fs) ≡ fields_of (map (λ (f : Bor (List ℕ) × Value). (f.0, value_view f.1)) fs)
-fields_alike [] = refl
-fields_alike (f ∷ fs) = ap (field f.0.now (value_view f.1)) (fields_alike fs)
+one_field : (f : Field Value) → field_step (former-Value-Record-0-at-4.map Value ValueTree (fold-Value ValueTree value_step) f) ≡ field_view f
+one_field (Field.Written text) = refl
+one_field (Field.Read name value) = refl
 
-pub view-Record : (v : Vec (Bor (List ℕ) × Value) Global) → value_view (Record v) ≡ record_value (fields_of (map (λ (f : Bor (List ℕ) × Value). (f.0, value_view f.1)) v.items))
-view-Record v = search (rules, the_lemmas)
+-- fields with the values inside already seen as their trees are those fields
+fields_seen : (fs : List (Field Value)) → map field_step (map (former-Value-Record-0-at-4.map Value ValueTree (fold-Value ValueTree value_step)) fs) ≡ map field_view fs
+fields_seen [] = refl
+fields_seen (f ∷ fs) = ap (λ gs. field_step (former-Value-Record-0-at-4.map Value ValueTree (fold-Value ValueTree value_step) f) ∷ gs) (fields_seen fs) ∙ ap (λ g. g ∷ map field_view fs) (one_field f)
+
+pub view-Record : (v : Vec (Field Value) Global) → value_view (Record v) ≡ record_value (fields_view v.items)
+view-Record v = search (rules, the_lemmas, fields_seen)
 
 pub view-Word : (word : Expr) → value_view (Word word) ≡ word_value (word_view word)
 view-Word word = search (rules, the_lemmas)

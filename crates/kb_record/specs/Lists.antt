@@ -7,10 +7,6 @@ abbrev pub factors_of : List FactorTree → Factors
 factors_of [] = no_factors
 factors_of (f ∷ fs) = factor f (factors_of fs)
 
-abbrev pub fields_of : List (Bor (List ℕ) × ValueTree) → Fields
-fields_of [] = no_fields
-fields_of (f ∷ fs) = field f.0.now f.1 (fields_of fs)
-
 abbrev pub places_of : List (Option ValueTree) → Places
 places_of [] = no_places
 places_of (None ∷ ps) = empty_place (places_of ps)

@@ -1,11 +1,11 @@
 -- The trees of `specs/Tree.antt` that the types of the code stand for.
-use Rattle.std.specs.Prelude.{ℕ, List, [], Option, Some, None, map, drop, if◌then◌else◌}
+use Rattle.std.specs.Prelude.{ℕ, List, [], ◌∷◌, Option, Some, None, map, drop, if◌then◌else◌}
 use Rattle.std.specs.Borrow.{Bor}
-use Rattle.kb_lexing.specs.Token.{Token}
+use Rattle.kb_lexing.specs.Token.{Token, name as name_token, assign}
 use Rattle.kb_lexing.proofs.FrontTokens.{tokens_of}
 use Rattle.kb_record.specs.Tree.{Factor as FactorTree, named, grouped, Factors, no_factors, factor, Value as ValueTree, number_value, string_value, record_value, list_value, range_value, word_value, Fields, Places, TextTree}
 use Rattle.kb_record.specs.Nesting.{deepest}
-use Rattle.kb_record.specs.Reading.{Reading, read, unexpected, too_deep, begins_word, ends_place, read_word, read_value}
+use Rattle.kb_record.specs.Reading.{Reading, read, unexpected, too_deep, begins_word, ends_place, read_word, read_value, fields_from}
 use Rattle.kb_record.specs.declared.tree.Factor.{Factor, fold-Factor}
 use Rattle.kb_record.specs.declared.tree.Factor.TheOpen.{Factor-F}
 use Rattle.kb_record.specs.declared.tree.Value.{Value, fold-Value}
@@ -13,8 +13,11 @@ use Rattle.kb_record.specs.declared.tree.Value.TheOpen.{Value-F}
 use Rattle.kb_record.specs.declared.tree.Expr.{Expr}
 use Rattle.kb_record.specs.declared.tree.PlaceText.{PlaceText}
 use Rattle.kb_record.specs.declared.tree.WrittenPlaces.{WrittenPlaces}
+use Rattle.kb_record.specs.declared.tree.FieldText.{FieldText}
+use Rattle.kb_record.specs.declared.tree.Field.{Field}
+use Rattle.kb_record.specs.declared.fields.FoundValue.{FoundValue}
 use Rattle.kb_record.specs.declared.tree.Rec.{Rec}
-pub use Rattle.kb_record.specs.Lists.{factors_of, fields_of, places_of, number_place, row_place, entry_place, entries_place}
+pub use Rattle.kb_record.specs.Lists.{factors_of, places_of, number_place, row_place, entry_place, entries_place}
 
 -- one level, with each factor inside already seen as its tree
 abbrev pub factor_step : Factor-F FactorTree → FactorTree
@@ -72,10 +75,31 @@ place_from text begin = first_place_in (tokens_of (drop begin text))
 abbrev pub written_places : WrittenPlaces → List (Option ValueTree)
 written_places places = map (place_from places.text.now) places.begins.items
 
+-- the value at a place; an empty one stands for an empty string
+abbrev pub value_of_place : Option ValueTree → ValueTree
+value_of_place None = string_value []
+value_of_place (Some value) = value
+
+-- the name and the value of the field that stands first; a text that begins with none stands for one with an empty
+-- name and an empty string, and is in no tree that was read
+abbrev pub first_field_in : List Token → List ℕ × ValueTree
+first_field_in (name_token text ∷ assign ∷ tokens) = (text, value_of_place (first_place_in tokens))
+first_field_in _ = ([], string_value [])
+
+-- the name and the value of a field that is kept as it is written
+abbrev pub written_field : FieldText → List ℕ × ValueTree
+written_field field = first_field_in (tokens_of field.text.now)
+
+-- the name and the value of a field, with the value inside already seen as its tree
+abbrev pub field_step : Field ValueTree → List ℕ × ValueTree
+field_step (Field.Written text) = written_field text
+field_step (Field.Read name value) = (name.now, value.value)
+
 abbrev pub value_step : Value-F ValueTree → ValueTree
 value_step (Value-F.Number z) = number_value z
 value_step (Value-F.String text) = string_value text.now
-value_step (Value-F.Record fields) = record_value (fields_of fields.items)
+value_step (Value-F.Record fields) =
+    record_value (fields_from (map field_step fields.items))
 value_step (Value-F.List places) = list_value (places_of (written_places places))
 value_step (Value-F.Numbers numbers) = list_value (places_of (map number_place numbers.items))
 value_step (Value-F.Rows rows) = list_value (places_of (map row_place rows))
@@ -86,26 +110,28 @@ value_step (Value-F.Word word) = word_value (word_view word)
 abbrev pub value_view : Value → ValueTree
 value_view = fold-Value ValueTree value_step
 
--- the tree of a text
-abbrev pub text_view : Rec → TextTree
-text_view text =
-    record {
-      title = text.name.now;
-      fields =
-          fields_of (map (λ (f : Bor (List ℕ) × Value). (f.0, value_view f.1)) text.fields.items);
-    }
+-- a field as the code has it
+abbrev pub field_view : Field Value → List ℕ × ValueTree
+field_view (Field.Written text) = written_field text
+field_view (Field.Read name value) = (name.now, value_view value.value)
 
 -- the fields of a record as the code has them, as a tree
-abbrev pub fields_view : List (Bor (List ℕ) × Value) → Fields
-fields_view fields = fields_of (map (λ (f : Bor (List ℕ) × Value). (f.0, value_view f.1)) fields)
+abbrev pub fields_view : List (Field Value) → Fields
+fields_view fields = fields_from (map field_view fields)
+
+-- the tree of a text
+abbrev pub text_view : Rec → TextTree
+text_view text = record { title = text.name.now; fields = fields_view text.fields.items }
 
 -- the places of a list as the code has them, as a tree
 abbrev pub places_view : WrittenPlaces → Places
 places_view places = places_of (written_places places)
 
--- a field, and the name and the fields of a text, as they are read
-abbrev pub field_view : Bor (List ℕ) × Value → List ℕ × ValueTree
-field_view f = (f.0.now, value_view f.1)
-
+-- the name and the fields of a text, as they are read
 abbrev pub rec_view : Rec → List ℕ × List (List ℕ × ValueTree)
 rec_view text = (text.name.now, map field_view text.fields.items)
+
+-- the value that is found in a field
+abbrev pub found_view : FoundValue → ValueTree
+found_view (FoundValue.Kept value) = value_view value.now
+found_view (FoundValue.Read value) = value_view value

@@ -4,14 +4,14 @@ ghost use Rattle.std.specs.Prelude.{◌≡◌, ◌∷◌, [], Some, None, MatchO
 ghost use Rattle.kb_record.specs.declared.cursor.Stop.TheVariants as stops;
 ghost use Rattle.std.specs.Bool.{MatchBool};
 ghost use Rattle.kb_record.specs.Nesting.{deepest};
-ghost use Rattle.kb_record.specs.View.{factors_in, first_place_in, place_from, value_view, word_view};
+ghost use Rattle.kb_record.specs.View.{factors_in, first_field_in, first_place_in, place_from, value_view, word_view, written_field, written_place};
 ghost use Rattle.kb_lexing.specs.Lexemes.{token_view};
 ghost use Rattle.kb_lexing.proofs.FrontTokens.{tokens_of};
 ghost use Rattle.kb_record.specs.Reading.{Reads, remaining, whole_of, behind_next, is_mark, behind, read_name, read_number, read_scalar, begins_word, first_name, first_number, read_word, ends_place, ended, passes_comma};
 
 use crate::next::{Next, next_in};
 use crate::passed::token_count;
-use crate::tree::{Expr, Value};
+use crate::tree::{Expr, FieldText, PlaceText, Value};
 use kb_lexing::{Expected, Token};
 use kb_word::Memory;
 use std::alloc::{AllocError, AllocFailed};
@@ -240,6 +240,24 @@ impl<'a> Cursor<'a> {
         ensures { place_from (whole_of self.now) result ≡ first_place_in (remaining self.now) }
     {
         self.next.whole.len() - self.next.text.len()
+    }
+
+    /// What comes next as a place of a list, which isn't passed.
+    pub fn place_text(&self) -> PlaceText<'a>
+        ensures { written_place result ≡ first_place_in (remaining self.now) }
+    {
+        PlaceText {
+            text: self.next.text,
+        }
+    }
+
+    /// What comes next as a field, which isn't passed.
+    pub fn field_text(&self) -> FieldText<'a>
+        ensures { written_field result ≡ first_field_in (remaining self.now) }
+    {
+        FieldText {
+            text: self.next.text,
+        }
     }
 
     /// The text from its beginning on.

@@ -24,6 +24,11 @@
 //! the text that begins with it ([`PlaceText`]), and reads it again. [`PlaceText::repeated_name`](PlaceText) answers
 //! the name that stands twice in a record there, nested ones too, whatever is inside.
 //!
+//! A field of a record is kept as it is written where its text is short, and its value is kept where it is long
+//! ([`RecordField`]): so a record of many short fields takes no more memory than a list of as many places, and a long
+//! value isn't read again. [`RecordField::name`](Field) and [`RecordField::value`](Field) are the field's name and its
+//! value, in whichever form it is kept.
+//!
 //! Want of memory may be returned by each call that takes memory, and by no other.
 //!
 //! # How it is made
@@ -39,8 +44,9 @@
 //!   its place.
 //! - `numbers` reads a list of numbers, or of lists of numbers or of pairs, into arrays (`kb_ragged`), in which a
 //!   number takes 8 bytes. It gives up at the first token that doesn't fit, and then the list is read from its beginning
-//!   as any other: `records` reads each place, and keeps where it begins alone. So a table of numbers is gone through once, and
-//!   no token is made more than five times. `listed` reads the places of a list in any form.
+//!   as any other: `records` reads each place, and keeps where it begins alone. So a table of numbers is gone through
+//!   once, and no token is made more than five times. `listed` reads the places of a list in any form.
+//! - `fields` reads again the name and the value of a field that is kept as it is written.
 //! - `repeats` goes over the tokens of a place once, with the names of each record that is open, for a name that stands
 //!   there twice; only where it finds one is the place read, to see that it can be.
 //! - `evaluation` evaluates a word as it is read, without a tree, so that a line takes no memory but that of its
@@ -65,8 +71,8 @@
 //! - `proofs/TokensToBytes.antt`: from what is read of the tokens to what the bytes are. `TextFronts`: how many
 //!   brackets are open.
 //! - `proofs/Deeper.antt`: a word or a value that is read within other brackets is read alone; `PlaceTexts`: so the
-//!   text of a place tells what stands there. `BareNames`: when a word is a name. `NumberLists`: the tokens of lists of
-//!   numbers.
+//!   text of a place tells what stands there. `FieldTexts`: and that of a field its name and its value. `BareNames`:
+//!   when a word is a name. `NumberLists`: the tokens of lists of numbers.
 //! - `proofs/MetLemmas.antt`: the names that a pass over a value's tokens meets are those of its fields; `OpenLemmas`:
 //!   the sets that the pass keeps. `NamingLemmas`, `BeforeLemmas`, `OnceLemmas`: names that stand twice in a record,
 //!   and the first of them in the text; `PlaceRepeats`: so the pass finds the first at a place.
@@ -81,6 +87,7 @@
 mod cursor;
 mod error;
 mod evaluation;
+mod fields;
 mod laws;
 mod listed;
 mod meaning;
@@ -96,6 +103,7 @@ mod words;
 mod written;
 
 pub use error::{RecordError, WordError};
+pub use fields::FoundValue;
 pub use laws::{
     a_shallow_text_is_not_too_deep, a_shallow_word_is_not_too_deep, a_text_has_one_fault,
     a_text_has_one_tree, a_text_that_is_read_has_no_fault, a_word_has_one_fault,
@@ -104,5 +112,5 @@ pub use laws::{
 };
 pub use listed::Place;
 pub use parser::{parse, parse_expr, parse_word};
-pub use tree::{Expr, Factor, PlaceText, Rec, Value, WrittenPlaces};
+pub use tree::{Expr, Factor, Field, FieldText, PlaceText, Rec, RecordField, Value, WrittenPlaces};
 pub use written::word_of;

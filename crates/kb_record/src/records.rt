@@ -8,16 +8,19 @@ ghost use Rattle.kb_record.specs.declared.cursor.Mark.TheVariants as marks;
 ghost use Rattle.kb_record.specs.Tree.{number_value, word_value};
 ghost use Rattle.kb_record.specs.Nesting.{deepest};
 ghost use Rattle.kb_record.specs.Reading.{Reads, remaining, whole_of, row, passes_comma, place_with, field_with, range_from, read_list, read_fields, read_record, read_word, reading_map, read_value, read_places, number_with, after_items, list_from};
-ghost use Rattle.kb_record.specs.View.{value_view, field_view, place_from};
+ghost use Rattle.kb_record.specs.View.{value_view, field_view, written_field, place_from};
 ghost use Rattle.kb_record.specs.Listed.{HasPlaces};
 
 use crate::cursor::{Cursor, Mark, Stop};
 use crate::numbers::number_list;
 use crate::passing::pass_word;
-use crate::tree::{Value, WrittenPlaces};
+use crate::tree::{Field, FieldText, RecordField, Value, WrittenPlaces};
 use kb_lexing::Expected;
 use kb_word::Memory;
 use std::alloc::Global;
+
+/// A field of so many bytes at most is kept as it is written.
+const SHORT: usize = 256;
 
 /// Reads a value, with brackets in brackets at most `depth` deep.
 #[cycle(values)]
@@ -78,7 +81,7 @@ pub(crate) fn fields<'a>(
     alloc: Global,
     tokens: &mut Cursor<'a>,
     depth: usize,
-) -> Result<Vec<(&'a str, Value<'a>)>, Stop>
+) -> Result<Vec<RecordField<'a>>, Stop>
     requires { depth ≤ deepest }
     ensures reads { Reads (read_fields depth (remaining tokens.old))
         (λ fields. map field_view fields.items)
@@ -101,7 +104,7 @@ fn some_fields<'a>(
     alloc: Global,
     tokens: &mut Cursor<'a>,
     depth: usize,
-) -> Result<Vec<(&'a str, Value<'a>)>, Stop>
+) -> Result<Vec<RecordField<'a>>, Stop>
     requires { depth ≤ deepest }
     ensures reads { Reads
         (row (field_with (read_value depth)) (passes_comma marks.CloseRound wanted.Mark)
@@ -121,21 +124,38 @@ fn some_fields<'a>(
 
 /// Reads a field: its name, `:=` and its value.
 #[cycle(values)]
-fn field<'a>(
-    alloc: Global,
-    tokens: &mut Cursor<'a>,
-    depth: usize,
-) -> Result<(&'a str, Value<'a>), Stop>
+fn field<'a>(alloc: Global, tokens: &mut Cursor<'a>, depth: usize) -> Result<RecordField<'a>, Stop>
     requires { depth ≤ deepest }
     ensures reads { Reads (field_with (read_value depth) (remaining tokens.old)) field_view result
         (remaining tokens.new) }
     ensures shorter { OnOk result (length (remaining tokens.new) ≤ length (remaining tokens.old)) }
     ensures whole { OnOk result (whole_of tokens.new ≡ whole_of tokens.old) }
 {
+    let text = tokens.field_text();
+    let begin = tokens.place();
     let name = tokens.name()?;
     tokens.expect(Mark::Assign, Expected::Assign)?;
     let value = value(alloc, tokens, depth)?;
-    Ok((name, value))
+    let length = tokens.place().saturating_sub(begin);
+    Ok(kept_field(alloc, text, length, name, value)?)
+}
+
+/// The field that stands first in a text, by its length, its name and its value.
+fn kept_field<'a>(
+    alloc: Global,
+    text: FieldText<'a>,
+    length: usize,
+    name: &'a str,
+    value: Value<'a>,
+) -> Result<RecordField<'a>, Memory>
+    requires { written_field text ≡ (name.now, value_view value) }
+    ensures { IfOk result (λ field. field_view field ≡ (name.now, value_view value.entry)) }
+{
+    if length <= SHORT {
+        return Ok(Field::Written(text));
+    }
+    let value = Box::new(alloc, value)?;
+    Ok(Field::Read(name, value))
 }
 
 /// Reads a list or a range behind its open bracket, and the closing bracket.

@@ -32,6 +32,25 @@ pub struct WrittenPlaces<'a> {
     pub(crate) begins: Vec<u32>,
 }
 
+/// A field of a record as it is written: a text that begins with it.
+#[derive(Clone, Copy, Debug)]
+pub struct FieldText<'a> {
+    pub(crate) text: &'a [u8],
+}
+
+/// A field of a record. One of at most 256 bytes of text is kept as it is written, so that it takes no memory beside
+/// its place among the fields, however many there are; of a longer one the value is kept.
+#[derive(Debug, Drop)]
+pub enum Field<'a, V> {
+    /// As it is written.
+    Written(FieldText<'a>),
+    /// Its name and its value.
+    Read(&'a str, Box<V>),
+}
+
+/// A field of a record whose values are those of texts.
+pub type RecordField<'a> = Field<'a, Value<'a>>;
+
 /// What a field or a place of a list may hold.
 #[derive(Debug, Drop)]
 pub enum Value<'a> {
@@ -40,7 +59,7 @@ pub enum Value<'a> {
     /// `"shortlex"`
     String(&'a str),
     /// `rec( .. )`, its fields in the order of the text
-    Record(Vec<(&'a str, Value<'a>)>),
+    Record(Vec<Field<'a, Value<'a>>>),
     /// `[ .. ]`, its places in order, of which some may be empty. It may be any list, but one that is read is kept as
     /// one of the next three where it can be. Two kinds of lists aren't tried: rows of numbers of which the first has
     /// none, and lists within 62 brackets or more.
@@ -62,6 +81,6 @@ pub enum Value<'a> {
 pub struct Rec<'a> {
     /// The text's own name.
     pub name: &'a str,
-    /// The names and the values of the fields.
-    pub fields: Vec<(&'a str, Value<'a>)>,
+    /// Its fields.
+    pub fields: Vec<RecordField<'a>>,
 }

@@ -14,7 +14,7 @@ ghost use Rattle.kb_subfile.specs.Faults.{IsMemoryOr, IsFirstOf, IsFirstFrom, Ha
 use crate::error::SubError;
 use crate::words::{meanings, word_count};
 use kb_fields::{field_named, repeated_name};
-use kb_record::{Value, parse};
+use kb_record::{RecordField, Value, parse};
 use kb_word::{Presentation, Word};
 use std::alloc::Global;
 
@@ -41,7 +41,7 @@ pub fn read(alloc: Global, bytes: &[u8], presentation: &Presentation) -> Result<
 /// The generators that fields say. Check by check, in the order in which a file is refused.
 fn generators_of<'a>(
     alloc: Global,
-    fields: &[(&'a str, Value<'a>)],
+    fields: &[RecordField<'a>],
     presentation: &Presentation,
 ) -> Result<Vec<Word>, SubError>
     ensures read { IfOk result (λ generators.
@@ -52,10 +52,10 @@ fn generators_of<'a>(
         (IsMemoryOr (IsFirstOf (parts_of presentation.now) (fields_view fields.now))) }
 {
     check_once(alloc, fields)?;
-    let Some(value) = field_named(fields, "subGenerators") else {
+    let Some(found) = field_named(alloc, fields, "subGenerators")? else {
         return Err(SubError::MissingField);
     };
-    generators_in(alloc, value, presentation)
+    generators_in(alloc, found.value(), presentation)
 }
 
 /// The generators that a value lists.
@@ -88,7 +88,7 @@ fn are_few(words: usize, equations: usize) -> bool
 }
 
 /// Refuses a record with a field name twice, nested ones too.
-fn check_once<'a>(alloc: Global, fields: &[(&'a str, Value<'a>)]) -> Result<(), SubError>
+fn check_once<'a>(alloc: Global, fields: &[RecordField<'a>]) -> Result<(), SubError>
     ensures once { OnOk result
         ((name : List ℕ) → ¬ HasFieldTwice (record_value (fields_view fields.now)) name) }
     ensures fault { IfErr result (λ error. (parts : PresentationParts)

@@ -2,5 +2,5 @@ use Rattle.std.proofs.Common.{◌≡◌, drop}
 use Rattle.kb_fields.specs.Fields.{fields_view, value_of}
 use Rattle.kb_fields.proofs.fields.field_named.Given as goal
 
-abbrev pub invariant-loop-text : goal.invariant-loop-text
-invariant-loop-text l = value_of (fields_view (drop l.text-index l.fields)) l.name ≡ value_of (fields_view l.fields) l.name
+abbrev pub invariant-loop-field : goal.invariant-loop-field
+invariant-loop-field l = value_of (fields_view (drop l.field-index l.fields)) l.name ≡ value_of (fields_view l.fields) l.name

@@ -1,8 +1,6 @@
-use Rattle.std.proofs.Common.{ℕ, List, sym, subst, arith}
+use Rattle.std.proofs.Common.{arith}
 use Rattle.std.proofs.lemmas.Option.{MatchOption-at_some, MatchOption-at_none}
-use Rattle.kb_record.specs.Tree.{list_value}
 use Rattle.kb_record.specs.View.{written_place, written_places}
-use Rattle.kb_fields.specs.Fields.{places_view, IsFirstRepeated}
 use Rattle.kb_fields.proofs.RepeatLemmas.{no_place_twice, places_more}
 use Rattle.kb_fields.proofs.RepeatOrder.{from_place, repeated_at_place, repeated_behind}
 use Rattle.kb_fields.proofs.fields.repeated_in_list.Goals as goal
@@ -10,10 +8,8 @@ use Rattle.kb_fields.proofs.fields.repeated_in_list.Goals as goal
 pub returns-in-Some-clause-some : goal.returns-in-Some-clause-some
 returns-in-Some-clause-some c =
     let places = written_places c.args.places.now in
-    let P : List ℕ → Type 0 = λ q. IsFirstRepeated (list_value (places_view c.args.places.now)) q in
-    let first = repeated_at_place places c.loop-place.place (written_place c.get.result) c.get.ensures (from_place places 0) c.loop-place.invariant.order c.in-Some.name.now
-    (MatchOption-at_some _ _ c.in-Some.name c.in-Some.is c.in_ok-name.ensures.some) in
-    subst P (sym c.in_ok-from_str.ensures) first
+    repeated_at_place places c.loop-place.place (written_place c.get.result) c.get.ensures (from_place places 0) c.loop-place.invariant.order c.in-Some.name
+    (MatchOption-at_some _ _ c.in-Some.name c.in-Some.is c.in_ok-name.ensures.some)
 
 pub loop-place-preserved : goal.loop-place-preserved
 loop-place-preserved c =

@@ -1,6 +1,7 @@
 use Rattle.std.proofs.Common.{◌≡◌, ◌<◌, ◌≤◌, ℤ, List, [], ◌∷◌, length, slice_get, Some, None, refl, sym, ap, ◌∙◌, w64, SFits, rules, arith}
 use Rattle.std.proofs.lemmas.Int.{to_z-of_z}
 use Rattle.std.proofs.lemmas.Option.{slice_get_within, get_or_from_slice_get}
+use Rattle.std.specs.Prelude.{codes}
 use Rattle.kb_record.specs.Tree.{list_value}
 use Rattle.kb_fsafile.specs.Kinds.{list_of_numbers}
 use Rattle.kb_fsafile.specs.Holds.{HoldsInitial}
@@ -11,6 +12,7 @@ use Rattle.kb_fields.proofs.NumberLemmas.{one_list_of_numbers}
 use Rattle.kb_fsafile.specs.Checks.{initial_field}
 use Rattle.kb_fsafile.specs.declared.error.Field.TheVariants as kinds
 use Rattle.kb_fsafile.specs.declared.error.FsaError.TheVariants as errors
+use Rattle.kb_fsafile.proofs.FieldFaults.{value_seen}
 use Rattle.kb_fsafile.proofs.FirstLemmas.{refused, value_refused, element_refused}
 use Rattle.kb_fsafile.proofs.initial.read_initial.Goals as goal
 
@@ -35,19 +37,22 @@ pub returns-in_default-clause-fault : goal.returns-in_default-clause-fault
 returns-in_default-clause-fault c =
     let given = fields_view c.args.fields.now in
     let other = rw c.in_default.is at c.in_ok-numbers.ensures.other in
-    refused given initial_field given refl (errors.WrongKind kinds.Initial) (refl, value_view c.in_ok-value.value.now, c.in_ok-value.ensures.found, λ kind. other kind.0 kind.1)
+    let is = value_seen given (codes "initial") _ (value_view c.value.result.now) c.in_ok-value.ensures.found c.value.ensures in
+    refused given initial_field given refl (errors.WrongKind kinds.Initial) (refl, value_view c.value.result.now, is, λ kind. other kind.0 kind.1)
 
 pub returns-then-len-gt1-clause-fault : goal.returns-then-len-gt1-clause-fault
 returns-then-len-gt1-clause-fault c =
     let given = fields_view c.args.fields.now in
     let numbers = c.in-Some.numbers.items in
-    let listed = c.in_ok-value.ensures.found ∙ ap Some (rw c.in-Some.is at c.in_ok-numbers.ensures.listed) in
+    let listed = value_seen (fields_view c.args.fields.now) (codes "initial") _ (value_view c.value.result.now) c.in_ok-value.ensures.found c.value.ensures
+    ∙ ap Some (rw c.in-Some.is at c.in_ok-numbers.ensures.listed) in
     value_refused given initial_field given refl (list_value (list_of_numbers numbers)) listed (numbers, refl) errors.NotDeterministic
     (refl, numbers, refl, omega (arith, c.in-Some.numbers.ok))
 
 pub returns-in_default-first-clause-read : goal.returns-in_default-first-clause-read
 returns-in_default-first-clause-read c =
-    let listed = c.in_ok-value.ensures.found ∙ ap Some (rw c.in-Some.is at c.in_ok-numbers.ensures.listed) in
+    let listed = value_seen (fields_view c.args.fields.now) (codes "initial") _ (value_view c.value.result.now) c.in_ok-value.ensures.found c.value.ensures
+    ∙ ap Some (rw c.in-Some.is at c.in_ok-numbers.ensures.listed) in
     let first = ap (λ (ns : List ℤ). slice_get ns 0) (sym c.deref.ensures.value) ∙ sym c.in_default-first.ensures.value in
     HoldsInitial.none (listed ∙ ap (λ (ns : List ℤ). Some (list_value (list_of_numbers ns))) (no_first c.in-Some.numbers.items first))
 
@@ -55,7 +60,8 @@ pub returns-in-Some-number_within-clause-read : goal.returns-in-Some-number_with
 returns-in-Some-number_within-clause-read c =
     let f : SFits w64 c.in-Some-first.number.now = search rules in
     let is = simp to_z-of_z at c.in-Some-number_within.ensures.is in
-    let listed = c.in_ok-value.ensures.found ∙ ap Some (rw c.in-Some.is at c.in_ok-numbers.ensures.listed) in
+    let listed = value_seen (fields_view c.args.fields.now) (codes "initial") _ (value_view c.value.result.now) c.in_ok-value.ensures.found c.value.ensures
+    ∙ ap Some (rw c.in-Some.is at c.in_ok-numbers.ensures.listed) in
     let first = ap (λ (ns : List ℤ). slice_get ns 0) (sym c.deref.ensures.value) ∙ sym c.in-Some-first.ensures.value in
     let one = one_first c.in-Some.numbers.items c.in-Some-first.number.now (omega (arith, c.in-Some.numbers.ok)) first in
     HoldsInitial.one (listed ∙ ap (λ (ns : List ℤ). Some (list_value (list_of_numbers ns))) (one ∙ ap (λ (z : ℤ). z ∷ []) is))
@@ -65,7 +71,8 @@ pub returns-clause-fault : goal.returns-clause-fault
 returns-clause-fault c =
     let f : SFits w64 c.in-Some-first.number.now = search rules in
     let none = simp to_z-of_z at c.in-None.ensures.none in
-    let listed = c.in_ok-value.ensures.found ∙ ap Some (rw c.in-Some.is at c.in_ok-numbers.ensures.listed) in
+    let listed = value_seen (fields_view c.args.fields.now) (codes "initial") _ (value_view c.value.result.now) c.in_ok-value.ensures.found c.value.ensures
+    ∙ ap Some (rw c.in-Some.is at c.in_ok-numbers.ensures.listed) in
     let first = ap (λ (ns : List ℤ). slice_get ns 0) (sym c.deref.ensures.value) ∙ sym c.in-Some-first.ensures.value in
     let numbers = c.in-Some.numbers.items in
     let z = c.in-Some-first.number.now in

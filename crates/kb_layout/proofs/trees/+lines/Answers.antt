@@ -1,13 +1,13 @@
-use Rattle.std.proofs.Common.{◌≡◌, ◌++◌, ◌∙◌, [], Some, length, map, get_or, option_map, refl, sym, ap, append-nil, arith}
+use Rattle.std.proofs.Common.{◌≡◌, ◌++◌, ◌∙◌, [], Some, length, option_map, refl, sym, ap, append-nil, arith}
 use Rattle.std.proofs.lemmas.List.{map-id}
 use Rattle.std.proofs.lemmas.Option.{slice_get_read}
 use Rattle.std.specs.Prelude.{codes}
 use Rattle.kb_record.specs.Tree.{record_value, list_value}
-use Rattle.kb_record.specs.View.{value_view, fields_view, places_of, places_view, written_place, written_places}
+use Rattle.kb_record.specs.View.{value_view, field_view, fields_view, places_of, places_view, written_place, written_places}
 use Rattle.kb_record.specs.Nesting.{value_nesting}
 use Rattle.kb_layout.specs.Layout.{line_of}
 use Rattle.kb_layout.specs.Printing.{line_of_field}
-use Rattle.kb_layout.proofs.PrintedPieces.{on_err, ok_then, list_start, list_end, pieces_start, pieces_kept, pieces_kept_within, pieces_go, pieces_go_at, pieces_end, kept_behind, both_behind}
+use Rattle.kb_layout.proofs.PrintedPieces.{on_err, ok_then, list_start, list_end, pieces_start, pieces_kept, pieces_kept_within, pieces_go, pieces_go_at, pieces_end}
 use Rattle.kb_layout.proofs.PrintedTrees.{record_pieces, place_some, place_none}
 use Rattle.kb_record.proofs.Views.{view-Record, view-List}
 use Rattle.kb_record.proofs.ValueParts.{place_nesting}
@@ -32,31 +32,25 @@ print_list_on_line-returns-clause-printed t c =
     list_end (λ p. p) places _ _ _ _ _ c.loop-place.invariant (omega (arith, c.len-place-end.ensures)) c.in_ok-push-2.ensures.items
     ∙ ap (λ ps. c.args.out.now.items ++ line_of (list_value (places_of ps))) (map-id places)
 
-pub print_record_on_line-loop-name-init : goal.print_record_on_line-loop-name-init
-print_record_on_line-loop-name-init t c =
+pub print_record_on_line-loop-field-init : goal.print_record_on_line-loop-field-init
+print_record_on_line-loop-field-init t c =
     pieces_start line_of_field [] (codes ",") (codes ")") c.args.fields.now c.args.out.now.items (codes "rec(") c.extend_from_slice.new.self.items c.in_ok-extend_from_slice.ensures.items
 
 pub print_record_on_line-returns-in_err-extend_from_slice-2-clause-kept : goal.print_record_on_line-returns-in_err-extend_from_slice-2-clause-kept
 print_record_on_line-returns-in_err-extend_from_slice-2-clause-kept t c =
-    on_err _ (pieces_kept _ _ _ _ _ _ _ _ _ [] _ c.loop-name.invariant (c.in_err-extend_from_slice-2.ensures.items ∙ sym (append-nil c.loop-name.out.items)))
+    on_err _ (pieces_kept _ _ _ _ _ _ _ _ _ [] _ c.loop-field.invariant (c.in_err-extend_from_slice-2.ensures.items ∙ sym (append-nil c.loop-field.out.items)))
 
-pub print_record_on_line-returns-in_err-print_name-clause-kept : goal.print_record_on_line-returns-in_err-print_name-clause-kept
-print_record_on_line-returns-in_err-print_name-clause-kept t c =
-    on_err _ (pieces_kept_within _ _ _ _ _ _ _ _ _ _ _ c.loop-name.invariant c.in_ok-extend_from_slice-2.ensures.items c.in_err-print_name.ensures.kept)
+pub print_record_on_line-returns-in_err-print_field_on_line-clause-kept : goal.print_record_on_line-returns-in_err-print_field_on_line-clause-kept
+print_record_on_line-returns-in_err-print_field_on_line-clause-kept t c =
+    on_err _ (pieces_kept_within _ _ _ _ _ _ _ _ _ _ _ c.loop-field.invariant c.in_ok-extend_from_slice-2.ensures.items c.in_err-print_field_on_line.ensures.kept)
 
-pub print_record_on_line-returns-in_err-print_on_line-clause-kept : goal.print_record_on_line-returns-in_err-print_on_line-clause-kept
-print_record_on_line-returns-in_err-print_on_line-clause-kept t c =
-    on_err _ (pieces_kept_within _ _ _ _ _ _ _ _ _ _ _ c.loop-name.invariant c.in_ok-extend_from_slice-2.ensures.items
-    (kept_behind _ _ _ _ c.in_ok-print_name.ensures.printed c.in_err-print_on_line.ensures.kept))
-
-pub print_record_on_line-loop-name-preserved : goal.print_record_on_line-loop-name-preserved
-print_record_on_line-loop-name-preserved t c =
-    pieces_go _ _ _ _ _ _ _ _ _ c.loop-name-item.result _ _ c.loop-name.invariant c.loop-name-test.true c.loop-name-item.is c.in_ok-extend_from_slice-2.ensures.items
-    (both_behind _ _ _ _ _ c.in_ok-print_name.ensures.printed c.in_ok-print_on_line.ensures.printed)
+pub print_record_on_line-loop-field-preserved : goal.print_record_on_line-loop-field-preserved
+print_record_on_line-loop-field-preserved t c =
+    pieces_go _ _ _ _ _ _ _ _ _ c.field-item.result _ _ c.loop-field.invariant c.loop-field-test.true c.field-item.is c.in_ok-extend_from_slice-2.ensures.items c.in_ok-print_field_on_line.ensures.printed
 
 pub print_record_on_line-returns-clause-printed : goal.print_record_on_line-returns-clause-printed
 print_record_on_line-returns-clause-printed t c =
-    pieces_end _ _ _ _ _ _ _ _ _ _ c.loop-name.invariant c.loop-name-test.false c.in_ok-push.ensures.items ∙ ap (λ t. c.args.out.now.items ++ t) (record_pieces c.args.fields.now)
+    pieces_end _ _ _ _ _ _ _ _ _ _ c.loop-field.invariant c.loop-field-test.false c.in_ok-push.ensures.items ∙ ap (λ t. c.args.out.now.items ++ t) (record_pieces c.args.fields.now)
 
 pub print_on_line-returns-in-Record-clause-printed : goal.print_on_line-returns-in-Record-clause-printed
 print_on_line-returns-in-Record-clause-printed t c =
@@ -94,11 +88,17 @@ print_on_line-print_list_on_line-requires t c =
     let low = ap value_nesting seen in
     omega (arith, low)
 
-pub print_record_on_line-print_on_line-requires : goal.print_record_on_line-print_on_line-requires
-print_record_on_line-print_on_line-requires t c =
+pub print_field_on_line-print_on_line-requires : goal.print_field_on_line-print_on_line-requires
+print_field_on_line-print_on_line-requires t c =
+    let seen : value_view c.value-2.result.now ≡ (field_view c.args.field.now).1 = c.value-2.ensures ∙ c.in_ok-value.ensures in
+    let low = ap value_nesting seen in
+    omega (arith, low)
+
+pub print_record_on_line-print_field_on_line-requires : goal.print_record_on_line-print_field_on_line-requires
+print_record_on_line-print_field_on_line-requires t c =
     let fs = c.args.fields.now in
-    let f = c.loop-name-item.result in
-    let low = field_nested fs c.loop-name.name-index f (slice_get_read fs (length fs) c.loop-name.name-index f refl c.loop-name-test.true c.loop-name-item.is) in
+    let f = c.field-item.result in
+    let low = field_nested fs c.loop-field.field-index f (slice_get_read fs (length fs) c.loop-field.field-index f refl c.loop-field-test.true c.field-item.is) in
     omega (arith, low)
 
 pub print_list_on_line-print_place-requires : goal.print_list_on_line-print_place-requires

@@ -1,7 +1,6 @@
 use Rattle.std.proofs.Common.{List, subst}
-use Rattle.std.specs.Borrow.{Bor}
-use Rattle.std.proofs.Common.{ℕ}
 use Rattle.kb_record.specs.View.{text_view}
+use Rattle.kb_record.specs.declared.tree.Field.{Field}
 use Rattle.kb_record.specs.declared.tree.Value.{Value}
 use Rattle.kb_fields.specs.Fields.{fields_view}
 use Rattle.kb_presfile.specs.Faults.{IsMemoryOr, IsFirstOf}
@@ -14,7 +13,7 @@ use Rattle.kb_presfile.proofs.reader.read.Goals as goal
 pub returns-clause-fault : goal.returns-clause-fault
 returns-clause-fault c =
     IfErr_then c.presentation_of.result c.presentation_of.ensures.fault (λ error fault.
-    let P : List (Bor (List ℕ) × Value) → Type 0 = λ fields. IsMemoryOr (IsFirstOf (fields_view fields)) error in
+    let P : List (Field Value) → Type 0 = λ fields. IsMemoryOr (IsFirstOf (fields_view fields)) error in
     text_fault c.args.bytes.now (text_view c.in_ok-text.text) error c.in_ok-text.ensures.read c.in_ok-text.ensures.shallow
     (subst P c.as_slice.ensures.value fault))
 

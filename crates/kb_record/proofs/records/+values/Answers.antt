@@ -1,17 +1,18 @@
 use Rattle.std.proofs.Common.{◌≡◌, ℕ, ℤ, suc, length, ◌-◌, List, [], ◌∷◌, ◌++◌, Option, Some, None, Err, map, Bool, true, false, refl, sym, ap, subst, ◌∙◌, arith, rules, to_z-of_z, w64, SFits, Vec, Global}
-use Rattle.std.specs.Borrow.{Bor}
 use Rattle.std.proofs.lemmas.Option.{MatchOption-at_some}
 use Rattle.kb_lexing.specs.declared.place.Expected.TheVariants as wanted
 use Rattle.kb_record.specs.Tree.{record_value, list_value, number_value, Value as ValueTree}
 use Rattle.kb_record.specs.Reading.{Reads, read, remaining, whole_of, passes_comma, joined, reading_map, after_items, list_from, first_place, first_number, ends_place, read_places, read_value, place_with, field_with, fields_from, read_fields, past, behind, begins_word, read_scalar}
 use Rattle.kb_record.specs.View.{value_view, field_view, place_from, places_of}
+use Rattle.kb_record.specs.declared.tree.Field.{Field as FieldType}
 use Rattle.kb_record.specs.declared.tree.Value.{Value as ValueType}
 use Rattle.kb_record.specs.declared.cursor.Mark.TheVariants.{CloseRound, CloseSquare, Dots, Rec, OpenSquare}
 use Rattle.kb_record.proofs.ReadRows.{numbered_reads, number_alone, none_before, turn, last, item_fails, comma_fails, as_answered, map_one_more, comma-shorter}
 use Rattle.kb_record.proofs.Depths.{value-word, value-record, value-list, value-scalar, same_reading}
 use Rattle.kb_record.proofs.PassedMarks.{behind-shorter}
 use Rattle.kb_record.proofs.PlaceTexts.{first_number_is, ended_reads, full_reads}
-use Rattle.kb_record.proofs.Views.{fields_alike, view-Record}
+use Rattle.kb_record.proofs.FieldTexts.{field_shown}
+use Rattle.kb_record.proofs.Views.{view-Record}
 use Rattle.kb_record.proofs.records.+values.Goals as goal
 
 -- the first place is the number
@@ -81,6 +82,12 @@ place-returns-clause-reads t c =
     let rest = remaining c.value.new.tokens in
     full_reads c.args.depth tokens rest (value_view c.in_ok-value.field-0) c.requires full c.in_ok-value.ensures.reads ∙ ap (λ p. read p rest) (sym (ap (place_from (whole_of c.args.tokens.now)) c.in_ok-begin.ensures ∙ c.place.ensures))
 
+pub field-kept_field-requires : goal.field-kept_field-requires
+field-kept_field-requires t c =
+    c.field_text-text.ensures
+    ∙ field_shown c.args.depth (remaining c.args.tokens.now) (remaining c.name.new.self) (remaining c.expect.new.self) (remaining c.value.new.tokens) c.in_ok-name.name.now (value_view c.in_ok-value.value) c.requires c.in_ok-name.ensures.reads c.in_ok-expect.ensures.passes
+    c.in_ok-value.ensures.reads
+
 pub places-loop-places-init : goal.places-loop-places-init
 places-loop-places-init t c = (suc (length (remaining c.args.tokens.now)), omega arith, omega arith, refl, refl)
 
@@ -144,7 +151,7 @@ some_fields-returns-in_err-field-clause-reads t c =
     let failed : Reads (field_with (read_value c.args.depth) (remaining l.tokens)) field_view (Err stop) rest = c.in_err-field.ensures.reads in
     let answered : c.from_residual-in_err-field.result ≡ Err stop = search rules in
     as_answered _ _ _ _ stop rest l.invariant.3 answered
-    (item_fails (field_with (read_value c.args.depth)) (passes_comma CloseRound wanted.Mark) {D = Vec (Bor (List ℕ) × ValueType) Global} (map field_view l.fields.items) l.invariant.0 (remaining l.tokens) rest field_view (λ v. map field_view v.items) stop (omega (arith, l.invariant.1)) failed)
+    (item_fails (field_with (read_value c.args.depth)) (passes_comma CloseRound wanted.Mark) {D = Vec (FieldType ValueType) Global} (map field_view l.fields.items) l.invariant.0 (remaining l.tokens) rest field_view (λ v. map field_view v.items) stop (omega (arith, l.invariant.1)) failed)
 
 pub some_fields-returns-in_err-passes_comma-clause-reads : goal.some_fields-returns-in_err-passes_comma-clause-reads
 some_fields-returns-in_err-passes_comma-clause-reads t c =
@@ -156,7 +163,7 @@ some_fields-returns-in_err-passes_comma-clause-reads t c =
     let failed : Reads (passes_comma CloseRound wanted.Mark (remaining c.field.new.tokens)) (λ more. more) (Err stop) rest = c.in_err-passes_comma.ensures.reads in
     let answered : c.from_residual-in_err-passes_comma.result ≡ Err stop = search rules in
     as_answered _ _ _ _ stop rest l.invariant.3 answered
-    (comma_fails (field_with (read_value c.args.depth)) (passes_comma CloseRound wanted.Mark) {B = Bool} {D = Vec (Bor (List ℕ) × ValueType) Global} (map field_view l.fields.items) l.invariant.0 (remaining l.tokens) (remaining c.field.new.tokens) rest (field_view x) (λ more. more) (λ v. map field_view v.items) stop (omega (arith, l.invariant.1)) item failed)
+    (comma_fails (field_with (read_value c.args.depth)) (passes_comma CloseRound wanted.Mark) {B = Bool} {D = Vec (FieldType ValueType) Global} (map field_view l.fields.items) l.invariant.0 (remaining l.tokens) (remaining c.field.new.tokens) rest (field_view x) (λ more. more) (λ v. map field_view v.items) stop (omega (arith, l.invariant.1)) item failed)
 
 pub some_fields-returns-then-not-branch-clause-reads : goal.some_fields-returns-then-not-branch-clause-reads
 some_fields-returns-then-not-branch-clause-reads t c =
@@ -194,7 +201,7 @@ record-returns-clause-reads t c =
     let opening = c.in_ok-expect.ensures.passes in
     let fields : read_fields c.args.depth (remaining c.expect.new.self) ≡ read (map field_view found.items) (remaining c.fields.new.tokens) = c.in_ok-fields.ensures.reads in
     ap (λ o. past wanted.Fields (remaining c.args.tokens.now) o (λ rest. reading_map (λ fs. record_value (fields_from fs)) (read_fields c.args.depth rest))) opening
-    ∙ ap (reading_map (λ fs. record_value (fields_from fs))) fields ∙ ap (λ v. read v (remaining c.fields.new.tokens)) (ap record_value (fields_alike found.items) ∙ sym (view-Record found))
+    ∙ ap (reading_map (λ fs. record_value (fields_from fs))) fields ∙ ap (λ v. read v (remaining c.fields.new.tokens)) (sym (view-Record found))
 
 pub value-returns-then-begins_word-clause-reads : goal.value-returns-then-begins_word-clause-reads
 value-returns-then-begins_word-clause-reads t c =

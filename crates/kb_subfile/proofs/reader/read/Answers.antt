@@ -1,8 +1,8 @@
-use Rattle.std.proofs.Common.{ℕ, List, subst}
-use Rattle.std.specs.Borrow.{Bor}
+use Rattle.std.proofs.Common.{List, subst}
 use Rattle.std.proofs.lemmas.Result.{err_from_is_err_and}
 use Rattle.kb_word.specs.Presentations.{parts_of}
 use Rattle.kb_record.specs.View.{text_view}
+use Rattle.kb_record.specs.declared.tree.Field.{Field}
 use Rattle.kb_record.specs.declared.tree.Value.{Value}
 use Rattle.kb_fields.specs.Fields.{fields_view}
 use Rattle.kb_fields.proofs.Outcomes.{IfErr_then}
@@ -15,7 +15,7 @@ pub returns-clause-fault : goal.returns-clause-fault
 returns-clause-fault c =
     let parts = parts_of c.args.presentation.now in
     IfErr_then c.generators_of.result c.generators_of.ensures.fault (λ error fault.
-    let P : List (Bor (List ℕ) × Value) → Type 0 = λ fields. IsMemoryOr (IsFirstOf parts (fields_view fields)) error in
+    let P : List (Field Value) → Type 0 = λ fields. IsMemoryOr (IsFirstOf parts (fields_view fields)) error in
     text_fault parts c.args.bytes.now (text_view c.in_ok-text.text) error c.in_ok-text.ensures.read c.in_ok-text.ensures.shallow
     (subst P c.as_slice.ensures.value fault))
 
