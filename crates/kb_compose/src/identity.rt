@@ -1,11 +1,12 @@
 //! The identity on an acceptor.
 
 ghost use Rattle.std.specs.Prelude.{◌≡◌, ℕ, map, All, IfOk};
+ghost use Rattle.kb_fsa.specs.Table.{IsRow};
 ghost use Rattle.kb_fsa.specs.Language.{IsAutomaton};
 ghost use Rattle.kb_fsa.specs.declared.alphabet.Alphabet.TheVariants.{Plain};
 ghost use Rattle.kb_compose.specs.Along.{AreLetters, identity_on, twice};
 
-use kb_fsa::{Alphabet, Fsa, PairSymbols, Row, Table};
+use kb_fsa::{Alphabet, Fsa, PairSymbols, Rows, Table};
 use kb_word::Memory;
 use std::alloc::Global;
 
@@ -26,25 +27,32 @@ pub(crate) fn identity(alloc: Global, acceptor: &Fsa) -> Result<Fsa, Memory>
 }
 
 /// The rows by pairs of the same letter twice.
-fn rows_of_pairs(alloc: Global, symbols: PairSymbols, rows: &[Row]) -> Result<Vec<Row>, Memory>
+fn rows_of_pairs(alloc: Global, symbols: PairSymbols, rows: &Rows) -> Result<Rows, Memory>
     requires { All (AreLetters symbols.n) rows.now }
-    ensures { IfOk result (λ pairs. pairs.items ≡ map (map (twice symbols.n)) rows.now) }
+    ensures { IfOk result (λ pairs. pairs ≡ map (map (twice symbols.n)) rows.now) }
 {
-    let mut pairs = Vec::with_capacity(alloc, rows.len())?;
-    for row in rows {
-        pairs.push(row_of_pairs(alloc, symbols, row)?)?;
+    let mut pairs = Rows::new(alloc)?;
+    for place in 0..rows.len() {
+        let row = row_of_pairs(alloc, symbols, rows.get(place))?;
+        pairs.push(row.as_slice())?;
     }
     Ok(pairs)
 }
 
 /// The row by pairs of the same letter twice.
-fn row_of_pairs(alloc: Global, symbols: PairSymbols, row: &Row) -> Result<Row, Memory>
-    requires { AreLetters symbols.n row.now }
-    ensures { IfOk result (λ pairs. pairs ≡ map (twice symbols.n) row.now) }
+fn row_of_pairs(
+    alloc: Global,
+    symbols: PairSymbols,
+    row: &[(u32, u32)],
+) -> Result<Vec<(u32, u32)>, Memory>
+    requires letters { AreLetters symbols.n row.now }
+    requires row { IsRow row.now }
+    ensures pairs { IfOk result (λ pairs. pairs.items ≡ map (twice symbols.n) row.now) }
+    ensures row { IfOk result (λ pairs. IsRow pairs.items) }
 {
     let mut pairs = Vec::with_capacity(alloc, row.len())?;
-    for (letter, target) in row.as_slice() {
+    for (letter, target) in row {
         pairs.push((symbols.symbol(*letter, *letter), *target))?;
     }
-    Ok(Row::from_vec(pairs))
+    Ok(pairs)
 }

@@ -6,7 +6,7 @@ ghost use Rattle.kb_explore.specs.Exploration.{IsExploration};
 
 use crate::exploration::{Exploration, answers};
 use crate::machine::Machine;
-use kb_fsa::{Row, Table};
+use kb_fsa::Table;
 use kb_word::Memory;
 use std::alloc::Global;
 use std::hash::Hash;
@@ -26,18 +26,7 @@ impl<S: Eq + Hash + Drop> Exploration<S> {
         ensures rows { IfOk result (λ table. table.rows ≡ self.now.table.rows) }
     {
         let accepting = answers(alloc, machine, &self.states)?;
-        let rows = copies(alloc, self.table.rows())?;
+        let rows = self.table.rows().copy(alloc)?;
         Ok(Table::new(self.table.initial(), rows, accepting))
     }
-}
-
-/// Rows of the same moves, in order.
-fn copies(alloc: Global, rows: &[Row]) -> Result<Vec<Row>, Memory>
-    ensures { IfOk result (λ copies. copies.items ≡ rows.now) }
-{
-    let mut copies = Vec::with_capacity(alloc, rows.len())?;
-    for row in rows {
-        copies.push(row.copy(alloc)?)?;
-    }
-    Ok(copies)
 }

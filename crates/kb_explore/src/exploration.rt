@@ -1,7 +1,7 @@
 //! The exploration.
 
 ghost use Rattle.std.specs.Prelude.{◌≡◌, ◌<◌, ◌≤◌, ℕ, List, Err, [], ◌∷◌, ◌++◌, length, map, IsOk, IfOk, OnOk};
-ghost use Rattle.kb_fsa.specs.Table.{HasSymbols};
+ghost use Rattle.kb_fsa.specs.Table.{HasSymbols, IsRow};
 ghost use Rattle.kb_explore.specs.Machine.{HasMoreStates};
 ghost use Rattle.kb_explore.specs.Exploration.{AreFromEarlier, IsExploration, IsTraced};
 ghost use Rattle.kb_explore.specs.Progress.{IsUnderWay, seen_count};
@@ -11,7 +11,7 @@ use crate::det::Det;
 use crate::machine::Machine;
 use crate::seen::{Seen, number, start};
 use indexmap::IndexSet;
-use kb_fsa::{Row, Table};
+use kb_fsa::{Rows, Table};
 use kb_word::Memory;
 use std::alloc::Global;
 use std::hash::Hash;
@@ -42,10 +42,10 @@ pub fn explore<M: Machine>(
         → (most ≡ limit) × HasMoreStates (M.machine machine.now) limit }
 {
     let mut seen = start(alloc, machine, limit)?;
-    let mut rows = Vec::new(alloc);
+    let mut rows = Rows::new(alloc)?;
     while rows.len() < seen.states.len() {
         let row = next_row(alloc, machine, limit, &mut seen, &rows)?;
-        rows.push(row)?;
+        rows.push(row.as_slice())?;
     }
     let accepting = answers(alloc, machine, &seen.states)?;
     // The initial state, where there is one, was seen first.
@@ -63,27 +63,29 @@ fn next_row<M: Machine>(
     machine: &M,
     limit: u32,
     seen: &mut Seen<M::State>,
-    rows: &[Row],
-) -> Result<Row, Det>
+    rows: &Rows,
+) -> Result<Vec<(u32, u32)>, Det>
     requires progress { IsUnderWay (M.machine machine.now) (M.symbols machine.now)
         seen.old rows.now }
     requires more { length rows.now < seen_count seen.old }
     requires room { seen_count seen.old ≤ limit }
     ensures progress { IfOk result (λ row.
         IsUnderWay (M.machine machine.now) (M.symbols machine.now)
-        seen.new (rows.now ++ row ∷ [])) }
+        seen.new (rows.now ++ row.items ∷ [])) }
+    ensures row { IfOk result (λ row. IsRow row.items) }
     ensures room { OnOk result (seen_count seen.new ≤ limit) }
     ensures many { (most : ℕ) → result ≡ Err (TooManyStates most)
         → (most ≡ limit) × HasMoreStates (M.machine machine.now) limit }
 {
-    let moves = machine.moves(alloc, &seen.states[rows.len()])?;
+    let done = rows.len();
+    let moves = machine.moves(alloc, &seen.states[done])?;
     let mut row = Vec::with_capacity(alloc, moves.len())?;
     for (symbol, state) in moves {
-        let origin = (rows.len() as u32 + 1, symbol);
+        let origin = (done as u32 + 1, symbol);
         let number = number::<M>(limit, seen, state, origin)?;
         row.push((symbol, number))?;
     }
-    Ok(Row::from_vec(row))
+    Ok(row)
 }
 
 /// For each state whether it accepts.

@@ -1,5 +1,5 @@
 -- Look-ups in ascending lists of numbered things, and the states to which texts lead.
-use Rattle.std.proofs.Common.{◌≡◌, ◌≢◌, ◌⊎◌, ℕ, zero, suc, ◌+◌, ◌<◌, ◌≤◌, false, nat_eq, IsTrue, List, [], ◌∷◌, ◌++◌, length, get_or, slice_get, drop, add-one, Option, Some, None, Result, Ok, Err, MatchResult, refl, sym, ap, ◌∙◌, subst, inl, inr, arith}
+use Rattle.std.proofs.Common.{◌≡◌, ◌≢◌, ◌⊎◌, ℕ, zero, suc, ◌+◌, ◌<◌, ◌≤◌, false, nat_eq, IsTrue, List, [], ◌∷◌, ◌++◌, length, get_or, slice_get, drop, add-one, Option, Some, None, Result, Ok, Err, OnOk, OnErr, MatchResult, refl, sym, ap, ◌∙◌, subst, inl, inr, arith}
 use Rattle.std.specs.List.{All, Contains}
 use Rattle.std.specs.List.Sorted.{IsSearchInRange, IsBinarySearchResult, IsNonDecreasingBy}
 use Rattle.std.specs.Option.{unwrap_or}
@@ -327,3 +327,22 @@ after-more table state next symbol place text here is =
 -- what the text leads to, once it is read
 pub after-all : (table : Table) (state place : ℕ) (text : List ℕ) → length text ≤ place → after table state (drop place text) ≡ state
 after-all table state place text past = ap (after table state) (drop_all place text past)
+
+-- ---- rows side by side
+
+-- the row at a place where there is one
+pub row_read : (rows : List Moves) (k : ℕ) (row : Moves) → All IsRow rows → slice_get rows k ≡ Some row → IsRow row
+row_read [] k row all is = cc
+row_read (r ∷ rows) zero row all is = let same : r ≡ row = cc in subst IsRow same (all 0 [] (omega arith))
+row_read (r ∷ rows) (suc k) row all is = row_read rows k row (λ j d lt. all (suc j) d (omega (arith, lt))) is
+
+-- and past the last one
+pub none_read : (rows : List Moves) (k : ℕ) → slice_get rows k ≡ None → get_or rows k [] ≡ []
+none_read [] k e = refl
+none_read (r ∷ rows) zero e = cc
+none_read (r ∷ rows) (suc k) e = none_read rows k e
+
+-- all are rows where one more was pushed, and where none was
+pub pushed_rows : {T E : Type 0} (old new : List Moves) (row : Moves) (result : Result T E) → All IsRow old → IsRow row → OnOk result (new ≡ old ++ row ∷ []) → OnErr result (new ≡ old) → All IsRow new
+pushed_rows old new row (Ok x) all is pushed kept = subst (All IsRow) (sym pushed) (All-push IsRow old row all is)
+pushed_rows old new row (Err x) all is pushed kept = subst (All IsRow) (sym kept) all

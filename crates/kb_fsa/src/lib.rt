@@ -1,9 +1,10 @@
 //! Finite state automata, and the definitions of languages that the crates above share.
 //!
 //! An automaton reads words over the generators, or pairs of words as padded texts. Its table keeps for each
-//! state a sparse row: its moves (transitions), each a symbol with its target, symbols ascending. The crate's
-//! public contract: `Fsa::step` and `Fsa::moves` are the table, and `accepts` and `accepts_pair` are the
-//! language. Calls that read an automaton take no memory, but for `copy`.
+//! state a sparse row: its moves (transitions), each a symbol with its target, symbols ascending. The rows of all
+//! states stand side by side ([`Rows`]), so that a state takes five bytes beside its moves. The crate's public
+//! contract: `Fsa::step` and `Fsa::moves` are the table, and `accepts` and `accepts_pair` are the language. Calls that
+//! read an automaton take no memory, but for `copy`.
 //!
 //! `PairSymbols` numbers the symbols of pairs, and `Ended` follows which word of a pair has ended.
 //!
@@ -25,7 +26,7 @@
 //! of the numbers of pairs, `Paddings` and `Unpadding` of the texts of pairs and of their words, `PaddedRuns` of
 //! which word has ended along a text; `LinkLemmas`, `Reaching` and `MoveLemmas` of edges and of what they lead to.
 //!
-//! Below is `kb_word`.
+//! Below are `kb_word`, and `kb_ragged`, whose lists side by side the rows are.
 #![tactic(auto)]
 
 mod alphabet;
@@ -35,7 +36,7 @@ mod links;
 mod moves;
 mod pair_symbols;
 mod reach;
-mod row;
+mod rows;
 mod symbols;
 mod table;
 mod texts;
@@ -47,7 +48,7 @@ pub use links::{Links, link};
 pub use moves::{Backward, live, reversed};
 pub use pair_symbols::PairSymbols;
 pub use reach::reached;
-pub use row::{Row, split_at_symbol};
+pub use rows::{Rows, split_at_symbol, target_of};
 pub use symbols::Symbols;
 pub use table::Table;
 pub use texts::{pair_of, word_of};

@@ -25,10 +25,11 @@ pub fn reversed(alloc: Global, table: &Table) -> Result<Backward, Memory>
 {
     let mut edges = Vec::new(alloc);
     let mut symbols = Vec::new(alloc);
+    let rows = table.rows();
     let mut state = 0;
-    for row in table.rows() {
+    for place in 0..rows.len() {
         state += 1;
-        for (symbol, target) in row.as_slice() {
+        for (symbol, target) in rows.get(place) {
             edges.push((*target, state))?;
             symbols.push(*symbol)?;
         }

@@ -1,10 +1,10 @@
 //! Tables of deterministic automata.
 
-ghost use Rattle.std.specs.Prelude.{◌≡◌, ◌↔◌, ◌≤◌, ◌<◌, ◌^◌, [], length, IsTrue, IfOk, IfSome, IfNone};
+ghost use Rattle.std.specs.Prelude.{◌≡◌, ◌↔◌, ◌≤◌, [], length, IsTrue, IfOk};
 ghost use Rattle.std.specs.Slice.Iter.{iter_rest};
 ghost use Rattle.kb_fsa.specs.Table.{Table, IsTable, IsRow, moves_of, is_accepting, step, after, AcceptsFrom};
 
-use crate::row::Row;
+use crate::rows::{Rows, target_of};
 use kb_word::Memory;
 use std::alloc::Global;
 use std::marker::Model;
@@ -14,7 +14,7 @@ use std::slice::Iter;
 #[derive(Debug, Drop)]
 pub struct Table {
     initial: u32,
-    rows: Vec<Row>,
+    rows: Rows,
     accepting: Vec<bool>,
 }
 
@@ -26,7 +26,7 @@ impl Model for Table {
     ghost view = { λ table.
         record {
           initial = table.initial;
-          rows = table.rows.items;
+          rows = table.rows;
           accepting =
               table.accepting.items;
         } };
@@ -34,7 +34,7 @@ impl Model for Table {
     ghost invariant = { λ table. IsTable
         (record {
           initial = table.initial;
-          rows = table.rows.items;
+          rows = table.rows;
           accepting =
               table.accepting.items;
         }) };
@@ -42,11 +42,11 @@ impl Model for Table {
 
 impl Table {
     /// The table with these parts: the initial state, or 0, and each state's row and whether it accepts.
-    pub fn new(initial: u32, rows: Vec<Row>, accepting: Vec<bool>) -> Table
+    pub fn new(initial: u32, rows: Rows, accepting: Vec<bool>) -> Table
         requires { IsTable
-            (record { initial = initial; rows = rows.items; accepting = accepting.items }) }
+            (record { initial = initial; rows = rows; accepting = accepting.items }) }
         ensures { result
-            ≡ record { initial = initial; rows = rows.items; accepting = accepting.items } }
+            ≡ record { initial = initial; rows = rows; accepting = accepting.items } }
     {
         Table {
             initial,
@@ -75,15 +75,15 @@ impl Table {
     pub fn is_empty(&self) -> bool
         ensures { IsTrue result ↔ (self.now.rows ≡ []) }
     {
-        self.rows.is_empty()
+        self.rows.len() == 0
     }
 
     /// The rows of states 1, 2, and so on.
-    pub fn rows(&self) -> &[Row]
+    pub fn rows(&self) -> &Rows
         ensures rows { result.now ≡ self.now.rows }
         ensures table { IsTable self.now }
     {
-        self.rows.as_slice()
+        &self.rows
     }
 
     /// Whether states 1, 2, and so on accept.
@@ -94,16 +94,13 @@ impl Table {
         self.accepting.as_slice()
     }
 
-    /// The moves of a state, by ascending symbols; none where there is no such state.
+    /// The moves of a state, one after another, by ascending symbols; none where there is no such state.
     pub fn moves(&self, state: u32) -> Iter<'_, (u32, u32)>
         ensures moves { iter_rest result ≡ moves_of self.now state }
         ensures row { IsRow (moves_of self.now state) }
         ensures table { IsTable self.now }
     {
-        match self.row(state) {
-            Some(row) => row.iter(),
-            None => [].iter(),
-        }
+        self.row(state).iter()
     }
 
     /// Whether the state accepts.
@@ -121,41 +118,28 @@ impl Table {
         ensures step { result ≡ step self.now state symbol }
         ensures within { result ≤ length self.now.rows }
     {
-        match self.row(state) {
-            Some(row) => row.target(symbol),
-            None => 0,
-        }
+        target_of(self.row(state), symbol)
     }
 
     /// The same table.
     pub fn copy(&self, alloc: Global) -> Result<Table, Memory>
         ensures { IfOk result (λ table. table ≡ self.now) }
     {
-        let rows = copy_rows(alloc, self.rows.as_slice())?;
+        let rows = self.rows.copy(alloc)?;
         let mut accepting = Vec::with_capacity(alloc, self.accepting.len())?;
         accepting.extend_from_slice(self.accepting.as_slice())?;
         Ok(Table::new(self.initial, rows, accepting))
     }
 
-    /// The row of a state; `None` where there is no such state.
-    fn row(&self, state: u32) -> Option<&Row>
-        ensures some { IfSome result (λ row. row.now ≡ moves_of self.now state) }
-        ensures none { IfNone result (moves_of self.now state ≡ []) }
+    /// The moves of a state, by ascending symbols; none where there is no such state.
+    pub fn row(&self, state: u32) -> &[(u32, u32)]
+        ensures moves { result.now ≡ moves_of self.now state }
+        ensures row { IsRow (moves_of self.now state) }
         ensures table { IsTable self.now }
     {
-        let rows = self.rows.as_slice();
-        let place = state.checked_sub(1)?;
-        rows.get(place as usize)
+        match state.checked_sub(1) {
+            Some(place) => self.rows.get(place as usize),
+            None => &[],
+        }
     }
-}
-
-/// Rows of the same moves, in order.
-fn copy_rows(alloc: Global, rows: &[Row]) -> Result<Vec<Row>, Memory>
-    ensures { IfOk result (λ copies. copies.items ≡ rows.now) }
-{
-    let mut copies = Vec::with_capacity(alloc, rows.len())?;
-    for row in rows {
-        copies.push(row.copy(alloc)?)?;
-    }
-    Ok(copies)
 }

@@ -8,7 +8,7 @@ ghost use Rattle.kb_fsa.specs.declared.alphabet.Alphabet.TheVariants.{Pair};
 ghost use Rattle.kb_fsadet.specs.FirstWords.{by_first, tail_edge, tail_edges, where_some, AreEnds, IsFirstWords};
 
 use crate::nfa::{Branches, Nfa};
-use kb_fsa::{Alphabet, Fsa, PairSymbols, Row, Table, reached};
+use kb_fsa::{Alphabet, Fsa, PairSymbols, Rows, Table, reached};
 use kb_word::Memory;
 use std::alloc::Global;
 
@@ -40,23 +40,23 @@ fn initial_states(alloc: Global, table: &Table) -> Result<Vec<u32>, Memory>
 }
 
 /// The moves of each state by first letters.
-fn rows_by_first(alloc: Global, rows: &[Row], symbols: PairSymbols) -> Result<Vec<Branches>, Memory>
+fn rows_by_first(alloc: Global, rows: &Rows, symbols: PairSymbols) -> Result<Vec<Branches>, Memory>
     ensures { IfOk result
         (λ branches. branches.items ≡ map (filter_map (by_first symbols.n)) rows.now) }
 {
     let mut branches = Vec::with_capacity(alloc, rows.len())?;
-    for row in rows {
-        branches.push(row_by_first(alloc, row, symbols)?)?;
+    for place in 0..rows.len() {
+        branches.push(row_by_first(alloc, rows.get(place), symbols)?)?;
     }
     Ok(branches)
 }
 
 /// The moves of a state by first letters.
-fn row_by_first(alloc: Global, row: &Row, symbols: PairSymbols) -> Result<Branches, Memory>
+fn row_by_first(alloc: Global, row: &[(u32, u32)], symbols: PairSymbols) -> Result<Branches, Memory>
     ensures { IfOk result (λ branches. branches ≡ filter_map (by_first symbols.n) row.now) }
 {
     let mut branches = Branches::new(alloc);
-    for (symbol, target) in row.as_slice() {
+    for (symbol, target) in row {
         if !symbols.pads_first(*symbol) {
             branches.push(symbols.first(*symbol), *target)?;
         }
@@ -79,15 +79,15 @@ fn ends(alloc: Global, table: &Table, generators: u16) -> Result<Vec<bool>, Memo
 }
 
 /// The moves after the first word, each from its target to its state.
-fn tail_edges(alloc: Global, rows: &[Row], symbols: PairSymbols) -> Result<Vec<(u32, u32)>, Memory>
+fn tail_edges(alloc: Global, rows: &Rows, symbols: PairSymbols) -> Result<Vec<(u32, u32)>, Memory>
     requires { length rows.now < 2 ^ 32 }
     ensures { IfOk result (λ edges. edges.items ≡ tail_edges symbols.n 1 rows.now) }
 {
     let mut edges = Vec::new(alloc);
     let mut state = 0;
-    for row in rows {
+    for place in 0..rows.len() {
         state += 1;
-        push_tail_edges(&mut edges, row, state, symbols)?;
+        push_tail_edges(&mut edges, rows.get(place), state, symbols)?;
     }
     Ok(edges)
 }
@@ -95,14 +95,14 @@ fn tail_edges(alloc: Global, rows: &[Row], symbols: PairSymbols) -> Result<Vec<(
 /// Adds those of one state.
 fn push_tail_edges(
     edges: &mut Vec<(u32, u32)>,
-    row: &Row,
+    row: &[(u32, u32)],
     state: u32,
     symbols: PairSymbols,
 ) -> Result<(), Memory>
     ensures { OnOk result
         (edges.new.items ≡ edges.old.items ++ filter_map (tail_edge symbols.n state) row.now) }
 {
-    for (symbol, target) in row.as_slice() {
+    for (symbol, target) in row {
         if symbols.pads_first(*symbol) {
             edges.push((*target, state))?;
         }

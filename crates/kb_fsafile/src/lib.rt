@@ -41,8 +41,7 @@
 //!   to 10^18 before the rows are seen to be as many, so the accepting states are marked after the rows.
 //! - `rows` reads the rows of a table, dense or sparse, as ascending symbols with targets that are states. A row that
 //!   the tree keeps as numbers is read where it stands, and a sparse row needs no map where its symbols ascend.
-//! - `raw_table` keeps the rows side by side until the tree of the text is let go, and `reached` finds the states that
-//!   texts lead to, so that others never take a row of their own where they are many.
+//! - `reached` finds the states that texts lead to, so that the others aren't kept where they are many.
 //! - `kb_padding` drops moves of automata of pairs, or refuses them. By then the tree of the text is let go.
 //! - `reader` joins them, each step a function called in the order of the refusals.
 //!
@@ -68,7 +67,6 @@ mod format;
 mod header;
 mod initial;
 mod laws;
-mod raw_table;
 mod reached;
 mod reader;
 mod rows;

@@ -7,7 +7,6 @@ ghost use Rattle.kb_fsafile.specs.Languages.{some_state, machine_of, IsReachedPa
 ghost use Rattle.kb_fsafile.specs.declared.error.FsaError.TheVariants.{Memory as NoMemory};
 
 use crate::error::FsaError;
-use crate::raw_table::RawTable;
 use kb_explore::{Machine, explore};
 use kb_fsa::Table;
 use kb_word::Memory;
@@ -16,7 +15,7 @@ use std::alloc::Global;
 /// A table as a machine, whose states are the table's numbers.
 #[derive(Drop)]
 struct Whole {
-    table: RawTable,
+    table: Table,
     /// No symbol of its moves is above this one.
     size: u32,
     ghost bounded: { HasSymbols size table },
@@ -36,7 +35,7 @@ impl Machine for Whole {
     }
 
     fn moves(&self, alloc: Global, state: &u32) -> Result<Vec<(u32, u32)>, Memory> {
-        let moves = Vec::from_slice(alloc, self.table.moves(*state))?;
+        let moves = Vec::from_slice(alloc, self.table.row(*state))?;
         Ok(moves)
     }
 
@@ -56,7 +55,7 @@ fn some_state(number: u32) -> Option<u32>
 }
 
 /// The part of the table that texts lead to, which accepts the same texts.
-pub(crate) fn reached(alloc: Global, table: RawTable, size: u32) -> Result<Table, FsaError>
+pub(crate) fn reached(alloc: Global, table: Table, size: u32) -> Result<Table, FsaError>
     requires { HasSymbols size table }
     ensures symbols { IfOk result (HasSymbols size) }
     ensures part { IfOk result (IsReachedPart table) }
@@ -71,8 +70,8 @@ pub(crate) fn reached(alloc: Global, table: RawTable, size: u32) -> Result<Table
 }
 
 /// Whether texts lead to more than half of the states. Only how much memory is taken goes by the answer.
-pub(crate) fn leads_to_most(alloc: Global, table: &RawTable) -> Result<bool, Memory> {
-    let count = table.len();
+pub(crate) fn leads_to_most(alloc: Global, table: &Table) -> Result<bool, Memory> {
+    let count = table.len() as usize;
     let mut met = vec![in alloc; false; count]?;
     let mut waiting = Vec::new(alloc);
     meet(table.initial(), &mut met, &mut waiting)?;
@@ -80,7 +79,7 @@ pub(crate) fn leads_to_most(alloc: Global, table: &RawTable) -> Result<bool, Mem
         let Some(state) = waiting.pop() else {
             return Ok(turn > count / 2);
         };
-        for (_, target) in table.moves(state) {
+        for (_, target) in table.row(state) {
             meet(*target, &mut met, &mut waiting)?;
         }
     }

@@ -22,7 +22,6 @@ use crate::error::FsaError;
 use crate::fields::check_once;
 use crate::header::check_is_fsa;
 use crate::initial::read_initial;
-use crate::raw_table::RawTable;
 use crate::reached::{leads_to_most, reached};
 use crate::states::count_states;
 use crate::table::read_rows;
@@ -42,7 +41,7 @@ pub fn read(alloc: Global, bytes: &[u8]) -> Result<(Names, Fsa), FsaError>
     ensures fault { IfErr result (HasFsaFault bytes.now) }
 {
     let (letters, read) = table_of(alloc, bytes)?;
-    let table = whole_table(alloc, letters.alphabet, read)?;
+    let table = automaton_table(alloc, letters.alphabet, read)?;
     Ok((letters.names, Fsa::new(letters.alphabet, table)))
 }
 
@@ -59,7 +58,7 @@ pub fn read_language(alloc: Global, bytes: &[u8]) -> Result<(Names, Fsa), FsaErr
 }
 
 /// The letters and the table that the bytes say, as it stands. The tree of the text is let go.
-fn table_of(alloc: Global, bytes: &[u8]) -> Result<(Letters, RawTable), FsaError>
+fn table_of(alloc: Global, bytes: &[u8]) -> Result<(Letters, Table), FsaError>
     ensures read { IfOk result (λ found. TableOf bytes.now found.0.names found.0.alphabet found.1) }
     ensures fault { IfErr result (HasFsaFault bytes.now) }
 {
@@ -80,7 +79,7 @@ fn text_of<'a>(alloc: Global, bytes: &'a [u8]) -> Result<Rec<'a>, FsaError>
 fn lettered_table<'a>(
     alloc: Global,
     fields: &[RecordField<'a>],
-) -> Result<(Letters, RawTable), FsaError>
+) -> Result<(Letters, Table), FsaError>
     ensures read { IfOk result
         (λ found. HasLetteredTable (fields_view fields.now) found.0.names
         found.0.alphabet found.1) }
@@ -94,11 +93,7 @@ fn lettered_table<'a>(
 }
 
 /// The table that fields say, as it stands.
-fn read_table<'a>(
-    alloc: Global,
-    fields: &[RecordField<'a>],
-    size: u32,
-) -> Result<RawTable, FsaError>
+fn read_table<'a>(alloc: Global, fields: &[RecordField<'a>], size: u32) -> Result<Table, FsaError>
     requires { HasSize (fields_view fields.now) size }
     ensures read { IfOk result (HasTable (fields_view fields.now) size) }
     ensures fault { IfErr result
@@ -109,7 +104,7 @@ fn read_table<'a>(
     let accepting = read_accepting(alloc, fields, count)?;
     let rows = read_rows(alloc, fields, size, count)?;
     let answers = accepting.answers(alloc, rows.len())?;
-    Ok(RawTable::new(initial as u32, rows, answers))
+    Ok(Table::new(initial as u32, rows, answers))
 }
 
 /// The table of the automaton that a file's table gives.
@@ -130,7 +125,7 @@ fn automaton_table(alloc: Global, alphabet: Alphabet, read: Table) -> Result<Tab
 
 /// A table that accepts what that of the automaton does that a file's table gives. Where texts lead to most states it
 /// is the whole one, since a state that is explored takes more memory than one that is kept.
-fn language_table(alloc: Global, alphabet: Alphabet, read: RawTable) -> Result<Table, FsaError>
+fn language_table(alloc: Global, alphabet: Alphabet, read: Table) -> Result<Table, FsaError>
     requires generators { generators alphabet ≤ 65534 }
     requires table { IsTable read }
     requires symbols { HasSymbols (most_symbols alphabet) read }
@@ -139,14 +134,14 @@ fn language_table(alloc: Global, alphabet: Alphabet, read: RawTable) -> Result<T
     ensures fault { IfErr result (IsMemoryOr (IsCleaningFault alphabet read)) }
 {
     if leads_to_most(alloc, &read)? {
-        whole_table(alloc, alphabet, read)
+        automaton_table(alloc, alphabet, read)
     } else {
         reached_table(alloc, alphabet, read)
     }
 }
 
 /// A table that accepts what that of the automaton does that a file's table gives, of the states that texts lead to.
-fn reached_table(alloc: Global, alphabet: Alphabet, read: RawTable) -> Result<Table, FsaError>
+fn reached_table(alloc: Global, alphabet: Alphabet, read: Table) -> Result<Table, FsaError>
     requires generators { generators alphabet ≤ 65534 }
     requires table { IsTable read }
     requires symbols { HasSymbols (most_symbols alphabet) read }
@@ -177,19 +172,4 @@ fn paddings(n: u16) -> u32
     ensures { result ≡ (n + 1) * (n + 1) }
 {
     PairSymbols { n }.count() + 1
-}
-
-/// The table of the automaton that a file's table gives, of all states.
-fn whole_table(alloc: Global, alphabet: Alphabet, read: RawTable) -> Result<Table, FsaError>
-    requires generators { generators alphabet ≤ 65534 }
-    requires table { IsTable read }
-    requires symbols { HasSymbols (most_symbols alphabet) read }
-    ensures cleaned { IfOk result (IsCleaned alphabet read) }
-    ensures automaton { IfOk result
-        (λ table. IsAutomaton (record { alphabet = alphabet; table = table })) }
-    ensures fault { IfErr result (IsMemoryOr (IsCleaningFault alphabet read)) }
-{
-    let whole = read.into_table(alloc)?;
-    let table = automaton_table(alloc, alphabet, whole)?;
-    Ok(table)
 }

@@ -18,11 +18,13 @@ use crate::error::{Field, FsaError};
 use crate::format::Format;
 use crate::values::{entries_listed, number_within, target_within};
 use kb_fields::numbers_listed;
-use kb_fsa::Row;
 use kb_record::{Place, PlaceText, Value};
 use kb_word::Memory;
 use std::alloc::Global;
 use std::collections::BTreeMap;
+
+/// The moves of a state: symbols, ascending, each with its target.
+type Moves = Vec<(u32, u32)>;
 
 /// The row at a place of a table over so many symbols and of so many states.
 pub fn read_row(
@@ -31,8 +33,8 @@ pub fn read_row(
     format: Format,
     size: u32,
     count: u32,
-) -> Result<Row, FsaError>
-    ensures read { IfOk result (IsRowAt size count format (place_view place.entry)) }
+) -> Result<Moves, FsaError>
+    ensures read { IfOk result (λ row. IsRowAt size count format (place_view place.entry) row.items) }
     ensures fault { IfErr result (IsFirstOfRow format size count (place_view place.entry)) }
 {
     match format {
@@ -56,8 +58,8 @@ fn read_dense_row(
     place: Place<'_, '_>,
     size: u32,
     count: u32,
-) -> Result<Row, FsaError>
-    ensures read { IfOk result (IsRowAt size count Dense (place_view place.entry)) }
+) -> Result<Moves, FsaError>
+    ensures read { IfOk result (λ row. IsRowAt size count Dense (place_view place.entry) row.items) }
     ensures fault { IfErr result (IsFirstOfRow Dense size count (place_view place.entry)) }
 {
     match place {
@@ -69,8 +71,8 @@ fn read_dense_row(
 }
 
 /// The row at a place, as it is written, that lists a target for each symbol.
-fn written_row(alloc: Global, text: PlaceText<'_>, size: u32, count: u32) -> Result<Row, FsaError>
-    ensures read { IfOk result (IsRowAt size count Dense (written_place text.entry)) }
+fn written_row(alloc: Global, text: PlaceText<'_>, size: u32, count: u32) -> Result<Moves, FsaError>
+    ensures read { IfOk result (λ row. IsRowAt size count Dense (written_place text.entry) row.items) }
     ensures fault { IfErr result (IsFirstOfRow Dense size count (written_place text.entry)) }
 {
     let value = text.value(alloc)?;
@@ -81,8 +83,13 @@ fn written_row(alloc: Global, text: PlaceText<'_>, size: u32, count: u32) -> Res
 }
 
 /// The row of a value that lists a target for each symbol.
-fn listed_row<'a>(alloc: Global, value: &Value<'a>, size: u32, count: u32) -> Result<Row, FsaError>
-    ensures read { IfOk result (IsRowAt size count Dense (Some (value_view value.now))) }
+fn listed_row<'a>(
+    alloc: Global,
+    value: &Value<'a>,
+    size: u32,
+    count: u32,
+) -> Result<Moves, FsaError>
+    ensures read { IfOk result (λ row. IsRowAt size count Dense (Some (value_view value.now)) row.items) }
     ensures fault { IfErr result (IsFirstOfRow Dense size count (Some (value_view value.now))) }
 {
     let Some(numbers) = numbers_listed(alloc, value)? else {
@@ -97,8 +104,8 @@ fn row_without_targets(
     entries: &[(i64, i64)],
     size: u32,
     count: u32,
-) -> Result<Row, FsaError>
-    ensures read { IfOk result (IsRowAt size count Dense (entries_place entries.now)) }
+) -> Result<Moves, FsaError>
+    ensures read { IfOk result (λ row. IsRowAt size count Dense (entries_place entries.now) row.items) }
     ensures fault { IfErr result (IsFirstOfRow Dense size count (entries_place entries.now)) }
 {
     if !entries.is_empty() {
@@ -108,9 +115,9 @@ fn row_without_targets(
 }
 
 /// The row with these targets, one for each symbol.
-fn whole_row(alloc: Global, numbers: &[i64], size: u32, count: u32) -> Result<Row, FsaError>
-    ensures read { IfOk result
-        (IsRowAt size count Dense (Some (list_value (list_of_numbers numbers.now)))) }
+fn whole_row(alloc: Global, numbers: &[i64], size: u32, count: u32) -> Result<Moves, FsaError>
+    ensures read { IfOk result (λ row.
+        IsRowAt size count Dense (Some (list_value (list_of_numbers numbers.now))) row.items) }
     ensures fault { IfErr result (IsFirstOfTargets size count numbers.now) }
 {
     if numbers.len() != size as usize {
@@ -120,9 +127,9 @@ fn whole_row(alloc: Global, numbers: &[i64], size: u32, count: u32) -> Result<Ro
 }
 
 /// The row with these targets for the symbols in order; 0 is none.
-fn dense_row(alloc: Global, numbers: &[i64], size: u32, count: u32) -> Result<Row, FsaError>
+fn dense_row(alloc: Global, numbers: &[i64], size: u32, count: u32) -> Result<Moves, FsaError>
     requires { length numbers.now ≡ size }
-    ensures read { IfOk result (AreRowTargets count numbers.now) }
+    ensures read { IfOk result (λ row. AreRowTargets count numbers.now row.items) }
     ensures fault { IfErr result (IsFirstOfTargets size count numbers.now) }
 {
     let room = numbers.iter().filter(|number| **number != 0).count();
@@ -135,7 +142,7 @@ fn dense_row(alloc: Global, numbers: &[i64], size: u32, count: u32) -> Result<Ro
         };
         keep(&mut moves, symbol, target as u32)?;
     }
-    Ok(Row::from_vec(moves))
+    Ok(moves)
 }
 
 /// Adds a move where the target is a state.
@@ -155,8 +162,8 @@ fn read_sparse_row(
     place: Place<'_, '_>,
     size: u32,
     count: u32,
-) -> Result<Row, FsaError>
-    ensures read { IfOk result (IsRowAt size count Sparse (place_view place.entry)) }
+) -> Result<Moves, FsaError>
+    ensures read { IfOk result (λ row. IsRowAt size count Sparse (place_view place.entry) row.items) }
     ensures fault { IfErr result (IsFirstOfRow Sparse size count (place_view place.entry)) }
 {
     match place {
@@ -173,8 +180,8 @@ fn written_sparse_row(
     text: PlaceText<'_>,
     size: u32,
     count: u32,
-) -> Result<Row, FsaError>
-    ensures read { IfOk result (IsRowAt size count Sparse (written_place text.entry)) }
+) -> Result<Moves, FsaError>
+    ensures read { IfOk result (λ row. IsRowAt size count Sparse (written_place text.entry) row.items) }
     ensures fault { IfErr result (IsFirstOfRow Sparse size count (written_place text.entry)) }
 {
     let value = text.value(alloc)?;
@@ -190,8 +197,8 @@ fn listed_sparse_row<'a>(
     value: &Value<'a>,
     size: u32,
     count: u32,
-) -> Result<Row, FsaError>
-    ensures read { IfOk result (IsRowAt size count Sparse (Some (value_view value.now))) }
+) -> Result<Moves, FsaError>
+    ensures read { IfOk result (λ row. IsRowAt size count Sparse (Some (value_view value.now)) row.items) }
     ensures fault { IfErr result (IsFirstOfRow Sparse size count (Some (value_view value.now))) }
 {
     let Some(entries) = entries_listed(alloc, value)? else {
@@ -206,8 +213,8 @@ fn row_without_entries(
     numbers: &[i64],
     size: u32,
     count: u32,
-) -> Result<Row, FsaError>
-    ensures read { IfOk result (IsRowAt size count Sparse (row_place numbers.now)) }
+) -> Result<Moves, FsaError>
+    ensures read { IfOk result (λ row. IsRowAt size count Sparse (row_place numbers.now) row.items) }
     ensures fault { IfErr result (IsFirstOfRow Sparse size count (row_place numbers.now)) }
 {
     if !numbers.is_empty() {
@@ -217,8 +224,8 @@ fn row_without_entries(
 }
 
 /// The row with these entries.
-fn sparse_row(alloc: Global, pairs: &[(i64, i64)], size: u32, count: u32) -> Result<Row, FsaError>
-    ensures read { IfOk result (IsSparseRow size count pairs.now) }
+fn sparse_row(alloc: Global, pairs: &[(i64, i64)], size: u32, count: u32) -> Result<Moves, FsaError>
+    ensures read { IfOk result (λ row. IsSparseRow size count pairs.now row.items) }
     ensures fault { IfErr result (IsFirstOfEntries size count pairs.now) }
 {
     match ascending_row(alloc, pairs, size, count)? {
@@ -233,8 +240,9 @@ fn ascending_row(
     pairs: &[(i64, i64)],
     size: u32,
     count: u32,
-) -> Result<Option<Row>, FsaError>
-    ensures read { IfOk result (λ row. IfSome row (IsSparseRow size count pairs.now)) }
+) -> Result<Option<Moves>, FsaError>
+    ensures read { IfOk result
+        (λ found. IfSome found (λ row. IsSparseRow size count pairs.now row.items)) }
     ensures fault { IfErr result (IsFirstOfEntries size count pairs.now) }
 {
     let mut moves = Vec::with_capacity(alloc, pairs.len())?;
@@ -249,7 +257,7 @@ fn ascending_row(
         keep(&mut moves, symbol, target)?;
         last = symbol;
     }
-    Ok(Some(Row::from_vec(moves)))
+    Ok(Some(moves))
 }
 
 /// The entry that the pair of numbers is, of so many symbols and states.
@@ -266,8 +274,8 @@ fn entry_within(pair: &(i64, i64), size: u32, count: u32) -> Option<(u32, u32)>
 }
 
 /// The row with these entries, whatever the order of their symbols is.
-fn sorted_row(alloc: Global, pairs: &[(i64, i64)], size: u32, count: u32) -> Result<Row, FsaError>
-    ensures read { IfOk result (IsSparseRow size count pairs.now) }
+fn sorted_row(alloc: Global, pairs: &[(i64, i64)], size: u32, count: u32) -> Result<Moves, FsaError>
+    ensures read { IfOk result (λ row. IsSparseRow size count pairs.now row.items) }
     ensures fault { IfErr result (IsFirstOfEntries size count pairs.now) }
 {
     let entries = by_symbol(alloc, pairs, size, count)?;
@@ -297,9 +305,9 @@ fn by_symbol(
 }
 
 /// The row of the entries that are moves.
-fn row_of(alloc: Global, entries: &BTreeMap<u32, u32>) -> Result<Row, Memory>
+fn row_of(alloc: Global, entries: &BTreeMap<u32, u32>) -> Result<Moves, Memory>
     requires { (symbol : ℕ) → IsSome (get nat_cmp entries.now symbol) → 0 < symbol }
-    ensures moves { IfOk result (λ row. row ≡ moves_among entries.now.entries) }
+    ensures moves { IfOk result (λ row. row.items ≡ moves_among entries.now.entries) }
     ensures ordered { OnOk result (Ascends entries.now.entries) }
     ensures found { OnOk result
         (All (λ entry. get nat_cmp entries.now entry.0 ≡ Some entry.1) entries.now.entries) }
@@ -308,5 +316,5 @@ fn row_of(alloc: Global, entries: &BTreeMap<u32, u32>) -> Result<Row, Memory>
     for (symbol, target) in entries {
         keep(&mut moves, *symbol, *target)?;
     }
-    Ok(Row::from_vec(moves))
+    Ok(moves)
 }

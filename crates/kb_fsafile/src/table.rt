@@ -14,7 +14,7 @@ use crate::error::{Field, FsaError};
 use crate::fields::{needed_list, needed_string, needed_value, optional_number, record_in};
 use crate::format::Format;
 use crate::rows::read_row;
-use kb_ragged::Ragged;
+use kb_fsa::Rows;
 use kb_record::{RecordField, Value};
 use std::alloc::Global;
 
@@ -24,7 +24,7 @@ pub fn read_rows<'a>(
     fields: &[RecordField<'a>],
     size: u32,
     count: u64,
-) -> Result<Ragged<(u32, u32)>, FsaError>
+) -> Result<Rows, FsaError>
     requires sized { HasSize (fields_view fields.now) size }
     requires counted { HoldsStates (fields_view fields.now) count }
     ensures read { IfOk result (HasRows (fields_view fields.now) size count) }
@@ -81,14 +81,14 @@ fn rows_listed<'a>(
     format: Format,
     size: u32,
     count: u32,
-) -> Result<Ragged<(u32, u32)>, FsaError>
+) -> Result<Rows, FsaError>
     requires { length (listed (value_view list.now)) ≡ count }
     ensures read { IfOk result
         (AreRowsAt size count format (places_of (listed (value_view list.now)))) }
     ensures fault { IfErr result
         (IsFirstOfRows format size count (places_of (listed (value_view list.now)))) }
 {
-    let mut rows = Ragged::new(alloc)?;
+    let mut rows = Rows::new(alloc)?;
     for place in 0..count as usize {
         let row = read_row(alloc, list.place(place), format, size, count)?;
         rows.push(row.as_slice())?;

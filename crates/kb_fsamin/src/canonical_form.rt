@@ -8,7 +8,7 @@ ghost use Rattle.kb_fsamin.specs.Empty.{empty_table};
 use crate::classes::representatives;
 use crate::quotient::Quotient;
 use kb_explore::{Det, explore};
-use kb_fsa::{Alphabet, Fsa, Row, Table};
+use kb_fsa::{Alphabet, Fsa, Rows, Table};
 use kb_word::Memory;
 use std::alloc::Global;
 
@@ -46,8 +46,8 @@ fn empty(alloc: Global, alphabet: Alphabet) -> Result<Fsa, Memory>
     requires { generators alphabet ≤ 65534 }
     ensures { IfOk result (λ fsa. fsa ≡ record { alphabet = alphabet; table = empty_table }) }
 {
-    let mut rows = Vec::new(alloc);
-    rows.push(Row::new(alloc))?;
+    let mut rows = Rows::new(alloc)?;
+    rows.push(&[])?;
     let mut accepting = Vec::new(alloc);
     accepting.push(false)?;
     Ok(Fsa::new(alphabet, Table::new(1, rows, accepting)))

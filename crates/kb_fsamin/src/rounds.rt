@@ -4,7 +4,7 @@ ghost use Rattle.std.specs.Prelude.{◌≡◌, ◌≤◌, ℕ, suc, length, All,
 ghost use Rattle.kb_fsamin.specs.Rounds.{IsClassing, IsRefined, IsStable, class_of, class_row};
 
 use indexmap::IndexSet;
-use kb_fsa::{Row, Table};
+use kb_fsa::Table;
 use kb_word::Memory;
 use std::alloc::Global;
 
@@ -47,12 +47,13 @@ fn round(alloc: Global, table: &Table, classes: &[u32]) -> Result<Vec<u32>, Memo
 {
     let mut signatures = IndexSet::new(alloc);
     let mut next = vec![in alloc; 0]?;
-    for (place, row) in table.rows().iter().enumerate() {
+    let rows = table.rows();
+    for place in 0..rows.len() {
         let class = classes[place + 1];
         if class == 0 {
             next.push(0)?;
         } else {
-            let signature = signature_of(alloc, classes, class, row)?;
+            let signature = signature_of(alloc, classes, class, rows.get(place))?;
             let (number, _) = signatures.insert_full(signature)?;
             next.push(number as u32 + 1)?;
         }
@@ -61,13 +62,18 @@ fn round(alloc: Global, table: &Table, classes: &[u32]) -> Result<Vec<u32>, Memo
 }
 
 /// What is seen of a state of the class, with the row.
-fn signature_of(alloc: Global, classes: &[u32], class: u32, row: &Row) -> Result<Signature, Memory>
+fn signature_of(
+    alloc: Global,
+    classes: &[u32],
+    class: u32,
+    row: &[(u32, u32)],
+) -> Result<Signature, Memory>
     requires { All (λ move. move.1 < length classes.now) row.now }
     ensures class { IfOk result (λ s. s.class ≡ class) }
     ensures moves { IfOk result (λ s. s.moves.items ≡ class_row classes.now row.now) }
 {
     let mut moves = Vec::new(alloc);
-    for (symbol, target) in row.as_slice() {
+    for (symbol, target) in row {
         let class = classes[*target as usize];
         if class != 0 {
             moves.push((*symbol, class))?;

@@ -3,7 +3,7 @@
 ghost use Rattle.std.specs.Prelude.{◌≡◌, ◌≢◌, ◌+◌, ◌<◌, ◌≤◌, ◌∷◌, [], ℕ, length, All, IfSome, IsTrue, MatchOption};
 ghost use Rattle.kb_fsamin.specs.Rounds.{IsClassing, IsStable, StandsFor, class_of, class_row};
 
-use kb_fsa::{Row, Table};
+use kb_fsa::{Rows, Table};
 
 /// Whether each class is numbered by a state of it, and the states of a class have moves by the
 /// same symbols to the same classes.
@@ -14,8 +14,8 @@ pub(crate) fn is_stable(table: &Table, labels: &[u32], classes: &[u32]) -> bool
         → class_of classes.now state ≤ length table.now.rows }
 {
     let rows = table.rows();
-    for (place, row) in rows.iter().enumerate() {
-        if !is_stood_for(rows, classes, classes[place + 1], row) {
+    for place in 0..rows.len() {
+        if !is_stood_for(rows, classes, classes[place + 1], rows.get(place)) {
             return false;
         }
     }
@@ -23,7 +23,7 @@ pub(crate) fn is_stable(table: &Table, labels: &[u32], classes: &[u32]) -> bool
 }
 
 /// Whether the class is 0, or is its own state's and sees of that state what it does of the row.
-fn is_stood_for(rows: &[Row], classes: &[u32], class: u32, row: &Row) -> bool
+fn is_stood_for(rows: &Rows, classes: &[u32], class: u32, row: &[(u32, u32)]) -> bool
     requires one_each { length classes.now ≡ length rows.now + 1 }
     requires rows { All (All (λ move. move.1 < length classes.now)) rows.now }
     requires row { All (λ move. move.1 < length classes.now) row.now }
@@ -32,12 +32,10 @@ fn is_stood_for(rows: &[Row], classes: &[u32], class: u32, row: &Row) -> bool
     if class == 0 {
         return true;
     }
-    match rows.get(class as usize - 1) {
-        Some(own) => {
-            classes[class as usize] == class && are_alike(classes, own.as_slice(), row.as_slice())
-        }
-        None => false,
-    }
+    let place = class as usize - 1;
+    place < rows.len()
+        && classes[class as usize] == class
+        && are_alike(classes, rows.get(place), row)
 }
 
 /// Whether two rows have moves by the same symbols to the same classes.

@@ -3,6 +3,7 @@
 ghost use Rattle.std.specs.Prelude.{◌≡◌, ◌≢◌, ◌≤◌, ◌<◌, ◌^◌, ◌-◌, ◌++◌, [], IfOk, OnOk, length, pos};
 ghost use Rattle.kb_record.specs.Tree.{record_value, list_value};
 ghost use Rattle.kb_layout.specs.Layout.{indent, line_of, text_of_value};
+ghost use Rattle.kb_fsa.specs.Table.{IsRow};
 ghost use Rattle.kb_fsa.specs.Language.{generators};
 ghost use Rattle.kb_fsa.specs.Canonical.{IsCanonical};
 ghost use Rattle.kb_fsa.specs.declared.alphabet.Alphabet.TheVariants.{Pair};
@@ -11,7 +12,7 @@ ghost use Rattle.kb_fsaprint.specs.Printed.{text_of_automaton, alphabet_fields, 
 ghost use Rattle.kb_fsaprint.specs.Writing.{number_text, move_text};
 
 use crate::format::RowFormat;
-use kb_fsa::{Alphabet, Fsa, Row, Table, split_at_symbol};
+use kb_fsa::{Alphabet, Fsa, Rows, Table, split_at_symbol};
 use kb_layout::{print_indent, print_names, print_number};
 use kb_word::{Memory, Names};
 use std::alloc::Global;
@@ -168,7 +169,7 @@ fn write_table(table: &Table, format: RowFormat, out: &mut Vec<u8>) -> Result<()
 }
 
 /// Appends the number of moves.
-fn write_move_count(rows: &[Row], out: &mut Vec<u8>) -> Result<(), Memory>
+fn write_move_count(rows: &Rows, out: &mut Vec<u8>) -> Result<(), Memory>
     ensures { OnOk result
         (out.new.items ≡ out.old.items ++ number_text (printed.move_count rows.now)) }
 {
@@ -176,18 +177,18 @@ fn write_move_count(rows: &[Row], out: &mut Vec<u8>) -> Result<(), Memory>
 }
 
 /// How many moves there are. No memory has room for more of them than an `i64` counts.
-fn move_count(rows: &[Row]) -> Result<i64, Memory>
+fn move_count(rows: &Rows) -> Result<i64, Memory>
     ensures { IfOk result (λ count. count ≡ pos (printed.move_count rows.now)) }
 {
     let mut count = 0usize;
-    for row in rows {
-        count = count.checked_add(row.len()).ok_or(Memory)?;
+    for place in 0..rows.len() {
+        count = count.checked_add(rows.get(place).len()).ok_or(Memory)?;
     }
     i64::try_from(count).map_err(|_| Memory)
 }
 
 /// Appends the rows, each on a line of its own.
-fn write_rows(rows: &[Row], format: RowFormat, out: &mut Vec<u8>) -> Result<(), Memory>
+fn write_rows(rows: &Rows, format: RowFormat, out: &mut Vec<u8>) -> Result<(), Memory>
     requires { rows.now ≢ [] }
     ensures { OnOk result
         (out.new.items
@@ -195,10 +196,10 @@ fn write_rows(rows: &[Row], format: RowFormat, out: &mut Vec<u8>) -> Result<(), 
 {
     out.push(b'[')?;
     let mut before: &[u8] = b"\n";
-    for row in rows {
+    for place in 0..rows.len() {
         out.extend_from_slice(before)?;
         print_indent(3, out)?;
-        write_row(row, format, out)?;
+        write_row(rows.get(place), format, out)?;
         before = b",\n";
     }
     out.extend_from_slice(b"\n    ]")?;
@@ -206,25 +207,27 @@ fn write_rows(rows: &[Row], format: RowFormat, out: &mut Vec<u8>) -> Result<(), 
 }
 
 /// Appends the row.
-fn write_row(row: &Row, format: RowFormat, out: &mut Vec<u8>) -> Result<(), Memory>
+fn write_row(row: &[(u32, u32)], format: RowFormat, out: &mut Vec<u8>) -> Result<(), Memory>
+    requires { IsRow row.now }
     ensures { OnOk result
         (out.new.items ≡ out.old.items ++ line_of (list_value (row_places format row.now))) }
 {
     match format {
         RowFormat::Dense(symbols) => write_targets(row, symbols, out),
-        RowFormat::Sparse => write_moves(row.as_slice(), out),
+        RowFormat::Sparse => write_moves(row, out),
     }
 }
 
 /// Appends a target for each of so many symbols, 0 where there is no move.
-fn write_targets(row: &Row, symbols: u32, out: &mut Vec<u8>) -> Result<(), Memory>
+fn write_targets(row: &[(u32, u32)], symbols: u32, out: &mut Vec<u8>) -> Result<(), Memory>
+    requires { IsRow row.now }
     ensures { OnOk result
         (out.new.items
         ≡ out.old.items ++ line_of (numbers_value (targets_from row.now 1 symbols))) }
 {
     out.push(b'[')?;
     let mut before: &[u8] = b"";
-    let mut left = row.as_slice();
+    let mut left = row;
     for place in 0..symbols {
         out.extend_from_slice(before)?;
         let (target, later) = split_at_symbol(left, place + 1);

@@ -93,8 +93,9 @@ fn concat_rows(
         ++ map (shifted (length first.now.rows)) second.now.rows) }
 {
     let mut rows = restarting_rows(alloc, first, starts)?;
-    for row in second.rows() {
-        rows.push(shifted_row(alloc, first.len(), row.as_slice())?)?;
+    let others = second.rows();
+    for place in 0..others.len() {
+        rows.push(shifted_row(alloc, first.len(), others.get(place))?)?;
     }
     Ok(rows)
 }

@@ -42,7 +42,13 @@ fn lacks_move(fsa: &Fsa) -> bool
     ensures { IsTrue result ↔ LacksMove fsa.now }
 {
     let symbols = fsa.alphabet().symbols() as usize;
-    fsa.table().rows().iter().any(|row| row.len() < symbols)
+    let rows = fsa.table().rows();
+    for place in 0..rows.len() {
+        if rows.get(place).len() < symbols {
+            return true;
+        }
+    }
+    false
 }
 
 /// The automaton with one state more, the mark, which accepts and to which the products lead. After each product it

@@ -17,11 +17,12 @@ pub(crate) fn restarting_rows(
     ensures { IfOk result (λ rows.
         rows.items ≡ map (restarting table.now starts.now) table.now.rows) }
 {
-    let mut rows = Vec::with_capacity(alloc, table.rows().len())?;
-    for row in table.rows() {
-        rows.push(restarting_row(alloc, table, starts, row.as_slice())?)?;
+    let rows = table.rows();
+    let mut restarting = Vec::with_capacity(alloc, rows.len())?;
+    for place in 0..rows.len() {
+        restarting.push(restarting_row(alloc, table, starts, rows.get(place))?)?;
     }
-    Ok(rows)
+    Ok(restarting)
 }
 
 /// The moves, of which those to an accepting state are also moves by their symbol to each start.

@@ -11,7 +11,7 @@ ghost use Rattle.kb_fsarat.specs.Reversal.{HaveAdded, TurnsOne, TurnsFirst, IsLi
 
 use crate::answers::only_state;
 use kb_explore::Det;
-use kb_fsa::{Fsa, Row};
+use kb_fsa::{Fsa, Rows};
 use kb_fsadet::{Branches, Nfa, determinise};
 use kb_word::Memory;
 use std::alloc::Global;
@@ -46,15 +46,15 @@ fn reversed_nfa(alloc: Global, one: &Fsa) -> Result<Nfa, Memory>
 }
 
 /// The rows' moves turned round.
-pub(crate) fn reversed_rows(alloc: Global, rows: &[Row]) -> Result<Vec<Branches>, Memory>
+pub(crate) fn reversed_rows(alloc: Global, rows: &Rows) -> Result<Vec<Branches>, Memory>
     requires size { length rows.now < 2 ^ 32 }
     requires targets { All (All (λ move. (0 < move.1) × (move.1 ≤ length rows.now))) rows.now }
     ensures { IfOk result (λ turned. HaveAdded (replicate (length rows.now) []) turned.items
         (TurnsFirst rows.now (length rows.now))) }
 {
     let mut turned = empty_rows(alloc, rows.len())?;
-    for (place, row) in rows.iter().enumerate() {
-        add_reversed(turned.as_mut_slice(), place as u32 + 1, row.as_slice())?;
+    for place in 0..rows.len() {
+        add_reversed(turned.as_mut_slice(), place as u32 + 1, rows.get(place))?;
     }
     Ok(turned)
 }

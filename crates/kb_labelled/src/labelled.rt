@@ -4,7 +4,7 @@ ghost use Rattle.std.specs.Prelude.{◌≡◌, ◌↔◌, ◌<◌, ◌&&◌, ℕ
 ghost use Rattle.kb_fsa.specs.Language.{AcceptsText};
 ghost use Rattle.kb_labelled.specs.Labels.{label_after};
 
-use kb_fsa::{Fsa, Row, Table};
+use kb_fsa::{Fsa, Table};
 use kb_word::Memory;
 use std::alloc::Global;
 use std::marker::Model;
@@ -59,7 +59,7 @@ impl Labelled {
     {
         let table = self.fsa.table();
         let answers = answers_for(alloc, table.accepting(), self.labels.as_slice(), label)?;
-        let rows = copies(alloc, table.rows())?;
+        let rows = table.rows().copy(alloc)?;
         let own = Table::new(table.initial(), rows, answers);
         Ok(Fsa::new(self.fsa.alphabet(), own))
     }
@@ -83,15 +83,4 @@ fn answers_for(
         answers.push(*accepts && labels[place] == label)?;
     }
     Ok(answers)
-}
-
-/// Rows of the same moves, in order.
-fn copies(alloc: Global, rows: &[Row]) -> Result<Vec<Row>, Memory>
-    ensures { IfOk result (λ copies. copies.items ≡ rows.now) }
-{
-    let mut copies = Vec::with_capacity(alloc, rows.len())?;
-    for row in rows {
-        copies.push(row.copy(alloc)?)?;
-    }
-    Ok(copies)
 }

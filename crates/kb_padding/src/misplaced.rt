@@ -3,7 +3,7 @@
 ghost use Rattle.std.specs.Prelude.{◌≡◌, ◌≢◌, ◌↔◌, ◌≤◌, ◌+◌, ◌-◌, ◌*◌, ◌^◌, ◌<◌, ℕ, suc, false, not, List, length, map, get_or, ◌∷◌, All, IsTrue, IfOk, IfErr, OnOk};
 ghost use Rattle.std.specs.List.{filter};
 ghost use Rattle.kb_fsa.specs.declared.alphabet.Alphabet.TheVariants.{Pair};
-ghost use Rattle.kb_fsa.specs.Table.{HasSymbols, state_after, AcceptsFrom};
+ghost use Rattle.kb_fsa.specs.Table.{HasSymbols, IsRow, state_after, AcceptsFrom};
 ghost use Rattle.kb_fsa.specs.Padding.{IsPadded};
 ghost use Rattle.kb_fsa.specs.Graphs.{IsMarked, IsReached};
 ghost use Rattle.kb_fsa.specs.Moves.{AreBackward};
@@ -11,7 +11,7 @@ ghost use Rattle.kb_padding.specs.Misplaced.{IsCleaned, IsPaddingFault};
 ghost use Rattle.kb_padding.specs.Cleaning.{turned, HaveSameEdges, pads, AreReachMarks, ArePaddedTargets, is_misplaced, is_dropped, IsAccepted, kept_rows};
 
 use crate::error::PaddingFault;
-use kb_fsa::{Backward, PairSymbols, Row, Table, reached, reversed};
+use kb_fsa::{Backward, PairSymbols, Rows, Table, reached, reversed};
 use kb_word::Memory;
 use std::alloc::Global;
 
@@ -233,35 +233,44 @@ fn accepts_misplaced(n: u16, moves: &Backward, reach: &Reach, live: &[bool]) -> 
 }
 
 /// The rows of states 1, 2, and so on without the moves that no padded text takes.
-fn kept_rows(alloc: Global, n: u16, rows: &[Row], reach: &Reach) -> Result<Vec<Row>, Memory>
+fn kept_rows(alloc: Global, n: u16, rows: &Rows, reach: &Reach) -> Result<Rows, Memory>
     requires generators { n ≤ 65534 }
     requires size { length rows.now < 2 ^ 32 }
-    ensures { IfOk result (λ kept. kept.items
+    ensures { IfOk result (λ kept. kept
         ≡ kept_rows (is_dropped n reach.now.marks.items reach.now.first.items
         reach.now.second.items) 1 rows.now) }
 {
-    let mut kept = Vec::with_capacity(alloc, rows.len())?;
+    let mut kept = Rows::new(alloc)?;
     let mut state = 0;
-    for row in rows {
+    for place in 0..rows.len() {
         state += 1;
-        kept.push(kept_row(alloc, n, row, state, reach)?)?;
+        let row = kept_row(alloc, n, rows.get(place), state, reach)?;
+        kept.push(row.as_slice())?;
     }
     Ok(kept)
 }
 
 /// The state's row without the moves that no padded text takes.
-fn kept_row(alloc: Global, n: u16, row: &Row, state: u32, reach: &Reach) -> Result<Row, Memory>
-    requires { n ≤ 65534 }
-    ensures { IfOk result (λ kept. kept
+fn kept_row(
+    alloc: Global,
+    n: u16,
+    row: &[(u32, u32)],
+    state: u32,
+    reach: &Reach,
+) -> Result<Vec<(u32, u32)>, Memory>
+    requires generators { n ≤ 65534 }
+    requires row { IsRow row.now }
+    ensures kept { IfOk result (λ kept. kept.items
         ≡ filter (λ move.
         not (is_dropped n reach.now.marks.items reach.now.first.items reach.now.second.items state
         move.0)) row.now) }
+    ensures row { IfOk result (λ kept. IsRow kept.items) }
 {
     let mut kept = Vec::with_capacity(alloc, row.len())?;
-    for (symbol, target) in row.as_slice() {
+    for (symbol, target) in row {
         if !reach.drops(n, state, *symbol) {
             kept.push((*symbol, *target))?;
         }
     }
-    Ok(Row::from_vec(kept))
+    Ok(kept)
 }

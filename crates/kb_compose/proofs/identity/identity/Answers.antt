@@ -34,7 +34,7 @@ rows_of_pairs-requires c =
 pub new-requires : goal.new-requires
 new-requires c =
     let acceptor = c.args.acceptor.now in
-    let same = table_is acceptor c.table-table.result.now c.generators-n.result c.initial.result c.rows.result.now c.in_ok-rows.rows.items
+    let same = table_is acceptor c.table-table.result.now c.generators-n.result c.initial.result c.rows.result.now c.in_ok-rows.rows
     c.in_ok-accepting.accepting.items c.table-table.ensures.table (c.generators-n.ensures ∙ ap generators c.alphabet.ensures.alphabet)
     c.initial.ensures.initial c.rows.ensures.rows c.in_ok-rows.ensures (c.in_ok-accepting.ensures.items ∙ c.accepting.ensures.accepting) in
     subst IsTable (sym same) (pairs_table acceptor c.requires.0 c.requires.1 c.alphabet.ensures.automaton)
@@ -43,7 +43,7 @@ pub new-requires-2 : goal.new-requires-2
 new-requires-2 c =
     let acceptor = c.args.acceptor.now in
     let number = c.generators-n.ensures ∙ ap generators c.alphabet.ensures.alphabet in
-    let same = table_is acceptor c.table-table.result.now c.generators-n.result c.initial.result c.rows.result.now c.in_ok-rows.rows.items
+    let same = table_is acceptor c.table-table.result.now c.generators-n.result c.initial.result c.rows.result.now c.in_ok-rows.rows
     c.in_ok-accepting.accepting.items c.table-table.ensures.table number
     c.initial.ensures.initial c.rows.ensures.rows c.in_ok-rows.ensures (c.in_ok-accepting.ensures.items ∙ c.accepting.ensures.accepting) in
     let whole = ap (λ (k : ℕ). record { alphabet = Pair k; table = c.new.result }) number

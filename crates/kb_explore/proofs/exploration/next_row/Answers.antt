@@ -1,4 +1,4 @@
-use Rattle.std.proofs.Common.{◌≡◌, ◌+◌, ◌++◌, ◌∷◌, [], length, Err, refl, sym, ap, subst, ◌∙◌}
+use Rattle.std.proofs.Common.{◌≡◌, ◌+◌, ◌++◌, ◌∷◌, [], length, slice_get, Err, sym, ap, subst, ◌∙◌}
 use Rattle.std.proofs.lemmas.Iterator.Adapters.{YieldsList-from_vec}
 use Rattle.std.proofs.lemmas.Iterator.Consumers.{YieldsList-turn, YieldsList-end, YieldsList-so_far}
 use Rattle.std.proofs.lemmas.Result.{err_from_is_err_and}
@@ -20,9 +20,9 @@ loop-symbol-init g c =
       (
         state,
         (
-          c.index.ensures,
+          ap (slice_get c.args.seen.now.states.keys) (sym c.len-done.ensures) ∙ c.index.ensures,
           subst P (sym c.in_ok-row.ensures.items)
-              (Partway-begun state c.requires.progress c.index.ensures),
+              (Partway-begun state c.requires.progress (ap (slice_get c.args.seen.now.states.keys) (sym c.len-done.ensures) ∙ c.index.ensures)),
         ),
       ),
     )
@@ -36,7 +36,7 @@ returns-in_err-number-clause-many g c most e =
     let all = YieldsList-from_vec {s = c.into_iter-symbol-iterator.result} c.in_ok-moves.moves.items given.0 (given.1 ∙ c.in_ok-moves.moves.ok.0) in
     let so_far = c.loop-symbol.invariant.3 in
     let move = next_move c.args.seen.now.states.keys (length c.args.rows.now) so_far.0 c.index.result.now c.in_ok-moves.moves.items
-    c.loop-symbol.yielded so_far.1.0 c.index.ensures c.in_ok-moves.ensures c.in-Some.symbol c.in-Some.state
+    c.loop-symbol.yielded so_far.1.0 (ap (slice_get c.args.seen.now.states.keys) (sym c.len-done.ensures) ∙ c.index.ensures) c.in_ok-moves.ensures c.in-Some.symbol c.in-Some.state
     (YieldsList-so_far all c.loop-symbol.yielded c.loop-symbol.symbol-iterator c.loop-symbol.yielded_by)
     (YieldsList-turn all c.loop-symbol.yielded c.loop-symbol.symbol-iterator c.loop-symbol.yielded_by c.next.result c.next.new.self
     (c.in-Some.symbol, c.in-Some.state) c.in-Some.is c.next.ensures.steps) in
@@ -48,17 +48,17 @@ loop-symbol-preserved g c =
     let all = YieldsList-from_vec {s = c.into_iter-symbol-iterator.result} c.in_ok-moves.moves.items given.0 (given.1 ∙ c.in_ok-moves.moves.ok.0) in
     let so_far = c.loop-symbol.invariant.3 in
     let move = next_move c.args.seen.now.states.keys (length c.args.rows.now) so_far.0 c.index.result.now c.in_ok-moves.moves.items
-    c.loop-symbol.yielded so_far.1.0 c.index.ensures c.in_ok-moves.ensures c.in-Some.symbol c.in-Some.state
+    c.loop-symbol.yielded so_far.1.0 (ap (slice_get c.args.seen.now.states.keys) (sym c.len-done.ensures) ∙ c.index.ensures) c.in_ok-moves.ensures c.in-Some.symbol c.in-Some.state
     (YieldsList-so_far all c.loop-symbol.yielded c.loop-symbol.symbol-iterator c.loop-symbol.yielded_by)
     (YieldsList-turn all c.loop-symbol.yielded c.loop-symbol.symbol-iterator c.loop-symbol.yielded_by c.next.result c.next.new.self
     (c.in-Some.symbol, c.in-Some.state) c.in-Some.is c.next.ensures.steps) in
-    let more = Partway-push so_far.1.1 c.in-Some.symbol c.in-Some.state move.0 move.1 (length c.args.rows.now + 1) refl
+    let more = Partway-push so_far.1.1 c.in-Some.symbol c.in-Some.state move.0 move.1 (c.len-done.result + 1) (ap (λ k. k + 1) c.len-done.ensures)
     c.number.new.seen.states.keys c.number.new.seen.origins.items c.in_ok-number.number c.in_ok-number.ensures.numbers
     c.in_ok-number.ensures.distinct in
     (tt, tt, c.in_ok-number.ensures.room, (so_far.0, (so_far.1.0, rw c.in_ok-push.ensures.items more)))
 
-pub from_vec-requires : goal.from_vec-requires
-from_vec-requires g c =
+pub returns-clause-row : goal.returns-clause-row
+returns-clause-row g c =
     let given = c.into_iter-symbol-iterator.ensures.into_iter_gives in
     let all = YieldsList-from_vec {s = c.into_iter-symbol-iterator.result} c.in_ok-moves.moves.items given.0 (given.1 ∙ c.in_ok-moves.moves.ok.0) in
     let end = YieldsList-end all c.loop-symbol.yielded c.loop-symbol.symbol-iterator c.loop-symbol.yielded_by c.next.result c.next.new.self
@@ -66,7 +66,7 @@ from_vec-requires g c =
     let so_far = c.loop-symbol.invariant.3 in
     row_is c.loop-symbol.seen.states.keys so_far.1.1.words so_far.1.1.word
     (all_moves c.args.seen.now.states.keys (length c.args.rows.now) so_far.0 c.index.result.now c.in_ok-moves.moves.items
-    c.loop-symbol.yielded so_far.1.0 c.index.ensures c.in_ok-moves.ensures end.0) c.loop-symbol.row.items so_far.1.1.are_numbered
+    c.loop-symbol.yielded so_far.1.0 (ap (slice_get c.args.seen.now.states.keys) (sym c.len-done.ensures) ∙ c.index.ensures) c.in_ok-moves.ensures end.0) c.loop-symbol.row.items so_far.1.1.are_numbered
 
 pub returns-clause-progress : goal.returns-clause-progress
 returns-clause-progress g c =
@@ -75,8 +75,6 @@ returns-clause-progress g c =
     let end = YieldsList-end all c.loop-symbol.yielded c.loop-symbol.symbol-iterator c.loop-symbol.yielded_by c.next.result c.next.new.self
     c.in-None.is c.next.ensures.steps in
     let so_far = c.loop-symbol.invariant.3 in
-    let P : Moves → Type 0 = λ row. Progress (g.M.Machine.machine c.args.machine.now) (g.M.Machine.symbols c.args.machine.now)
-    c.loop-symbol.seen.states.keys c.loop-symbol.seen.origins.items (c.args.rows.now ++ row ∷ []) in
-    subst P (sym c.from_vec.ensures) (Progress-push so_far.1.1
+    Progress-push so_far.1.1
     (all_moves c.args.seen.now.states.keys (length c.args.rows.now) so_far.0 c.index.result.now c.in_ok-moves.moves.items
-    c.loop-symbol.yielded so_far.1.0 c.index.ensures c.in_ok-moves.ensures end.0))
+    c.loop-symbol.yielded so_far.1.0 (ap (slice_get c.args.seen.now.states.keys) (sym c.len-done.ensures) ∙ c.index.ensures) c.in_ok-moves.ensures end.0)

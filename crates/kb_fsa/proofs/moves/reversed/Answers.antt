@@ -1,5 +1,4 @@
 use Rattle.std.proofs.Common.{◌≡◌, ◌<◌, ℕ, ◌+◌, suc, [], ◌∷◌, ◌++◌, length, get_or, List, arith, refl, sym, ap, ◌∙◌}
-use Rattle.std.proofs.lemmas.List.{get_or_read}
 use Rattle.kb_fsa.specs.Table.{moves_of}
 use Rattle.kb_fsa.specs.Canonical.{IsState}
 use Rattle.kb_fsa.proofs.MoveLemmas.{backward_move, backward_row, backward_same, row_at}
@@ -8,29 +7,25 @@ use Rattle.kb_fsa.proofs.moves.reversed.Goals as goal
 pub loop-symbol-preserved : goal.loop-symbol-preserved
 loop-symbol-preserved c =
     let table = c.args.table.now in
-    let state = c.loop-row.state + 1 in
+    let state = c.loop-place.state + 1 in
     let place = c.loop-symbol.symbol-index in
-    let rows = c.rows-row-items.ensures.rows in
-    let known : IsState table state = record { positive = omega arith; within = omega (arith, ap length rows) } in
-    let here : c.row-item.result ≡ get_or c.rows-row-items.result.now c.loop-row.row-index [] =
-    get_or_read _ c.loop-row.row-index _ (omega arith) c.row-item.is [] in
-    let row : c.as_slice-symbol-items.result.now ≡ moves_of table state =
-    c.as_slice-symbol-items.ensures.moves ∙ here ∙ ap (λ rs. get_or rs c.loop-row.row-index []) rows ∙ row_at table c.loop-row.row-index state (omega arith) in
+    let rows = c.rows-rows.ensures.rows in
+    let known : IsState table state = record { positive = omega arith; within = omega (arith, ap length rows, c.len-place-end.ensures) } in
+    let row : c.get-symbol-items.result.now ≡ moves_of table state =
+    c.get-symbol-items.ensures.moves ∙ ap (λ rs. get_or rs c.loop-place.place []) rows ∙ row_at table c.loop-place.place state (omega arith) in
     let within : place < length (moves_of table state) = omega (arith, ap length row) in
     backward_same table _ _ _ _ _ _ _ _ refl refl
     (ap (λ (ms : List (ℕ × ℕ)). c.loop-symbol.edges.items ++ ((get_or ms place (0, 0)).1, state) ∷ []) (sym row) ∙ sym c.in_ok-push.ensures.items)
     (ap (λ (ms : List (ℕ × ℕ)). c.loop-symbol.symbols.items ++ (get_or ms place (0, 0)).0 ∷ []) (sym row) ∙ sym c.in_ok-push-2.ensures.items)
-    (backward_move table state place c.loop-symbol.edges.items c.loop-symbol.symbols.items c.rows-row-items.ensures.table known within c.loop-symbol.invariant)
+    (backward_move table state place c.loop-symbol.edges.items c.loop-symbol.symbols.items c.rows-rows.ensures.table known within c.loop-symbol.invariant)
 
-pub loop-row-preserved : goal.loop-row-preserved
-loop-row-preserved c =
+pub loop-place-preserved : goal.loop-place-preserved
+loop-place-preserved c =
     let table = c.args.table.now in
-    let state = c.loop-row.state + 1 in
-    let rows = c.rows-row-items.ensures.rows in
-    let here : c.row-item.result ≡ get_or c.rows-row-items.result.now c.loop-row.row-index [] =
-    get_or_read _ c.loop-row.row-index _ (omega arith) c.row-item.is [] in
-    let row : c.as_slice-symbol-items.result.now ≡ moves_of table state =
-    c.as_slice-symbol-items.ensures.moves ∙ here ∙ ap (λ rs. get_or rs c.loop-row.row-index []) rows ∙ row_at table c.loop-row.row-index state (omega arith) in
+    let state = c.loop-place.state + 1 in
+    let rows = c.rows-rows.ensures.rows in
+    let row : c.get-symbol-items.result.now ≡ moves_of table state =
+    c.get-symbol-items.ensures.moves ∙ ap (λ rs. get_or rs c.loop-place.place []) rows ∙ row_at table c.loop-place.place state (omega arith) in
     record {
       backward = backward_same table _ _ _ _ _ _ _ _ (ap suc (omega arith)) refl refl refl
           (backward_row table state c.loop-symbol.symbol-index c.loop-symbol.edges.items c.loop-symbol.symbols.items

@@ -3,10 +3,10 @@ use Rattle.kb_fsa.specs.Moves.{AreBackward}
 use Rattle.kb_fsa.proofs.moves.reversed.Given as goal
 
 -- the moves of the states before the row are taken
-abbrev pub invariant-loop-row : goal.invariant-loop-row
-invariant-loop-row l = record {
-  backward : AreBackward l.table (suc l.row-index) 0 l.edges.items l.symbols.items;
-  state : l.state ≡ l.row-index;
+abbrev pub invariant-loop-place : goal.invariant-loop-place
+invariant-loop-place l = record {
+  backward : AreBackward l.table (suc l.place) 0 l.edges.items l.symbols.items;
+  state : l.state ≡ l.place;
 }
 
 -- and of its state those before the symbol

@@ -9,7 +9,7 @@ pub loop-symbol-preserved : goal.loop-symbol-preserved
 loop-symbol-preserved c =
     let n = c.args.symbols.n in
     let state = c.args.state in
-    let moves = c.as_slice-symbol-items.result.now in
+    let moves = c.args.row.now in
     let place = c.loop-symbol.symbol-index in
     let move = get_or moves place (0, 0) in
     let before = filter_map (tail_edge n state) (take place moves) in

@@ -5,4 +5,4 @@ use Rattle.kb_fsadet.proofs.first_words.push_tail_edges.Given as goal
 
 abbrev pub invariant-loop-symbol : goal.invariant-loop-symbol
 invariant-loop-symbol l =
-    l.edges.items ≡ l.initial.edges.items ++ filter_map (tail_edge l.symbols.n l.state) (take l.symbol-index l.symbol-items)
+    l.edges.items ≡ l.initial.edges.items ++ filter_map (tail_edge l.symbols.n l.state) (take l.symbol-index l.row)

@@ -8,7 +8,7 @@ use Rattle.kb_fsadet.proofs.first_words.row_by_first.Goals as goal
 pub loop-symbol-preserved : goal.loop-symbol-preserved
 loop-symbol-preserved c =
     let n = c.args.symbols.n in
-    let moves = c.as_slice-symbol-items.result.now in
+    let moves = c.args.row.now in
     let place = c.loop-symbol.symbol-index in
     let move = get_or moves place (0, 0) in
     elim c.if-not-pads_first.branch [

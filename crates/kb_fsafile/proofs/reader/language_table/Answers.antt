@@ -4,4 +4,4 @@ use Rattle.kb_fsafile.proofs.reader.language_table.Goals as goal
 
 pub returns-then-branch-clause-same : goal.returns-then-branch-clause-same
 returns-then-branch-clause-same c =
-    IfOk_then c.whole_table.result c.whole_table.ensures.cleaned (λ table cleaned. record { table = table; cleaned = cleaned; same = λ text. (λ accepted. accepted, λ accepted. accepted) })
+    IfOk_then c.automaton_table.result c.automaton_table.ensures.cleaned (λ table cleaned. record { table = table; cleaned = cleaned; same = λ text. (λ accepted. accepted, λ accepted. accepted) })

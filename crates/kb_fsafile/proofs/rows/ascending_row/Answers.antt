@@ -1,11 +1,10 @@
-use Rattle.std.proofs.Common.{ℤ, List, pos, ◌<◌, length, get_or, refl, sym, subst, arith}
+use Rattle.std.proofs.Common.{ℤ, List, pos, ◌<◌, length, get_or, refl, subst, arith}
 use Rattle.std.proofs.lemmas.List.{take_all, get_or_default}
 use Rattle.std.proofs.lemmas.Option.{slice_get-get_or}
-use Rattle.kb_fsa.specs.Table.{Moves}
 use Rattle.kb_fsafile.specs.declared.error.FsaError.TheVariants as errors
 use Rattle.kb_fsafile.proofs.RowFaults.{sparse_outside}
-use Rattle.kb_fsafile.specs.RowsRead.{IsSparseRow, AreAscendingEntries}
-use Rattle.kb_fsafile.proofs.RowLemmas.{ascending_more, ascending_is_row, ascending_row_is}
+use Rattle.kb_fsafile.specs.RowsRead.{AreAscendingEntries}
+use Rattle.kb_fsafile.proofs.RowLemmas.{ascending_more, ascending_row_is}
 use Rattle.kb_fsafile.proofs.rows.ascending_row.Goals as goal
 
 pub returns-in_default-clause-fault : goal.returns-in_default-clause-fault
@@ -27,16 +26,8 @@ loop-pair-preserved c =
     (get_or_default pairs k (pos 0, pos 0) pair within) c.loop-pair.invariant c.in-Some.ensures.is c.in-Some.ensures.symbol c.in-Some.ensures.target
     c.if-symbol-last.false c.in_ok-keep.ensures
 
-pub from_vec-requires : goal.from_vec-requires
-from_vec-requires c = ascending_is_row c.args.size c.args.count c.loop-pair.last _ c.loop-pair.moves.items c.loop-pair.invariant
-
 pub returns-clause-read : goal.returns-clause-read
 returns-clause-read c =
-    let size = c.args.size in
-    let count = c.args.count in
-    let last = c.loop-pair.last in
-    let moves = c.loop-pair.moves.items in
-    let P : Moves → Type 0 = λ ms. IsSparseRow c.args.size c.args.count c.args.pairs.now ms in
     let Q : List (ℤ × ℤ) → Type 0 = λ ps. AreAscendingEntries c.args.size c.args.count c.loop-pair.last ps c.loop-pair.moves.items in
     let whole = subst Q (take_all c.loop-pair.pair-index c.args.pairs.now c.loop-pair-test.false) c.loop-pair.invariant in
-    subst P (sym c.from_vec.ensures) (ascending_row_is size count last c.args.pairs.now moves whole)
+    ascending_row_is c.args.size c.args.count c.loop-pair.last c.args.pairs.now c.loop-pair.moves.items whole

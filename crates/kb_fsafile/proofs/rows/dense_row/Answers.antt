@@ -1,13 +1,10 @@
-use Rattle.std.proofs.Common.{ℤ, pos, ◌+◌, ◌<◌, List, length, get_or, refl, sym, ap, subst, w64, SFits, rules, arith}
+use Rattle.std.proofs.Common.{ℤ, pos, ◌+◌, ◌<◌, List, length, get_or, refl, ap, subst, w64, SFits, rules, arith}
 use Rattle.std.proofs.lemmas.Int.{to_z-of_z}
 use Rattle.std.proofs.lemmas.List.{take_all, get_or_default}
 use Rattle.std.proofs.lemmas.Option.{slice_get-get_or}
-use Rattle.kb_fsa.specs.Table.{Moves, IsRow}
-use Rattle.kb_fsafile.specs.Kinds.{numbered_from}
 use Rattle.kb_fsafile.specs.RowsRead.{AreRowTargets}
 use Rattle.kb_fsafile.specs.declared.error.FsaError.TheVariants as errors
 use Rattle.kb_fsafile.proofs.RowFaults.{dense_outside}
-use Rattle.kb_fsafile.proofs.MoveLemmas.{row_among, numbered_ascends, numbered_positive}
 use Rattle.kb_fsafile.proofs.RowLemmas.{targets_more}
 use Rattle.kb_fsafile.proofs.rows.dense_row.Goals as goal
 
@@ -35,14 +32,7 @@ loop-number-preserved c =
           (rw c.from.ensures at c.in-Some.ensures.within) c.in_ok-keep.ensures;
     }
 
-pub from_vec-requires : goal.from_vec-requires
-from_vec-requires c =
-    let are = c.loop-number.invariant.are in
-    let P : Moves → Type 0 = λ ms. IsRow ms in
-    subst P (sym are.kept) (row_among (numbered_from 1 are.targets) (numbered_ascends 1 are.targets) (numbered_positive are.targets))
-
 pub returns-clause-read : goal.returns-clause-read
 returns-clause-read c =
-    let P : Moves → Type 0 = λ ms. AreRowTargets c.args.count c.args.numbers.now ms in
     let Q : List ℤ → Type 0 = λ ns. AreRowTargets c.args.count ns c.loop-number.moves.items in
-    subst P (sym c.from_vec.ensures) (subst Q (take_all c.loop-number.number-index c.args.numbers.now c.loop-number-test.false) c.loop-number.invariant.are)
+    subst Q (take_all c.loop-number.number-index c.args.numbers.now c.loop-number-test.false) c.loop-number.invariant.are

@@ -17,4 +17,4 @@ pub returns-clause-read : goal.returns-clause-read
 returns-clause-read c =
     let listed = rw c.in-Some.is at c.in_ok-entries.ensures.listed in
     let stands = ap Some (listed ∙ ap (λ (xs : List (ℤ × ℤ)). list_value (list_of_entries xs)) (sym c.as_slice.ensures.value)) in
-    IfOk_then c.sparse_row.result c.sparse_row.ensures.read (λ row is. sparse_row_at c.args.size c.args.count c.as_slice.result.now _ row stands is)
+    IfOk_then c.sparse_row.result c.sparse_row.ensures.read (λ row is. sparse_row_at c.args.size c.args.count c.as_slice.result.now _ row.items stands is)

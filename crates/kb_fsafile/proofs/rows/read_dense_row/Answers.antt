@@ -11,7 +11,7 @@ use Rattle.kb_fsafile.proofs.rows.read_dense_row.Goals as goal
 pub returns-in-Numbers-clause-read : goal.returns-in-Numbers-clause-read
 returns-in-Numbers-clause-read c =
     let seen = ap place_view c.in-Numbers.is ∙ place_of_numbers c.in-Numbers.numbers.now in
-    let P : Option Value → Type 0 = λ p. IfOk c.whole_row.result (IsRowAt c.args.size c.args.count Dense p) in
+    let P : Option Value → Type 0 = λ p. IfOk c.whole_row.result (λ row. IsRowAt c.args.size c.args.count Dense p row.items) in
     subst P (sym seen) c.whole_row.ensures.read
 
 pub returns-in-Numbers-clause-fault : goal.returns-in-Numbers-clause-fault

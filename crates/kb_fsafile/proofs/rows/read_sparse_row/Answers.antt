@@ -13,7 +13,7 @@ use Rattle.kb_fsafile.proofs.rows.read_sparse_row.Goals as goal
 pub returns-in-Entries-clause-read : goal.returns-in-Entries-clause-read
 returns-in-Entries-clause-read c =
     let seen = ap place_view c.in-Entries.is ∙ place_of_entries c.in-Entries.entries.now in
-    IfOk_then c.sparse_row.result c.sparse_row.ensures.read (λ row is. sparse_row_at c.args.size c.args.count c.in-Entries.entries.now _ row seen is)
+    IfOk_then c.sparse_row.result c.sparse_row.ensures.read (λ row is. sparse_row_at c.args.size c.args.count c.in-Entries.entries.now _ row.items seen is)
 
 pub returns-in-Entries-clause-fault : goal.returns-in-Entries-clause-fault
 returns-in-Entries-clause-fault c =

@@ -15,4 +15,4 @@ returns-then-not-is_empty-clause-fault c =
 pub returns-clause-read : goal.returns-clause-read
 returns-clause-read c =
     let seen = ap row_place (empty_list c.args.numbers.now c.if-not-is_empty.ensures) ∙ place_of_entries [] in
-    IfOk_then c.sparse_row.result c.sparse_row.ensures.read (λ row is. sparse_row_at c.args.size c.args.count [] _ row seen is)
+    IfOk_then c.sparse_row.result c.sparse_row.ensures.read (λ row is. sparse_row_at c.args.size c.args.count [] _ row.items seen is)

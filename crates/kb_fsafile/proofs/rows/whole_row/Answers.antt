@@ -12,4 +12,4 @@ returns-then-numbers-size-clause-fault c =
 pub returns-clause-read : goal.returns-clause-read
 returns-clause-read c =
     IfOk_then c.dense_row.result c.dense_row.ensures.read (λ row are.
-    dense_row_at c.args.size c.args.count c.args.numbers.now _ row refl (omega (arith, c.if-numbers-size.false)) are)
+    dense_row_at c.args.size c.args.count c.args.numbers.now _ row.items refl (omega (arith, c.if-numbers-size.false)) are)

@@ -9,7 +9,7 @@ use Rattle.kb_fsafile.proofs.rows.written_sparse_row.Goals as goal
 pub returns-in-Some-clause-read : goal.returns-in-Some-clause-read
 returns-in-Some-clause-read c =
     let seen : written_place c.args.text ≡ Some (value_view c.in-Some.value) = sym c.in_ok-value.ensures ∙ ap (option_map value_view) c.in-Some.is in
-    let P : Option Value → Type 0 = λ p. IfOk c.listed_sparse_row.result (IsRowAt c.args.size c.args.count Sparse p) in
+    let P : Option Value → Type 0 = λ p. IfOk c.listed_sparse_row.result (λ row. IsRowAt c.args.size c.args.count Sparse p row.items) in
     subst P (sym seen) c.listed_sparse_row.ensures.read
 
 pub returns-in-Some-clause-fault : goal.returns-in-Some-clause-fault

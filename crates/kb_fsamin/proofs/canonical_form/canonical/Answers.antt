@@ -50,4 +50,4 @@ unreachable-requires c =
     let more = c.in-Err-TooManyStates.ensures.many c.in-Err-TooManyStates.field-0-0 (ap Err c.in-Err-TooManyStates.field-0-is) in
     let P : ℕ → Type 0 = λ m. HasMoreStates (quotient_of given listed) m in
     no_more_classes given c.as_slice.result.now listed c.table-2.ensures.automaton.table
-    (represented_from c.table-2.ensures.table refl c.as_slice-2.ensures.value c.in_ok-listed.ensures) (subst P c.len.ensures more.1)
+    (represented_from c.table-2.ensures.table refl c.as_slice-2.ensures.value c.in_ok-listed.ensures) (subst P c.len-2.ensures more.1)

@@ -1,5 +1,5 @@
 use Rattle.std.proofs.Common.{◌≡◌, ◌≤◌, ◌+◌, not, [], ◌∷◌, ◌++◌, map, length, get_or, refl, sym, ap, ◌∙◌, subst, arith}
-use Rattle.std.proofs.lemmas.List.{get_or_read, length-map}
+use Rattle.std.proofs.lemmas.List.{length-map}
 use Rattle.std.proofs.lemmas.List.Sums.{prefix_len-le-length}
 use Rattle.kb_fsa.specs.Table.{moves_of}
 use Rattle.kb_fsamin.specs.contracts.rounds.SignaturePartialEq.TheImpl.{eq-value}
@@ -23,11 +23,9 @@ loop-place-preserved c =
     let seen = map sight_of c.loop-place.signatures.keys in
     let new = c.loop-place.next.items in
     let round = c.loop-place.invariant in
-    let rows = c.rows-row-items.ensures.rows in
-    let here : c.row-item.result ≡ get_or c.rows-row-items.result.now c.loop-place.place [] =
-    get_or_read _ c.loop-place.place _ (omega arith) c.row-item.is [] in
-    let row : c.row-item.result ≡ moves_of table done =
-    here ∙ ap (λ rs. get_or rs c.loop-place.place []) rows ∙ row_at table c.loop-place.place done (omega arith) in
+    let rows = c.rows-rows.ensures.rows in
+    let row : get_or c.rows-rows.result.now c.loop-place.place [] ≡ moves_of table done =
+    ap (λ rs. get_or rs c.loop-place.place []) rows ∙ row_at table c.loop-place.place done (omega arith) in
     elim c.if-class-eq0.branch [
       | then-class-eq0+in_ok-push w ↦
           round_same table old _ _ _ _ _ _ refl (ap (λ s. map sight_of s.keys) (sym w.signatures-is))
@@ -36,7 +34,7 @@ loop-place-preserved c =
       | else-class-eq0+in_ok-signature+in_ok-number+in_ok-push-2 w ↦
           let signature = w.in_ok-signature.signature in
           let said : sight_of signature ≡ sight table old done =
-          pair_is (sight_of signature) (sight table old done) w.in_ok-signature.ensures.class (w.in_ok-signature.ensures.moves ∙ ap (class_row old) row) in
+          pair_is (sight_of signature) (sight table old done) w.in_ok-signature.ensures.class (w.in_ok-signature.ensures.moves ∙ ap (class_row old) (w.get.ensures.moves ∙ row)) in
           let number = w.in_ok-number.number in
           let keys' = w.insert_full.new.self.keys in
           let inserted : Inserted seen (map sight_of keys') (sight table old done) number =
@@ -51,20 +49,20 @@ loop-place-preserved c =
 pub overflow_cast-number : goal.overflow_cast-number
 overflow_cast-number c =
     let few = c.loop-place.invariant.few in
-    let size = c.rows-row-items.ensures.table.size in
+    let size = c.rows-rows.ensures.table.size in
     let within : c.in_ok-number.number ≤ length c.loop-place.signatures.keys =
     omega (arith, c.in_ok-number.ensures.index, prefix_len-le-length (λ k. not (eq-value.it c.in_ok-signature.signature k)) c.loop-place.signatures.keys) in
-    omega (arith, length-map c.loop-place.signatures.keys sight_of, ap length c.rows-row-items.ensures.rows)
+    omega (arith, length-map c.loop-place.signatures.keys sight_of, ap length c.rows-rows.ensures.rows)
 
 pub overflow_add-number : goal.overflow_add-number
 overflow_add-number c =
     let few = c.loop-place.invariant.few in
-    let size = c.rows-row-items.ensures.table.size in
+    let size = c.rows-rows.ensures.table.size in
     let within : c.in_ok-number.number ≤ length c.loop-place.signatures.keys =
     omega (arith, c.in_ok-number.ensures.index, prefix_len-le-length (λ k. not (eq-value.it c.in_ok-signature.signature k)) c.loop-place.signatures.keys) in
-    omega (arith, length-map c.loop-place.signatures.keys sight_of, ap length c.rows-row-items.ensures.rows)
+    omega (arith, length-map c.loop-place.signatures.keys sight_of, ap length c.rows-rows.ensures.rows)
 
 pub returns : goal.returns
 returns c =
     round_all c.args.table.now c.args.classes.now (map sight_of c.loop-place.signatures.keys) c.loop-place.next.items c.requires.one_each
-    (round_same c.args.table.now c.args.classes.now _ _ _ _ _ _ (omega (arith, ap length c.rows-row-items.ensures.rows)) refl refl c.loop-place.invariant)
+    (round_same c.args.table.now c.args.classes.now _ _ _ _ _ _ (omega (arith, ap length c.rows-rows.ensures.rows)) refl refl c.loop-place.invariant)

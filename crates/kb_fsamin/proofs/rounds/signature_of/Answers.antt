@@ -7,7 +7,7 @@ use Rattle.kb_fsamin.proofs.rounds.signature_of.Goals.{then-class-ne0+in_ok-push
 pub loop-symbol-preserved : goal.loop-symbol-preserved
 loop-symbol-preserved c =
     let classes = c.args.classes.now in
-    let moves = c.as_slice-symbol-items.result.now in
+    let moves = c.args.row.now in
     let place = c.loop-symbol.symbol-index in
     let move = get_or moves place (0, 0) in
     elim c.if-class-ne0.branch [

@@ -4,7 +4,7 @@ use Rattle.kb_layout.specs.Printing.{pieces, IsPrintedUpTo}
 use Rattle.kb_fsaprint.proofs.Writings.{row_text}
 use Rattle.kb_fsaprint.proofs.writer.write_rows.Given as goal
 
-abbrev pub invariant-loop-row : goal.invariant-loop-row
-invariant-loop-row l =
+abbrev pub invariant-loop-place : goal.invariant-loop-place
+invariant-loop-place l =
     IsPrintedUpTo (row_text l.format) (codes ",\n") (codes "\n    ]") l.rows
-    (codes "[" ++ (pieces (row_text l.format) (codes "\n") (codes ",\n") l.rows ++ codes "\n    ]")) l.fn.out.items l.row-index l.before l.out.items
+    (codes "[" ++ (pieces (row_text l.format) (codes "\n") (codes ",\n") l.rows ++ codes "\n    ]")) l.fn.out.items l.place l.before l.out.items

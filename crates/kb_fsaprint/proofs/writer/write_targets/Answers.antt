@@ -1,8 +1,7 @@
-use Rattle.std.proofs.Common.{◌≡◌, ◌++◌, ◌+◌, ◌-◌, ◌∙◌, ℕ, suc, [], sym, ap, subst, arith}
+use Rattle.std.proofs.Common.{◌≡◌, ◌++◌, ◌+◌, ◌-◌, ◌∙◌, ℕ, suc, [], ap, subst, arith}
 use Rattle.std.specs.Prelude.{codes}
 use Rattle.kb_layout.specs.Printing.{pieces}
 use Rattle.kb_layout.proofs.PrintedPieces.{pieces_start}
-use Rattle.kb_fsa.specs.Table.{Moves}
 use Rattle.kb_fsaprint.specs.Printed.{targets_from}
 use Rattle.kb_fsaprint.specs.Writing.{number_text, IsRowPrinted}
 use Rattle.kb_fsaprint.proofs.Writings.{number_pieces, pieces_done, row_begun, row_next}
@@ -14,11 +13,10 @@ loop-place-init c =
     let symbols = c.args.symbols in
     let old = c.args.out.now.items in
     let whole = codes "[" ++ (pieces number_text [] (codes ",") (targets_from row 1 symbols) ++ codes "]") in
-    let begun = row_begun row symbols whole old [] c.push.new.self.items c.as_slice-left.ensures.row
+    let begun = row_begun row symbols whole old [] c.push.new.self.items c.requires
     (pieces_start number_text [] (codes ",") (codes "]") (targets_from row 1 symbols) old (codes "[") c.push.new.self.items c.in_ok-push.ensures.items) in
     let same : symbols ≡ symbols - 0 = omega arith in
-    subst (λ (left : Moves). IsRowPrinted row 1 (symbols - 0) left whole old [] c.push.new.self.items) (sym c.as_slice-left.ensures.moves)
-    (subst (λ (columns : ℕ). IsRowPrinted row 1 columns row whole old [] c.push.new.self.items) same begun)
+    subst (λ (columns : ℕ). IsRowPrinted row 1 columns row whole old [] c.push.new.self.items) same begun
 
 pub loop-place-preserved : goal.loop-place-preserved
 loop-place-preserved c =

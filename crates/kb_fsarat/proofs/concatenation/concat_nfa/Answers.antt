@@ -22,6 +22,7 @@ chain c =
     ∙ ap (start_after (length first.rows)) c.initial.ensures.initial)
     c.alphabet.ensures.alphabet c.in_ok-initial.ensures c.in_ok-rows.ensures
     (c.in_ok-accepting.ensures
+    ∙ ap (λ count. replicate count false ++ c.accepting.result.now) c.len-4.ensures
     ∙ ap (λ (rows : List Moves). replicate (length rows) false ++ c.accepting.result.now) c.rows.ensures.rows
     ∙ ap (λ answers. replicate (length first.rows) false ++ answers) c.accepting.ensures.accepting)
 

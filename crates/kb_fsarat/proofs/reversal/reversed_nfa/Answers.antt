@@ -27,7 +27,8 @@ parts_turned c =
     turned_parts c.args.one.now _ c.alphabet.ensures.automaton c.alphabet.ensures.alphabet
     (subst P rows c.in_ok-rows.ensures)
     (subst Q (c.accepting.ensures.accepting ∙ ap (λ (table : Table). table.accepting) own) c.in_ok-initial.ensures)
-    (c.in_ok-accepting.ensures ∙ ap (λ initial. only initial (length c.rows-2.result.now)) (c.initial.ensures.initial ∙ ap (λ (table : Table). table.initial) own)
+    (c.in_ok-accepting.ensures ∙ ap (λ count. only c.initial.result count) c.len.ensures
+    ∙ ap (λ initial. only initial (length c.rows-2.result.now)) (c.initial.ensures.initial ∙ ap (λ (table : Table). table.initial) own)
     ∙ ap (λ (rows : List Moves). only c.args.one.now.table.initial (length rows)) (c.rows-2.ensures.rows ∙ ap (λ (table : Table). table.rows) own))
 
 pub new-requires : goal.new-requires

@@ -6,12 +6,11 @@ use Rattle.kb_padding.specs.Cleaning.{is_dropped}
 use Rattle.kb_padding.proofs.Cleanings.{IsRow-kept}
 use Rattle.kb_padding.proofs.misplaced.kept_row.Goals as goal
 
-pub from_vec-requires : goal.from_vec-requires
-from_vec-requires c =
+pub returns-clause-row : goal.returns-clause-row
+returns-clause-row c =
     let reach = c.args.reach.now in
     let row = c.args.row.now in
     let dropped = is_dropped c.args.n reach.marks.items reach.first.items reach.second.items c.args.state in
-    let whole : take c.loop-symbol.symbol-index c.as_slice-symbol-items.result.now ≡ row =
-    take_all c.loop-symbol.symbol-index c.as_slice-symbol-items.result.now (omega arith) ∙ c.as_slice-symbol-items.ensures.moves in
+    let whole : take c.loop-symbol.symbol-index row ≡ row = take_all c.loop-symbol.symbol-index row (omega arith) in
     subst IsRow (sym (c.loop-symbol.invariant ∙ ap (filter (λ (move : ℕ × ℕ). not (dropped move.0))) whole))
-    (IsRow-kept (λ symbol. not (dropped symbol)) row c.as_slice-symbol-items.ensures.row)
+    (IsRow-kept (λ symbol. not (dropped symbol)) row c.requires.row)

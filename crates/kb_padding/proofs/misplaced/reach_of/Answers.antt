@@ -34,14 +34,14 @@ targets_same {track} {n} {count} {edges} {symbols} {marks} {targets} one two are
 
 pub reached-requires-clause-edges : goal.reached-requires-clause-edges
 reached-requires-clause-edges c =
-    let start = start_is c.as_slice.ensures.value (c.in_ok-start.ensures.items_if_clones_equal (λ _ is. is)) (ap length c.rows.ensures.rows) c.initial.ensures.initial in
+    let start = start_is c.as_slice.ensures.value (c.in_ok-start.ensures.items_if_clones_equal (λ _ is. is)) (c.len.ensures ∙ ap length c.rows.ensures.rows) c.initial.ensures.initial in
     forward_within c.args.table.now c.args.moves.now.edges.items c.args.moves.now.symbols.items c.requires.moves
     c.args.edges.now (length c.as_slice.result.now) c.requires.edges
     (start_size c.as_slice.result.now (length c.args.table.now.rows) c.args.table.now.initial start)
 
 pub reached-requires-2-clause-edges : goal.reached-requires-2-clause-edges
 reached-requires-2-clause-edges c =
-    let start = start_is c.as_slice.ensures.value (c.in_ok-start.ensures.items_if_clones_equal (λ _ is. is)) (ap length c.rows.ensures.rows) c.initial.ensures.initial in
+    let start = start_is c.as_slice.ensures.value (c.in_ok-start.ensures.items_if_clones_equal (λ _ is. is)) (c.len.ensures ∙ ap length c.rows.ensures.rows) c.initial.ensures.initial in
     let size = start_size c.as_slice.result.now (length c.args.table.now.rows) c.args.table.now.initial start in
     forward_within c.args.table.now c.args.moves.now.edges.items c.args.moves.now.symbols.items c.requires.moves
     c.args.edges.now (length c.as_slice-3.result.now) c.requires.edges
@@ -49,7 +49,7 @@ reached-requires-2-clause-edges c =
 
 pub reached-requires-3-clause-edges : goal.reached-requires-3-clause-edges
 reached-requires-3-clause-edges c =
-    let start = start_is c.as_slice.ensures.value (c.in_ok-start.ensures.items_if_clones_equal (λ _ is. is)) (ap length c.rows.ensures.rows) c.initial.ensures.initial in
+    let start = start_is c.as_slice.ensures.value (c.in_ok-start.ensures.items_if_clones_equal (λ _ is. is)) (c.len.ensures ∙ ap length c.rows.ensures.rows) c.initial.ensures.initial in
     let size = start_size c.as_slice.result.now (length c.args.table.now.rows) c.args.table.now.initial start in
     forward_within c.args.table.now c.args.moves.now.edges.items c.args.moves.now.symbols.items c.requires.moves
     c.args.edges.now (length c.as_slice-5.result.now) c.requires.edges
@@ -61,7 +61,7 @@ returns c =
     let edges = c.args.moves.now.edges.items in
     let symbols = c.args.moves.now.symbols.items in
     let is = c.rows.ensures.table in
-    let start = start_is c.as_slice.ensures.value (c.in_ok-start.ensures.items_if_clones_equal (λ _ is. is)) (ap length c.rows.ensures.rows) c.initial.ensures.initial in
+    let start = start_is c.as_slice.ensures.value (c.in_ok-start.ensures.items_if_clones_equal (λ _ is. is)) (c.len.ensures ∙ ap length c.rows.ensures.rows) c.initial.ensures.initial in
     let met : AreMet table (λ _. Unit {0}) c.in_ok-marks.marks.items =
     texts_met table edges symbols is c.requires.moves c.as_slice.result.now c.in_ok-marks.marks.items start c.in_ok-marks.ensures.one_each
     (along_same c.in_ok-marks.marks.items c.as_slice.result.now c.args.edges.now (turned edges) c.requires.edges c.in_ok-marks.ensures.reached) in

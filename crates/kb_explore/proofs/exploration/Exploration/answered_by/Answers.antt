@@ -8,7 +8,7 @@ pub new-requires : goal.new-requires
 new-requires g c =
     let made = c.args.self.now in
     let accepts = (g.M.Machine.machine c.args.machine.now).accepts in
-    let same = answering_same made.table (map accepts made.states.keys) c.in_ok-accepting.accepting.items c.initial.result c.in_ok-rows.rows.items
+    let same = answering_same made.table (map accepts made.states.keys) c.in_ok-accepting.accepting.items c.initial.result c.in_ok-rows.rows
     c.initial.ensures.initial (c.in_ok-rows.ensures ∙ c.rows.ensures.rows) c.in_ok-accepting.ensures in
     subst IsTable (sym same) (answered_table c.requires.explored.1 c.requires.explored.2)
 
@@ -17,7 +17,7 @@ returns-clause-explored g c =
     let made = c.args.self.now in
     let machine = g.M.Machine.machine c.args.machine.now in
     let same = answering_same made.table (map machine.accepts made.states.keys) c.in_ok-accepting.accepting.items c.initial.result
-    c.in_ok-rows.rows.items c.initial.ensures.initial (c.in_ok-rows.ensures ∙ c.rows.ensures.rows) c.in_ok-accepting.ensures in
+    c.in_ok-rows.rows c.initial.ensures.initial (c.in_ok-rows.ensures ∙ c.rows.ensures.rows) c.in_ok-accepting.ensures in
     let P : Table → Type 0 = λ table. IsExploration machine table made.states.keys made.origins.items in
     subst P (sym (c.new.ensures ∙ same)) (answered c.requires.explored.1 c.requires.explored.2)
 

@@ -3,7 +3,7 @@ use Rattle.kb_fsa.specs.Table.{step}
 use Rattle.kb_fsa.proofs.Lookups.{step_within}
 use Rattle.kb_fsa.proofs.table.Table.step.Goals as goal
 
-pub returns-in-Some-clause-within : goal.returns-in-Some-clause-within
-returns-in-Some-clause-within c =
-    let is : c.target.result ≡ step c.args.self.now c.args.state c.args.symbol = search rules in
+pub returns-clause-within : goal.returns-clause-within
+returns-clause-within c =
+    let is : c.target_of.result ≡ step c.args.self.now c.args.state c.args.symbol = search rules in
     omega (arith, step_within c.args.self.now c.args.state c.args.symbol c.row.ensures.table)

@@ -9,5 +9,5 @@ pub returns : goal.returns
 returns c =
     let whole = c.args.self.now in
     let P : Moves → Type 0 = λ moves. AreMovesOf (machine_of whole.table) whole.size c.args.state.now moves in
-    subst P (sym (c.in_ok-moves.ensures.items ∙ c.moves.ensures.moves))
-    (table_moves whole.table whole.size c.args.state.now c.moves.ensures.table whole.bounded)
+    subst P (sym (c.in_ok-moves.ensures.items ∙ c.row.ensures.moves))
+    (table_moves whole.table whole.size c.args.state.now c.row.ensures.table whole.bounded)

@@ -11,7 +11,7 @@ new-own-requires c =
     c.table-table.ensures.automaton c.self.invariant
     (c.accepting.ensures.accepting ∙ ap (λ (table : Table). table.accepting) c.table-table.ensures.table) c.as_slice.ensures.value
     c.in_ok-answers.ensures.one_each c.in_ok-answers.ensures.each in
-    let same = same_table fsa.table c.in_ok-answers.answers.items c.initial.result c.in_ok-rows.rows.items
+    let same = same_table fsa.table c.in_ok-answers.answers.items c.initial.result c.in_ok-rows.rows
     (c.initial.ensures.initial ∙ ap (λ (table : Table). table.initial) c.table-table.ensures.table)
     (c.in_ok-rows.ensures ∙ c.rows.ensures.rows ∙ ap (λ (table : Table). table.rows) c.table-table.ensures.table) in
     subst IsTable (sym same) (made_table are)
@@ -23,7 +23,7 @@ new-requires c =
     c.table-table.ensures.automaton c.self.invariant
     (c.accepting.ensures.accepting ∙ ap (λ (table : Table). table.accepting) c.table-table.ensures.table) c.as_slice.ensures.value
     c.in_ok-answers.ensures.one_each c.in_ok-answers.ensures.each in
-    let same = same_table fsa.table c.in_ok-answers.answers.items c.initial.result c.in_ok-rows.rows.items
+    let same = same_table fsa.table c.in_ok-answers.answers.items c.initial.result c.in_ok-rows.rows
     (c.initial.ensures.initial ∙ ap (λ (table : Table). table.initial) c.table-table.ensures.table)
     (c.in_ok-rows.ensures ∙ c.rows.ensures.rows ∙ ap (λ (table : Table). table.rows) c.table-table.ensures.table) in
     automaton_from are c.alphabet.result c.new-own.result c.alphabet.ensures.alphabet (c.new-own.ensures ∙ same)
@@ -35,7 +35,7 @@ returns-clause-language c =
     c.table-table.ensures.automaton c.self.invariant
     (c.accepting.ensures.accepting ∙ ap (λ (table : Table). table.accepting) c.table-table.ensures.table) c.as_slice.ensures.value
     c.in_ok-answers.ensures.one_each c.in_ok-answers.ensures.each in
-    let same = same_table fsa.table c.in_ok-answers.answers.items c.initial.result c.in_ok-rows.rows.items
+    let same = same_table fsa.table c.in_ok-answers.answers.items c.initial.result c.in_ok-rows.rows
     (c.initial.ensures.initial ∙ ap (λ (table : Table). table.initial) c.table-table.ensures.table)
     (c.in_ok-rows.ensures ∙ c.rows.ensures.rows ∙ ap (λ (table : Table). table.rows) c.table-table.ensures.table) in
     texts_from are c.args.self.now c.new-own.result c.new.result (sym c.self.view_is) (c.new-own.ensures ∙ same)

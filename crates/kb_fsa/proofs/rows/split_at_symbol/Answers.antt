@@ -1,6 +1,6 @@
 use Rattle.kb_fsa.proofs.RowSplits.{split_here, split_later, split_nil}
-use Rattle.kb_fsa.proofs.row.split_at_symbol.Goals as goal
-use Rattle.kb_fsa.proofs.row.split_at_symbol.Goals.{in_default-via-in-Some+else-least-symbol, in_default-via-in_default}
+use Rattle.kb_fsa.proofs.rows.split_at_symbol.Goals as goal
+use Rattle.kb_fsa.proofs.rows.split_at_symbol.Goals.{in_default-via-in-Some+else-least-symbol, in_default-via-in_default}
 
 pub returns-in-Some : goal.returns-in-Some
 returns-in-Some c =
