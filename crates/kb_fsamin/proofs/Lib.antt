@@ -17,4 +17,5 @@ pub mod Numberings
 pub mod Unlabelled
 pub mod KeptLabels
 pub mod Splittings
+pub mod Entering
 pub mod NoMoves

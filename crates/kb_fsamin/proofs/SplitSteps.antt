@@ -1,22 +1,21 @@
 -- Items are marked one after another, and then their parts are divided.
 use Rattle.std.proofs.Common.{◌≡◌, ◌≢◌, ◌⊎◌, ◌↔◌, ℕ, ◌+◌, ◌<◌, List, [], ◌∷◌, ◌++◌, length, get_or, take, Contains, refl, sym, ap, ◌∙◌, subst, inl, inr, arith}
 use Rattle.std.proofs.lemmas.List.{take_more}
-use Rattle.std.proofs.lemmas.List.Elements.{Contains-push, Contains-append_left, Contains-append_right, Contains-append_cases, Contains-push_cases}
-use Rattle.kb_fsamin.specs.declared.partition.Groups.{Groups}
+use Rattle.std.proofs.lemmas.List.Elements.{Contains-push, Contains-append_left, Contains-push_cases}
 use Rattle.kb_fsamin.specs.declared.partition.Partition.{Partition}
-use Rattle.kb_fsamin.specs.Partitions.{part_of, IsArranged, IsMarkedIn, IsMarkedMore, IsPartition, IsSplitBy, IsDivided, AreMarked, AreDivided, AreGathered, group_of, first_of, range_of}
+use Rattle.kb_fsamin.specs.Partitions.{part_of, IsArranged, IsMarkedIn, IsMarkedMore, IsPartition, IsSplitBy, IsDivided, AreMarked, AreDivided, first_of, range_of}
 
 -- what is among the items up to the next
-more_cases : (items : List ℕ) (place item : ℕ) → place < length items → Contains (take (place + 1) items) item
+pub more_cases : (items : List ℕ) (place item : ℕ) → place < length items → Contains (take (place + 1) items) item
     → Contains (take place items) item ⊎ (get_or items place 0 ≡ item)
 more_cases items place item h found =
     Contains-push_cases (take place items) (get_or items place 0) item (subst (λ l. Contains l item) (take_more items place 0 h) found)
 
-more_left : (items : List ℕ) (place item : ℕ) → place < length items → Contains (take place items) item → Contains (take (place + 1) items) item
+pub more_left : (items : List ℕ) (place item : ℕ) → place < length items → Contains (take place items) item → Contains (take (place + 1) items) item
 more_left items place item h found =
     subst (λ l. Contains l item) (sym (take_more items place 0 h)) (Contains-append_left (take place items) (get_or items place 0 ∷ []) item found)
 
-more_last : (items : List ℕ) (place item : ℕ) → place < length items → get_or items place 0 ≡ item → Contains (take (place + 1) items) item
+pub more_last : (items : List ℕ) (place item : ℕ) → place < length items → get_or items place 0 ≡ item → Contains (take (place + 1) items) item
 more_last items place item h is =
     subst (λ l. Contains l item) (sym (take_more items place 0 h))
     (subst (Contains (take place items ++ get_or items place 0 ∷ [])) is (Contains-push (take place items) (get_or items place 0)))
@@ -106,29 +105,6 @@ divided_all items old now all = record {
       let low : item < length old.of.items = omega (arith, all.split.one_each) in
       all.cleared item low (all.sound item low mark) mark;
 }
-
--- ---- what is listed of several parts
-
-pub gathered_none : (groups : Groups) → AreGathered groups [] []
-gathered_none groups = record {
-  sound = λ item found. absurd (omega (arith, found.1));
-  complete = λ part item found there. absurd (omega (arith, found.1));
-}
-
-pub gathered_more : (groups : Groups) (chosen : List ℕ) (place : ℕ) (listed : List ℕ) → place < length chosen → AreGathered groups (take place chosen) listed
-    → AreGathered groups (take (place + 1) chosen) (listed ++ group_of groups (get_or chosen place 0))
-gathered_more groups chosen place listed h before =
-    let next = group_of groups (get_or chosen place 0) in
-    record {
-      sound = λ item found. elim (Contains-append_cases listed next item found) [
-        | inl early ↦ let from = before.sound item early in (from.0, more_left chosen place from.0 h from.1, from.2)
-        | inr last ↦ (get_or chosen place 0, more_last chosen place (get_or chosen place 0) h refl, last)
-      ];
-      complete = λ part item found there. elim (more_cases chosen place part h found) [
-        | inl early ↦ Contains-append_left listed next item (before.complete part item early there)
-        | inr last ↦ Contains-append_right listed next item (subst (λ p. Contains (group_of groups p) item) (sym last) there)
-      ];
-    }
 
 -- the first item of an item's part is of that part
 pub first_there : (parts : Partition) (item : ℕ) → IsPartition parts → item < length parts.of.items

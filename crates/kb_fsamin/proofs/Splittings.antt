@@ -1,7 +1,7 @@
 -- Splitters keep alike states together.
 use Rattle.std.proofs.Common.{◌≡◌, ◌≢◌, ℕ, suc, ◌+◌, ◌<◌, List, [], ◌∷◌, ◌++◌, length, get_or, Contains, sym, ap, ◌∙◌, subst, inl, inr, arith}
 use Rattle.std.proofs.lemmas.Bool.{cases_eq}
-use Rattle.std.proofs.lemmas.List.{length_push, get_or_push, get_or_append_left, get_or-map, length-map}
+use Rattle.std.proofs.lemmas.List.{length_push, get_or_push, get_or_append_left}
 use Rattle.std.proofs.lemmas.List.Elements.{All-contains, Contains-get_or}
 use Rattle.kb_fsa.specs.Table.{Table, step, AcceptsFrom}
 use Rattle.kb_fsa.specs.Canonical.{IsState}
@@ -11,10 +11,9 @@ use Rattle.kb_fsa.specs.Moves.{AreBackward}
 use Rattle.kb_labelled.specs.Labels.{AreAlike, label_from}
 use Rattle.kb_labelled.proofs.Likeness.{accepts_alike}
 use Rattle.kb_fsamin.specs.Rounds.{class_of, IsClassing}
-use Rattle.kb_fsamin.specs.Partitions.{part_of, first_of, AreGathered, AreGroups, AreMembers, IsPartition, IsSplitBy}
-use Rattle.kb_fsamin.specs.declared.partition.Groups.{Groups}
+use Rattle.kb_fsamin.specs.Partitions.{part_of, first_of, AreMembers, IsPartition, IsSplitBy}
 use Rattle.kb_fsamin.specs.declared.partition.Partition.{Partition}
-use Rattle.kb_fsamin.specs.Splitting.{AreEntering, IsLeaving, AreLeaving, IsSplitting, AreClassesOfBlocks, targets}
+use Rattle.kb_fsamin.specs.Splitting.{AreEntering, AreGathered, IsLeaving, AreLeaving, IsSplitting, AreClassesOfBlocks}
 use Rattle.kb_fsamin.proofs.SplitSteps.{first_there}
 use Rattle.kb_fsa.proofs.MoveLemmas.{edge_from_step}
 use Rattle.kb_fsamin.proofs.Classings.{rejects_none}
@@ -155,20 +154,12 @@ joined_more start blocks done class classes dead live joined =
     }
 
 -- what leads into the states of a block
-pub entering_from : (edges : List (ℕ × ℕ)) (blocks : List ℕ) (block : ℕ) (groups : Groups) (states listed : List ℕ) → AreGroups (targets edges) groups
-    → length groups.parts.items ≡ length blocks → ((move : ℕ) → move < length edges → source edges move < length blocks)
-    → AreMembers blocks block states → AreGathered groups states listed → AreEntering edges blocks block listed
-entering_from edges blocks block groups states listed all size known members gathered = record {
+pub entering_from : (edges : List (ℕ × ℕ)) (blocks : List ℕ) (block : ℕ) (states listed : List ℕ)
+    → ((move : ℕ) → move < length edges → source edges move < length blocks)
+    → AreMembers blocks block states → AreGathered edges states listed → AreEntering edges blocks block listed
+entering_from edges blocks block states listed known members gathered = record {
   sound = λ k d h.
       let from = gathered.sound (get_or listed k d) (Contains-get_or listed k d h) in
-      let state = All-contains (λ s. (s < length blocks) × (part_of blocks s ≡ block)) states from.0 members.sound from.1 in
-      let group = all from.0 (omega (arith, state.0)) in
-      let move = All-contains (λ m. (m < length (targets edges)) × (part_of (targets edges) m ≡ from.0)) _ (get_or listed k d) group.sound from.2 in
-      let within : get_or listed k d < length edges = omega (arith, move.0, length-map edges (λ (e : ℕ × ℕ). e.0)) in
-      (within, ap (part_of blocks) (sym (get_or-map (λ (e : ℕ × ℕ). e.0) edges (get_or listed k d) (0, 0) 0 within) ∙ move.1) ∙ state.1);
-  complete = λ move h is.
-      let low = known move h in
-      let group = all (source edges move) (omega (arith, low)) in
-      gathered.complete (source edges move) move (members.complete (source edges move) low is)
-      (group.complete move (omega (arith, length-map edges (λ (e : ℕ × ℕ). e.0))) (get_or-map (λ (e : ℕ × ℕ). e.0) edges move (0, 0) 0 h));
+      (from.0, (All-contains (λ s. (s < length blocks) × (part_of blocks s ≡ block)) states _ members.sound from.1).1);
+  complete = λ move h is. gathered.complete move h (members.complete (source edges move) (known move h) is);
 }

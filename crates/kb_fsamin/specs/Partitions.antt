@@ -1,7 +1,6 @@
 -- Numbered items in parts, which lists of items split.
-use Rattle.std.specs.Prelude.{◌≡◌, ◌≢◌, ◌⊎◌, ◌↔◌, ℕ, ◌+◌, ◌<◌, ◌≤◌, ◌^◌, nat_eq, List, length, get_or, take, sum, count_by, slice_range, All, Contains}
+use Rattle.std.specs.Prelude.{◌≡◌, ◌≢◌, ◌⊎◌, ◌↔◌, ℕ, ◌+◌, ◌<◌, ◌≤◌, ◌^◌, nat_eq, List, length, get_or, take, sum, count_by, All, Contains}
 use Rattle.kb_fsamin.specs.declared.partition.Part.{Part}
-use Rattle.kb_fsamin.specs.declared.partition.Groups.{Groups}
 use Rattle.kb_fsamin.specs.declared.partition.Partition.{Partition}
 
 -- the part of an item
@@ -135,30 +134,6 @@ pub record AreRelabelled (places : List ℕ) (range : Part) (part place : ℕ)
 pub record AreMembers (of : List ℕ) (part : ℕ) (listed : List ℕ) : Type 0 where
   pub sound : All (λ item. (item < length of) × (part_of of item ≡ part)) listed
   pub complete : (item : ℕ) → item < length of → part_of of item ≡ part → Contains listed item
-
--- what stands in the range of a part
-abbrev pub group_of : Groups → ℕ → List ℕ
-group_of groups part =
-    slice_range groups.elements.items (range_of groups.parts.items part).first
-    (range_of groups.parts.items part).past
-
--- the ranges are within what stands there
-abbrev pub AreWithin : Groups → Type 0
-AreWithin groups = (part : ℕ) → part < length groups.parts.items
-    → ((range_of groups.parts.items part).first ≤ (range_of groups.parts.items part).past)
-    × ((range_of groups.parts.items part).past ≤ length groups.elements.items)
-
--- the items of each part stand in its range
-abbrev pub AreGroups : List ℕ → Groups → Type 0
-AreGroups of groups =
-    (part : ℕ) → part < length groups.parts.items → AreMembers of part (group_of groups part)
-
--- the list has what stands in the ranges of these parts
-pub record AreGathered (groups : Groups) (chosen listed : List ℕ) : Type 0 where
-  pub sound : (item : ℕ) → Contains listed item → (part : ℕ) × Contains chosen part
-      × Contains (group_of groups part) item
-  pub complete : (part item : ℕ) → Contains chosen part → Contains (group_of groups part) item
-      → Contains listed item
 
 -- how many of the items have the part
 abbrev pub occurrences : ℕ → List ℕ → ℕ

@@ -1,7 +1,7 @@
 -- Blocks of states and cords of moves, which split each other.
-use Rattle.std.specs.Prelude.{◌≡◌, ◌≢◌, ℕ, suc, ◌<◌, ◌≤◌, List, length, get_or, map, All, Contains}
+use Rattle.std.specs.Prelude.{◌≡◌, ◌≢◌, ℕ, suc, ◌+◌, ◌<◌, ◌≤◌, List, length, get_or, take, All, Contains}
 use Rattle.kb_fsa.specs.Table.{Table}
-use Rattle.kb_fsa.specs.Graphs.{source, end}
+use Rattle.kb_fsa.specs.Graphs.{source, end, IsWalk}
 use Rattle.kb_fsa.specs.Moves.{AreBackward}
 use Rattle.kb_labelled.specs.Labels.{AreAlike}
 use Rattle.kb_fsamin.specs.Rounds.{class_of, IsClassing}
@@ -25,6 +25,23 @@ pub record AreEntering (edges : List (ℕ × ℕ)) (blocks : List ℕ) (block : 
       (λ move. (move < length edges) × (part_of blocks (source edges move) ≡ block)) listed
   pub complete : (move : ℕ) → move < length edges → part_of blocks (source edges move) ≡ block
       → Contains listed move
+
+-- the list has the moves that lead into these states
+pub record AreGathered (edges : List (ℕ × ℕ)) (states listed : List ℕ) : Type 0 where
+  pub sound : (move : ℕ) → Contains listed move
+      → (move < length edges) × Contains states (source edges move)
+  pub complete : (move : ℕ) → move < length edges → Contains states (source edges move)
+      → Contains listed move
+
+-- The list has the moves that lead into the first states, as many as are done. Of those that lead into the next one it
+-- has the ones that come, along the links, before the one of the number.
+pub record AreListing (edges : List (ℕ × ℕ)) (states : List ℕ) (done number : ℕ)
+    (listed : List ℕ) : Type 0 where
+  pub sound : (move : ℕ) → Contains listed move
+      → (move < length edges) × Contains (take (done + 1) states) (source edges move)
+  pub complete : (move : ℕ) → move < length edges → Contains (take done states) (source edges move)
+      → Contains listed move
+  pub walk : IsWalk edges (get_or states done 0) number (Contains listed)
 
 -- a move of the cord leads from the state to one that leads to acceptance
 pub record IsLeaving (edges : List (ℕ × ℕ)) (start cords : List ℕ) (cord state : ℕ) : Type 0 where
@@ -77,7 +94,3 @@ pub record AreClassesOfBlocks (start : List ℕ) (blocks : Partition) (done : �
   pub dead : (state : ℕ) → state < done → class_of start state ≡ 0 → class_of classes state ≡ 0
   pub live : (state : ℕ) → state < done → class_of start state ≢ 0
       → class_of classes state ≡ first_of blocks (part_of blocks.of.items state)
-
--- where each move leads
-abbrev pub targets : List (ℕ × ℕ) → List ℕ
-targets edges = map (λ edge. edge.0) edges

@@ -6,7 +6,7 @@
 //! often as its part can be halved.
 
 ghost use Rattle.std.specs.Prelude.{◌≡◌, ◌<◌, ◌≤◌, ◌^◌, ℕ, length, get_or, sum, All, IfOk, OnOk};
-ghost use Rattle.kb_fsamin.specs.Partitions.{AreCounts, AreGroups, AreHalves, AreMembers, AreRanges, AreRelabelled, IsArranged, IsDivided, IsFound, IsMarkedMore, IsPartition, IsSplitBy, AreWithin, first_of, group_of, part_of};
+ghost use Rattle.kb_fsamin.specs.Partitions.{AreCounts, AreHalves, AreMembers, AreRanges, AreRelabelled, IsArranged, IsDivided, IsFound, IsMarkedMore, IsPartition, IsSplitBy, first_of, part_of};
 
 use kb_word::Memory;
 use std::alloc::Global;
@@ -32,25 +32,6 @@ pub(crate) struct Partition {
     /// Where each item stands.
     places: Vec<u32>,
     parts: Vec<Part>,
-}
-
-/// Items side by side with those of their part.
-#[derive(Drop)]
-pub(crate) struct Groups {
-    elements: Vec<u32>,
-    parts: Vec<Part>,
-}
-
-impl Groups {
-    /// The items of a part.
-    pub(crate) fn members(&self, part: u32) -> &[u32]
-        requires within { AreWithin self.now }
-        requires part { part < length self.now.parts.items }
-        ensures { result.now ≡ group_of self.now part }
-    {
-        let range = self.parts[part as usize];
-        &self.elements.as_slice()[range.first as usize..range.past as usize]
-    }
 }
 
 impl Partition {
@@ -126,19 +107,6 @@ impl Partition {
             self.divide(part)?;
         }
         Ok(())
-    }
-
-    /// The items by their parts, which don't change any more.
-    pub(crate) fn into_groups(self) -> Groups
-        requires { IsPartition self }
-        ensures within { AreWithin result }
-        ensures groups { AreGroups self.of.items result }
-        ensures count { length result.parts.items ≡ length self.parts.items }
-    {
-        Groups {
-            elements: self.elements,
-            parts: self.parts,
-        }
     }
 
     /// Marks the item.

@@ -7,14 +7,15 @@
 
 ghost use Rattle.std.specs.Prelude.{◌≡◌, ◌<◌, ◌≤◌, ◌^◌, ℕ, suc, ◌+◌, List, length, get_or, All, IfOk, OnOk};
 ghost use Rattle.kb_fsa.specs.Table.{Table};
+ghost use Rattle.kb_fsa.specs.Graphs.{AreLinksOf};
 ghost use Rattle.kb_fsa.specs.Moves.{IsBackwardOf};
-ghost use Rattle.kb_fsamin.specs.Partitions.{AreGroups, AreWithin, IsPartition, part_of};
+ghost use Rattle.kb_fsamin.specs.Partitions.{IsPartition, part_of};
 ghost use Rattle.kb_fsamin.specs.Rounds.{IsClassing};
-ghost use Rattle.kb_fsamin.specs.Splitting.{AreEntering, AreClassesOfBlocks, AreLeaving, ArePaired, KeepsSplitting, targets};
+ghost use Rattle.kb_fsamin.specs.Splitting.{AreEntering, AreClassesOfBlocks, AreLeaving, ArePaired, KeepsSplitting};
 
-use crate::partition::{Groups, Partition};
+use crate::partition::Partition;
 use indexmap::IndexSet;
-use kb_fsa::Backward;
+use kb_fsa::{Backward, Links, link};
 use kb_word::Memory;
 use std::alloc::Global;
 
@@ -39,11 +40,11 @@ pub(crate) fn split_by_splitters(
     let Backward { edges, symbols } = moves;
     let edges = edges.as_slice();
     // What is only needed to make these is let go before blocks and cords are there.
-    let incoming = incoming(alloc, edges, start.len())?;
+    let links = link(alloc, edges, start.len())?;
     let mut cords = by_symbol(alloc, symbols.as_slice())?;
     drop(symbols);
     let mut blocks = Partition::new(alloc, of, count)?;
-    refine(alloc, edges, &incoming, start, &mut blocks, &mut cords)?;
+    refine(alloc, edges, &links, start, &mut blocks, &mut cords)?;
     classes_of_blocks(alloc, start, &blocks)
 }
 
@@ -51,16 +52,15 @@ pub(crate) fn split_by_splitters(
 fn refine(
     alloc: Global,
     edges: &[(u32, u32)],
-    incoming: &Groups,
+    links: &Links,
     start: &[u32],
     blocks: &mut Partition,
     cords: &mut Partition,
 ) -> Result<(), Memory>
+    requires few { length edges.now < 2 ^ 32 }
     requires known { All (λ edge. edge.0 < length start.now) edges.now }
     requires states { All (λ edge. edge.1 < length start.now) edges.now }
-    requires within { AreWithin incoming.now }
-    requires count { length incoming.now.parts.items ≡ length start.now }
-    requires incoming { AreGroups (targets edges.now) incoming.now }
+    requires links { AreLinksOf edges.now (length start.now) links.now }
     requires paired { ArePaired edges.now start.now blocks.old cords.old }
     ensures paired { OnOk result (ArePaired edges.now start.now blocks.new cords.new) }
     ensures keeps { OnOk result ((symbols : List ℕ)
@@ -70,7 +70,7 @@ fn refine(
     let mut cord = 0;
     loop {
         if block < blocks.len() {
-            let moves = entering(alloc, incoming, blocks, block as u32)?;
+            let moves = entering(alloc, edges, links, blocks, block as u32)?;
             cords.split(moves.as_slice())?;
             block += 1;
         } else if cord < cords.len() {
@@ -81,27 +81,6 @@ fn refine(
             return Ok(());
         }
     }
-}
-
-/// The moves by the states that they lead to.
-fn incoming(alloc: Global, edges: &[(u32, u32)], states: usize) -> Result<Groups, Memory>
-    requires few { length edges.now < 2 ^ 32 }
-    requires states { states < 2 ^ 32 }
-    requires known { All (λ edge. edge.0 < states) edges.now }
-    ensures within { IfOk result (λ groups. AreWithin groups) }
-    ensures groups { IfOk result (λ groups. AreGroups (targets edges.now) groups) }
-    ensures count { IfOk result (λ groups. length groups.parts.items ≡ states) }
-{
-    let targets = targets(alloc, edges)?;
-    Ok(Partition::new(alloc, targets, states)?.into_groups())
-}
-
-/// Where each move leads.
-fn targets(alloc: Global, edges: &[(u32, u32)]) -> Result<Vec<u32>, Memory>
-    ensures { IfOk result (λ states. states.items ≡ targets edges.now) }
-{
-    let states = edges.iter().map(|edge| edge.0).collect(alloc)?;
-    Ok(states)
 }
 
 /// The blocks as classes, each numbered by a state of it, but for what has class 0.
@@ -144,21 +123,26 @@ fn by_symbol(alloc: Global, symbols: &[u32]) -> Result<Partition, Memory>
 /// The moves that lead into a block.
 fn entering(
     alloc: Global,
-    incoming: &Groups,
+    edges: &[(u32, u32)],
+    links: &Links,
     blocks: &Partition,
     block: u32,
 ) -> Result<Vec<u32>, Memory>
-    requires within { AreWithin incoming.now }
-    requires count { length incoming.now.parts.items ≡ length blocks.now.of.items }
+    requires few { length edges.now < 2 ^ 32 }
+    requires known { All (λ edge. edge.0 < length blocks.now.of.items) edges.now }
+    requires links { AreLinksOf edges.now (length blocks.now.of.items) links.now }
     requires blocks { IsPartition blocks.now }
     requires block { block < length blocks.now.parts.items }
-    ensures { IfOk result (λ listed. (edges : List (ℕ × ℕ)) → AreGroups (targets edges) incoming.now
-        → All (λ edge. edge.0 < length blocks.now.of.items) edges
-        → AreEntering edges blocks.now.of.items block listed.items) }
+    ensures { IfOk result (λ listed.
+        AreEntering edges.now blocks.now.of.items block listed.items) }
 {
     let mut listed = Vec::new(alloc);
     for state in blocks.members(block) {
-        listed.extend_from_slice(incoming.members(*state))?;
+        let mut number = links.last[*state as usize];
+        while number != 0 {
+            listed.push(number as u32 - 1)?;
+            number = links.earlier[number - 1];
+        }
     }
     Ok(listed)
 }

@@ -1,5 +1,6 @@
 use Rattle.std.proofs.Common.{get_or, sym, ◌∙◌, subst, arith}
 use Rattle.std.proofs.lemmas.List.Elements.{Contains-get_or}
+use Rattle.kb_fsa.specs.Graphs.{AreLinksOf}
 use Rattle.kb_fsamin.specs.Partitions.{IsSplitBy}
 use Rattle.kb_fsamin.specs.Splitting.{AreEntering, AreLeaving}
 use Rattle.kb_fsamin.proofs.Splittings.{cords_split, blocks_split}
@@ -11,9 +12,8 @@ split-requires-clause-items c k d h =
     let blocks = c.loop-block.blocks.of.items in
     let paired = c.loop-block.invariant.paired in
     let listed = c.as_slice.result.now in
-    let moves : AreEntering edges blocks c.loop-block.block c.in_ok-moves.moves.items =
-    c.in_ok-moves.ensures edges c.requires.incoming (λ move e i. omega (arith, c.requires.known move e i, paired.block_each)) in
-    let entering : AreEntering edges blocks c.loop-block.block listed = subst (AreEntering edges blocks c.loop-block.block) (sym c.as_slice.ensures.value) moves in
+    let entering : AreEntering edges blocks c.loop-block.block listed =
+    subst (AreEntering edges blocks c.loop-block.block) (sym c.as_slice.ensures.value) c.in_ok-moves.ensures in
     omega (arith, (entering.sound k d h).0, paired.cord_each)
 
 pub loop-block-preserved-then-block-len : goal.loop-block-preserved-then-block-len
@@ -35,9 +35,7 @@ loop-block-preserved-then-block-len c =
       keeps = λ symbols table labels backward classing splitting.
           cords_split table labels edges symbols start blocks cords backward classing
           (c.loop-block.invariant.keeps symbols table labels backward classing splitting) c.loop-block.block c.in_ok-moves.moves.items c.split.new.self.of.items
-          paired.cord_each
-          (c.in_ok-moves.ensures edges c.requires.incoming (λ move e i. omega (arith, c.requires.known move e i, paired.block_each)))
-          split;
+          paired.cord_each c.in_ok-moves.ensures split;
     }
 
 pub split-requires-then-cord-len-clause-items : goal.split-requires-then-cord-len-clause-items
@@ -73,3 +71,10 @@ loop-block-preserved c =
           (c.loop-block.invariant.keeps symbols table labels backward classing splitting) c.loop-block.cord c.in_ok-states.states.items blocks'
           paired.block_each c.in_ok-states.ensures split;
     }
+
+pub entering-requires-clause-known : goal.entering-requires-clause-known
+entering-requires-clause-known c move e i = omega (arith, c.requires.known move e i, c.loop-block.invariant.paired.block_each)
+
+pub entering-requires-clause-links : goal.entering-requires-clause-links
+entering-requires-clause-links c =
+    subst (λ n. AreLinksOf c.args.edges.now n c.args.links.now) (sym c.loop-block.invariant.paired.block_each) c.requires.links
