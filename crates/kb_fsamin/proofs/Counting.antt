@@ -1,12 +1,13 @@
 -- A counting sort, and the items of a part as they stand.
-use Rattle.std.proofs.Common.{◌≡◌, ◌≢◌, ◌⊎◌, ℕ, cond, ◌+◌, ◌-◌, ◌<◌, ◌≤◌, nat_eq, List, [], ◌∷◌, ◌++◌, length, get_or, set, take, drop, sum, refl, sym, ap, ◌∙◌, inl, inr, arith, length-set, get_or-set_same, get_or-set_other, length-take, length-drop, get_or-take, get_or-drop}
+use Rattle.std.proofs.Common.{◌≡◌, ◌≢◌, ◌⊎◌, ℕ, cond, ◌+◌, ◌-◌, ◌<◌, ◌≤◌, nat_eq, List, [], ◌∷◌, ◌++◌, length, get_or, map, set, take, drop, sum, refl, sym, ap, ◌∙◌, inl, inr, arith, length-set, get_or-set_same, get_or-set_other, length-take, length-drop, get_or-take, get_or-drop}
 use Rattle.std.specs.List.{slice_range}
 use Rattle.std.proofs.lemmas.Bool.{cases_eq, cases_lt, eq-eqb, ne_eqb}
-use Rattle.std.proofs.lemmas.List.{take_all, take-take, length_push, get_or_push, get_or_append_left, get_or_default}
+use Rattle.std.proofs.lemmas.List.{length-map, take_all, take-take, length_push, get_or_push, get_or_append_left, get_or_default}
 use Rattle.std.proofs.lemmas.List.Sums.{sum_by_more, sum_by-take-le, sum_by-set, count_by_more_yes, count_by_more_no}
 use Rattle.kb_fsamin.specs.declared.partition.Part.{Part}
-use Rattle.kb_fsamin.specs.Partitions.{part_of, range_of, occurrences, AreCounts, AreFilled, AreMembers, AreRanges, IsMember, IsPlaced, Stand}
+use Rattle.kb_fsamin.specs.Partitions.{Range, plain, part_of, range_of, occurrences, AreCounts, AreFilled, AreMembers, AreRanges, IsMember, IsPlaced, Stand}
 use Rattle.kb_fsamin.proofs.Marking.{range_here, range_there}
+use Rattle.kb_fsamin.proofs.Ranges.{plain_at}
 
 -- one item more
 occurrences_here : (of : List ℕ) (done part : ℕ) → done < length of → get_or of done 0 ≡ part → occurrences part (take (done + 1) of) ≡ occurrences part (take done of) + 1
@@ -38,8 +39,8 @@ sums_rise : (xs : List ℕ) (few many : ℕ) → few ≤ many → sum (take few 
 sums_rise xs few many le = omega (arith, ap sum (take-take few many xs le), sum_by-take-le (λ x. x) (take many xs) few)
 
 module _ (of counts : List ℕ) (count : ℕ) (counted : AreCounts of (length of) count counts) (done : ℕ) (h : done < length of)
-    (elements places : List ℕ) (parts : List Part) (filled : AreFilled of counts done elements places parts)
-    (known : get_or of done 0 < count) (range : Part) (range_is : range ≡ range_of parts (get_or of done 0)) where
+    (elements places : List ℕ) (parts : List Range) (filled : AreFilled of counts done elements places parts)
+    (known : get_or of done 0 < count) (range : Range) (range_is : range ≡ range_of parts (get_or of done 0)) where
   within : get_or of done 0 < length counts
   within = omega (arith, counted.one_each)
 
@@ -58,7 +59,7 @@ module _ (of counts : List ℕ) (count : ℕ) (counted : AreCounts of (length of
       omega (
         arith,
         occurrences_here of done (get_or of done 0) h refl,
-        ap (λ (r : Part). r.past) range_is,
+        ap (λ (r : Range). r.past) range_is,
         filled.past (get_or of done 0) within,
       )
 
@@ -68,15 +69,15 @@ module _ (of counts : List ℕ) (count : ℕ) (counted : AreCounts of (length of
       omega (arith, room, counted.total)
 
   first_is : range.first ≡ sum (take (get_or of done 0) counts)
-  first_is = ap (λ (r : Part). r.first) range_is ∙ filled.first (get_or of done 0) within
+  first_is = ap (λ (r : Range). r.first) range_is ∙ filled.first (get_or of done 0) within
 
   past_is : range.past ≡ sum (take (get_or of done 0) counts) + occurrences (get_or of done 0) (take done of)
-  past_is = ap (λ (r : Part). r.past) range_is ∙ filled.past (get_or of done 0) within
+  past_is = ap (λ (r : Range). r.past) range_is ∙ filled.past (get_or of done 0) within
 
   -- no other part has room there
   free : (part : ℕ) → part < length parts → (range_of parts part).first ≤ range.past → range.past < (range_of parts part).past → ⊥
   free part low above below = elim (cases_eq part (get_or of done 0)) [
-    | inl same ↦ omega (arith, ap (λ p. (range_of parts p).past) same, ap (λ (r : Part). r.past) range_is)
+    | inl same ↦ omega (arith, ap (λ p. (range_of parts p).past) same, ap (λ (r : Range). r.past) range_is)
     | inr apart ↦
         let low' : part < length counts = omega (arith, filled.one_each) in
         let first = filled.first part low' in
@@ -114,17 +115,17 @@ module _ (of counts : List ℕ) (count : ℕ) (counted : AreCounts of (length of
     | inl is ↦
         let new = here part is in
         let old = ap (range_of parts) is ∙ sym range_is in
-        let past = ap (λ (r : Part). r.past) new in
-        let was = ap (λ (r : Part). r.past) old in (
-          ap (λ (r : Part). r.first) new ∙ sym (ap (λ (r : Part). r.first) old),
-          ap (λ (r : Part). r.middle) new ∙ sym (ap (λ (r : Part). r.middle) old),
+        let past = ap (λ (r : Range). r.past) new in
+        let was = ap (λ (r : Range). r.past) old in (
+          ap (λ (r : Range). r.first) new ∙ sym (ap (λ (r : Range). r.first) old),
+          ap (λ (r : Range). r.middle) new ∙ sym (ap (λ (r : Range). r.middle) old),
           omega arith,
           λ place below. elim (cases_eq place range.past) [ inl last ↦ inr (is, last) | inr before ↦ inl (omega arith) ],
         )
     | inr apart ↦
         let same = there part apart in
-        let past = ap (λ (r : Part). r.past) same in
-        (ap (λ (r : Part). r.first) same, ap (λ (r : Part). r.middle) same, omega arith, λ place below. inl (omega arith))
+        let past = ap (λ (r : Range). r.past) same in
+        (ap (λ (r : Range). r.first) same, ap (λ (r : Range). r.middle) same, omega arith, λ place below. inl (omega arith))
   ]
 
   stands : (part place : ℕ) → part < length parts
@@ -163,8 +164,8 @@ module _ (of counts : List ℕ) (count : ℕ) (counted : AreCounts of (length of
     | inl last ↦
         let part : part_of of item ≡ get_or of done 0 = ap (part_of of) last in
         let new = here (part_of of item) part in
-        let first = ap (λ (r : Part). r.first) new in
-        let past = ap (λ (r : Part). r.past) new in
+        let first = ap (λ (r : Range). r.first) new in
+        let past = ap (λ (r : Range). r.past) new in
         let place : get_or (places ++ range.past ∷ []) item 0 ≡ range.past = get_or_push places range.past 0 item (filled.place_each ∙ sym last) in
         record {
           known = omega (arith, size, filled.one_each, within);
@@ -196,11 +197,11 @@ module _ (of counts : List ℕ) (count : ℕ) (counted : AreCounts of (length of
     first = λ part low. (grows part (omega (arith, filled.one_each))).0 ∙ filled.first part low;
     past = λ part low. elim (cases_eq part (get_or of done 0)) [
       | inl is ↦
-          let past = ap (λ (r : Part). r.past) (here part is) in
+          let past = ap (λ (r : Range). r.past) (here part is) in
           let sums = ap (λ p. sum (take p counts)) is in
           omega (arith, past_is, occurrences_here of done part h (sym is), ap (λ p. occurrences p (take done of)) is)
       | inr apart ↦
-          ap (λ (r : Part). r.past) (there part apart) ∙ filled.past part low
+          ap (λ (r : Range). r.past) (there part apart) ∙ filled.past part low
           ∙ ap (λ n. sum (take part counts) + n) (sym (occurrences_there of done part h (λ same. apart (sym same))))
     ];
     none_marked = λ part low. (grows part (omega (arith, filled.one_each))).1 ∙ filled.none_marked part low;
@@ -217,9 +218,9 @@ module _ (of counts : List ℕ) (count : ℕ) (counted : AreCounts of (length of
           let first = room_there.0 in
           (stands part place (omega (arith, size)) (omega arith) (room_there.3 place below)).1;
       fits = λ part low. elim (cases_eq part (get_or of done 0)) [
-        | inl is ↦ omega (arith, ap (λ (r : Part). r.past) (here part is), place_within, length-set elements range.past done, filled.element_each)
+        | inl is ↦ omega (arith, ap (λ (r : Range). r.past) (here part is), place_within, length-set elements range.past done, filled.element_each)
         | inr apart ↦
-            omega (arith, ap (λ (r : Part). r.past) (there part apart), length-set elements range.past done, filled.stand.fits part (omega (arith, size)))
+            omega (arith, ap (λ (r : Range). r.past) (there part apart), length-set elements range.past done, filled.stand.fits part (omega (arith, size)))
       ];
       order = λ part low.
           let low' : part < length parts = omega (arith, size) in
@@ -234,12 +235,12 @@ module _ (of counts : List ℕ) (count : ℕ) (counted : AreCounts of (length of
 
 -- the ranges before any item
 pub filled_none : (of counts elements : List ℕ) (parts : List Part) → sum counts ≡ length of → length elements ≡ length of
-    → AreRanges counts (length counts) parts → AreFilled of counts 0 elements [] parts
+    → AreRanges counts (length counts) parts → AreFilled of counts 0 elements [] (map plain parts)
 filled_none of counts elements parts total size ranges = record {
-  one_each = ranges.one_each;
-  first = λ part h. ap (λ (r : Part). r.first) (ranges.empty part h);
-  past = λ part h. let is = ap (λ (r : Part). r.past) (ranges.empty part h) in omega arith;
-  none_marked = λ part h. ap (λ (r : Part). r.middle) (ranges.empty part h);
+  one_each = each;
+  first = λ part h. ap (λ (r : Range). r.first) (empty part h);
+  past = λ part h. let is = ap (λ (r : Range). r.past) (empty part h) in omega arith;
+  none_marked = λ part h. ap (λ (r : Range). r.middle) (empty part h);
   element_each = size;
   place_each = refl;
   stand = record {
@@ -247,24 +248,32 @@ filled_none of counts elements parts total size ranges = record {
     within = λ part place h above below. absurd (none part place h above below);
     member = λ part place h above below. absurd (none part place h above below);
     fits = λ part h.
-        omega (arith, ap (λ (r : Part). r.past) (ranges.empty part (omega (arith, ranges.one_each))), sum_by-take-le (λ x. x) counts part);
+        omega (arith, ap (λ (r : Range). r.past) (empty part (omega (arith, each))), sum_by-take-le (λ x. x) counts part);
     order = λ part h.
-        let is = ranges.empty part (omega (arith, ranges.one_each)) in
-        let first = ap (λ (r : Part). r.first) is in
-        let middle = ap (λ (r : Part). r.middle) is in
-        let past = ap (λ (r : Part). r.past) is in
+        let is = empty part (omega (arith, each)) in
+        let first = ap (λ (r : Range). r.first) is in
+        let middle = ap (λ (r : Range). r.middle) is in
+        let past = ap (λ (r : Range). r.past) is in
         (omega arith, omega arith);
   };
 }
   where
-    none : (part place : ℕ) → part < length parts → (range_of parts part).first ≤ place → place < (range_of parts part).past → ⊥
+    each : length (map plain parts) ≡ length counts
+    each = length-map parts plain ∙ ranges.one_each
+
+    empty : (part : ℕ) → part < length counts
+        → range_of (map plain parts) part ≡ record { first = sum (take part counts); middle = sum (take part counts); past = sum (take part counts) }
+    empty part h = plain_at parts part ∙ ap plain (ranges.empty part h)
+
+    none : (part place : ℕ) → part < length (map plain parts) → (range_of (map plain parts) part).first ≤ place
+        → place < (range_of (map plain parts) part).past → ⊥
     none part place h above below =
-        let is = ranges.empty part (omega (arith, ranges.one_each)) in
-        omega (arith, ap (λ (r : Part). r.first) is, ap (λ (r : Part). r.past) is)
+        let is = empty part (omega (arith, each)) in
+        omega (arith, ap (λ (r : Range). r.first) is, ap (λ (r : Range). r.past) is)
 
 -- ---- the items of a part
 
-pub members_are : (of elements places : List ℕ) (parts : List Part) (part : ℕ) → Stand of (length of) elements places parts → part < length parts
+pub members_are : (of elements places : List ℕ) (parts : List Range) (part : ℕ) → Stand of (length of) elements places parts → part < length parts
     → AreMembers of part (slice_range elements (range_of parts part).first (range_of parts part).past)
 members_are of elements places parts part stand known = record {
   sound = λ k d h.

@@ -1,14 +1,14 @@
 -- A part is divided into its marked items and the others.
-use Rattle.std.proofs.Common.{◌≡◌, ◌≢◌, ◌⊎◌, ◌↔◌, ℕ, ◌+◌, ◌<◌, ◌≤◌, List, [], ◌∷◌, ◌++◌, length, get_or, set, refl, sym, ap, ◌∙◌, inl, inr, arith, length-set}
+use Rattle.std.proofs.Common.{◌≡◌, ◌≢◌, ◌⊎◌, ◌↔◌, ℕ, ◌+◌, ◌<◌, ◌≤◌, List, [], ◌∷◌, ◌++◌, length, get_or, map, set, refl, sym, ap, ◌∙◌, inl, inr, arith, length-set}
 use Rattle.std.proofs.lemmas.Bool.{cases_eq, cases_lt}
-use Rattle.std.proofs.lemmas.List.{length_push, get_or_push, get_or_append_left}
+use Rattle.std.proofs.lemmas.List.{map-append, map-set, length_push, get_or_push, get_or_append_left}
 use Rattle.kb_fsamin.specs.declared.partition.Part.{Part}
-use Rattle.kb_fsamin.specs.Partitions.{part_of, range_of, IsMarked, Stand, IsPlaced, IsMember, AreHalves, AreRelabelled}
+use Rattle.kb_fsamin.specs.Partitions.{Range, kept_of, plain, part_of, range_of, IsMarked, Stand, IsPlaced, IsMember, AreHalves, AreRelabelled}
 use Rattle.kb_fsamin.specs.Partitions.AreHalves.{others_first, marked_first}
 use Rattle.kb_fsamin.proofs.Marking.{range_here, range_there}
 
 -- what the halves of a part are to the whole
-pub record Sides (whole rest new : Part) : Type 0 where
+pub record Sides (whole rest new : Range) : Type 0 where
   pub new_low : whole.first ≤ new.first
   pub new_high : new.past ≤ whole.past
   pub rest_low : whole.first ≤ rest.first
@@ -23,7 +23,7 @@ pub record Sides (whole rest new : Part) : Type 0 where
   pub one_side : (place other : ℕ) → whole.first ≤ other → other < whole.past → (place < whole.middle) ↔ (other < whole.middle)
       → new.first ≤ place → place < new.past → (new.first ≤ other) × (other < new.past)
 
-pub sides : (whole rest new : Part) → whole.first ≤ whole.middle → whole.middle ≤ whole.past → AreHalves whole rest new → Sides whole rest new
+pub sides : (whole rest new : Range) → whole.first ≤ whole.middle → whole.middle ≤ whole.past → AreHalves whole rest new → Sides whole rest new
 sides whole rest new low high others_first = record {
   new_low = omega arith;
   new_high = omega arith;
@@ -56,14 +56,14 @@ sides whole rest new low high marked_first = record {
 }
 
 -- where an item goes
-pub data Goes (before after place part number : ℕ) (new rest : Part) : Type 0 where
+pub data Goes (before after place part number : ℕ) (new rest : Range) : Type 0 where
   to_new : before ≡ part → new.first ≤ place → place < new.past → after ≡ number → Goes before after place part number new rest
   stays : before ≡ part → rest.first ≤ place → place < rest.past → (new.first ≤ place → place < new.past → ⊥) → after ≡ part → Goes before after place part number new rest
   elsewhere : before ≢ part → after ≡ before → Goes before after place part number new rest
 
-module _ (of of' elements places : List ℕ) (parts : List Part) (stand : Stand of (length of) elements places parts) (part : ℕ) (known : part < length parts)
-    (rest new : Part) (halves : AreHalves (range_of parts part) rest new)
-    (relabelled : AreRelabelled places new (length parts) new.past of of') where
+module _ (of of' elements places : List ℕ) (parts : List Range) (stand : Stand of (length of) elements places parts) (part : ℕ) (known : part < length parts)
+    (rest new : Range) (halves : AreHalves (range_of parts part) rest new)
+    (relabelled : AreRelabelled places new.first (length parts) new.past of of') where
   both : Sides (range_of parts part) rest new
   both = sides (range_of parts part) rest new (stand.order part known).0 (stand.order part known).1 halves
 
@@ -108,17 +108,17 @@ module _ (of of' elements places : List ℕ) (parts : List Part) (stand : Stand 
       let was = stand.placed x h in
       elim (goes x h) [
         | to_new is above below after ↦
-            let first = ap (λ (r : Part). r.first) (range_new _ after) in
-            let past = ap (λ (r : Part). r.past) (range_new _ after) in
+            let first = ap (λ (r : Range). r.first) (range_new _ after) in
+            let past = ap (λ (r : Range). r.past) (range_new _ after) in
             record { known = omega (arith, size); above = omega arith; below = omega arith; element = was.element }
         | stays is above below out after ↦
-            let first = ap (λ (r : Part). r.first) (range_rest _ after) in
-            let past = ap (λ (r : Part). r.past) (range_rest _ after) in
+            let first = ap (λ (r : Range). r.first) (range_rest _ after) in
+            let past = ap (λ (r : Range). r.past) (range_rest _ after) in
             record { known = omega (arith, size); above = omega arith; below = omega arith; element = was.element }
         | elsewhere apart after ↦
             let same = ap (range_of (set (parts ++ new ∷ []) part rest)) after ∙ range_old (part_of of x) was.known apart in
-            let first = ap (λ (r : Part). r.first) same in
-            let past = ap (λ (r : Part). r.past) same in
+            let first = ap (λ (r : Range). r.first) same in
+            let past = ap (λ (r : Range). r.past) same in
             record { known = omega (arith, size, was.known); above = omega (arith, was.above); below = omega (arith, was.below); element = was.element }
       ]
 
@@ -126,8 +126,8 @@ module _ (of of' elements places : List ℕ) (parts : List Part) (stand : Stand 
       → place < (range_of (set (parts ++ new ∷ []) part rest) k).past → (get_or elements place 0 < length of) × IsMember of' elements places k place
   stands k place h above below = elim (cases_eq k part) [
     | inl is ↦
-        let first = ap (λ (r : Part). r.first) (range_rest k is) in
-        let past = ap (λ (r : Part). r.past) (range_rest k is) in
+        let first = ap (λ (r : Range). r.first) (range_rest k is) in
+        let past = ap (λ (r : Range). r.past) (range_rest k is) in
         let a : (range_of parts part).first ≤ place = omega (arith, both.rest_low) in
         let b : place < (range_of parts part).past = omega (arith, both.rest_high) in
         let within = stand.within part place known a b in
@@ -141,8 +141,8 @@ module _ (of of' elements places : List ℕ) (parts : List Part) (stand : Stand 
         )
     | inr apart ↦ elim (cases_eq k (length parts)) [
       | inl is ↦
-          let first = ap (λ (r : Part). r.first) (range_new k is) in
-          let past = ap (λ (r : Part). r.past) (range_new k is) in
+          let first = ap (λ (r : Range). r.first) (range_new k is) in
+          let past = ap (λ (r : Range). r.past) (range_new k is) in
           let a : (range_of parts part).first ≤ place = omega (arith, both.new_low) in
           let b : place < (range_of parts part).past = omega (arith, both.new_high) in
           let within = stand.within part place known a b in
@@ -150,8 +150,8 @@ module _ (of of' elements places : List ℕ) (parts : List Part) (stand : Stand 
           (within, record { of_part = relabelled.inside _ within (omega arith) (omega arith) ∙ sym is; place_is = at })
       | inr differ ↦
           let low : k < length parts = omega (arith, size) in
-          let first = ap (λ (r : Part). r.first) (range_old k low apart) in
-          let past = ap (λ (r : Part). r.past) (range_old k low apart) in
+          let first = ap (λ (r : Range). r.first) (range_old k low apart) in
+          let past = ap (λ (r : Range). r.past) (range_old k low apart) in
           let a : (range_of parts k).first ≤ place = omega arith in
           let b : place < (range_of parts k).past = omega arith in
           let within = stand.within k place low a b in
@@ -171,34 +171,34 @@ module _ (of of' elements places : List ℕ) (parts : List Part) (stand : Stand 
     within = λ k place h above below. (stands k place h above below).0;
     member = λ k place h above below. (stands k place h above below).1;
     fits = λ k h. elim (cases_eq k part) [
-      | inl is ↦ omega (arith, ap (λ (r : Part). r.past) (range_rest k is), both.rest_high, stand.fits part known)
+      | inl is ↦ omega (arith, ap (λ (r : Range). r.past) (range_rest k is), both.rest_high, stand.fits part known)
       | inr apart ↦ elim (cases_eq k (length parts)) [
-        | inl is ↦ omega (arith, ap (λ (r : Part). r.past) (range_new k is), both.new_high, stand.fits part known)
+        | inl is ↦ omega (arith, ap (λ (r : Range). r.past) (range_new k is), both.new_high, stand.fits part known)
         | inr differ ↦
             let low : k < length parts = omega (arith, size) in
-            omega (arith, ap (λ (r : Part). r.past) (range_old k low apart), stand.fits k low)
+            omega (arith, ap (λ (r : Range). r.past) (range_old k low apart), stand.fits k low)
       ]
     ];
     order = λ k h. elim (cases_eq k part) [
       | inl is ↦
           let same = range_rest k is in
-          let first = ap (λ (r : Part). r.first) same in
-          let middle = ap (λ (r : Part). r.middle) same in
-          let past = ap (λ (r : Part). r.past) same in
+          let first = ap (λ (r : Range). r.first) same in
+          let middle = ap (λ (r : Range). r.middle) same in
+          let past = ap (λ (r : Range). r.past) same in
           (omega (arith, both.rest_middle), omega (arith, both.rest_middle, both.rest_order))
       | inr apart ↦ elim (cases_eq k (length parts)) [
         | inl is ↦
             let same = range_new k is in
-            let first = ap (λ (r : Part). r.first) same in
-            let middle = ap (λ (r : Part). r.middle) same in
-            let past = ap (λ (r : Part). r.past) same in
+            let first = ap (λ (r : Range). r.first) same in
+            let middle = ap (λ (r : Range). r.middle) same in
+            let past = ap (λ (r : Range). r.past) same in
             (omega (arith, both.new_middle), omega (arith, both.new_middle, both.new_order))
         | inr differ ↦
             let low : k < length parts = omega (arith, size) in
             let same = range_old k low apart in
-            let first = ap (λ (r : Part). r.first) same in
-            let middle = ap (λ (r : Part). r.middle) same in
-            let past = ap (λ (r : Part). r.past) same in
+            let first = ap (λ (r : Range). r.first) same in
+            let middle = ap (λ (r : Range). r.middle) same in
+            let past = ap (λ (r : Range). r.past) same in
             let old = stand.order k low in
             (omega arith, omega arith)
       ]
@@ -266,8 +266,8 @@ module _ (of of' elements places : List ℕ) (parts : List Part) (stand : Stand 
 
   pub cleared : (x : ℕ) → x < length of → part_of of x ≡ part → ¬ IsMarked of' places (set (parts ++ new ∷ []) part rest) x
   cleared x h was = λ marked. elim (goes x h) [
-    | to_new is above below after ↦ omega (arith, ap (λ (r : Part). r.middle) (range_new _ after), both.new_middle)
-    | stays is above below out after ↦ omega (arith, ap (λ (r : Part). r.middle) (range_rest _ after), both.rest_middle)
+    | to_new is above below after ↦ omega (arith, ap (λ (r : Range). r.middle) (range_new _ after), both.new_middle)
+    | stays is above below out after ↦ omega (arith, ap (λ (r : Range). r.middle) (range_rest _ after), both.rest_middle)
     | elsewhere apart after ↦ apart was
   ]
 
@@ -275,6 +275,58 @@ module _ (of of' elements places : List ℕ) (parts : List Part) (stand : Stand 
       → IsMarked of' places (set (parts ++ new ∷ []) part rest) x ↔ IsMarked of places parts x
   kept x h apart =
       let after : part_of of' x ≡ part_of of x = relabelled.outside x h (λ a b. apart (was_there x h a b)) in
-      let same = ap (λ (r : Part). r.middle)
+      let same = ap (λ (r : Range). r.middle)
       (ap (range_of (set (parts ++ new ∷ []) part rest)) after ∙ range_old (part_of of x) (stand.placed x h).known apart) in
       (λ marked. omega arith, λ marked. omega arith)
+
+-- what is kept of the parts then
+pub kept_divided : (ranges : List Range) (parts : List Part) → map kept_of ranges ≡ parts → (part : ℕ) (rest new : Part)
+    → map kept_of (set (ranges ++ plain new ∷ []) part (plain rest)) ≡ set (parts ++ new ∷ []) part rest
+kept_divided ranges parts kept part rest new =
+    map-set kept_of (ranges ++ plain new ∷ []) part (plain rest)
+    ∙ ap (λ ps. set ps part rest) (map-append kept_of ranges (plain new ∷ []) ∙ ap (λ ps. ps ++ new ∷ []) kept)
+
+-- other items of the part are marked, and no others
+pub stand_remarked : (of elements places : List ℕ) (ranges : List Range) → Stand of (length of) elements places ranges
+    → (part : ℕ) (range : Range) → part < length ranges → range.first ≡ (range_of ranges part).first → range.past ≡ (range_of ranges part).past
+    → range.first ≤ range.middle → range.middle ≤ range.past → Stand of (length of) elements places (set ranges part range)
+stand_remarked of elements places ranges stand part range known first_is past_is low high = record {
+  placed = λ item h.
+      let was = stand.placed item h in
+      let same = ends (part_of of item) in
+      record { known = omega (arith, size, was.known); above = omega (arith, was.above); below = omega (arith, was.below); element = was.element };
+  within = λ k place h above below. let same = ends k in stand.within k place (omega (arith, size)) (omega arith) (omega arith);
+  member = λ k place h above below. let same = ends k in stand.member k place (omega (arith, size)) (omega arith) (omega arith);
+  fits = λ k h. let same = ends k in omega (arith, stand.fits k (omega (arith, size)));
+  order = λ k h. elim (cases_eq k part) [
+    | inl is ↦
+        let here = range_here ranges part range k known is in
+        let first = ap (λ (r : Range). r.first) here in
+        let middle = ap (λ (r : Range). r.middle) here in
+        let past = ap (λ (r : Range). r.past) here in
+        (omega arith, omega arith)
+    | inr apart ↦
+        let there = range_there ranges part range k apart in
+        let first = ap (λ (r : Range). r.first) there in
+        let middle = ap (λ (r : Range). r.middle) there in
+        let past = ap (λ (r : Range). r.past) there in
+        let old = stand.order k (omega (arith, size)) in
+        (omega arith, omega arith)
+  ];
+}
+  where
+    size : length (set ranges part range) ≡ length ranges
+    size = length-set ranges part range
+
+    ends : (k : ℕ) → ((range_of (set ranges part range) k).first ≡ (range_of ranges k).first)
+        × ((range_of (set ranges part range) k).past ≡ (range_of ranges k).past)
+    ends k = elim (cases_eq k part) [
+      | inl is ↦
+          let here = range_here ranges part range k known is in (
+            ap (λ (r : Range). r.first) here ∙ first_is ∙ ap (λ p. (range_of ranges p).first) (sym is),
+            ap (λ (r : Range). r.past) here ∙ past_is ∙ ap (λ p. (range_of ranges p).past) (sym is),
+          )
+      | inr apart ↦
+          let there = range_there ranges part range k apart in
+          (ap (λ (r : Range). r.first) there, ap (λ (r : Range). r.past) there)
+    ]

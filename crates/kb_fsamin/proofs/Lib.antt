@@ -10,6 +10,8 @@ pub mod Classings
 pub mod RisingSums
 pub mod FirstClasses
 pub mod Marking
+pub mod Ranges
+pub mod Leading
 pub mod Dividing
 pub mod Counting
 pub mod SplitSteps

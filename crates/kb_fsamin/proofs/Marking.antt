@@ -1,21 +1,23 @@
 -- An item is marked: it changes places with the first item of its part that isn't.
-use Rattle.std.proofs.Common.{◌≡◌, ◌≢◌, ◌⊎◌, ◌↔◌, ℕ, ◌+◌, ◌<◌, ◌≤◌, List, length, get_or, set, sym, ap, ◌∙◌, subst, inl, inr, arith, length-set, get_or-set_same, get_or-set_other}
+use Rattle.std.proofs.Common.{◌≡◌, ◌≢◌, ◌⊎◌, ◌↔◌, ℕ, ◌+◌, ◌<◌, ◌≤◌, List, length, get_or, map, set, refl, sym, ap, ◌∙◌, subst, inl, inr, arith, length-set, get_or-set_same, get_or-set_other}
 use Rattle.std.proofs.lemmas.Bool.{cases_eq}
+use Rattle.std.proofs.lemmas.List.{map-set}
 use Rattle.kb_fsamin.specs.declared.partition.Part.{Part}
-use Rattle.kb_fsamin.specs.Partitions.{part_of, range_of, IsMarked, Stand, IsPlaced, IsMember}
+use Rattle.kb_fsamin.specs.Partitions.{Range, kept_of, part_at, part_of, range_from, range_of, IsMarked, Stand, IsPlaced, IsMember}
+use Rattle.kb_fsamin.proofs.Ranges.{kept_at, kept_range, middle_kept}
 
 -- a part's range after one is written
-pub range_here : (parts : List Part) (part : ℕ) (range : Part) (other : ℕ) → part < length parts → other ≡ part → range_of (set parts part range) other ≡ range
+pub range_here : (parts : List Range) (part : ℕ) (range : Range) (other : ℕ) → part < length parts → other ≡ part → range_of (set parts part range) other ≡ range
 range_here parts part range other within is =
     ap (range_of (set parts part range)) is ∙ get_or-set_same parts part range (record { first = 0; middle = 0; past = 0 }) within
 
-pub range_there : (parts : List Part) (part : ℕ) (range : Part) (other : ℕ) → other ≢ part → range_of (set parts part range) other ≡ range_of parts other
+pub range_there : (parts : List Range) (part : ℕ) (range : Range) (other : ℕ) → other ≢ part → range_of (set parts part range) other ≡ range_of parts other
 range_there parts part range other apart = get_or-set_other parts part other range (record { first = 0; middle = 0; past = 0 }) apart
 
-module _ (of elements places : List ℕ) (parts : List Part) (stand : Stand of (length of) elements places parts)
+module _ (of elements places : List ℕ) (parts : List Range) (stand : Stand of (length of) elements places parts)
     (element_each : length elements ≡ length of) (place_each : length places ≡ length of)
     (item : ℕ) (known : item < length of) (unmarked : (range_of parts (part_of of item)).middle ≤ get_or places item 0)
-    (range : Part) (first_is : range.first ≡ (range_of parts (part_of of item)).first)
+    (range : Range) (first_is : range.first ≡ (range_of parts (part_of of item)).first)
     (middle_is : range.middle ≡ (range_of parts (part_of of item)).middle + 1) (past_is : range.past ≡ (range_of parts (part_of of item)).past)
     (other : ℕ) (other_is : other ≡ get_or elements (range_of parts (part_of of item)).middle 0) where
   here : IsPlaced of elements places parts item
@@ -90,19 +92,19 @@ module _ (of elements places : List ℕ) (parts : List Part) (stand : Stand of (
   ranges part = elim (cases_eq part (part_of of item)) [
     | inl is ↦
         let new = range_here parts (part_of of item) range part here.known is in (
-          ap (λ (r : Part). r.first) new ∙ first_is ∙ ap (λ p. (range_of parts p).first) (sym is),
-          ap (λ (r : Part). r.past) new ∙ past_is ∙ ap (λ p. (range_of parts p).past) (sym is),
+          ap (λ (r : Range). r.first) new ∙ first_is ∙ ap (λ p. (range_of parts p).first) (sym is),
+          ap (λ (r : Range). r.past) new ∙ past_is ∙ ap (λ p. (range_of parts p).past) (sym is),
         )
     | inr apart ↦
         let old = range_there parts (part_of of item) range part apart in
-        (ap (λ (r : Part). r.first) old, ap (λ (r : Part). r.past) old)
+        (ap (λ (r : Range). r.first) old, ap (λ (r : Range). r.past) old)
   ]
 
   middle_here : (part : ℕ) → part ≡ part_of of item → (range_of (set parts (part_of of item) range) part).middle ≡ (range_of parts (part_of of item)).middle + 1
-  middle_here part is = ap (λ (r : Part). r.middle) (range_here parts (part_of of item) range part here.known is) ∙ middle_is
+  middle_here part is = ap (λ (r : Range). r.middle) (range_here parts (part_of of item) range part here.known is) ∙ middle_is
 
   middle_there : (part : ℕ) → part ≢ part_of of item → (range_of (set parts (part_of of item) range) part).middle ≡ (range_of parts part).middle
-  middle_there part apart = ap (λ (r : Part). r.middle) (range_there parts (part_of of item) range part apart)
+  middle_there part apart = ap (λ (r : Range). r.middle) (range_there parts (part_of of item) range part apart)
 
   -- an item that changes no place isn't at one that changes
   elsewhere : (x : ℕ) → x < length of → x ≢ item → get_or places x 0 ≢ get_or places item 0
@@ -263,15 +265,15 @@ module _ (of elements places : List ℕ) (parts : List Part) (stand : Stand of (
   ]
 
 -- the same, by what is read
-module _ (of elements places : List ℕ) (parts : List Part) (stand : Stand of (length of) elements places parts)
+module _ (of elements places : List ℕ) (parts : List Range) (stand : Stand of (length of) elements places parts)
     (element_each : length elements ≡ length of) (place_each : length places ≡ length of) (item : ℕ) (known : item < length of)
-    (part place other : ℕ) (range : Part) (part_is : part ≡ part_of of item) (place_is : place ≡ get_or places item 0)
+    (part place other : ℕ) (range : Range) (part_is : part ≡ part_of of item) (place_is : place ≡ get_or places item 0)
     (range_is : range ≡ range_of parts part) (unmarked : range.middle ≤ place) (other_is : other ≡ get_or elements range.middle 0) where
   at : range ≡ range_of parts (part_of of item)
   at = range_is ∙ ap (range_of parts) part_is
 
   middle_is : (range_of parts (part_of of item)).middle ≡ range.middle
-  middle_is = ap (λ (r : Part). r.middle) (sym at)
+  middle_is = ap (λ (r : Range). r.middle) (sym at)
 
   past_place : (range_of parts (part_of of item)).middle ≤ get_or places item 0
   past_place = omega (arith, middle_is)
@@ -282,24 +284,99 @@ module _ (of elements places : List ℕ) (parts : List Part) (stand : Stand of (
   pub stand_marked : Stand of (length of) (set (set elements place other) range.middle item) (set (set places other place) item range.middle)
       (set parts part (record { first = range.first; middle = range.middle + 1; past = range.past }))
   stand_marked =
-      let new : Part = record { first = range.first; middle = range.middle + 1; past = range.past } in
+      let new : Range = record { first = range.first; middle = range.middle + 1; past = range.past } in
       let P : ℕ → Type 0 = λ k. Stand of (length of) (set (set elements place other) range.middle item) (set (set places other place) item range.middle) (set parts k new) in
       let Q : ℕ → Type 0 = λ p. Stand of (length of) (set (set elements p other) range.middle item) (set (set places other p) item range.middle) (set parts (part_of of item) new) in
       let R : ℕ → Type 0 = λ m. Stand of (length of) (set (set elements (get_or places item 0) other) m item)
       (set (set places other (get_or places item 0)) item m) (set parts (part_of of item) new) in
       subst P (sym part_is) (subst Q (sym place_is) (subst R middle_is
-      (stand_more of elements places parts stand element_each place_each item known past_place new (ap (λ (r : Part). r.first) at)
-      (ap (λ m. m + 1) (sym middle_is)) (ap (λ (r : Part). r.past) at) other read_other)))
+      (stand_more of elements places parts stand element_each place_each item known past_place new (ap (λ (r : Range). r.first) at)
+      (ap (λ m. m + 1) (sym middle_is)) (ap (λ (r : Range). r.past) at) other read_other)))
 
   pub marks_marked : (x : ℕ) → x < length of
       → IsMarked of (set (set places other place) item range.middle) (set parts part (record { first = range.first; middle = range.middle + 1; past = range.past })) x
       ↔ (IsMarked of places parts x ⊎ (x ≡ item))
   marks_marked x h =
-      let new : Part = record { first = range.first; middle = range.middle + 1; past = range.past } in
+      let new : Range = record { first = range.first; middle = range.middle + 1; past = range.past } in
       let After : Type 0 = IsMarked of places parts x ⊎ (x ≡ item) in
       let P : ℕ → Type 0 = λ k. IsMarked of (set (set places other place) item range.middle) (set parts k new) x ↔ After in
       let Q : ℕ → Type 0 = λ p. IsMarked of (set (set places other p) item range.middle) (set parts (part_of of item) new) x ↔ After in
       let R : ℕ → Type 0 = λ m. IsMarked of (set (set places other (get_or places item 0)) item m) (set parts (part_of of item) new) x ↔ After in
       subst P (sym part_is) (subst Q (sym place_is) (subst R middle_is
-      (marks_more of elements places parts stand element_each place_each item known past_place new (ap (λ (r : Part). r.first) at)
-      (ap (λ m. m + 1) (sym middle_is)) (ap (λ (r : Part). r.past) at) other read_other x h)))
+      (marks_more of elements places parts stand element_each place_each item known past_place new (ap (λ (r : Range). r.first) at)
+      (ap (λ m. m + 1) (sym middle_is)) (ap (λ (r : Range). r.past) at) other read_other x h)))
+
+-- the same, by what is kept of parts
+module _ (of elements places : List ℕ) (ranges : List Range) (parts : List Part) (kept : map kept_of ranges ≡ parts)
+    (stand : Stand of (length of) elements places ranges) (element_each : length elements ≡ length of) (place_each : length places ≡ length of)
+    (item : ℕ) (known : item < length of) (part place other : ℕ) (range : Part) (part_is : part ≡ part_of of item)
+    (place_is : place ≡ get_or places item 0) (range_is : range ≡ part_at parts part) (unmarked : range.first ≤ place)
+    (other_is : other ≡ get_or elements range.first 0) where
+  whole_is : range_from (range_of ranges part).first range ≡ range_of ranges part
+  whole_is = sym (kept_range (range_of ranges part) (range_of ranges part).first range refl
+      (sym (kept_at ranges part) ∙ ap (λ ps. part_at ps part) kept ∙ sym range_is))
+
+  middle : range.first ≡ (range_of ranges (part_of of item)).middle
+  middle = ap (λ (p : Part). p.first) range_is ∙ middle_kept ranges parts kept part ∙ ap (λ p. (range_of ranges p).middle) part_is
+
+  pub kept_marked : map kept_of (set ranges part (record { first = (range_of ranges part).first; middle = range.first + 1; past = range.past }))
+      ≡ set parts part (record { first = range.first + 1; past = range.past })
+  kept_marked =
+      map-set kept_of ranges part (record { first = (range_of ranges part).first; middle = range.first + 1; past = range.past })
+      ∙ ap (λ ps. set ps part (record { first = range.first + 1; past = range.past })) kept
+
+  pub stand_kept : Stand of (length of) (set (set elements place other) range.first item) (set (set places other place) item range.first)
+      (set ranges part (record { first = (range_of ranges part).first; middle = range.first + 1; past = range.past }))
+  stand_kept =
+      stand_marked of elements places ranges stand element_each place_each item known part place other
+      (range_from (range_of ranges part).first range) part_is place_is whole_is unmarked other_is
+
+  pub marks_kept : (x : ℕ) → x < length of
+      → (get_or (set (set places other place) item range.first) x 0
+      < (part_at (set parts part (record { first = range.first + 1; past = range.past })) (part_of of x)).first)
+      ↔ (get_or places x 0 < (part_at parts (part_of of x)).first ⊎ (x ≡ item))
+  marks_kept x h =
+      let now = middle_kept _ _ kept_marked (part_of of x) in
+      let was = middle_kept ranges parts kept (part_of of x) in
+      let both = marks_marked of elements places ranges stand element_each place_each item known part place other
+      (range_from (range_of ranges part).first range) part_is place_is whole_is unmarked other_is x h in (
+        λ marked. elim (both.0 (omega arith)) [ inl before ↦ inl (omega arith) | inr is ↦ inr is ],
+        λ cases. let marked = both.1 (elim cases [ inl before ↦ inl (omega arith) | inr is ↦ inr is ]) in omega arith,
+      )
+
+  pub stays_kept : (x : ℕ) → x < length of → (get_or places x 0 < (part_at parts (part_of of x)).first) ⊎ (part_of of x ≢ part_of of item)
+      → get_or (set (set places other place) item range.first) x 0 ≡ get_or places x 0
+  stays_kept x h cases =
+      let was = middle_kept ranges parts kept (part_of of x) in
+      let out = past_at in
+      let there = other_at in
+      let unlike : x ≢ item = λ is. elim cases [
+        | inl marked ↦ omega (arith, ap (λ y. get_or places y 0) is, ap (λ y. (range_of ranges (part_of of y)).middle) is)
+        | inr apart ↦ apart (ap (part_of of) is)
+      ] in
+      let distinct : x ≢ other = λ is. elim cases [
+        | inl marked ↦
+            omega (
+              arith,
+              ap (λ y. get_or places y 0) is,
+              ap (λ y. (range_of ranges y).middle) (ap (part_of of) is ∙ there.0),
+            )
+        | inr apart ↦ apart (ap (part_of of) is ∙ there.0)
+      ] in
+      get_or-set_other (set places other place) item x range.first 0 unlike ∙ get_or-set_other places other x place 0 distinct
+    where
+      past_at : (range_of ranges (part_of of item)).middle ≤ get_or places item 0
+      past_at = omega (arith, middle)
+
+      other_at : (part_of of other ≡ part_of of item) × (get_or places other 0 ≡ (range_of ranges (part_of of item)).middle)
+      other_at =
+          let is : other ≡ get_or elements (range_of ranges (part_of of item)).middle 0 = other_is ∙ ap (λ k. get_or elements k 0) middle in
+          let here = stand.placed item known in
+          let order = stand.order (part_of of item) here.known in
+          let member = stand.member (part_of of item) (range_of ranges (part_of of item)).middle here.known order.0 (omega (arith, here.below, past_at)) in
+          (ap (part_of of) is ∙ member.of_part, ap (λ y. get_or places y 0) is ∙ member.place_is)
+
+  pub goes_kept : get_or (set (set places other place) item range.first) item 0 ≡ (part_at parts (part_of of item)).first
+  goes_kept =
+      get_or-set_same (set places other place) item range.first 0 (omega (arith, length-set places other place))
+      ∙ ap (λ (p : Part). p.first) (range_is ∙ ap (part_at parts) part_is)

@@ -3,7 +3,8 @@ use Rattle.std.proofs.Common.{◌≡◌, ◌≢◌, ◌⊎◌, ◌↔◌, ℕ, �
 use Rattle.std.proofs.lemmas.List.{take_more}
 use Rattle.std.proofs.lemmas.List.Elements.{Contains-push, Contains-append_left, Contains-push_cases}
 use Rattle.kb_fsamin.specs.declared.partition.Partition.{Partition}
-use Rattle.kb_fsamin.specs.Partitions.{part_of, IsArranged, IsMarkedIn, IsMarkedMore, IsPartition, IsSplitBy, IsDivided, AreMarked, AreDivided, first_of, range_of}
+use Rattle.kb_fsamin.specs.Partitions.{part_of, IsArranged, IsMarkedIn, IsMarkedMore, IsPartition, IsSplitBy, IsDivided, AreMarked, AreDivided, first_of, part_at, range_of}
+use Rattle.kb_fsamin.proofs.Ranges.{middle_is, range_each, unmarked_first}
 
 -- what is among the items up to the next
 pub more_cases : (items : List ℕ) (place item : ℕ) → place < length items → Contains (take (place + 1) items) item
@@ -98,6 +99,20 @@ module _ (items : List ℕ) (place : ℕ) (old now new : Partition) (part : ℕ)
         (divided.kept other (low other j) (λ is. was.0 (still ∙ is))).1 (before.even one other i j still both was.1);
   }
 
+-- an item that is not marked any more is passed over
+pub divided_skip : (items : List ℕ) (place : ℕ) (old now : Partition) → place < length items → AreDivided items (take place items) old now
+    → ¬ IsMarkedIn now (get_or items place 0) → AreDivided items (take (place + 1) items) old now
+divided_skip items place old now h before unmarked = record {
+  arranged = before.arranged;
+  split = before.split;
+  sound = before.sound;
+  cleared = λ item i found. elim (more_cases items place item h found) [
+    | inl early ↦ before.cleared item i early
+    | inr last ↦ subst (λ x. ¬ IsMarkedIn now x) last unmarked
+  ];
+  even = before.even;
+}
+
 pub divided_all : (items : List ℕ) (old now : Partition) → AreDivided items items old now → IsPartition now
 divided_all items old now all = record {
   arranged = all.arranged;
@@ -114,7 +129,12 @@ first_there parts item is h =
     let stand = is.arranged.stand in
     let was = stand.placed item h in
     let part = part_of parts.of.items item in
-    let some : (range_of parts.parts.items part).first < (range_of parts.parts.items part).past = omega (arith, was.above, was.below) in (
-      stand.within part (range_of parts.parts.items part).first was.known (omega arith) some,
-      (stand.member part (range_of parts.parts.items part).first was.known (omega arith) some).of_part,
+    let ranges = is.arranged.ranges in
+    let at : (range_of ranges part).first ≡ (part_at parts.parts.items part).first =
+    unmarked_first parts is part (omega (arith, was.known, range_each parts is.arranged)) ∙ sym (middle_is parts is.arranged part) in
+    let some : (range_of ranges part).first < (range_of ranges part).past = omega (arith, was.above, was.below) in
+    let P : ℕ → Type 0 = λ k. (get_or parts.elements.items k 0 < length parts.of.items) × (part_of parts.of.items (get_or parts.elements.items k 0) ≡ part) in
+    subst P at (
+      stand.within part (range_of ranges part).first was.known (omega arith) some,
+      (stand.member part (range_of ranges part).first was.known (omega arith) some).of_part,
     )

@@ -17,7 +17,8 @@
 //! - `Uniqueness`: one language has one canonical automaton.
 //! - `FirstClasses`, `Classings`, `RoundSteps`, `ClassRows`, `Signatures`, `RisingSums`: the
 //!   classes by labels, when they are stable, and the rounds that refine them until they are.
-//! - `Counting`, `Marking`, `Dividing`, `SplitSteps`: the refinable partition, by a counting sort, and how it is split.
+//! - `Ranges`, `Counting`, `Marking`, `Leading`, `Dividing`, `SplitSteps`: the refinable partition, by a counting sort,
+//!   and how it is split.
 //! - `Numberings`, `Splittings`, `Entering`: the splitters.
 //! - `Represented`, `RepresentedMoves`, `Reduced`, `EmptyCanonical`, `Unlabelled`: the quotient by the classes is
 //!   canonical where labels tell nothing apart.

@@ -4,20 +4,22 @@
 //! so that to mark an item is to exchange two items. Where some items of a part are marked, they or
 //! the others go to a new part, whichever are fewer; so each item goes to a new part at most as
 //! often as its part can be halved.
+//!
+//! Of a part it is kept where the items begin that are not marked, and where they end. Where it
+//! begins itself while items of it are marked is known by the one that was marked first, so that a
+//! part takes eight bytes, and marking takes none.
 
-ghost use Rattle.std.specs.Prelude.{◌≡◌, ◌<◌, ◌≤◌, ◌^◌, ℕ, length, get_or, sum, All, IfOk, OnOk};
-ghost use Rattle.kb_fsamin.specs.Partitions.{AreCounts, AreHalves, AreMembers, AreRanges, AreRelabelled, IsArranged, IsDivided, IsFound, IsMarkedMore, IsPartition, IsSplitBy, first_of, part_of};
+ghost use Rattle.std.specs.Prelude.{◌≡◌, ◌↔◌, ◌<◌, ◌≤◌, ◌^◌, ℕ, length, get_or, sum, All, IfOk, IsTrue, OnOk};
+ghost use Rattle.kb_fsamin.specs.Partitions.{AreCounts, AreHalves, AreMembers, AreRanges, AreRelabelled, IsArranged, IsDivided, IsFirst, IsFound, IsMarkedIn, IsMarkedMore, IsPartition, IsSplitBy, first_of, part_of, plain, range_from};
 
 use kb_word::Memory;
 use std::alloc::Global;
 
-/// Where the items of a part stand.
+/// Where the items of a part stand that are not marked; the marked ones stand just before them.
 #[derive(Clone, Copy)]
 pub(crate) struct Part {
-    /// The place of the first item.
+    /// The place of the first item that is not marked.
     first: u32,
-    /// The place past the marked items.
-    middle: u32,
     /// The place past the last item.
     past: u32,
 }
@@ -103,10 +105,22 @@ impl Partition {
             self.mark(*item);
         }
         for item in items {
-            let part = self.of[*item as usize];
-            self.divide(part)?;
+            // Of the items of a part that is not divided yet the first in the list stands first.
+            if self.is_marked(*item) {
+                self.divide(*item)?;
+            }
         }
         Ok(())
+    }
+
+    /// Whether the item is marked.
+    fn is_marked(&self, item: u32) -> bool
+        requires arranged { IsArranged self.now }
+        requires item { item < length self.now.of.items }
+        ensures { IsTrue result ↔ IsMarkedIn self.now item }
+    {
+        let part = self.of[item as usize];
+        self.places[item as usize] < self.parts[part as usize].first
     }
 
     /// Marks the item.
@@ -119,31 +133,40 @@ impl Partition {
         let part = self.of[item as usize];
         let mut range = self.parts[part as usize];
         let place = self.places[item as usize];
-        if range.middle <= place {
-            let other = self.elements[range.middle as usize];
+        if range.first <= place {
+            let other = self.elements[range.first as usize];
             self.elements[place as usize] = other;
             self.places[other as usize] = place;
-            self.elements[range.middle as usize] = item;
-            self.places[item as usize] = range.middle;
-            range.middle += 1;
+            self.elements[range.first as usize] = item;
+            self.places[item as usize] = range.first;
+            range.first += 1;
             self.parts[part as usize] = range;
         }
     }
 
-    /// Splits the part into its marked items and the others, none of which is marked then.
-    fn divide(&mut self, part: u32) -> Result<(), Memory>
+    /// Splits the part whose first item this is, a marked one, into its marked items and the others,
+    /// none of which is marked then.
+    fn divide(&mut self, item: u32) -> Result<(), Memory>
         requires arranged { IsArranged self.old }
-        requires part { part < length self.old.parts.items }
+        requires item { item < length self.old.of.items }
+        requires marked { IsMarkedIn self.old item }
+        requires first { IsFirst self.old item }
         ensures arranged { OnOk result (IsArranged self.new) }
-        ensures divided { OnOk result (IsDivided part self.old self.new) }
+        ensures divided { OnOk result
+            (IsDivided (part_of self.old.of.items item) self.old self.new) }
     {
+        let part = self.of[item as usize];
+        let first = self.places[item as usize];
         let number = self.parts.len() as u32;
         let whole = self.parts[part as usize];
-        if whole.middle == whole.first || whole.middle == whole.past || number == u32::MAX {
-            self.parts[part as usize].middle = whole.first;
+        if whole.first == whole.past || number == u32::MAX {
+            self.parts[part as usize] = Part {
+                first,
+                past: whole.past,
+            };
             return Ok(());
         }
-        let (rest, smaller) = halves(whole);
+        let (rest, smaller) = halves(first, whole);
         self.parts.push(smaller)?;
         self.parts[part as usize] = rest;
         self.relabel(smaller, number);
@@ -159,7 +182,7 @@ impl Partition {
         requires placed { (item : ℕ) → item < length self.old.of.items
             → get_or self.old.elements.items (get_or self.old.places.items item 0) 0 ≡ item }
         ensures others { self.new ≡ record self.old { of = self.new.of } }
-        ensures of { AreRelabelled self.old.places.items range part range.past
+        ensures of { AreRelabelled self.old.places.items range.first part range.past
             self.old.of.items self.new.of.items }
     {
         for place in range.first..range.past {
@@ -169,27 +192,16 @@ impl Partition {
     }
 }
 
-/// The halves of a part, its marked items and the others, the larger half first.
-fn halves(whole: Part) -> (Part, Part)
-    requires { (whole.first ≤ whole.middle) × (whole.middle ≤ whole.past) }
-    ensures { AreHalves whole result.0 result.1 }
+/// The halves of a part that begins at the place, its marked items and the others, the larger half first.
+fn halves(first: u32, others: Part) -> (Part, Part)
+    requires { (first ≤ others.first) × (others.first ≤ others.past) }
+    ensures { AreHalves (range_from first others) (plain result.0) (plain result.1) }
 {
-    let Part {
-        first,
-        middle,
-        past,
-    } = whole;
     let marked = Part {
         first,
-        middle: first,
-        past: middle,
+        past: others.first,
     };
-    let others = Part {
-        first: middle,
-        middle,
-        past,
-    };
-    if middle - first <= past - middle {
+    if others.first - first <= others.past - others.first {
         (others, marked)
     } else {
         (marked, others)
@@ -217,11 +229,7 @@ fn laid_out(alloc: Global, counts: &[u32]) -> Result<Vec<Part>, Memory>
     let mut parts = Vec::new(alloc);
     let mut first = 0;
     for count in counts {
-        parts.push(Part {
-            first,
-            middle: first,
-            past: first,
-        })?;
+        parts.push(Part { first, past: first })?;
         first += *count;
     }
     Ok(parts)
