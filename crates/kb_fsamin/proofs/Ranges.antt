@@ -1,12 +1,12 @@
 -- The ranges of parts, by what is kept of them.
-use Rattle.std.proofs.Common.{◌≡◌, ◌↔◌, ℕ, ◌<◌, ◌≤◌, List, map, length, get_or, sym, ap, ◌∙◌, inl, inr, arith}
+use Rattle.std.proofs.Common.{◌≡◌, ℕ, ◌<◌, ◌≤◌, List, map, length, get_or, sym, ap, ◌∙◌, inl, inr, arith}
 use Rattle.std.proofs.lemmas.Bool.{cases_lt}
 use Rattle.std.proofs.lemmas.List.{length-map, map-id}
 use Rattle.std.proofs.lemmas.Simd.{map-map}
 use Rattle.std.proofs.Math.ListN.{get_or-map}
 use Rattle.kb_fsamin.specs.declared.partition.Part.{Part}
 use Rattle.kb_fsamin.specs.declared.partition.Partition.{Partition}
-use Rattle.kb_fsamin.specs.Partitions.{Range, kept_of, plain, part_at, part_of, range_of, range_from, IsArranged, IsFirst, IsMarked, IsMarkedIn, IsPartition}
+use Rattle.kb_fsamin.specs.Partitions.{Range, kept_of, plain, part_at, part_of, range_of, range_from, IsArranged, IsFirst, IsMarkedIn, IsPartition}
 
 pub kept_at : (ranges : List Range) (part : ℕ) → part_at (map kept_of ranges) part ≡ kept_of (range_of ranges part)
 kept_at ranges part = get_or-map kept_of ranges part (record { first = 0; middle = 0; past = 0 })

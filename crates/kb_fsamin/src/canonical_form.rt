@@ -6,6 +6,7 @@ ghost use Rattle.kb_fsa.specs.Canonical.{IsCanonical};
 ghost use Rattle.kb_fsamin.specs.Empty.{empty_table};
 
 use crate::classes::representatives;
+use crate::labels::Labels;
 use crate::quotient::Quotient;
 use kb_explore::{Det, explore};
 use kb_fsa::{Alphabet, Fsa, Rows, Table};
@@ -19,8 +20,8 @@ pub fn canonical(alloc: Global, fsa: &Fsa) -> Result<Fsa, Memory>
     ensures language { IfOk result (λ c. SameLanguage fsa.now c) }
     ensures alphabet { IfOk result (λ c. c.alphabet ≡ fsa.now.alphabet) }
 {
-    let labels = vec![in alloc; 0; fsa.table().rows().len()]?;
-    let listed = representatives(alloc, fsa.table(), labels.as_slice())?;
+    let labels = Labels::one(fsa.table().rows().len());
+    let listed = representatives(alloc, fsa.table(), &labels)?;
     let quotient = Quotient {
         fsa,
         representatives: listed.as_slice(),

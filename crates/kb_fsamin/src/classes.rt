@@ -21,6 +21,7 @@ ghost use Rattle.kb_fsa.specs.Graphs.{IsMarked};
 ghost use Rattle.kb_fsamin.specs.Rounds.{IsClassing, IsStable, class_of};
 ghost use Rattle.kb_fsamin.specs.Splitting.{AreNumbered};
 
+use crate::labels::Labels;
 use crate::rounds::refine_until_stable;
 use crate::splitting::split_by_splitters;
 use crate::stability::is_stable;
@@ -40,7 +41,7 @@ struct Numbers {
 pub(crate) fn representatives(
     alloc: Global,
     table: &Table,
-    labels: &[u32],
+    labels: &Labels,
 ) -> Result<Vec<u32>, Memory>
     requires { length labels.now ≡ length table.now.rows }
     ensures { IfOk result (λ listed. AreRepresentatives table.now labels.now listed.items) }
@@ -58,7 +59,12 @@ pub(crate) fn representatives(
 
 /// Class 0 for what leads to no acceptance; the other states that don't accept are in a class of their own, and those
 /// that do in one for each label. Classes are numbered below the count.
-fn by_label(alloc: Global, table: &Table, labels: &[u32], marks: &[bool]) -> Result<Numbers, Memory>
+fn by_label(
+    alloc: Global,
+    table: &Table,
+    labels: &Labels,
+    marks: &[bool],
+) -> Result<Numbers, Memory>
     requires labels { length labels.now ≡ length table.now.rows }
     requires one_each { length marks.now ≡ length table.now.rows + 1 }
     requires live { (state : ℕ) → IsMarked marks.now state ↔ IsLive table.now state }
@@ -91,15 +97,15 @@ fn first_classes(alloc: Global, marks: &[bool], numbers: &[u32]) -> Result<Vec<u
 }
 
 /// Numbers of what states give out: those that accept their labels, and the others nothing.
-fn outputs(alloc: Global, table: &Table, labels: &[u32]) -> Result<Numbers, Memory>
+fn outputs(alloc: Global, table: &Table, labels: &Labels) -> Result<Numbers, Memory>
     requires { length labels.now ≡ length table.now.rows }
     ensures { IfOk result (λ numbers. (seen : List ℕ) × (length seen ≡ numbers.count)
         × AreNumbered (output_at table.now labels.now) (length table.now.rows) seen numbers.of.items) }
 {
     let mut seen = IndexSet::new(alloc);
-    let mut numbers = Vec::with_capacity(alloc, labels.len())?;
+    let mut numbers = Vec::with_capacity(alloc, table.rows().len())?;
     for (place, accepts) in table.accepting().iter().enumerate() {
-        let output = output_of(*accepts, labels[place]);
+        let output = output_of(*accepts, labels.label(place));
         let (number, _) = seen.insert_full(output)?;
         numbers.push(number as u32)?;
     }
@@ -128,7 +134,7 @@ fn output_of(accepts: bool, label: u32) -> u64
 fn first_of_each(
     alloc: Global,
     table: &Table,
-    labels: &[u32],
+    labels: &Labels,
     classes: &[u32],
 ) -> Result<Vec<u32>, Memory>
     requires classing { IsClassing table.now labels.now classes.now }

@@ -27,6 +27,7 @@
 
 mod canonical_form;
 mod classes;
+mod labels;
 mod laws;
 mod partition;
 mod quotient;

@@ -4,6 +4,7 @@ ghost use Rattle.std.specs.Prelude.{◌≡◌, ◌≤◌, length, map, IfOk};
 ghost use Rattle.kb_labelled.specs.Labels.{SameLabels, listed_for};
 
 use crate::classes::representatives;
+use crate::labels::Labels;
 use crate::quotient::Quotient;
 use kb_explore::{Det, explore};
 use kb_fsa::Fsa;
@@ -22,7 +23,8 @@ pub fn reduced_by_labels(alloc: Global, labelled: &Labelled) -> Result<Labelled,
 {
     let fsa = labelled.automaton();
     let given = labelled.labels();
-    let listed = representatives(alloc, fsa.table(), given)?;
+    let labels = Labels::listed(given);
+    let listed = representatives(alloc, fsa.table(), &labels)?;
     let quotient = Quotient {
         fsa,
         representatives: listed.as_slice(),

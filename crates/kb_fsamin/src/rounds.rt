@@ -3,6 +3,7 @@
 ghost use Rattle.std.specs.Prelude.{◌≡◌, ◌≤◌, ℕ, suc, length, All, ◌<◌, IfOk};
 ghost use Rattle.kb_fsamin.specs.Rounds.{IsClassing, IsRefined, IsStable, class_of, class_row};
 
+use crate::labels::Labels;
 use indexmap::IndexSet;
 use kb_fsa::Table;
 use kb_word::Memory;
@@ -19,7 +20,7 @@ struct Signature {
 pub(crate) fn refine_until_stable(
     alloc: Global,
     table: &Table,
-    labels: &[u32],
+    labels: &Labels,
     start: &[u32],
 ) -> Result<Vec<u32>, Memory>
     requires { IsClassing table.now labels.now start.now }

@@ -3,11 +3,12 @@
 ghost use Rattle.std.specs.Prelude.{◌≡◌, ◌≢◌, ◌+◌, ◌<◌, ◌≤◌, ◌∷◌, [], ℕ, length, All, IfSome, IsTrue, MatchOption};
 ghost use Rattle.kb_fsamin.specs.Rounds.{IsClassing, IsStable, StandsFor, class_of, class_row};
 
+use crate::labels::Labels;
 use kb_fsa::{Rows, Table};
 
 /// Whether each class is numbered by a state of it, and the states of a class have moves by the
 /// same symbols to the same classes.
-pub(crate) fn is_stable(table: &Table, labels: &[u32], classes: &[u32]) -> bool
+pub(crate) fn is_stable(table: &Table, labels: &Labels, classes: &[u32]) -> bool
     requires { IsClassing table.now labels.now classes.now }
     ensures stable { IsTrue result → IsStable table.now labels.now classes.now }
     ensures small { IsTrue result → (state : ℕ)

@@ -15,6 +15,7 @@ loop-place-preserved c =
     let thing = output_at table labels in
     let output : c.output_of-output.result ≡ thing place =
     c.output_of-output.ensures
+    ∙ ap (λ (l : ℕ). if get_or c.accepting-accepts-items.result.now place false then suc l else 0) c.label.ensures
     ∙ ap (λ (a : List Bool). if get_or a place false then suc (get_or labels place 0) else 0) c.accepting-accepts-items.ensures.accepting in
     let K : ℕ → Type 0 = λ x. seen' ≡ (if list_any (nat_eq x) seen then seen else seen ++ x ∷ []) in
     let N : ℕ → Type 0 = λ x. c.in_ok-number.number ≡ position_or_len (nat_eq x) seen in

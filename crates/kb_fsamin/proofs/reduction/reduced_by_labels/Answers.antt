@@ -20,10 +20,11 @@ returns-in-Ok-clause-labels c =
     let r = reduction_from c.table.ensures.automaton.table c.table.ensures.table refl c.as_slice.ensures.value c.in_ok-listed.ensures
     c.in-Ok.ensures.explored in
     same_labels r c.args.labelled.now c.new.result (sym (ap (λ (fsa : Automaton). fsa.table) c.automaton-fsa.ensures))
-    (sym c.labels-given.ensures.labels)
+    (sym (c.listed-labels.ensures ∙ c.labels-given.ensures.labels))
     (ap (λ (made : LabelledAutomaton). made.automaton.table) c.new.ensures ∙ ap (λ (fsa : Automaton). fsa.table) c.new-made.ensures)
     (ap (λ (made : LabelledAutomaton). made.labels) c.new.ensures ∙ c.in_ok-own-in-Ok.ensures
-    ∙ ap (map (listed_for c.labels-given.result.now)) c.as_slice-states.ensures.keys)
+    ∙ ap (map (listed_for c.labels-given.result.now)) c.as_slice-states.ensures.keys
+    ∙ ap (λ labels. map (listed_for labels) c.in-Ok.exploration.states.keys) (sym c.listed-labels.ensures))
 
 pub returns-in-Ok-clause-few : goal.returns-in-Ok-clause-few
 returns-in-Ok-clause-few c =
@@ -41,5 +42,5 @@ unreachable-requires c =
     let listed = c.as_slice.result.now in
     let more = c.in-Err-TooManyStates.ensures.many c.in-Err-TooManyStates.field-0-0 (ap Err c.in-Err-TooManyStates.field-0-is) in
     let P : ℕ → Type 0 = λ m. HasMoreStates (quotient_of given listed) m in
-    no_more_classes given c.labels-given.result.now listed c.table.ensures.automaton.table
+    no_more_classes given c.listed-labels.result listed c.table.ensures.automaton.table
     (represented_from c.table.ensures.table refl c.as_slice.ensures.value c.in_ok-listed.ensures) (subst P c.len.ensures more.1)

@@ -1,6 +1,6 @@
-use Rattle.std.proofs.Common.{◌≡◌, ◌<◌, ◌≤◌, ℕ, List, [], ◌∷◌, ◌++◌, length, get_or, map, set, refl, sym, ap, ◌∙◌, subst, arith, length-set}
+use Rattle.std.proofs.Common.{◌≡◌, ◌<◌, ◌≤◌, ℕ, [], ◌∷◌, ◌++◌, length, get_or, map, set, refl, sym, ap, ◌∙◌, subst, arith, length-set}
 use Rattle.std.proofs.lemmas.List.{get_or_read, length_push, map-set}
-use Rattle.kb_fsamin.specs.Partitions.{Range, kept_of, plain, part_at, part_of, range_from, range_of, IsArranged, IsDivided, IsMarked, Stand, AreHalves, AreRelabelled}
+use Rattle.kb_fsamin.specs.Partitions.{Range, kept_of, plain, part_at, part_of, range_of, IsArranged, IsDivided, Stand, AreHalves, AreRelabelled}
 use Rattle.kb_fsamin.proofs.Dividing.{sides, kept_divided, stand_divided, stand_remarked, keeps, splits, cleared, kept}
 use Rattle.kb_fsamin.proofs.Ranges.{middle_is, middle_kept, range_each, whole_order, whole_range}
 use Rattle.kb_fsamin.proofs.partition.Partition.divide.Goals as goal

@@ -2,7 +2,7 @@ use Rattle.std.proofs.Common.{◌≡◌, ◌<◌, ◌+◌, length, get_or, set, 
 use Rattle.std.proofs.lemmas.List.{get_or_read}
 use Rattle.kb_fsamin.specs.Partitions.{part_of, part_at, range_of}
 use Rattle.kb_fsamin.proofs.Marking.{kept_marked, stand_kept, marks_kept, stays_kept, goes_kept}
-use Rattle.kb_fsamin.proofs.Ranges.{bounds, range_each}
+use Rattle.kb_fsamin.proofs.Ranges.{range_each}
 use Rattle.kb_fsamin.proofs.partition.Partition.mark.Goals as goal
 
 pub returns-then-range-place-clause-arranged : goal.returns-then-range-place-clause-arranged
