@@ -1,11 +1,12 @@
 -- Blocks of states and cords of moves, which split each other.
 use Rattle.std.specs.Prelude.{◌≡◌, ◌≢◌, ℕ, suc, ◌+◌, ◌<◌, ◌≤◌, List, length, get_or, take, All, Contains}
 use Rattle.kb_fsa.specs.Table.{Table}
-use Rattle.kb_fsa.specs.Graphs.{source, end, IsWalk}
+use Rattle.kb_fsa.specs.Graphs.{source, end, AreLinked, IsWalk}
 use Rattle.kb_fsa.specs.Moves.{AreBackward}
 use Rattle.kb_labelled.specs.Labels.{AreAlike}
 use Rattle.kb_fsamin.specs.Rounds.{class_of, IsClassing}
 use Rattle.kb_fsamin.specs.Partitions.{part_of, first_of, IsPartition}
+use Rattle.kb_fsamin.specs.declared.incoming.Incoming.{Incoming}
 use Rattle.kb_fsamin.specs.declared.partition.Partition.{Partition}
 
 -- The list numbers the first things, as many as are done, by what each is; equal ones have one number, their place
@@ -25,6 +26,11 @@ pub record AreEntering (edges : List (ℕ × ℕ)) (blocks : List ℕ) (block : 
       (λ move. (move < length edges) × (part_of blocks (source edges move) ≡ block)) listed
   pub complete : (move : ℕ) → move < length edges → part_of blocks (source edges move) ≡ block
       → Contains listed move
+
+-- the moves are linked by the states that they lead to, each below the count
+abbrev pub AreIncoming : List (ℕ × ℕ) → ℕ → Incoming → Type 0
+AreIncoming edges count incoming =
+    AreLinked edges (length edges) count incoming.last.items incoming.earlier.items
 
 -- the list has the moves that lead into these states
 pub record AreGathered (edges : List (ℕ × ℕ)) (states listed : List ℕ) : Type 0 where

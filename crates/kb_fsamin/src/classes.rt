@@ -89,7 +89,8 @@ fn first_classes(alloc: Global, marks: &[bool], numbers: &[u32]) -> Result<Vec<u
     ensures { IfOk result (λ classes.
         AreByNumber marks.now numbers.now (length numbers.now + 1) classes.items) }
 {
-    let mut classes = vec![in alloc; 0]?;
+    let mut classes = Vec::with_capacity(alloc, marks.len())?;
+    classes.push(0)?;
     for (place, number) in numbers.iter().enumerate() {
         classes.push(first_class(marks[place + 1], *number))?;
     }

@@ -27,6 +27,7 @@
 
 mod canonical_form;
 mod classes;
+mod incoming;
 mod labels;
 mod laws;
 mod partition;

@@ -49,7 +49,7 @@ impl Partition {
         let counts = counts_of(alloc, of.as_slice(), count)?;
         let mut parts = laid_out(alloc, counts.as_slice())?;
         let mut elements = vec![in alloc; 0; of.len()]?;
-        let mut places = Vec::new(alloc);
+        let mut places = Vec::with_capacity(alloc, of.len())?;
         for (item, part) in of.iter().enumerate() {
             let mut filled = parts[*part as usize];
             elements[filled.past as usize] = item as u32;
@@ -226,7 +226,7 @@ fn laid_out(alloc: Global, counts: &[u32]) -> Result<Vec<Part>, Memory>
     requires { sum counts.now < 2 ^ 32 }
     ensures { IfOk result (λ parts. AreRanges counts.now (length counts.now) parts.items) }
 {
-    let mut parts = Vec::new(alloc);
+    let mut parts = Vec::with_capacity(alloc, counts.len())?;
     let mut first = 0;
     for count in counts {
         parts.push(Part { first, past: first })?;

@@ -7,15 +7,15 @@
 
 ghost use Rattle.std.specs.Prelude.{◌≡◌, ◌<◌, ◌≤◌, ◌^◌, ℕ, suc, ◌+◌, List, length, get_or, All, IfOk, OnOk};
 ghost use Rattle.kb_fsa.specs.Table.{Table};
-ghost use Rattle.kb_fsa.specs.Graphs.{AreLinksOf};
 ghost use Rattle.kb_fsa.specs.Moves.{IsBackwardOf};
 ghost use Rattle.kb_fsamin.specs.Partitions.{IsPartition, part_of};
 ghost use Rattle.kb_fsamin.specs.Rounds.{IsClassing};
-ghost use Rattle.kb_fsamin.specs.Splitting.{AreEntering, AreClassesOfBlocks, AreLeaving, ArePaired, KeepsSplitting};
+ghost use Rattle.kb_fsamin.specs.Splitting.{AreEntering, AreClassesOfBlocks, AreIncoming, AreLeaving, ArePaired, KeepsSplitting};
 
+use crate::incoming::Incoming;
 use crate::partition::Partition;
 use indexmap::IndexSet;
-use kb_fsa::{Backward, Links, link};
+use kb_fsa::Backward;
 use kb_word::Memory;
 use std::alloc::Global;
 
@@ -40,11 +40,14 @@ pub(crate) fn split_by_splitters(
     let Backward { edges, symbols } = moves;
     let edges = edges.as_slice();
     // What is only needed to make these is let go before blocks and cords are there.
-    let links = link(alloc, edges, start.len())?;
+    let incoming = Incoming::new(alloc, edges, start.len())?;
     let mut cords = by_symbol(alloc, symbols.as_slice())?;
     drop(symbols);
     let mut blocks = Partition::new(alloc, of, count)?;
-    refine(alloc, edges, &links, start, &mut blocks, &mut cords)?;
+    refine(alloc, edges, &incoming, start, &mut blocks, &mut cords)?;
+    // The classes stand on the blocks alone.
+    drop(incoming);
+    drop(cords);
     classes_of_blocks(alloc, start, &blocks)
 }
 
@@ -52,15 +55,14 @@ pub(crate) fn split_by_splitters(
 fn refine(
     alloc: Global,
     edges: &[(u32, u32)],
-    links: &Links,
+    incoming: &Incoming,
     start: &[u32],
     blocks: &mut Partition,
     cords: &mut Partition,
 ) -> Result<(), Memory>
-    requires few { length edges.now < 2 ^ 32 }
     requires known { All (λ edge. edge.0 < length start.now) edges.now }
     requires states { All (λ edge. edge.1 < length start.now) edges.now }
-    requires links { AreLinksOf edges.now (length start.now) links.now }
+    requires incoming { AreIncoming edges.now (length start.now) incoming.now }
     requires paired { ArePaired edges.now start.now blocks.old cords.old }
     ensures paired { OnOk result (ArePaired edges.now start.now blocks.new cords.new) }
     ensures keeps { OnOk result ((symbols : List ℕ)
@@ -70,7 +72,7 @@ fn refine(
     let mut cord = 0;
     loop {
         if block < blocks.len() {
-            let moves = entering(alloc, edges, links, blocks, block as u32)?;
+            let moves = entering(alloc, edges, incoming, blocks, block as u32)?;
             cords.split(moves.as_slice())?;
             block += 1;
         } else if cord < cords.len() {
@@ -90,7 +92,7 @@ fn classes_of_blocks(alloc: Global, start: &[u32], blocks: &Partition) -> Result
     ensures { IfOk result (λ classes.
         AreClassesOfBlocks start.now blocks.now (length start.now) classes.items) }
 {
-    let mut classes = Vec::new(alloc);
+    let mut classes = Vec::with_capacity(alloc, start.len())?;
     for (state, class) in start.iter().enumerate() {
         classes.push(if *class == 0 {
             0
@@ -112,7 +114,7 @@ fn by_symbol(alloc: Global, symbols: &[u32]) -> Result<Partition, Memory>
         → part_of cords.of.items k ≡ part_of cords.of.items other) }
 {
     let mut seen = IndexSet::new(alloc);
-    let mut numbers = Vec::new(alloc);
+    let mut numbers = Vec::with_capacity(alloc, symbols.len())?;
     for symbol in symbols {
         let (number, _) = seen.insert_full(*symbol)?;
         numbers.push(number as u32)?;
@@ -124,13 +126,12 @@ fn by_symbol(alloc: Global, symbols: &[u32]) -> Result<Partition, Memory>
 fn entering(
     alloc: Global,
     edges: &[(u32, u32)],
-    links: &Links,
+    incoming: &Incoming,
     blocks: &Partition,
     block: u32,
 ) -> Result<Vec<u32>, Memory>
-    requires few { length edges.now < 2 ^ 32 }
     requires known { All (λ edge. edge.0 < length blocks.now.of.items) edges.now }
-    requires links { AreLinksOf edges.now (length blocks.now.of.items) links.now }
+    requires incoming { AreIncoming edges.now (length blocks.now.of.items) incoming.now }
     requires blocks { IsPartition blocks.now }
     requires block { block < length blocks.now.parts.items }
     ensures { IfOk result (λ listed.
@@ -138,10 +139,10 @@ fn entering(
 {
     let mut listed = Vec::new(alloc);
     for state in blocks.members(block) {
-        let mut number = links.last[*state as usize];
+        let mut number = incoming.last[*state as usize];
         while number != 0 {
-            listed.push(number as u32 - 1)?;
-            number = links.earlier[number - 1];
+            listed.push(number - 1)?;
+            number = incoming.earlier[number as usize - 1];
         }
     }
     Ok(listed)

@@ -12,5 +12,5 @@ loop-place-preserved c =
     let class : c.first_class.result ≡ first_class (get_or marks (suc place) false) (get_or numbers place 0) =
     c.first_class.ensures ∙ ap (λ k. first_class (get_or marks k false) (get_or numbers place 0)) one in
     let P : List ℕ → Type 0 = λ l. AreByNumber marks numbers (place + 1 + 1) l in
-    subst P (sym {A = List ℕ} c.in_ok-push.ensures.items)
+    subst P (sym {A = List ℕ} c.in_ok-push-2.ensures.items)
     (by_more marks numbers place c.first_class.result c.loop-place.classes.items class c.loop-place.invariant)

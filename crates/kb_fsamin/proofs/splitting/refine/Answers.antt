@@ -1,8 +1,7 @@
 use Rattle.std.proofs.Common.{get_or, sym, ◌∙◌, subst, arith}
 use Rattle.std.proofs.lemmas.List.Elements.{Contains-get_or}
-use Rattle.kb_fsa.specs.Graphs.{AreLinksOf}
 use Rattle.kb_fsamin.specs.Partitions.{IsSplitBy}
-use Rattle.kb_fsamin.specs.Splitting.{AreEntering, AreLeaving}
+use Rattle.kb_fsamin.specs.Splitting.{AreEntering, AreIncoming, AreLeaving}
 use Rattle.kb_fsamin.proofs.Splittings.{cords_split, blocks_split}
 use Rattle.kb_fsamin.proofs.splitting.refine.Goals as goal
 
@@ -75,6 +74,6 @@ loop-block-preserved c =
 pub entering-requires-clause-known : goal.entering-requires-clause-known
 entering-requires-clause-known c move e i = omega (arith, c.requires.known move e i, c.loop-block.invariant.paired.block_each)
 
-pub entering-requires-clause-links : goal.entering-requires-clause-links
-entering-requires-clause-links c =
-    subst (λ n. AreLinksOf c.args.edges.now n c.args.links.now) (sym c.loop-block.invariant.paired.block_each) c.requires.links
+pub entering-requires-clause-incoming : goal.entering-requires-clause-incoming
+entering-requires-clause-incoming c =
+    subst (λ n. AreIncoming c.args.edges.now n c.args.incoming.now) (sym c.loop-block.invariant.paired.block_each) c.requires.incoming

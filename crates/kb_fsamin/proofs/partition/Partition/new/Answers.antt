@@ -84,7 +84,7 @@ loop-item-init c =
     let counted : AreCounts of (length of) c.args.count counts = subst (λ o. AreCounts o (length o) c.args.count counts) c.as_slice.ensures.value c.in_ok-counts.ensures in
     let ranges : AreRanges counts (length counts) parts = subst (λ n. AreRanges n (length n) parts) c.as_slice-2.ensures.value c.in_ok-parts.ensures in
     let size : length c.in_ok-elements.elements.items ≡ length of = search rules in
-    subst (λ p. AreFilled of counts 0 c.in_ok-elements.elements.items p (map plain parts)) (sym c.new-places.ensures.items)
+    subst (λ p. AreFilled of counts 0 c.in_ok-elements.elements.items p (map plain parts)) (sym c.in_ok-places.ensures.items)
     (filled_none of counts c.in_ok-elements.elements.items parts counted.total size ranges)
 
 pub returns-clause-partition : goal.returns-clause-partition
