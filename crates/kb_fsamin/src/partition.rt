@@ -47,7 +47,8 @@ impl Partition {
         ensures count { IfOk result (λ parts. length parts.parts.items ≡ count) }
     {
         let counts = counts_of(alloc, of.as_slice(), count)?;
-        let mut parts = laid_out(alloc, counts.as_slice())?;
+        // There may come to be as many parts as there are items.
+        let mut parts = laid_out(alloc, counts.as_slice(), of.len().max(count))?;
         let mut elements = vec![in alloc; 0; of.len()]?;
         let mut places = Vec::with_capacity(alloc, of.len())?;
         for (item, part) in of.iter().enumerate() {
@@ -221,12 +222,12 @@ fn counts_of(alloc: Global, of: &[u32], count: usize) -> Result<Vec<u32>, Memory
     Ok(counts)
 }
 
-/// Room for as many items of each part, part after part, with none yet.
-fn laid_out(alloc: Global, counts: &[u32]) -> Result<Vec<Part>, Memory>
+/// Ranges for as many items of each part, part after part, with none yet, in a list with room for so many parts.
+fn laid_out(alloc: Global, counts: &[u32], room: usize) -> Result<Vec<Part>, Memory>
     requires { sum counts.now < 2 ^ 32 }
     ensures { IfOk result (λ parts. AreRanges counts.now (length counts.now) parts.items) }
 {
-    let mut parts = Vec::with_capacity(alloc, counts.len())?;
+    let mut parts = Vec::with_capacity(alloc, room)?;
     let mut first = 0;
     for count in counts {
         parts.push(Part { first, past: first })?;
