@@ -1,7 +1,8 @@
 // Counts what a program asks of malloc, and says on err how many bytes it held at once at most.
 //
-//     gcc -O2 -shared -fPIC -o /tmp/allocated.so bench/allocated.c
-//     LD_PRELOAD=/tmp/allocated.so crates/kb/out/kb kbprog m12.rws < /dev/null
+//     mkdir -p out
+//     gcc -O2 -shared -fPIC -o out/allocated.so bench/allocated.c
+//     LD_PRELOAD=out/allocated.so crates/kb/out/kb kbprog m12.rws < /dev/null
 //
 // Each new most is said once it is a two-hundredth above the last that was said, as `allocated BYTES at SECONDS`, each fall to nine
 // tenths as `fallen BYTES at SECONDS`, and at the end `allocated at most BYTES`. A piece counts with the bytes that were asked for.
