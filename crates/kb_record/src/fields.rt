@@ -34,8 +34,8 @@ impl<'r, 'a> FoundValue<'r, 'a> {
     }
 }
 
-/// Passes the name of the field that comes next and the `:=` behind it, and answers the name; an empty one where no
-/// field comes.
+/// Passes the name of the field that comes next and the `:=` behind it, and answers the name; `None` where no field
+/// comes.
 fn begin_of_field<'a>(tokens: &mut Cursor<'a>) -> Option<&'a str>
     ensures { MatchOption result
         (first_field_in (remaining tokens.old) ≡ ([], string_value []))
