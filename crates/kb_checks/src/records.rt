@@ -3,6 +3,7 @@
 use kb_layout::print;
 use kb_record::parse;
 use std::alloc::{AllocError, Global};
+use std::process::Abort;
 use std::test::Fail;
 
 /// The printed text of what is read.
@@ -18,6 +19,21 @@ fn printed_again(alloc: Global, text: &str) -> Result<String, AllocError> {
         Ok(text) => format!(in alloc; "{text}"),
         Err(_) => format!(in alloc; "no text"),
     }
+}
+
+/// A value has this one printed text, also when it is read again, and when it is kept as it was read: behind so many
+/// blanks its field is long.
+fn check_printed(rt: &impl Abort, alloc: Global, value: &str, want: &str) -> Result<(), Fail> {
+    let whole = format!(in alloc; "N := rec(\n  first := {want},\n  last := 0\n);\n")?;
+    let text = format!(in alloc; "N := rec(first := {value}, last := 0)")?;
+    let first = printed_again(alloc, text.as_str())?;
+    assert_eq!(rt; first.as_str(), whole.as_str(), "{value}");
+    let second = printed_again(alloc, first.as_str())?;
+    assert_eq!(rt; second.as_str(), whole.as_str(), "{value} again");
+    let text = format!(in alloc; "N := rec(first := {value:>400}, last := 0)")?;
+    let third = printed_again(alloc, text.as_str())?;
+    assert_eq!(rt; third.as_str(), whole.as_str(), "{value} behind blanks");
+    Ok(())
 }
 
 #[test]
@@ -51,16 +67,7 @@ fn values_have_one_printed_text(rt: HostRuntime) -> Result<(), Fail> {
             "rec(\n    a := rec(\n      b := [\n        [1]\n      ]\n    ),\n    c := 2\n  )",
         ),
     ] {
-        let text = format!(in alloc; "N := rec(first := {value}, last := 0)")?;
-        let whole = format!(in alloc; "N := rec(\n  first := {want},\n  last := 0\n);\n")?;
-        let first = printed_again(alloc, text.as_str())?;
-        assert_eq!(&rt; first.as_str(), whole.as_str(), "{value}");
-        let second = printed_again(alloc, first.as_str())?;
-        assert_eq!(&rt; second.as_str(), whole.as_str(), "{value} again");
-        // Behind so many blanks the field is long, and its value is kept as it was read.
-        let text = format!(in alloc; "N := rec(first := {value:>400}, last := 0)")?;
-        let third = printed_again(alloc, text.as_str())?;
-        assert_eq!(&rt; third.as_str(), whole.as_str(), "{value} behind blanks");
+        check_printed(&rt, alloc, value, want)?;
     }
     Ok(())
 }
