@@ -5,15 +5,37 @@
 ##
 #############################################################################
 
+KbShell := function()
+  return Filename( DirectoriesSystemPrograms(), "sh" );
+end;
+
+# The program by an absolute path, since it is run in other folders. A bare name
+# stays as it is: the shell looks for it.
+KbAbsolute := function( program )
+  local place, here;
+  if not IsString( program ) then
+    Error( "kb: KbProgram must be a path or a name, a string" );
+  fi;
+  program := UserHomeExpand( program );
+  if not '/' in program or program[1] = '/' then
+    return program;
+  fi;
+  place := Filename( DirectoryTemporary(), "here" );
+  Process( DirectoryCurrent(), KbShell(), InputTextNone(), OutputTextNone(), [ "-c", "pwd >\"$0\"", place ] );
+  here := StringFile( place );
+  return Concatenation( here{ [ 1 .. Length( here ) - 1 ] }, "/", program );
+end;
+
 # Runs kb in a folder with these arguments and this input. What it writes to
-# standard output and standard error comes back as strings, with its status.
+# standard output and standard error comes back as strings, with its status. At
+# the first run KbProgram becomes absolute, so that it stays the same program.
 KbRun := function( folder, arguments, input )
-  local shell, command, place, status, content;
+  local command, place, status, content;
+  KbProgram := KbAbsolute( KbProgram );
   place := name -> Filename( folder, name );
   FileString( place( "input" ), input );
-  shell := Filename( DirectoriesSystemPrograms(), "sh" );
   command := "exec \"$0\" \"$@\" <input >output 2>messages";
-  status := Process( folder, shell, InputTextNone(), OutputTextNone(),
+  status := Process( folder, KbShell(), InputTextNone(), OutputTextNone(),
                      Concatenation( [ "-c", command, KbProgram ], arguments ) );
   content := StringFile( place( "messages" ) );
   if status in [ 126, 127 ] then
