@@ -42,7 +42,8 @@ KbReadBeside( "files.g" );
 KbReadBeside( "cosets.g" );
 
 # Completes the presentation: `rules` are the pairs of words of its reduced
-# complete system, and `wordAcceptor` accepts the least words.
+# complete system, and `wordAcceptor` accepts the least words. In `rules` a word
+# and its inverse cancel, so the rules that say no more than that are left out.
 KbComplete := function( G, given... )
   local options, system, words, read;
   options := KbOptions( given );
@@ -53,6 +54,7 @@ KbComplete := function( G, given... )
                   Concatenation( GeneratorsOfMonoid( words ), [ One( words ) ] ) );
   system.rules := List( read.equations, pair -> List( pair, word -> MappedWord( word,
     GeneratorsOfMonoid( words ), List( system.letters, letter -> letter.element ) ) ) );
+  system.rules := Filtered( system.rules, pair -> not ForAll( pair, IsOne ) );
   system.wordsOfRules := read.equations;
   system.isConfluent := read.isConfluent;
   system.wordAcceptor := KbReadAutomaton( system, ".wa" );
