@@ -4,14 +4,24 @@
 ##
 #############################################################################
 
-# The text of the file of a subgroup. The subgroup is one of GAP, or a list of
-# elements or of words that generate it.
+# The generators of a subgroup, which is one of GAP, of the presented group or
+# of the free one below, or a list of elements or of words. A trivial subgroup
+# may have no generators, so its family is looked at, too.
+KbSubgroupGenerators := function( system, H )
+  if not IsGroup( H ) and not IsDenseList( H ) then
+    ErrorNoReturn( "kb: a subgroup of ", KbDescribed( system ), ", or a list of words or elements of it, is needed" );
+  elif IsGroup( H ) and not ForAny( [ system.presented, system.free ], G -> KbHasFamilyOf( One( H ), G ) ) then
+    ErrorNoReturn( "kb: a subgroup of ", KbDescribed( system ), " is needed, not one of another group" );
+  elif IsGroup( H ) then
+    return GeneratorsOfGroup( H );
+  fi;
+  return H;
+end;
+
+# The text of the file of a subgroup.
 KbSubgroupText := function( system, H )
   local generators;
-  if IsGroup( H ) then
-    H := GeneratorsOfGroup( H );
-  fi;
-  generators := List( H, element -> KbWord( system, KbFreeWord( element ) ) );
+  generators := List( KbSubgroupGenerators( system, H ), element -> KbWord( system, KbFreeWord( system, element ) ) );
   return Concatenation( "_RWS_Sub := rec(\n  subGenerators := [",
                         JoinStringsWithSeparator( generators, "," ), "]\n);\n" );
 end;
@@ -87,12 +97,12 @@ end;
 KbCosets := function( G, H, given... )
   local options, system, marked;
   options := KbOptions( given );
-  system := KbSystem( G, options );
+  system := KbGroupSystem( G, options );
   FileString( Concatenation( system.file, ".sub" ), KbSubgroupText( system, H ) );
   marked := KbMarked( system, options );
   system.index := KbCountFrom( marked.rows, marked.begin, Length( system.letters ) );
   if system.index = infinity then
-    Error( "kb: the subgroup has infinitely many cosets" );
+    ErrorNoReturn( "kb: the subgroup has infinitely many cosets" );
   fi;
   system.words := KbWordsFrom( system, marked.rows, marked.begin );
   return system;

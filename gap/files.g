@@ -13,7 +13,35 @@ KbBoundName := function( text )
       return NormalizedWhitespace( line{ [ 1 .. at - 1 ] } );
     fi;
   od;
-  Error( "kb: no name is bound at the head of the file" );
+  ErrorNoReturn( "kb: no name is bound at the head of the file" );
+end;
+
+# The names of generators that a file of rules or of an automaton lists.
+KbListedNames := function( text )
+  local field, at, behind;
+  for field in [ "generatorOrder := [", "names := [" ] do
+    at := PositionSublist( text, field );
+    if at <> fail then
+      behind := at + Length( field );
+      return SplitString( text{ [ behind .. Position( text, ']', behind - 1 ) - 1 ] }, "", ", \n" );
+    fi;
+  od;
+  return [];
+end;
+
+# Refuses what KbRead can't take. A name of the file that isn't given would be
+# whatever variable of GAP's has that name.
+KbNeedNames := function( text, names, values )
+  local missing;
+  if not IsDenseList( names ) or not ForAll( names, IsString ) then
+    ErrorNoReturn( "kb: a list of the names of the generators, as strings, is needed" );
+  elif not IsDenseList( values ) or Length( values ) <> Length( names ) + 1 then
+    ErrorNoReturn( "kb: a value for each name and one more, for IdWord, are needed" );
+  fi;
+  missing := Difference( KbListedNames( text ), names );
+  if missing <> [] then
+    ErrorNoReturn( "kb: the names of all generators of the file are needed: there are none for ", missing );
+  fi;
 end;
 
 # Reads a file that kb writes. Its text has the names of the generators as
@@ -21,10 +49,14 @@ end;
 # that no variable of GAP's changes, and a generator may have any name, as E.
 KbRead := function( file, names, values )
   local text, bound, head, function_text;
+  if not IsString( file ) then
+    ErrorNoReturn( "kb: the path of a file, a string, is needed" );
+  fi;
   text := StringFile( file );
   if text = fail then
-    Error( "kb: there is no file ", file );
+    ErrorNoReturn( "kb: there is no file ", file );
   fi;
+  KbNeedNames( text, names, values );
   bound := KbBoundName( text );
   head := List( [ 1 .. Length( names ) ],
                 at -> Concatenation( names[at], " := values[", String( at ), "];\n" ) );
@@ -39,8 +71,17 @@ end;
 KbReadAutomaton := function( system, ending )
   return KbRead( Concatenation( system.file, ending ), system.names, Concatenation( system.names, [ "IdWord" ] ) );
 end;
+
+# Refuses what is no automaton.
+KbNeedAutomaton := function( fsa )
+  if not IsRecord( fsa ) or not IsBound( fsa.isFSA ) then
+    ErrorNoReturn( "kb: an automaton is needed, a record as KbRead gives it" );
+  fi;
+end;
+
 # The rows of a table, dense: a target for each symbol, 0 for none.
 KbDenseRows := function( fsa )
+  KbNeedAutomaton( fsa );
   if fsa.table.format = "dense deterministic" then
     return fsa.table.transitions;
   fi;
@@ -57,9 +98,10 @@ end;
 # An automaton of the package automata from a record that KbRead gives, where
 # that package is loaded. Letter n of a pair automaton is symbol n.
 KbAutomaton := function( fsa )
-  local make, table, row;
+  local make, table;
+  KbNeedAutomaton( fsa );
   if not IsBoundGlobal( "Automaton" ) then
-    Error( "kb: the package automata isn't loaded" );
+    ErrorNoReturn( "kb: the package automata isn't loaded" );
   fi;
   make := ValueGlobal( "Automaton" );
   table := TransposedMat( KbDenseRows( fsa ) );

@@ -67,7 +67,7 @@ end;
 KbAutomaticStructure := function( G, given... )
   local options, system;
   options := KbOptions( given );
-  system := KbSystem( G, options );
+  system := KbGroupSystem( G, options );
   KbAnswered( KbRun( system.folder, Concatenation( [ "autgroup", "P" ], KbArguments( options ) ), "" ), system );
   system.wordAcceptor := KbReadAutomaton( system, ".wa" );
   system.multipliers := List( [ 1 .. Length( system.names ) ],
@@ -76,9 +76,15 @@ KbAutomaticStructure := function( G, given... )
   return system;
 end;
 
+# Refuses a system that has no word acceptor, and what is none.
+KbNeedAcceptor := function( system )
+  KbNeedSystem( system, [ "presented", "letters", "folder", "wordAcceptor" ], "KbComplete or KbAutomaticStructure" );
+end;
+
 # The word acceptor of a system, or of a group or monoid that is completed.
 KbWordAcceptor := function( G, given... )
-  if IsRecord( G ) and IsBound( G.wordAcceptor ) then
+  if IsRecord( G ) then
+    KbNeedAcceptor( G );
     return G.wordAcceptor;
   fi;
   return CallFuncList( KbComplete, Concatenation( [ G ], given ) ).wordAcceptor;
@@ -88,12 +94,16 @@ end;
 # group or monoid give elements, and words of the free one give words.
 KbReducedForm := function( system, words )
   local single, elements, free, came, forms;
+  KbNeedSystem( system, [ "presented", "letters", "folder", "reducing" ],
+                "KbComplete, KbAutomaticStructure or KbCosets" );
   single := not IsList( words ) or IsAssocWord( words );
   if single then
     words := [ words ];
+  elif not IsDenseList( words ) then
+    ErrorNoReturn( "kb: a list without holes is needed" );
   fi;
-  elements := List( words, word -> IsElementOfFpGroup( word ) or IsElementOfFpMonoid( word ) );
-  free := List( words, KbFreeWord );
+  elements := List( words, KbIsElement );
+  free := List( words, word -> KbFreeWord( system, word ) );
   came := KbAnswered( KbRun( system.folder, system.reducing,
     Concatenation( List( free, word -> Concatenation( KbWord( system, word ), "\n" ) ) ) ), system );
   forms := List( KbLines( came.out ), line -> KbElement( system, line ) );
@@ -114,6 +124,10 @@ end;
 # The least words of length `least` to `most`, in the shortlex order.
 KbElements := function( system, least, most )
   local came;
+  KbNeedAcceptor( system );
+  if not ForAll( [ least, most ], KbIsNumber ) then
+    ErrorNoReturn( "kb: two numbers of letters, from 0, are needed" );
+  fi;
   came := KbAnswered( KbRun( system.folder, [ "fsaenumerate", String( least ), String( most ), "P.wa" ], "" ),
                       system );
   return List( KbLines( came.out ), line -> KbElement( system, line ) );

@@ -61,23 +61,35 @@ end;
 #############################################################################
 ##  Presentations
 
-# The free group or monoid below, its generators, and the relations as pairs.
+KbGenerators := function( G )
+  if IsGroup( G ) then
+    return GeneratorsOfGroup( G );
+  fi;
+  return GeneratorsOfMonoid( G );
+end;
+
+KbIsWhole := G -> HasIsWholeFamily( G ) and IsWholeFamily( G );
+
+# The free group or monoid below, its generators, and the relations as pairs. A
+# part of a free group has the words of the whole, which count the generators of
+# the whole: it is refused, as what isn't presented.
 KbParts := function( G )
-  local free;
-  if IsFreeGroup( G ) then
-    return rec( isGroup := true, free := G, generators := GeneratorsOfGroup( G ), relations := [] );
+  local free, relations;
+  free := fail;
+  if IsMonoid( G ) and IsAssocWord( One( G ) ) then
+    free := G;
+    relations := [];
   elif IsFpGroup( G ) then
     free := FreeGroupOfFpGroup( G );
-    return rec( isGroup := true, free := free, generators := GeneratorsOfGroup( free ),
-                relations := List( RelatorsOfFpGroup( G ), r -> [ r, One( free ) ] ) );
-  elif IsFpMonoid( G ) then
+    relations := List( RelatorsOfFpGroup( G ), r -> [ r, One( free ) ] );
+  elif IsSubmonoidFpMonoid( G ) and KbIsWhole( G ) then
     free := FreeMonoidOfFpMonoid( G );
-    return rec( isGroup := false, free := free, generators := GeneratorsOfMonoid( free ),
-                relations := RelationsOfFpMonoid( G ) );
-  elif IsMonoid( G ) and HasIsFreeMonoid( G ) and IsFreeMonoid( G ) then
-    return rec( isGroup := false, free := G, generators := GeneratorsOfMonoid( G ), relations := [] );
+    relations := RelationsOfFpMonoid( G );
   fi;
-  Error( "kb: a finitely presented group or monoid is needed" );
+  if free = fail or not KbIsWhole( free ) or Length( KbGenerators( free ) ) = infinity then
+    ErrorNoReturn( "kb: a finitely presented group or monoid is needed, the whole one, on finitely many generators" );
+  fi;
+  return rec( isGroup := IsGroup( G ), free := free, generators := KbGenerators( free ), relations := relations );
 end;
 
 # Whether a relation says that a generator is its own inverse.
@@ -137,10 +149,14 @@ end;
 
 # The letters in the order that the options name, as a list of elements.
 KbOrdered := function( letters, order )
-  local places, place;
-  places := List( order, element -> PositionProperty( letters, l -> l.element = element ) );
+  local places;
+  places := [ fail ];
+  if IsDenseList( order ) then
+    places := List( order, element -> PositionProperty( letters, l -> l.element = element ) );
+  fi;
   if fail in places or Set( places ) <> [ 1 .. Length( letters ) ] or Length( places ) <> Length( letters ) then
-    Error( "kb: the option order must name each letter once: ", List( letters, l -> l.element ) );
+    ErrorNoReturn( "kb: the option order must name each letter once, by the words of the free group or monoid itself: ",
+                   List( letters, l -> l.element ) );
   fi;
   return List( places, function( place )
     local letter;
@@ -188,13 +204,33 @@ KbElement := function( system, text )
   return element;
 end;
 
-# The word that an element of the presented group or monoid is written as; a
-# word is itself.
-KbFreeWord := function( element )
-  if IsElementOfFpGroup( element ) or IsElementOfFpMonoid( element ) then
-    return UnderlyingElement( element );
+# The group or monoid of a system in the words of an error.
+KbDescribed := function( system )
+  if system.isGroup then
+    return Concatenation( "the group on the generators ", String( system.generators ) );
   fi;
-  return element;
+  return Concatenation( "the monoid on the generators ", String( system.generators ) );
+end;
+
+KbHasFamilyOf := function( element, domain )
+  return IsIdenticalObj( FamilyObj( element ), FamilyObj( One( domain ) ) );
+end;
+
+KbIsElement := element -> IsElementOfFpGroup( element ) or IsElementOfFpMonoid( element );
+
+# The word that an element of the presented group or monoid is written as; a
+# word of the free one below is itself. Words count their generators, so those
+# of another group would be read as words of this one: they are refused.
+KbFreeWord := function( system, element )
+  if IsAssocWord( element ) and KbHasFamilyOf( element, system.free ) then
+    return element;
+  elif KbIsElement( element ) and KbHasFamilyOf( element, system.presented ) then
+    return UnderlyingElement( element );
+  elif KbIsElement( element ) or IsAssocWord( element ) then
+    ErrorNoReturn( "kb: a word or an element of ", KbDescribed( system ),
+                   " is needed, not one of another group or monoid" );
+  fi;
+  ErrorNoReturn( "kb: a word or an element of ", KbDescribed( system ), " is needed" );
 end;
 
 # The text of the presentation file.
@@ -221,6 +257,14 @@ KbPresentationText := function( system, options )
   return text;
 end;
 
+# Refuses what is no system of these functions: a system that these made has
+# these fields.
+KbNeedSystem := function( system, fields, makers )
+  if not IsRecord( system ) or ForAny( fields, field -> not IsBound( system.( field ) ) ) then
+    ErrorNoReturn( "kb: a system of ", makers, " is needed" );
+  fi;
+end;
+
 # The presentation of a group or monoid, written to a folder of its own.
 KbSystem := function( G, options )
   local system, letters;
@@ -238,4 +282,12 @@ KbSystem := function( G, options )
   system.file := Filename( system.folder, "P" );
   FileString( system.file, KbPresentationText( system, options ) );
   return system;
+end;
+
+# The presentation of a group, as KbSystem has it.
+KbGroupSystem := function( G, options )
+  if not IsGroup( G ) then
+    ErrorNoReturn( "kb: a finitely presented group is needed" );
+  fi;
+  return KbSystem( G, options );
 end;

@@ -14,7 +14,7 @@ end;
 KbAbsolute := function( program )
   local place, here;
   if not IsString( program ) then
-    Error( "kb: KbProgram must be a path or a name, a string" );
+    ErrorNoReturn( "kb: KbProgram must be a path or a name, a string" );
   fi;
   program := UserHomeExpand( program );
   if not '/' in program or program[1] = '/' then
@@ -39,7 +39,7 @@ KbRun := function( folder, arguments, input )
                      Concatenation( [ "-c", command, KbProgram ], arguments ) );
   content := StringFile( place( "messages" ) );
   if status in [ 126, 127 ] then
-    Error( "kb: the program ", KbProgram, " can't be run: set KbProgram to its path\n", content );
+    ErrorNoReturn( "kb: the program ", KbProgram, " can't be run: set KbProgram to its path\n", content );
   fi;
   return rec( status := status, out := StringFile( place( "output" ) ), messages := content );
 end;
@@ -75,15 +75,15 @@ KbAnswered := function( came, system )
   lines := KbLines( came.out );
   said := Concatenation( KbLines( came.messages ), [ "" ] )[1];
   if came.status = 1 then
-    Error( "kb: refused: ", said );
+    ErrorNoReturn( "kb: refused: ", said );
   elif came.status = 2 then
-    Error( "kb: undecided: ", KbUndecided( lines[Length( lines )], system ) );
+    ErrorNoReturn( "kb: undecided: ", KbUndecided( lines[Length( lines )], system ) );
   elif came.status = 3 then
-    Error( "kb: no: ", lines[Length( lines )] );
+    ErrorNoReturn( "kb: no: ", lines[Length( lines )] );
   elif came.status = 4 then
-    Error( "kb: memory ran out" );
+    ErrorNoReturn( "kb: memory ran out" );
   fi;
-  Error( "kb: status ", came.status, ": ", came.messages );
+  ErrorNoReturn( "kb: status ", came.status, ": ", came.messages );
 end;
 
 # The options of the command line.
@@ -99,14 +99,24 @@ KbArguments := function( options )
   return arguments;
 end;
 
+# A number as the program takes it.
+KbIsNumber := number -> IsInt( number ) and number >= 0;
+
+# The options that are given, if any.
 KbOptions := function( given )
   local name;
   if given = [] then
     return rec();
+  elif Length( given ) > 1 or not IsRecord( given[1] ) then
+    ErrorNoReturn( "kb: the options are one record" );
   fi;
   for name in RecNames( given[1] ) do
     if not name in [ "maxRules", "maxLen", "maxDiffs", "maxStates", "workers", "order", "weights" ] then
-      Error( "kb: there is no option ", name );
+      ErrorNoReturn( "kb: there is no option ", name );
+    elif name = "weights" and not ( IsDenseList( given[1].weights ) and ForAll( given[1].weights, KbIsNumber ) ) then
+      ErrorNoReturn( "kb: the option weights must be a list of numbers" );
+    elif not name in [ "order", "weights" ] and not KbIsNumber( given[1].( name ) ) then
+      ErrorNoReturn( "kb: the option ", name, " must be a number" );
     fi;
   od;
   return given[1];
