@@ -65,10 +65,9 @@ pub(crate) fn command_line_of<'a>(
     program_line(alloc)
 }
 
-/// What `--version` says after the program's name: its version, the kit that proves it, and what proved means.
+/// What `--version` says after the program's name: its version, and what proved means.
 const VERSION: &str = "\
 0.9.0
-rattle-kit-13f logic dac8208d650f15bf
 Status 0 is a theorem: the answer to each word line is the least word equal to it, rules stored are complete, and each automaton stored has exactly the stated language.";
 
 /// What `--help` says after the list of commands.
