@@ -1,17 +1,33 @@
 -- What a run means by its status: the program's one promise.
 --
--- Status 0 means, by the command, that each line written is the least word, by the file's order
--- (shortlex or by weight), that is equal in the presented monoid or group to the line read, and
--- that the oriented relations are that presentation's own and confluent; that each automaton stored
--- is the canonical one of the stated language; that the words listed are the accepted ones; or that
--- the rules stored are the reduced complete rewriting system of the presentation, and that the
--- automaton beside them accepts its least words; or that automata are the word acceptor and the
--- multipliers of the presented group; or that a log is justified line by line, and of one stored
--- beside rules and word acceptor also that the rules of its lines are confluent and generate the
--- presentation's congruence. Status 3 shows why the relations are not confluent, the languages not
--- the same, the automata not the group's own, or the log not justified. Status 2 comes exactly
--- where a construction counts more states than the limit; or a completion reached a limit, and then
--- its log is stored, whose lines are justified one by one.
+-- Status 0 means, by the command:
+-- - `wordreduce`: each line written is the least word, by the file's order (shortlex or by weight),
+--   that is equal in the presented monoid or group to the line read; the oriented relations are
+--   confluent, or with a log its lines are justified and confluent, and join each relation.
+-- - `kbprog`: the lines are so, the rules stored are the reduced complete system of the
+--   presentation, and the automaton beside them accepts exactly its least words.
+-- - `kbcertify`: the same rules and automaton are stored, with a log that is justified line by line
+--   and whose lines' rules are confluent and generate the presentation's congruence.
+-- - `selftest`: the numbers written are those of such rules and of such an automaton.
+-- - `ball`: the lines are the least words of the elements that short enough words stand for.
+-- - `kbcos`: each line is the least word of the right coset of the line read; the rules stored are
+--   the reduced complete system of the presentation that marks the cosets.
+-- - `autgroup`: the automata stored are the word acceptor and the multipliers of the group, and the
+--   lines are as those of `kbprog`. `gpaxioms`: the automata in the files are, and `gpminkb`: they
+--   are, and those stored accept exactly the left sides and the rules of the reduced complete
+--   system.
+-- - `logread`: the line says what the log holds. `kbverify`: the log is justified line by line.
+-- - the commands on automata: what is stored is the canonical automaton of the stated language, the
+--   two languages are the same, or the lines are the accepted words.
+--
+-- Status 3 shows why the relations or the lines of a log are not confluent, a log is not justified
+-- or leaves a relation apart, languages are not the same, or automata not the group's own.
+--
+-- Status 2 means that a limit was reached. A completion that halts leaves a log whose lines are
+-- justified one by one, which is stored, or written by `selftest`. `autgroup` may also need one
+-- more word difference than may be kept. Or a construction counts more states than the limit: of
+-- the commands on automata, of `gpaxioms` and of `gpminkb` status 2 comes exactly there, of
+-- completions and of `autgroup` only there.
 use Rattle.std.specs.Prelude.{ℕ, List}
 use Rattle.kb_io.specs.Outside.{Outside, IsUnchanged}
 use Rattle.kb_task.specs.declared.status.Status.{Status}
