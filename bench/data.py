@@ -131,28 +131,6 @@ def coxeter_d(rank):
     return completed(names, names, [swap(0, -1), *(swap(place, 1) for place in range(rank - 1))])
 
 
-def projective(prime):
-    """PSL(2,p) on the projective line, by x + 1, -1/x and 1 - 1/x, by its reduced complete rewriting system."""
-
-    def moved(point, step):
-        return point if point == prime else (point + step) % prime
-
-    def turned(point):
-        return prime - point if point in (0, prime) else -pow(point, -1, prime) % prime
-
-    def permutation(image):
-        return tuple(image(point) + 1 for point in range(prime + 1))
-
-    generators = [
-        permutation(lambda point: moved(point, 1)),
-        permutation(lambda point: moved(point, -1)),
-        permutation(turned),
-        permutation(lambda point: moved(turned(point), 1)),
-        permutation(lambda point: turned(moved(point, -1))),
-    ]
-    return completed(["s", "S", "t", "x", "X"], ["S", "s", "t", "X", "x"], generators)
-
-
 def completed(names, inverses, generators):
     """A finite group of signed permutations by its reduced complete rewriting system."""
     rules = complete_rules(generators, tuple(range(1, len(generators[0]) + 1)))
