@@ -4,7 +4,6 @@ ghost use Rattle.std.specs.Prelude.{IfOk};
 ghost use Rattle.kb_share.specs.Versions.{IsPublished};
 
 use kb_book::{Book, Limits};
-use kb_machine::Line;
 use kb_presfile::read;
 use kb_rules::Scan;
 use kb_share::{Finder, Silent, settle};
@@ -30,9 +29,4 @@ pub(crate) fn settled(alloc: Global, mut book: Book<Scan>) -> Result<Book<Scan>,
     settle(alloc, &mut book, &mut Finder::new(alloc), &mut Silent)?;
     book.publish()?;
     Ok(book)
-}
-
-/// The line with this number.
-pub(crate) fn line(book: &Book<Scan>, number: u32) -> Option<&Line> {
-    book.lines().get((number as usize).checked_sub(1)?)
 }

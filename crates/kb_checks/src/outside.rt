@@ -1,6 +1,6 @@
-//! What the adapters do with the system, which no clause says.
+//! What the adapter over real files does with the system, which no clause says.
 
-use kb_io::{FileShelf, Load, Shelf, ShelfFault, Source, StdErr, StdIn, StdOut, write_all};
+use kb_io::{FileShelf, Load, Shelf, ShelfFault};
 use std::{env, fs, io, process};
 
 /// Whether the load is a text of these bytes.
@@ -32,17 +32,4 @@ fn files_are_stored_and_loaded(rt: HostRuntime) -> io::Result<()> {
     assert!(rt; shelf.store(alloc, "/dev/null", b"gone").is_ok());
     assert!(rt; is_text(&shelf.load(alloc, "/dev/null", 9), b""));
     fs::remove_file(&rt, name.as_str())
-}
-
-// The tests are run with an input that is at its end.
-#[test]
-fn the_standard_input_is_read(rt: HostRuntime) {
-    let mut buf = [0u8; 3];
-    assert!(rt; StdIn::new(&rt).read(&mut buf) == Ok(0));
-}
-
-#[test]
-fn the_standard_output_and_error_are_written(rt: HostRuntime) {
-    assert!(rt; write_all(&mut StdOut::new(&rt), b"out\n").is_ok());
-    assert!(rt; write_all(&mut StdErr::new(rt.stderr(), &rt), b"err\n").is_ok());
 }
