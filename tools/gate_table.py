@@ -1,4 +1,4 @@
-"""The table of docs/CONTRIBUTING.md: what the gate costs, by crate and by kind, in minutes of processor time."""
+"""The table of docs/CONTRIBUTING.md: what the gate costs, by crate and by kind, in minutes of processor time; and the budget."""
 
 import os
 import re
@@ -7,6 +7,10 @@ TOP = os.path.dirname(os.path.dirname(os.path.abspath(__file__)))
 PAGE = "docs/CONTRIBUTING.md"
 MARK = re.compile(r"(<!-- made by tools/gate-times --write -->\n)(.*?)(<!-- end -->)", re.S)
 KINDS = ("proof", "tests", "edits", "other")
+
+# The budget, in proofs of one crate in the same run, so that it is the same on each machine.
+UNIT = "kb_index"
+MOST_OF_ALL, MOST_OF_A_CRATE = 36, 2
 
 
 def rows(sums):
@@ -41,3 +45,38 @@ def write(text):
         page = it.read()
     with open(f"{TOP}/{PAGE}", "w", encoding="utf-8") as it:
         it.write(MARK.sub(lambda found: f"{found[1]}{text}{found[3]}", page))
+
+
+def read(page):
+    """The minutes of the whole run, and those of each crate by kind, as a page's table has them."""
+    found = MARK.search(page)
+    whole = found and SENTENCE.search(found[2])
+    if not whole:
+        return None, {}
+    crates = {}
+    for line in ROW.findall(found[2])[2:]:
+        name, *figures = [it.strip(" `\n") for it in line.strip().strip("|").split("|")]
+        crates[name] = dict(zip([*KINDS, "all"], [0.0 if it == "-" else float(it) for it in figures]))
+    crates.pop("all", None)
+    return float(whole[1]), crates
+
+
+def faults(page, crates):
+    """What of the table and of the crates doesn't agree, and what is above the budget, a sentence each."""
+    whole, costs = read(page)
+    unit = costs.get(UNIT, {}).get("proof")
+    if not unit:
+        yield f"{PAGE}: no table of what the gate costs: tools/gate-times --write"
+        return
+    if whole > MOST_OF_ALL * unit:
+        yield f"{PAGE}: the gate takes {whole:.0f} minutes, and not {MOST_OF_ALL * unit:.0f} at most, {MOST_OF_ALL} times the proof of {UNIT}"
+    for name, by in costs.items():
+        if by["all"] > MOST_OF_A_CRATE * unit:
+            yield f"{PAGE}: {name} takes {by['all']:.1f} minutes, and not {MOST_OF_A_CRATE * unit:.1f} at most, {MOST_OF_A_CRATE} times the proof of {UNIT}"
+        if name not in crates:
+            yield f"{PAGE}: the table has {name}, and there is no such crate"
+
+
+def newcomers(page, crates):
+    """The crates that came after the run of the table."""
+    return [it for it in crates if it not in read(page)[1]]
