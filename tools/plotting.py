@@ -2,9 +2,12 @@
 
 import re
 
+from readers import Refused
+
 WIDTH, HEIGHT = 760, 430
 LEFT, RIGHT, TOP, BOTTOM = 74, 176, 46, 54
-LINE = re.compile(r"(\d+) (\S+) (\S+) -> (\S+)(?: : .*)?")
+LINE = re.compile(r"(\d+) (R\d+|M\d+,\d+,\d+|K\d+|S\d+) (\S+) -> (\S+)(?: : \S+ : \S+)?")
+OPEN = re.compile(r"open (?:R\d+|M\d+,\d+,\d+|K\d+|S\d+) (\S+) <> (\S+)(?: : \S+ : \S+)?")
 SERIES = [("lines made", "#0072B2", ""), ("live", "#D55E00", ""), ("taken away, to come back", "#009E73", "6 4")]
 
 
@@ -13,10 +16,10 @@ def letters(word, number):
     return "" if word == "IdWord" else "".join(number.setdefault(it, chr(0x100 + len(number))) for it in word.split("*"))
 
 
-def course(text):
+def course(text, name):
     """For each line of the log how many lines are made, live, and taken away but not yet back; and whether a pair is open."""
     number, live, away, points = {}, {}, set(), [(0, 0, 0)]
-    origins = [found for found in map(LINE.fullmatch, text.split("\n")) if found]
+    origins, is_open = lines_of(text, name)
     back = {int(found[2][1:]) for found in origins if found[2][0] == "K"}
     for found in origins:
         line, origin, left = int(found[1]), found[2], letters(found[3], number)
@@ -31,7 +34,20 @@ def course(text):
                     away.add(other)
         live[line] = left
         points.append((line, len(live), len(away)))
-    return points, "\nopen " in text
+    return points, is_open
+
+
+def lines_of(text, name):
+    """The lines of the log of this name, and whether a pair is open."""
+    head, *rows = text.split("\n")
+    if head not in ("kblog 1", "kblog 2") or not rows or rows.pop():
+        raise Refused(f"{name}.kblog is no log: it begins with no line 'kblog 2', or doesn't end with a newline")
+    is_open = bool(rows) and bool(OPEN.fullmatch(rows[-1]))
+    lines = [LINE.fullmatch(row) for row in rows[: len(rows) - is_open]]
+    for at, found in enumerate(lines, 1):
+        if not found or int(found[1]) != at:
+            raise Refused(f"{name}.kblog is no log: its line {at + 1} isn't one of a log")
+    return lines, is_open
 
 
 def ticks(most):
@@ -43,7 +59,7 @@ def ticks(most):
 
 
 def course_picture(text, name):
-    points, is_open = course(text)
+    points, is_open = course(text, name)
     most = max(points[-1][0], 1)
     wide, high = WIDTH - LEFT - RIGHT, HEIGHT - TOP - BOTTOM
 
