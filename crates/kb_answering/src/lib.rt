@@ -25,5 +25,5 @@ mod storing;
 
 pub use answering::store_and_answer;
 pub use concludes::Concludes;
-pub use figures::figures_of;
+pub use figures::{figures_of, limit_of_log};
 pub use showing::show_limit;

@@ -14,7 +14,7 @@ use kb_answering::{Concludes, figures_of, show_limit, store_and_answer};
 use kb_book::Limits;
 use kb_io::{Gate, Shelf, Sink, Source};
 use kb_lines::Batches;
-use kb_progress::Progress;
+use kb_progress::{Progress, Stored};
 use kb_reduced::reduced_complete_systems_are_complete;
 use kb_system::complete_presentation;
 use kb_task::{Status, Task, load_presentation};
@@ -133,7 +133,7 @@ fn complete<T: Threads + Wait + Sync, G: Gate, E: Sink>(
     let limits = &task.limits;
     let workers = Workers::of(task.workers, gate);
     let ending = complete_presentation(rt, alloc, &presentation, limits, &workers, progress)?;
-    progress.ended(figures_of(&ending, limits));
+    progress.ended(figures_of(&ending, limits, Stored::System));
     Ok(conclusion_of(alloc, task, presentation, ending)?)
 }
 

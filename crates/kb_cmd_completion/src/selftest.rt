@@ -8,12 +8,12 @@ ghost use Rattle.kb_cmd_completion.specs.Given.{SelfTestGiven, limits_of};
 ghost use Rattle.kb_cmd_completion.specs.SelfTest.{IsCompletedReport, IsHaltedReport, IsReport, IsTooLargeReport};
 
 use crate::printing::{append, append_number};
-use kb_answering::figures_of;
+use kb_answering::limit_of_log;
 use kb_book::Limits;
 use kb_evidence::limit_reached;
 use kb_freeabelian::selftest_presentation;
 use kb_io::{Gate, Shelf, Sink, Source};
-use kb_progress::Progress;
+use kb_progress::{Evidence, Limit as ReachedLimit, Progress, Stored, Summary};
 use kb_proof::{Log, Version, print_log};
 use kb_system::{Ending, Halted, complete_presentation};
 use kb_task::{
@@ -125,6 +125,25 @@ fn completion_report<T: Threads + Wait + Sync, G: Gate, E: Sink>(
     let ending = complete_presentation(rt, alloc, &presentation, limits, workers, progress)?;
     progress.ended(figures_of(&ending, limits));
     report_on(alloc, rank, &presentation, ending)
+}
+
+/// The figures of an ending within limits, for the last line of a long run. No file is stored.
+fn figures_of(ending: &Ending, limits: &Limits) -> Summary {
+    match ending {
+        Ending::Completed { rules, acceptor } => Summary::Completed {
+            rules: rules.len(),
+            states: acceptor.len(),
+            stored: Stored::Nothing,
+        },
+        Ending::Halted(halted) => Summary::Limit {
+            limit: limit_of_log(halted, limits),
+            evidence: Evidence::Output,
+        },
+        Ending::TooLarge { .. } => Summary::Limit {
+            limit: ReachedLimit::AcceptorStates(limits.states),
+            evidence: Evidence::Nothing,
+        },
+    }
 }
 
 /// What is written about a completion that ended so.

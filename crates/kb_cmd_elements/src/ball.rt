@@ -15,7 +15,7 @@ use kb_answering::{Concludes, figures_of, show_limit};
 use kb_book::Limits;
 use kb_io::{Gate, Shelf, Sink, Source};
 use kb_listing::list_words;
-use kb_progress::Progress;
+use kb_progress::{Progress, Stored};
 use kb_reduced::reduced_complete_systems_are_complete;
 use kb_system::complete_presentation;
 use kb_task::{Status, Task, load_shortlex};
@@ -125,7 +125,7 @@ fn complete<T: Threads + Wait + Sync, G: Gate, E: Sink>(
     let limits = &task.limits;
     let workers = Workers::of(task.workers, gate);
     let ending = complete_presentation(rt, alloc, &presentation, limits, &workers, progress)?;
-    progress.ended(figures_of(&ending, limits));
+    progress.ended(figures_of(&ending, limits, Stored::Nothing));
     Ok(outcome_of(alloc, task, presentation, ending)?)
 }
 

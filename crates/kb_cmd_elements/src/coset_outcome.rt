@@ -15,7 +15,8 @@ ghost use Rattle.kb_cmd_elements.specs.Given.{KbcosGiven};
 ghost use Rattle.kb_cmd_elements.specs.Kbcos.{kbcos_limits};
 
 use crate::kbcos::Kbcos;
-use kb_book::Book;
+use kb_answering::limit_of_log;
+use kb_book::{Book, Limits};
 use kb_complete::{Outcome, complete_watched};
 use kb_coset::marked;
 use kb_cosetwords::CosetWords;
@@ -23,7 +24,7 @@ use kb_evidence::{Evidence, halted as evidence_of, rules_file};
 use kb_index::Index;
 use kb_io::{Gate, Sink};
 use kb_presprint::write as write_presentation;
-use kb_progress::Progress;
+use kb_progress::{Evidence as Shown, Progress, Summary};
 use kb_rules::{Reducer, Rules};
 use kb_system::halted;
 use kb_task::TextFile;
@@ -79,18 +80,21 @@ pub(crate) fn complete_cosets<T: Threads + Wait + Sync, G: Gate, E: Sink>(
         rt, alloc, &marking, limits, &workers, progress,
     )? {
         Outcome::Confluent(rules, _book) => {
+            progress.ended(Summary::Cosets { rules: rules.len() });
             told(alloc, &name, &marking, presentation, generators, &rules)
         }
-        Outcome::Halted(book) => shown(alloc, &name, &marking, book),
+        Outcome::Halted(book) => shown(alloc, &name, &marking, book, limits, progress),
     }
 }
 
 /// What shows that the completion of the marked presentation reached a limit.
-fn shown(
+fn shown<E: Sink>(
     alloc: Global,
     name: &OwnedText,
     marking: &Presentation,
     book: Book<Index>,
+    limits: &Limits,
+    progress: &mut Progress<'_, E>,
 ) -> Result<CosetOutcome, Memory>
     requires halted { IsHalted book.course }
     requires reduced { AreReduced book.course }
@@ -100,6 +104,10 @@ fn shown(
         → IfOk result (CosetsComeTo task cosets) }
 {
     let halt = halted(alloc, book)?;
+    progress.ended(Summary::Limit {
+        limit: limit_of_log(&halt, limits),
+        evidence: Shown::CosetRules,
+    });
     let evidence = evidence_of(alloc, marking, name, halt)?;
     Ok(CosetOutcome::Limit(evidence))
 }

@@ -11,7 +11,7 @@ use crate::finding::{Finding, show};
 use kb_book::Limits;
 use kb_io::{Shelf, Sink, Source};
 use kb_logged::{LoggedEnding, complete_with_log};
-use kb_progress::{Progress, Summary};
+use kb_progress::{Evidence, Limit, Progress, Stored, Summary};
 use kb_system::Reached;
 use kb_task::{Status, Task, load_presentation};
 use kb_word::{Memory, OwnedText, Presentation};
@@ -108,11 +108,20 @@ fn figures_of(ending: &LoggedEnding, limits: &Limits) -> Summary {
         } => Summary::Completed {
             rules: rules.len(),
             states: acceptor.len(),
+            stored: Stored::Certificate,
         },
-        LoggedEnding::Halted(halted) => match halted.reached {
-            Reached::Lines => Summary::Lines(limits.rules),
-            Reached::Letters => Summary::Letters(limits.len),
-        },
-        LoggedEnding::TooLarge { .. } => Summary::States(limits.states),
+        LoggedEnding::Halted(halted) => at_limit(match halted.reached {
+            Reached::Lines => Limit::Lines(limits.rules),
+            Reached::Letters => Limit::Letters(limits.len),
+        }),
+        LoggedEnding::TooLarge { .. } => at_limit(Limit::AcceptorStates(limits.states)),
+    }
+}
+
+/// The limit that was reached, and what shows that.
+fn at_limit(limit: Limit) -> Summary {
+    Summary::Limit {
+        limit,
+        evidence: Evidence::Rules,
     }
 }

@@ -4,10 +4,10 @@ ghost use Rattle.std.specs.Prelude.{IfOk};
 ghost use Rattle.kb_cmd_structures.specs.Findings.{IsFound};
 ghost use Rattle.kb_cmd_structures.specs.Loaded.{AreAutomataOver};
 
-use crate::figures::figures_of;
+use crate::figures::figures_of_check;
 use crate::finding::{Finding, finding_of};
 use crate::loading::Loaded;
-use kb_auto::{Checked, gpaxioms as check};
+use kb_auto::gpaxioms as check;
 use kb_book::Limits;
 use kb_io::{Gate, Sink};
 use kb_progress::Progress;
@@ -75,8 +75,6 @@ pub(crate) fn find<T: Threads + Wait + Sync, G: Gate, E: Sink>(
         &workers,
         progress,
     )?;
-    if let Checked::Halted(halted) = &checked {
-        progress.ended(figures_of(halted, limits));
-    }
+    progress.ended(figures_of_check(&checked, limits));
     finding_of(alloc, task, presentation, checked)
 }

@@ -1,15 +1,38 @@
 //! How a long run ended, in figures.
 
-use kb_auto::Autgroup as Answer;
+use kb_answering::limit_of_log;
+use kb_auto::{Autgroup as Answer, Checked};
 use kb_book::Limits;
-use kb_progress::{SearchLimit, Summary};
-use kb_system::{Halted, Reached};
+use kb_progress::{Evidence, Limit, Summary};
+use kb_task::Status;
 
-/// The limit that a completion reached, for the last line of a long run.
-pub(crate) fn figures_of(halted: &Halted, limits: &Limits) -> Summary {
-    match halted.reached {
-        Reached::Lines => Summary::Lines(limits.rules),
-        Reached::Letters => Summary::Letters(limits.len),
+/// What the check of automata came to, for the last line of a long run.
+pub(crate) fn figures_of_check(checked: &Checked, limits: &Limits) -> Summary {
+    match checked {
+        Checked::Yes => Summary::Own,
+        Checked::No(_) => Summary::NotOwn,
+        Checked::TooManyStates { .. } => too_many_states(limits),
+        Checked::Halted(halted) => Summary::Limit {
+            limit: limit_of_log(halted, limits),
+            evidence: Evidence::Rules,
+        },
+    }
+}
+
+/// What came of making the reduced complete system of a group's own automata, for the last line of a long run: yes, or
+/// a limit of states.
+pub(crate) fn figures_of_system(status: &Status, limits: &Limits) -> Summary {
+    match status {
+        Status::Yes => Summary::ReducedSystem,
+        _ => too_many_states(limits),
+    }
+}
+
+/// A construction would have more states than it may have. Nothing is stored.
+fn too_many_states(limits: &Limits) -> Summary {
+    Summary::Limit {
+        limit: Limit::States(limits.states),
+        evidence: Evidence::Nothing,
     }
 }
 
@@ -20,18 +43,16 @@ pub(crate) fn figures_of_search(answer: &Answer, limits: &Limits) -> Summary {
             states: structure.acceptor.len(),
             multipliers: structure.multipliers.len(),
         },
-        Answer::Halted { halted, .. } => Summary::Search(limit_of_log(halted, limits)),
-        Answer::TooManyDifferences { .. } => {
-            Summary::Search(SearchLimit::Differences(limits.diffs))
-        }
-        Answer::TooManyStates { .. } => Summary::Search(SearchLimit::States(limits.states)),
+        Answer::Halted { halted, .. } => at_limit(limit_of_log(halted, limits)),
+        Answer::TooManyDifferences { .. } => at_limit(Limit::Differences(limits.diffs)),
+        Answer::TooManyStates { .. } => at_limit(Limit::States(limits.states)),
     }
 }
 
-/// The limit of its log at which the completion of a search halted.
-fn limit_of_log(halted: &Halted, limits: &Limits) -> SearchLimit {
-    match halted.reached {
-        Reached::Lines => SearchLimit::Lines(limits.rules),
-        Reached::Letters => SearchLimit::Letters(limits.len),
+/// The limit that a search reached, and what shows that.
+fn at_limit(limit: Limit) -> Summary {
+    Summary::Limit {
+        limit,
+        evidence: Evidence::Differences,
     }
 }

@@ -9,6 +9,7 @@ ghost use Rattle.kb_cmd_structures.specs.Loaded.{AreAutomataOver};
 ghost use Rattle.kb_cmd_structures.specs.Systems.{IsSystemFound};
 
 use crate::automata_check::{AutomataCheck, find as find_structure};
+use crate::figures::figures_of_system;
 use crate::finding::{Finding, show};
 use crate::loading::{Loaded, load_structure};
 use crate::system::system_finding;
@@ -110,7 +111,11 @@ fn find<T: Threads + Wait + Sync, G: Gate, E: Sink>(
 {
     let finding = find_structure(rt, alloc, gate, task, loaded, progress)?;
     match finding.status {
-        Status::Yes => system_finding(alloc, task, loaded),
+        Status::Yes => {
+            let system = system_finding(alloc, task, loaded)?;
+            progress.ended(figures_of_system(&system.status, &task.limits));
+            Ok(system)
+        }
         _ => Ok(finding),
     }
 }

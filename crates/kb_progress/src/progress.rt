@@ -1,4 +1,4 @@
-//! Lines that show how far a completion has come, and a last one that says how it ended.
+//! Lines that show how far a completion has come, and a last one that says how the run ended.
 
 use crate::summary::{Summary, write_number};
 use kb_book::Book;
@@ -20,8 +20,8 @@ const ROUNDS: u64 = 10;
 /// Shows that a long completion lives: when its log has 1,000 lines, each time it has twice as many
 /// as the last time, and at every tenth version that is published after the first time. Of rounds of
 /// automata it shows the first after each growth of the rules, every tenth, and those whose automata
-/// break no axiom. A run that showed something ends with a line on how the completion ended. What
-/// fails in that is ignored.
+/// break no axiom. A run that showed something says at last, by one line, what it found and stored or
+/// which limit it reached; one that fails before that doesn't. What fails in that is ignored.
 #[derive(Drop)]
 pub struct Progress<'a, E: Sink> {
     err: &'a mut E,
@@ -37,12 +37,12 @@ pub struct Progress<'a, E: Sink> {
     growths: u64,
     /// Whether no round was made yet since the rules have grown.
     has_grown: bool,
-    /// How the completion ended, if it did.
+    /// How the run ended, if it did.
     summary: Option<Summary>,
 }
 
 impl<'a, E: Sink> Progress<'a, E> {
-    /// Shows it here, of the completion of this file, or of no file.
+    /// Shows it here, of the completion of what this file presents, or of no file's.
     pub fn on(err: &'a mut E, file: Option<&'a OwnedText>) -> Progress<'a, E> {
         Progress {
             err,
@@ -56,16 +56,20 @@ impl<'a, E: Sink> Progress<'a, E> {
         }
     }
 
-    /// Takes note of how the completion ended.
+    /// Takes note of how the run ended. What is said last counts.
     pub fn ended(&mut self, summary: Summary) {
         self.summary = Some(summary);
     }
 
-    /// Writes the last line of a run that showed something.
+    /// Writes the last line of a run that showed something. What it says to be stored is stored by then.
     pub fn finish(&mut self) {
+        let file = match self.file {
+            Some(file) => file.as_str(),
+            None => "",
+        };
         if self.next > FIRST || self.rounds > 0 {
             if let Some(summary) = self.summary {
-                let _ = summary.write(self.file, self.err);
+                let _ = summary.write(file, self.err);
             }
         }
     }

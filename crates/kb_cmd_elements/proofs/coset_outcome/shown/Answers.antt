@@ -20,7 +20,7 @@ limit_of_log Lines limit is states = cc
 limit_of_log Letters limit is states = cc
 
 pub returns : goal.returns
-returns c = λ given cosets same_name same_parts same_problem.
+returns g c = λ given cosets same_name same_parts same_problem.
     let halt = c.in_ok-halt.halt in
     let shown : Evidence = c.in_ok-evidence.evidence in
     let Are : PresentationParts → Type 0 =
