@@ -1,25 +1,25 @@
 -- The commands of the families are apart, and what is read of what was entered.
 use Rattle.std.proofs.Common.{◌≡◌, ◌∙◌, ℕ, List, Option, Some, option_map, sym, ap, arith}
 use Rattle.clap.specs.Words.{Row, Text}
-use Rattle.kb_task.specs.Arguments.{Entered, IsEntered}
+use Rattle.kb_commands.specs.Arguments.{Entered, IsEntered}
 use Rattle.kb_cmd_words.specs.Given.{Given}
-use Rattle.kb_cmd_words.specs.Line.{IsWordReduce}
-use Rattle.kb_cmd_words.proofs.LineLemmas.{one_wordreduce}
-use Rattle.kb_cmd_automata.specs.Line.{IsAutomataTask}
+use Rattle.kb_commands.specs.Words.{IsWordReduce}
+use Rattle.kb_commands.proofs.WordsLemmas.{one_wordreduce}
+use Rattle.kb_commands.specs.Automata.{IsAutomataTask}
 use Rattle.kb_cmd_automata.specs.declared.task.AutomataTask.{AutomataTask}
-use Rattle.kb_cmd_automata.proofs.LineLemmas.{one_automata_task}
-use Rattle.kb_cmd_completion.specs.Line.{IsCompletionTask}
+use Rattle.kb_commands.proofs.AutomataLemmas.{one_automata_task}
+use Rattle.kb_commands.specs.Completion.{IsCompletionTask}
 use Rattle.kb_cmd_completion.specs.declared.task.CompletionTask.{CompletionTask}
-use Rattle.kb_cmd_completion.proofs.LineLemmas.{one_completion_task}
-use Rattle.kb_cmd_elements.specs.Line.{IsElementsTask}
+use Rattle.kb_commands.proofs.CompletionLemmas.{one_completion_task}
+use Rattle.kb_commands.specs.Elements.{IsElementsTask}
 use Rattle.kb_cmd_elements.specs.declared.task.ElementsTask.{ElementsTask}
-use Rattle.kb_cmd_elements.proofs.LineLemmas.{one_elements_task}
-use Rattle.kb_cmd_structures.specs.Line.{IsStructuresTask}
+use Rattle.kb_commands.proofs.ElementsLemmas.{one_elements_task}
+use Rattle.kb_commands.specs.Structures.{IsStructuresTask}
 use Rattle.kb_cmd_structures.specs.declared.task.StructuresTask.{StructuresTask}
-use Rattle.kb_cmd_structures.proofs.LineLemmas.{one_structures_task}
-use Rattle.kb_cmd_proofs.specs.Line.{IsProofsTask}
+use Rattle.kb_commands.proofs.StructuresLemmas.{one_structures_task}
+use Rattle.kb_commands.specs.Proofs.{IsProofsTask}
 use Rattle.kb_cmd_proofs.specs.declared.task.ProofsTask.{ProofsTask}
-use Rattle.kb_cmd_proofs.proofs.LineLemmas.{one_proofs_task}
+use Rattle.kb_commands.proofs.ProofsLemmas.{one_proofs_task}
 use Rattle.kb_cli.proofs.NameLemmas.{command_name, family, family_by_name, family_named}
 use Rattle.kb_cli.specs.CommandLine.{IsCommand}
 use Rattle.kb_cli.specs.declared.command.Command.{Command}

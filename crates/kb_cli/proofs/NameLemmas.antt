@@ -2,7 +2,7 @@
 use Rattle.std.proofs.Common.{◌≡◌, ℕ, Bool, true, false, List, [], ◌∷◌, if◌then◌else◌, refl, codes}
 use Rattle.std.specs.Str.{bytes_eq}
 use Rattle.clap.specs.Words.{Text}
-use Rattle.kb_cmd_automata.specs.Line.{name_text as automata_text, name_of_task as automata_name}
+use Rattle.kb_commands.specs.Automata.{name_text as automata_text, name_of_task as automata_name}
 use Rattle.kb_cmd_automata.specs.declared.combine.Combination.{Combination}
 use Rattle.kb_cmd_automata.specs.declared.combine.Combination.TheVariants.{And, Or, Concat}
 use Rattle.kb_cmd_automata.specs.declared.combine.Combine.{Combine}
@@ -11,13 +11,13 @@ use Rattle.kb_cmd_automata.specs.declared.task.AutomataTask.TheVariants as autom
 use Rattle.kb_cmd_automata.specs.declared.transform.Transform.{Transform}
 use Rattle.kb_cmd_automata.specs.declared.transform.Transformation.{Transformation}
 use Rattle.kb_cmd_automata.specs.declared.transform.Transformation.TheVariants.{Not, Exists, Star, Reverse}
-use Rattle.kb_cmd_completion.specs.Line.{name_text as completion_text, name_of_task as completion_name}
+use Rattle.kb_commands.specs.Completion.{name_text as completion_text, name_of_task as completion_name}
 use Rattle.kb_cmd_completion.specs.declared.task.CompletionTask.TheVariants.{Kbprog, Logread, SelfTest}
-use Rattle.kb_cmd_elements.specs.Line.{name_text as elements_text, name_of_task as elements_name}
+use Rattle.kb_commands.specs.Elements.{name_text as elements_text, name_of_task as elements_name}
 use Rattle.kb_cmd_elements.specs.declared.task.ElementsTask.TheVariants.{Ball, Kbcos}
-use Rattle.kb_cmd_structures.specs.Line.{name_text as structures_text, name_of_task as structures_name}
+use Rattle.kb_commands.specs.Structures.{name_text as structures_text, name_of_task as structures_name}
 use Rattle.kb_cmd_structures.specs.declared.task.StructuresTask.TheVariants.{Autgroup, Gpaxioms, Gpminkb}
-use Rattle.kb_cmd_proofs.specs.Line.{name_text as proofs_text, name_of_task as proofs_name}
+use Rattle.kb_commands.specs.Proofs.{name_text as proofs_text, name_of_task as proofs_name}
 use Rattle.kb_cmd_proofs.specs.declared.task.ProofsTask.TheVariants.{Kbcertify, Kbverify}
 use Rattle.kb_cli.specs.declared.command.Command.{Command}
 use Rattle.kb_cli.specs.declared.command.Command.TheVariants.{WordReduce, Automata, Completion, Elements, Structures, Proofs}

@@ -3,13 +3,13 @@ use Rattle.std.specs.Prelude.{◌≡◌, true, List, [], ⊤, codes}
 use Rattle.clap.specs.Words.{App, Text, IsAmong, fault_of, new_app, subcommand_of}
 use Rattle.clap.specs.declared.error.kind.ErrorKind.{ErrorKind}
 use Rattle.clap.specs.declared.error.kind.ErrorKind.TheVariants.{ValueValidation}
-use Rattle.kb_task.specs.Arguments.{Entered}
-use Rattle.kb_cmd_words.specs.Line.{with_wordreduce, IsWordReduce}
-use Rattle.kb_cmd_automata.specs.Line.{with_automata, IsAutomataTask}
-use Rattle.kb_cmd_completion.specs.Line.{with_completions, IsCompletionTask}
-use Rattle.kb_cmd_elements.specs.Line.{with_elements, IsElementsTask}
-use Rattle.kb_cmd_structures.specs.Line.{with_structures, IsStructuresTask}
-use Rattle.kb_cmd_proofs.specs.Line.{with_proofs, IsProofsTask}
+use Rattle.kb_commands.specs.Arguments.{Entered}
+use Rattle.kb_commands.specs.Words.{with_wordreduce, IsWordReduce}
+use Rattle.kb_commands.specs.Automata.{with_automata, IsAutomataTask}
+use Rattle.kb_commands.specs.Completion.{with_completions, IsCompletionTask}
+use Rattle.kb_commands.specs.Elements.{with_elements, IsElementsTask}
+use Rattle.kb_commands.specs.Structures.{with_structures, IsStructuresTask}
+use Rattle.kb_commands.specs.Proofs.{with_proofs, IsProofsTask}
 use Rattle.kb_cli.specs.declared.arguments.UsageError.{UsageError}
 use Rattle.kb_cli.specs.declared.arguments.UsageError.TheVariants.{Usage, Memory}
 use Rattle.kb_cli.specs.declared.command.Command.{Command}

@@ -4,7 +4,7 @@
 
 ghost use Rattle.std.specs.Prelude.{◌≡◌, ◌≢◌, map, string_bytes, IfOk, IfErr};
 ghost use Rattle.clap.specs.Words.{kind_of, subcommand_rows_of};
-ghost use Rattle.kb_task.specs.Arguments.{ReadsAs};
+ghost use Rattle.kb_commands.specs.Arguments.{ReadsAs};
 ghost use Rattle.kb_cli.specs.CommandLine.{IsCommand, IsLine, Explains, IsUsageOf};
 
 use crate::command::Command;
@@ -70,22 +70,22 @@ pub fn read_arguments(alloc: Global, arguments: &[String]) -> Result<Command, Us
 fn entered_command(alloc: Global, matches: &ArgMatches<'_>) -> Result<Option<Command>, Memory>
     ensures { IfOk result (ReadsAs IsCommand (subcommand_rows_of matches.now)) }
 {
-    if let Some(task) = kb_cmd_words::entered_command(alloc, matches)? {
+    if let Some(task) = kb_commands::words::entered_command(alloc, matches)? {
         return Ok(Some(Command::WordReduce(task)));
     }
-    if let Some(task) = kb_cmd_automata::entered_command(alloc, matches)? {
+    if let Some(task) = kb_commands::automata::entered_command(alloc, matches)? {
         return Ok(Some(Command::Automata(task)));
     }
-    if let Some(task) = kb_cmd_completion::entered_command(alloc, matches)? {
+    if let Some(task) = kb_commands::completion::entered_command(alloc, matches)? {
         return Ok(Some(Command::Completion(task)));
     }
-    if let Some(task) = kb_cmd_elements::entered_command(alloc, matches)? {
+    if let Some(task) = kb_commands::elements::entered_command(alloc, matches)? {
         return Ok(Some(Command::Elements(task)));
     }
-    if let Some(task) = kb_cmd_structures::entered_command(alloc, matches)? {
+    if let Some(task) = kb_commands::structures::entered_command(alloc, matches)? {
         return Ok(Some(Command::Structures(task)));
     }
-    if let Some(task) = kb_cmd_proofs::entered_command(alloc, matches)? {
+    if let Some(task) = kb_commands::proofs::entered_command(alloc, matches)? {
         return Ok(Some(Command::Proofs(task)));
     }
     Ok(None)

@@ -14,7 +14,8 @@
 //!   command line, made of the families' parts, and `arguments` reads it.
 //! - `program` is [`run`], and `report` the messages to err, of which no clause speaks.
 //!
-//! Below are the families of commands and what they have in common, `kb_task`.
+//! Below are the families of commands, `kb_commands`, which says what the command line has of them, and `kb_task`, what
+//! they have in common.
 #![tactic(auto)]
 
 mod arguments;

@@ -11,12 +11,12 @@ pub(crate) fn program_line<'a>(alloc: Global) -> Result<clap::Command<'a>, Alloc
     ensures { IfOk result (λ command. app_of command ≡ line_app) }
 {
     let program = bare_program(alloc)?;
-    let program = kb_cmd_words::add_commands(alloc, program)?;
-    let program = kb_cmd_completion::add_commands(alloc, program)?;
-    let program = kb_cmd_structures::add_commands(alloc, program)?;
-    let program = kb_cmd_elements::add_commands(alloc, program)?;
-    let program = kb_cmd_proofs::add_commands(alloc, program)?;
-    kb_cmd_automata::add_commands(alloc, program)
+    let program = kb_commands::words::add_commands(alloc, program)?;
+    let program = kb_commands::completion::add_commands(alloc, program)?;
+    let program = kb_commands::structures::add_commands(alloc, program)?;
+    let program = kb_commands::elements::add_commands(alloc, program)?;
+    let program = kb_commands::proofs::add_commands(alloc, program)?;
+    kb_commands::automata::add_commands(alloc, program)
 }
 
 /// The program without commands.
@@ -44,22 +44,22 @@ pub(crate) fn command_line_of<'a>(
     name: &str,
 ) -> Result<clap::Command<'a>, AllocError> {
     let called = format!(in alloc; "kb {name}")?;
-    if let Some(command) = kb_cmd_words::command_named(alloc, name)? {
+    if let Some(command) = kb_commands::words::command_named(alloc, name)? {
         return command.bin_name(called.as_str());
     }
-    if let Some(command) = kb_cmd_automata::command_named(alloc, name)? {
+    if let Some(command) = kb_commands::automata::command_named(alloc, name)? {
         return command.bin_name(called.as_str());
     }
-    if let Some(command) = kb_cmd_completion::command_named(alloc, name)? {
+    if let Some(command) = kb_commands::completion::command_named(alloc, name)? {
         return command.bin_name(called.as_str());
     }
-    if let Some(command) = kb_cmd_elements::command_named(alloc, name)? {
+    if let Some(command) = kb_commands::elements::command_named(alloc, name)? {
         return command.bin_name(called.as_str());
     }
-    if let Some(command) = kb_cmd_structures::command_named(alloc, name)? {
+    if let Some(command) = kb_commands::structures::command_named(alloc, name)? {
         return command.bin_name(called.as_str());
     }
-    if let Some(command) = kb_cmd_proofs::command_named(alloc, name)? {
+    if let Some(command) = kb_commands::proofs::command_named(alloc, name)? {
         return command.bin_name(called.as_str());
     }
     program_line(alloc)

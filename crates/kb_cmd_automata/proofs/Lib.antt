@@ -1,4 +1,3 @@
 pub mod MakeLemmas
 pub mod PrintLemmas
-pub mod LineLemmas
 pub mod RunLemmas

@@ -8,4 +8,3 @@ pub mod Enumerate
 pub mod EnumerateLaws
 pub mod Tasks
 pub mod TaskLaws
-pub mod Line

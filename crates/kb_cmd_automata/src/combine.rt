@@ -32,15 +32,15 @@ pub enum Combination {
 #[derive(Drop)]
 pub struct Combine {
     /// What is made of them.
-    pub(crate) operation: Combination,
+    pub operation: Combination,
     /// The name of the first file.
-    pub(crate) one: OwnedText,
+    pub one: OwnedText,
     /// The name of the second file.
-    pub(crate) two: OwnedText,
+    pub two: OwnedText,
     /// The name under which the automaton is stored.
-    pub(crate) out: OwnedText,
+    pub out: OwnedText,
     /// The most states that the construction may have, 1 to 4,000,000.
-    pub(crate) max_states: u32,
+    pub max_states: u32,
 }
 
 impl Task for Combine {

@@ -21,11 +21,11 @@ use std::alloc::Global;
 #[derive(Drop)]
 pub struct Compare {
     /// The name of the first file.
-    pub(crate) one: OwnedText,
+    pub one: OwnedText,
     /// The name of the second file.
-    pub(crate) two: OwnedText,
+    pub two: OwnedText,
     /// The most states that the construction may have, 1 to 4,000,000.
-    pub(crate) max_states: u32,
+    pub max_states: u32,
 }
 
 impl Task for Compare {

@@ -10,11 +10,11 @@ use std::alloc::Global;
 #[derive(Drop)]
 pub struct Enumerate {
     /// The least length.
-    pub(crate) min: u16,
+    pub min: u16,
     /// The greatest length.
-    pub(crate) max: u16,
+    pub max: u16,
     /// The name of the file.
-    pub(crate) file: OwnedText,
+    pub file: OwnedText,
 }
 
 impl Task for Enumerate {

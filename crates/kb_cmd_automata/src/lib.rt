@@ -8,8 +8,7 @@
 //! settle which of these a run answers, and what status 0 writes and stores is one function of the command and its
 //! files.
 //!
-//! Each kind of command is a struct in a file of its own; `task` has the enum of all five kinds, and `line` is what
-//! the command line says of them.
+//! Each kind of command is a struct in a file of its own, and `task` has the enum of all five kinds.
 //!
 //! Below are the operations on automata, their files and their canonical form, `kb_listing`, which prints accepted
 //! words, and `kb_task`.
@@ -19,7 +18,6 @@ mod combine;
 mod compare;
 mod enumerate;
 mod files;
-mod line;
 mod minimise;
 mod task;
 mod transform;
@@ -27,7 +25,7 @@ mod transform;
 pub use combine::{Combination, Combine};
 pub use compare::Compare;
 pub use enumerate::Enumerate;
-pub use line::{add_commands, command_named, entered_command};
+pub use files::FileToOut;
 pub use minimise::Minimise;
 pub use task::AutomataTask;
 pub use transform::{Transform, Transformation};

@@ -9,7 +9,7 @@ use std::alloc::Global;
 #[derive(Drop)]
 pub struct Minimise {
     /// The names of the file, and of the one in which the automaton is stored.
-    pub(crate) files: FileToOut,
+    pub files: FileToOut,
 }
 
 impl Task for Minimise {

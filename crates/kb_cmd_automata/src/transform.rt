@@ -36,13 +36,13 @@ pub enum Transformation {
 #[derive(Drop)]
 pub struct Transform {
     /// What is made of it.
-    pub(crate) operation: Transformation,
+    pub operation: Transformation,
     /// The name of the file.
-    pub(crate) file: OwnedText,
+    pub file: OwnedText,
     /// The name under which the automaton is stored.
-    pub(crate) out: OwnedText,
+    pub out: OwnedText,
     /// The most states that the construction may have, 1 to 4,000,000.
-    pub(crate) max_states: u32,
+    pub max_states: u32,
 }
 
 impl Task for Transform {

@@ -10,4 +10,3 @@ pub mod SelfTest
 pub mod SelfTestLaws
 pub mod Tasks
 pub mod TaskLaws
-pub mod Line

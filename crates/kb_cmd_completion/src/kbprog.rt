@@ -29,13 +29,13 @@ use std::thread::Threads;
 #[derive(Drop)]
 pub struct Kbprog {
     /// The name of the file with the presentation.
-    pub(crate) file: OwnedText,
+    pub file: OwnedText,
     /// How many threads may work side by side.
-    pub(crate) workers: u32,
+    pub workers: u32,
     /// The limits of the completion.
-    pub(crate) limits: Limits,
+    pub limits: Limits,
     /// How many words are answered together.
-    pub(crate) batch: u32,
+    pub batch: u32,
 }
 
 impl Model for Kbprog {

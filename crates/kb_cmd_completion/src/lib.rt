@@ -10,7 +10,6 @@
 //! the course.
 //!
 //! - `kbprog`, `logread` and `selftest` are the commands, and `task` has the enum of all three.
-//! - `line` is what the command line says of them.
 //! - `files` makes the files of a completed presentation, and `conclusion` those or what shows a limit, by how a
 //!   completion ended.
 //! - `printing` appends the parts of lines.
@@ -24,14 +23,12 @@
 mod conclusion;
 mod files;
 mod kbprog;
-mod line;
 mod logread;
 mod printing;
 mod selftest;
 mod task;
 
 pub use kbprog::Kbprog;
-pub use line::{add_commands, command_named, entered_command};
 pub use logread::Logread;
 pub use selftest::SelfTest;
 pub use task::CompletionTask;

@@ -21,7 +21,7 @@ use std::marker::Model;
 #[derive(Drop)]
 pub struct Logread {
     /// The name of the file with the presentation.
-    pub(crate) file: OwnedText,
+    pub file: OwnedText,
 }
 
 impl Model for Logread {

@@ -32,11 +32,11 @@ use std::thread::Threads;
 #[derive(Drop)]
 pub struct SelfTest {
     /// The rank of the group.
-    pub(crate) rank: u16,
+    pub rank: u16,
     /// How many threads may work side by side.
-    pub(crate) workers: u32,
+    pub workers: u32,
     /// The limits of the completion.
-    pub(crate) limits: Limits,
+    pub limits: Limits,
 }
 
 impl Model for SelfTest {

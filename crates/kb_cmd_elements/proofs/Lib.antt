@@ -2,5 +2,4 @@ pub mod BallLemmas
 pub mod CosetRuns
 pub mod CosetsToldLemmas
 pub mod KbcosRuns
-pub mod LineLemmas
 pub mod RunLemmas

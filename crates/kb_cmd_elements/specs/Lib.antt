@@ -10,4 +10,3 @@ pub mod Kbcos
 pub mod KbcosLaws
 pub mod Tasks
 pub mod TaskLaws
-pub mod Line

@@ -30,13 +30,13 @@ use std::thread::Threads;
 #[derive(Drop)]
 pub struct Ball {
     /// The name of the file with the presentation.
-    pub(crate) file: OwnedText,
+    pub file: OwnedText,
     /// How many letters a word has at most.
-    pub(crate) radius: u16,
+    pub radius: u16,
     /// How many threads may work side by side.
-    pub(crate) workers: u32,
+    pub workers: u32,
     /// The limits of the completion.
-    pub(crate) limits: Limits,
+    pub limits: Limits,
 }
 
 impl Model for Ball {

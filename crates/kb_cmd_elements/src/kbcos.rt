@@ -30,11 +30,11 @@ use std::thread::Threads;
 #[derive(Drop)]
 pub struct Kbcos {
     /// The name of the file with the presentation of the group.
-    pub(crate) file: OwnedText,
+    pub file: OwnedText,
     /// How many threads may work side by side.
-    pub(crate) workers: u32,
+    pub workers: u32,
     /// The limits of the completion. No word acceptor is made, so that of its states is never reached.
-    pub(crate) limits: Limits,
+    pub limits: Limits,
 }
 
 impl Model for Kbcos {

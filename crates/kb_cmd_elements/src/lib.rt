@@ -13,7 +13,6 @@
 //!
 //! - `ball` and `kbcos` are the commands, `outcome` and `coset_outcome` what a completion came to, `coset_words`
 //!   answers with least words of cosets, and `task` has the enum of the family.
-//! - `line` is what the command line says of them.
 //!
 //! # Where the proofs are
 //!
@@ -23,7 +22,6 @@
 //!   files.
 //! - `proofs/CosetsToldLemmas.antt`: least words of cosets tell the cosets apart, by the laws of `kb_coset`.
 //! - `proofs/CosetRuns.antt`: rules that are stored, and word lines that are answered with least words of cosets.
-//! - `proofs/LineLemmas.antt`: the command line.
 //!
 //! Below are `kb_system` and `kb_complete`, which complete presentations, `kb_coset` and `kb_cosetwords`, which mark
 //! cosets and answer with their least words, `kb_listing`, which prints accepted words, `kb_progress`, which shows
@@ -34,11 +32,9 @@ mod ball;
 mod coset_outcome;
 mod coset_words;
 mod kbcos;
-mod line;
 mod outcome;
 mod task;
 
 pub use ball::Ball;
 pub use kbcos::Kbcos;
-pub use line::{add_commands, command_named, entered_command};
 pub use task::ElementsTask;

@@ -1,4 +1,3 @@
 pub mod KbverifyRuns
 pub mod ShowRuns
 pub mod CertifyLemmas
-pub mod LineLemmas

@@ -7,4 +7,3 @@ pub mod Kbcertify
 pub mod KbcertifyLaws
 pub mod Tasks
 pub mod TaskLaws
-pub mod Line

@@ -24,9 +24,9 @@ use std::thread::Threads;
 #[derive(Drop)]
 pub struct Kbcertify {
     /// The name of the file with the presentation.
-    pub(crate) file: OwnedText,
+    pub file: OwnedText,
     /// The limits of the completion.
-    pub(crate) limits: Limits,
+    pub limits: Limits,
 }
 
 impl Model for Kbcertify {

@@ -24,7 +24,7 @@ use std::marker::Model;
 #[derive(Drop)]
 pub struct Kbverify {
     /// The name of the file with the presentation.
-    pub(crate) file: OwnedText,
+    pub file: OwnedText,
 }
 
 impl Model for Kbverify {

@@ -9,7 +9,6 @@
 //! presentation settles the rules and the word acceptor that a yes stores, and not which log.
 //!
 //! - `kbverify` and `kbcertify` are the commands, and `task` has the enum of all commands.
-//! - `line` is what the command line says of them.
 //! - `certificate` makes the files of a completion whose log is kept, and `finding` stores and writes what is found.
 //!
 //! Below are `kb_proof`, which reads and checks logs, `kb_logged`, which completes and keeps the log, `kb_evidence`,
@@ -20,10 +19,8 @@ mod certificate;
 mod finding;
 mod kbcertify;
 mod kbverify;
-mod line;
 mod task;
 
 pub use kbcertify::Kbcertify;
 pub use kbverify::Kbverify;
-pub use line::{add_commands, command_named, entered_command};
 pub use task::ProofsTask;

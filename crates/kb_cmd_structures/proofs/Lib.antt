@@ -1,6 +1,5 @@
 pub mod RunLemmas
 pub mod FoundLemmas
-pub mod LineLemmas
 pub mod LoadRuns
 pub mod FindingLemmas
 pub mod AutgroupNames

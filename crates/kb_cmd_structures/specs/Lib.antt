@@ -28,4 +28,3 @@ pub mod GpminkbLaws
 pub mod Systems
 pub mod Tasks
 pub mod TaskLaws
-pub mod Line

@@ -22,11 +22,11 @@ use std::thread::Threads;
 #[derive(Drop)]
 pub struct AutomataCheck {
     /// The name of the file with the group.
-    pub(crate) file: OwnedText,
+    pub file: OwnedText,
     /// How many threads may work side by side.
-    pub(crate) workers: u32,
+    pub workers: u32,
     /// The limits of the completion, and of the constructions.
-    pub(crate) limits: Limits,
+    pub limits: Limits,
 }
 
 impl Model for AutomataCheck {

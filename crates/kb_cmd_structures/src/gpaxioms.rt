@@ -24,9 +24,9 @@ use std::thread::Threads;
 #[derive(Drop)]
 pub struct Gpaxioms {
     /// The check whether they are.
-    pub(crate) check: AutomataCheck,
+    pub check: AutomataCheck,
     /// Whether the lines of the group's log decide it, and no completion.
-    pub(crate) by_log: bool,
+    pub by_log: bool,
 }
 
 impl Model for Gpaxioms {

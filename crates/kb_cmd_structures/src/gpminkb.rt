@@ -26,7 +26,7 @@ use std::thread::Threads;
 #[derive(Drop)]
 pub struct Gpminkb {
     /// The check whether they are.
-    pub(crate) check: AutomataCheck,
+    pub check: AutomataCheck,
 }
 
 impl Model for Gpminkb {

@@ -50,7 +50,6 @@
 //! - `system` makes the reduced complete system of a group's own structure.
 //! - `specs/Shown.antt` and `specs/ShownLaws.antt` have what a run means that loads automata and shows what is found of
 //!   them, and its laws, for `gpaxioms` and `gpminkb`.
-//! - `line` is what the command line says of the commands.
 //!
 //! Below are `kb_auto`, which searches and decides, `kb_bylog` with the lines of a log, `kb_answering`, which stores
 //! and answers, `kb_evidence`, with what shows a limit, `kb_diffprint`, which prints word differences, `kb_reduce`
@@ -68,7 +67,6 @@ mod figures;
 mod finding;
 mod gpaxioms;
 mod gpminkb;
-mod line;
 mod loading;
 mod logged;
 mod system;
@@ -76,7 +74,7 @@ mod task;
 mod unresolved;
 
 pub use autgroup::Autgroup;
+pub use automata_check::AutomataCheck;
 pub use gpaxioms::Gpaxioms;
 pub use gpminkb::Gpminkb;
-pub use line::{add_commands, command_named, entered_command};
 pub use task::StructuresTask;

@@ -1,4 +1,3 @@
-pub mod LineLemmas
 pub mod LogLemmas
 pub mod LogRuns
 pub mod OrientLemmas

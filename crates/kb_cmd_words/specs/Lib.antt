@@ -10,4 +10,3 @@ pub mod ByRelationsLaws
 pub mod LogLineLaws
 pub mod ByLogLaws
 pub mod WordReduceLaws
-pub mod Line

@@ -8,7 +8,7 @@
 //! (`Decides` of `specs/LogLines.antt`). Then it answers each word line with the normal form of its word, which is
 //! the least word that the relations make congruent to it; or it prints what shows that the rules don't decide.
 //!
-//! - `word_reduce` is the command, `run` a run of it, and `line` the command on the command line.
+//! - `word_reduce` is the command, and `run` a run of it.
 //! - `orienting` orients the relations.
 //! - `by_log` answers by the lines of a log. `joining` looks for a relation that doesn't follow from them;
 //!   `objection` is what stands against a log, with its line.
@@ -22,7 +22,6 @@
 mod by_log;
 mod joining;
 mod laws;
-mod line;
 mod objection;
 mod orienting;
 mod run;
@@ -32,7 +31,6 @@ pub use laws::{
     lines_generate_the_congruence, lines_that_decide_give_least_words,
     no_presentation_is_confluent_and_not, the_lines_of_a_log_have_one_answer,
 };
-pub use line::{add_commands, command_named, entered_command};
 pub use objection::Objection;
 pub use orienting::{
     oriented, oriented_relations_are_one_list, oriented_relations_keep_the_congruence,

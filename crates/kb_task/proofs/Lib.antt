@@ -1,4 +1,3 @@
-pub mod ArgumentLemmas
 pub mod EffectLemmas
 pub mod EquationLemmas
 mod DerivationLemmas

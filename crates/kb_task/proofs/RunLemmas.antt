@@ -1,5 +1,5 @@
--- Runs that go on from a later moment of the outside.
-use Rattle.std.proofs.Common.{◌∙◌, ℕ, List, refl, arith}
+-- Runs that go on from a later moment of the outside, and what follows for the value of a result.
+use Rattle.std.proofs.Common.{◌∙◌, ℕ, List, Result, Ok, Err, IfOk, refl, arith}
 use Rattle.kb_io.specs.Outside.{Outside, outside, IsTold, GoesOn, IsUnchanged}
 use Rattle.kb_io.specs.States.{ShelfState, SourceState, SinkState, SinkGoesOn}
 use Rattle.kb_task.specs.Loads.{OnlyLoads}
@@ -114,3 +114,9 @@ run-prints shelf input before after status goes_on fault means = record {
   };
   files = λ name may_not. refl;
 }
+
+module _ {X E : Type 0} {P Q : X → Type 0} where
+  -- what holds of the value of a result has what follows from it
+  pub if_ok : (result : Result X E) → IfOk result P → ((x : X) → P x → Q x) → IfOk result Q
+  if_ok (Ok x) holds then_so = then_so x holds
+  if_ok (Err e) holds then_so = tt

@@ -15,6 +15,5 @@ pub mod Stores
 pub mod Limits
 pub mod Reasons
 pub mod Lines
-pub mod Arguments
 pub mod Stops
 pub mod Subgroups

@@ -1,5 +1,5 @@
-//! What commands have in common: the trait `Task` of a command, how a run ends, and what commands load, store,
-//! print and take from the command line.
+//! What commands have in common: the trait `Task` of a command, how a run ends, and what commands load, store and
+//! print.
 //!
 //! The public contract is that of [`Task`]. A command is a value that runs over the outside once, and keeps its
 //! `promise`: what each status of a run means, what it may store, the files that it reads, the first of them that has a
@@ -22,12 +22,10 @@
 //!   [`files_are_refused_for_one_reason`] for none where it holds what is needed. `storing` stores
 //!   files, and an automaton in its canonical form; `lines` prints the line of an answer, and `stopping` is how a run
 //!   ends where the word lines stop.
-//! - `arguments` is what commands take of the command line in the same way.
 //!
 //! Below are the readers and printers of files and the canonical form of automata.
 #![tactic(auto)]
 
-mod arguments;
 mod laws;
 mod lines;
 mod loading;
@@ -36,10 +34,6 @@ mod stopping;
 mod storing;
 mod task;
 
-pub use arguments::{
-    NumberOption, flag_given, flag_option, length_argument, length_given, needed_argument,
-    number_given, number_option, option_given, text_given,
-};
 pub use laws::{
     a_group_is_refused_for_one_reason, a_log_is_refused_for_one_reason,
     a_presentation_is_refused_for_one_reason, a_second_automaton_is_refused_for_one_reason,

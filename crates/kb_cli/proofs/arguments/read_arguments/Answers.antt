@@ -1,7 +1,7 @@
 use Rattle.std.proofs.Common.{refl, map, subst, string_bytes}
 use Rattle.clap.specs.Words.{app_of, subcommand_rows_of}
 use Rattle.clap.specs.declared.error.kind.ErrorKind.TheVariants.{ValueValidation}
-use Rattle.kb_task.specs.Arguments.{ReadsAs}
+use Rattle.kb_commands.specs.Arguments.{ReadsAs}
 use Rattle.kb_cli.specs.CommandLine.{IsCommand, no_number}
 use Rattle.kb_cli.specs.declared.command.Command.{Command}
 use Rattle.kb_cli.proofs.LineLemmas.{refused, explained, faultless_line, entered_line}

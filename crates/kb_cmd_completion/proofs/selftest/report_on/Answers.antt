@@ -1,6 +1,6 @@
 use Rattle.std.proofs.Common.{ap}
 use Rattle.kb_word.specs.Presentations.{PresentationParts}
-use Rattle.kb_task.proofs.ArgumentLemmas.{if_ok}
+use Rattle.kb_task.proofs.RunLemmas.{if_ok}
 use Rattle.kb_cmd_completion.proofs.SelfTestRuns.{report-completed, report-halted, report-too_large}
 use Rattle.kb_cmd_completion.proofs.selftest.report_on.Goals as goal
 

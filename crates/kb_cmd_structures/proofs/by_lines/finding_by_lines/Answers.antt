@@ -1,5 +1,5 @@
 use Rattle.std.proofs.Common.{ap}
-use Rattle.kb_task.proofs.ArgumentLemmas.{if_ok}
+use Rattle.kb_task.proofs.RunLemmas.{if_ok}
 use Rattle.kb_cmd_structures.specs.Given.{CheckGiven}
 use Rattle.kb_cmd_structures.proofs.LinesLemmas.{lines-own, lines-refuted, lines-too_many, lines-unresolved}
 use Rattle.kb_cmd_structures.proofs.by_lines.finding_by_lines.Goals as goal

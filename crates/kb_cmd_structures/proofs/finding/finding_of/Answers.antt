@@ -1,6 +1,6 @@
 use Rattle.std.proofs.Common.{ap}
 use Rattle.kb_cmd_structures.specs.Given.{CheckGiven}
-use Rattle.kb_task.proofs.ArgumentLemmas.{if_ok}
+use Rattle.kb_task.proofs.RunLemmas.{if_ok}
 use Rattle.kb_cmd_structures.proofs.FindingLemmas.{found-own, found-refuted, found-too_many, found-unsettled}
 use Rattle.kb_cmd_structures.proofs.finding.finding_of.Goals as goal
 

@@ -1,7 +1,7 @@
 use Rattle.std.proofs.Common.{◌≡◌, ℕ, List, sym, ap, subst}
 use Rattle.kb_fsa.specs.Language.{Automaton}
 use Rattle.kb_structure.specs.StructureOf.{FitTogether}
-use Rattle.kb_task.proofs.ArgumentLemmas.{if_ok}
+use Rattle.kb_task.proofs.RunLemmas.{if_ok}
 use Rattle.kb_cmd_structures.specs.CanonicalForms.{AreCanonicalForms, IsCanonicalForm}
 use Rattle.kb_cmd_structures.specs.Given.{CheckGiven}
 use Rattle.kb_cmd_structures.specs.Gpminkb.{AreOwnForms}

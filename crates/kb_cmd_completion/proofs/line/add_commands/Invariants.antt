@@ -1,8 +1,0 @@
-use Rattle.std.proofs.Common.{◌≡◌, drop}
-use Rattle.clap.specs.Words.{app_of}
-use Rattle.kb_cmd_completion.specs.Line.{all_names, with_completions, with_commands}
-use Rattle.kb_cmd_completion.proofs.line.add_commands.Given as goal
-
--- the commands that are still to be added make the program whole
-abbrev pub invariant-loop-name : goal.invariant-loop-name
-invariant-loop-name l = with_commands (app_of l.program) (drop l.name-index all_names) ≡ with_completions (app_of l.fn.program)

@@ -1,9 +1,0 @@
-use Rattle.std.proofs.Common.{rules, ◌≡◌, None}
-use Rattle.clap.specs.Words.{found_of, rows_of}
-use Rattle.kb_cmd_proofs.proofs.LineLemmas.{no_limits}
-use Rattle.kb_cmd_proofs.proofs.line.reading.kbcertify_given.Goals as goal
-
-pub returns-in_default-limits_given : goal.returns-in_default-limits_given
-returns-in_default-limits_given c =
-    let none : c.limits_given.result ≡ None = search rules in
-    no_limits (rows_of (found_of c.args.matches.now)) (c.limits_given.ensures.none none)
