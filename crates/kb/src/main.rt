@@ -6,8 +6,7 @@
 //! Below are `kb_cli` and `kb_io`.
 #![tactic(auto)]
 
-use clap::error::ErrorKind;
-use kb_cli::{Status, run};
+use kb_cli::{ErrorKind, Status, run};
 use kb_io::{FileShelf, OpenGate, StdErr, StdIn, StdOut, write_all};
 use std::alloc::AllocError;
 use std::process::ExitCode;

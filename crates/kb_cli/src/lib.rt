@@ -26,6 +26,7 @@ mod program_line;
 mod report;
 
 pub use arguments::{UsageError, read_arguments};
+pub use clap::error::ErrorKind;
 pub use command::Command;
 pub use kb_task::Status;
 pub use laws::{
