@@ -33,6 +33,14 @@ pub fn needed_argument<'a>(
         .help(help)
 }
 
+/// The argument that names the file of a presentation.
+pub fn presentation_argument<'a>(alloc: Global) -> Arg<'a>
+    ensures rule { rule_of result ≡ needed_rule (codes "file") }
+    ensures local { result.global ≡ false }
+{
+    needed_argument(alloc, "file", "FILE", "A presentation file (GAP record)")
+}
+
 /// An argument that is a length of words, 0 to 65,535.
 pub fn length_argument<'a>(
     alloc: Global,

@@ -13,6 +13,7 @@
 //!
 //! - In a family of several commands `name` has their names and their help, `definition` what they take, and `reading`
 //!   the commands that arguments give.
+//! - `label` has how a command is called and what its help says.
 //! - `arguments` has the arguments and options that commands take in the same way, and what is given for them.
 //! - `limits` has the options of a completion: its workers and its limits.
 //! - `proofs/ArgumentLemmas.antt`: what is given under a name, and a program with one more subcommand.
@@ -27,6 +28,7 @@ mod arguments;
 pub mod automata;
 pub mod completion;
 pub mod elements;
+mod label;
 mod limits;
 pub mod proofs;
 pub mod structures;

@@ -1,14 +1,15 @@
 //! What the commands take, as `clap` is told.
 
 ghost use Rattle.std.specs.Prelude.{◌≡◌, IfOk, codes, false};
-ghost use Rattle.clap.specs.Words.{app_of, new_app, rule_of};
+ghost use Rattle.clap.specs.Words.{app_of, rule_of};
 ghost use Rattle.clap.specs.declared.builder.command.Command.TheViews.{out-Command as fields_of};
 ghost use Rattle.kb_commands.specs.Arguments.{needed_rule};
-ghost use Rattle.kb_commands.specs.Automata.{command_app, name_text};
+ghost use Rattle.kb_commands.specs.Automata.{command_app};
 ghost use Rattle.kb_commands.specs.declared.automata.name.Name.TheVariants as names;
 
 use super::name::{Name, Unlimited};
 use crate::arguments::{NumberOption, length_argument, needed_argument, number_option};
+use crate::label::labelled;
 use clap::{Arg, Command};
 use kb_cmd_automata::{Combination, Transformation};
 use std::alloc::{AllocError, Global};
@@ -32,7 +33,7 @@ fn combine_definition<'a>(alloc: Global, operation: Combination) -> Result<Comma
     ensures app { IfOk result (λ command. app_of command ≡ command_app (names.Combine operation)) }
     ensures local { IfOk result (λ command. (fields_of command).has_globals ≡ false) }
 {
-    labelled(alloc, Name::Combine(operation))
+    labelled(alloc, Name::Combine(operation).label())
         .arg(first_argument(alloc))?
         .arg(second_argument(alloc))?
         .arg(out_argument(alloc))?
@@ -48,7 +49,7 @@ fn transform_definition<'a>(
         (λ command. app_of command ≡ command_app (names.Transform operation)) }
     ensures local { IfOk result (λ command. (fields_of command).has_globals ≡ false) }
 {
-    labelled(alloc, Name::Transform(operation))
+    labelled(alloc, Name::Transform(operation).label())
         .arg(first_argument(alloc))?
         .arg(out_argument(alloc))?
         .arg(number_option(alloc, NumberOption::MaxStates))
@@ -59,7 +60,7 @@ fn unlimited_definition<'a>(alloc: Global, command: Unlimited) -> Result<Command
     ensures app { IfOk result (λ added. app_of added ≡ command_app (names.Unlimited command)) }
     ensures local { IfOk result (λ added. (fields_of added).has_globals ≡ false) }
 {
-    labelled(alloc, Name::Unlimited(command))
+    labelled(alloc, Name::Unlimited(command).label())
         .arg(first_argument(alloc))?
         .arg(out_argument(alloc))
 }
@@ -69,7 +70,7 @@ fn compare_definition<'a>(alloc: Global) -> Result<Command<'a>, AllocError>
     ensures app { IfOk result (λ command. app_of command ≡ command_app names.Compare) }
     ensures local { IfOk result (λ command. (fields_of command).has_globals ≡ false) }
 {
-    labelled(alloc, Name::Compare)
+    labelled(alloc, Name::Compare.label())
         .arg(first_argument(alloc))?
         .arg(second_argument(alloc))?
         .arg(number_option(alloc, NumberOption::MaxStates))
@@ -80,21 +81,10 @@ fn enumerate_definition<'a>(alloc: Global) -> Result<Command<'a>, AllocError>
     ensures app { IfOk result (λ command. app_of command ≡ command_app names.Enumerate) }
     ensures local { IfOk result (λ command. (fields_of command).has_globals ≡ false) }
 {
-    labelled(alloc, Name::Enumerate)
+    labelled(alloc, Name::Enumerate.label())
         .arg(length_argument(alloc, "min", "MIN", "The least length, 0 to 65535"))?
         .arg(length_argument(alloc, "max", "MAX", "The greatest length, 0 to 65535"))?
         .arg(first_argument(alloc))
-}
-
-/// A command with its name and its help, which takes nothing yet.
-fn labelled<'a>(alloc: Global, name: Name) -> Command<'a>
-    ensures app { app_of result ≡ new_app (name_text name) }
-    ensures local { (fields_of result).has_globals ≡ false }
-{
-    let label = name.label();
-    Command::new(alloc, label.text)
-        .about(label.about)
-        .after_help(label.after_help)
 }
 
 /// The argument that names the file of an automaton, the first where there are two.

@@ -5,6 +5,7 @@ ghost use Rattle.kb_commands.specs.Automata.{name_text};
 ghost use Rattle.kb_commands.specs.declared.automata.name.Name.TheVariants as names;
 
 use crate::arguments::help_end;
+use crate::label::Label;
 use kb_cmd_automata::{Combination, Transformation};
 
 /// The end of the help of a command that stores an automaton.
@@ -47,17 +48,6 @@ pub(crate) enum Name {
 pub(crate) enum Unlimited {
     /// `fsamin`
     Minimise,
-}
-
-/// What a command is called, and its help.
-#[derive(Clone, Copy)]
-pub(crate) struct Label<'a> {
-    /// Its name on the command line.
-    pub text: &'a str,
-    /// What it does.
-    pub about: &'a str,
-    /// What its help says at the end.
-    pub after_help: &'a str,
 }
 
 /// The commands, in the order in which the program lists them.

@@ -1,14 +1,14 @@
 //! What the commands take, as `clap` is told.
 
-ghost use Rattle.std.specs.Prelude.{◌≡◌, IfOk, codes, false};
-ghost use Rattle.clap.specs.Words.{app_of, new_app, rule_of};
+ghost use Rattle.std.specs.Prelude.{◌≡◌, IfOk, false};
+ghost use Rattle.clap.specs.Words.{app_of, rule_of};
 ghost use Rattle.clap.specs.declared.builder.command.Command.TheViews.{out-Command as fields_of};
-ghost use Rattle.kb_commands.specs.Arguments.{needed_rule};
-ghost use Rattle.kb_commands.specs.Completion.{command_app, name_text, rank_rule};
+ghost use Rattle.kb_commands.specs.Completion.{command_app, rank_rule};
 ghost use Rattle.kb_commands.specs.declared.completion.name.Name.TheVariants as names;
 
 use super::name::Name;
-use crate::arguments::{NumberOption, needed_argument, number_option};
+use crate::arguments::{NumberOption, needed_argument, number_option, presentation_argument};
+use crate::label::labelled;
 use crate::limits::with_limits;
 use clap::{Arg, Command, value_parser};
 use std::alloc::{AllocError, Global};
@@ -35,7 +35,7 @@ fn kbprog_definition<'a>(alloc: Global) -> Result<Command<'a>, AllocError>
 {
     with_limits(
         alloc,
-        labelled(alloc, Name::Kbprog).arg(file_argument(alloc))?,
+        labelled(alloc, Name::Kbprog.label()).arg(presentation_argument(alloc))?,
     )?
     .arg(number_option(alloc, NumberOption::Batch))
 }
@@ -45,7 +45,7 @@ fn logread_definition<'a>(alloc: Global) -> Result<Command<'a>, AllocError>
     ensures app { IfOk result (λ command. app_of command ≡ command_app names.Logread) }
     ensures local { IfOk result (λ command. (fields_of command).has_globals ≡ false) }
 {
-    labelled(alloc, Name::Logread).arg(file_argument(alloc))
+    labelled(alloc, Name::Logread.label()).arg(presentation_argument(alloc))
 }
 
 /// `selftest N`.
@@ -55,29 +55,10 @@ fn selftest_definition<'a>(alloc: Global) -> Result<Command<'a>, AllocError>
 {
     with_limits(
         alloc,
-        labelled(alloc, Name::SelfTest)
+        labelled(alloc, Name::SelfTest.label())
             .display_order(SELFTEST_PLACE)
             .arg(rank_argument(alloc))?,
     )
-}
-
-/// A command with its name and its help, which takes nothing yet.
-fn labelled<'a>(alloc: Global, name: Name) -> Command<'a>
-    ensures app { app_of result ≡ new_app (name_text name) }
-    ensures local { (fields_of result).has_globals ≡ false }
-{
-    let label = name.label();
-    Command::new(alloc, label.text)
-        .about(label.about)
-        .after_help(label.after_help)
-}
-
-/// The argument that names the file of a presentation.
-fn file_argument<'a>(alloc: Global) -> Arg<'a>
-    ensures rule { rule_of result ≡ needed_rule (codes "file") }
-    ensures local { result.global ≡ false }
-{
-    needed_argument(alloc, "file", "FILE", "A presentation file (GAP record)")
 }
 
 /// The argument that is the rank of a free abelian group.

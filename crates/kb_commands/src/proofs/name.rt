@@ -4,6 +4,7 @@ ghost use Rattle.std.specs.Prelude.{◌≡◌, ◌≢◌, IfSome, None};
 ghost use Rattle.kb_commands.specs.Proofs.{name_text};
 
 use crate::arguments::help_end;
+use crate::label::Label;
 
 /// A command about proofs, without its arguments.
 #[derive(Clone, Copy)]
@@ -12,17 +13,6 @@ pub(crate) enum Name {
     Kbverify,
     /// `kbcertify`
     Kbcertify,
-}
-
-/// What a command is called, and its help.
-#[derive(Clone, Copy)]
-pub(crate) struct Label<'a> {
-    /// Its name on the command line.
-    pub text: &'a str,
-    /// What it does.
-    pub about: &'a str,
-    /// What its help says at the end.
-    pub after_help: &'a str,
 }
 
 /// The commands, in the order in which the program lists them.

@@ -1,14 +1,15 @@
 //! What the commands take, as `clap` is told.
 
 ghost use Rattle.std.specs.Prelude.{◌≡◌, IfOk, codes, false};
-ghost use Rattle.clap.specs.Words.{app_of, new_app, rule_of};
+ghost use Rattle.clap.specs.Words.{app_of, rule_of};
 ghost use Rattle.clap.specs.declared.builder.command.Command.TheViews.{out-Command as fields_of};
 ghost use Rattle.kb_commands.specs.Arguments.{flag_rule, needed_rule};
-ghost use Rattle.kb_commands.specs.Structures.{command_app, name_text};
+ghost use Rattle.kb_commands.specs.Structures.{command_app};
 ghost use Rattle.kb_commands.specs.declared.structures.name.Name.TheVariants as names;
 
 use super::name::Name;
 use crate::arguments::{NumberOption, flag_option, needed_argument, number_option};
+use crate::label::labelled;
 use crate::limits::{with_all_limits, with_limits};
 use clap::{Arg, Command};
 use std::alloc::{AllocError, Global};
@@ -32,7 +33,7 @@ fn autgroup_definition<'a>(alloc: Global) -> Result<Command<'a>, AllocError>
 {
     with_all_limits(
         alloc,
-        labelled(alloc, Name::Autgroup).arg(file_argument(alloc))?,
+        labelled(alloc, Name::Autgroup.label()).arg(file_argument(alloc))?,
     )?
     .arg(number_option(alloc, NumberOption::Batch))
 }
@@ -44,7 +45,7 @@ fn gpaxioms_definition<'a>(alloc: Global) -> Result<Command<'a>, AllocError>
 {
     with_limits(
         alloc,
-        labelled(alloc, Name::Gpaxioms).arg(file_argument(alloc))?,
+        labelled(alloc, Name::Gpaxioms.label()).arg(file_argument(alloc))?,
     )?
     .arg(log_option(alloc))
 }
@@ -56,19 +57,8 @@ fn gpminkb_definition<'a>(alloc: Global) -> Result<Command<'a>, AllocError>
 {
     with_limits(
         alloc,
-        labelled(alloc, Name::Gpminkb).arg(file_argument(alloc))?,
+        labelled(alloc, Name::Gpminkb.label()).arg(file_argument(alloc))?,
     )
-}
-
-/// A command with its name and its help, which takes nothing yet.
-fn labelled<'a>(alloc: Global, name: Name) -> Command<'a>
-    ensures app { app_of result ≡ new_app (name_text name) }
-    ensures local { (fields_of result).has_globals ≡ false }
-{
-    let label = name.label();
-    Command::new(alloc, label.text)
-        .about(label.about)
-        .after_help(label.after_help)
 }
 
 /// The argument that names the file of a group.
