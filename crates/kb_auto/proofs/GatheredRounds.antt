@@ -1,12 +1,11 @@
 -- What is gathered of rules and of failed rounds, round after round.
-use Rattle.std.proofs.Common.{◌≡◌, ◌≢◌, ◌↔◌, ℕ, List, [], ◌∷◌, ◌++◌, None, refl, sym, ap, ◌∙◌, subst}
+use Rattle.std.proofs.Common.{◌≡◌, ◌≢◌, ◌↔◌, ◌⊎◌, inl, inr, ℕ, List, [], ◌∷◌, ◌++◌, None, refl, sym, ap, ◌∙◌, subst}
 use Rattle.std.specs.Prelude.{map}
-use Rattle.kb_word.specs.Words.{Pair, OneOf}
+use Rattle.kb_word.specs.Words.{OneOf}
 use Rattle.kb_word.specs.Rewriting.{IsIrreducible}
-use Rattle.kb_word.specs.declared.presentation.Presentation.{Presentation}
 use Rattle.kb_diff.specs.Differences.{HaveDifferences}
 use Rattle.kb_diff.specs.Groups.{AreRulesOver, Group, group_of}
-use Rattle.kb_diff.specs.Keeping.{Adds, AddsPairs, IsFull}
+use Rattle.kb_diff.specs.Keeping.{AddsPairs, IsFull}
 use Rattle.kb_diff.specs.declared.grow.Grow.{Grow}
 use Rattle.kb_diff.specs.declared.grow.Grow.TheVariants.{Full, Grew}
 use Rattle.kb_diff.proofs.PathLemmas.{adds_by}
@@ -18,6 +17,7 @@ use Rattle.kb_auto.specs.Autgroup.{IsShort}
 use Rattle.kb_auto.specs.Kept.{AddsEquality, IsKept, IsEqualityOfRound, KeepsRounds, KeepsRules, NeedsMore, Tried, of_round, one_more}
 use Rattle.kb_auto.specs.Trials.{AddsRound, BringsNothing, Gathers, LacksRoom}
 use Rattle.kb_auto.specs.declared.gathering.Gathered.{Gathered}
+use Rattle.kb_auto.proofs.EqualitiesOver.{IsEqualityOver, equality_is_over}
 use Rattle.kb_auto.proofs.KeptEqualities.{is_kept, is_short, kept_pairs, needed_pairs, needs_over, rounds_over, rules_full, rules_grew}
 
 abbrev Words : Type 0
@@ -93,6 +93,13 @@ module _ (tried : Tried) where
         → HaveDifferences it before.differences.words equality.u equality.v in
         subst P gathers.group nothing
 
+    -- its words are over the generators
+    pub equality_in_group : AreRulesOver tried.presentation.n tried.rules → IsEqualityOver before.differences.group.n equality
+    equality_in_group over =
+        let P : Group → Type 0 = λ it. IsEqualityOver it.n equality in
+        let words = equality_is_over tried.presentation tried.rules before.differences.words tried.states equality over refutes in
+        subst P (sym gathers.group) words
+
   -- ---- listings
 
   -- the differences of the rules and of the rounds, with what is answered
@@ -137,10 +144,28 @@ module _ (tried : Tried) where
         back_to_n (λ n. AreEqualitiesOver n gathered.rounds.items)
         (needs_over tried (by_n (λ n. AreRulesOver n tried.rules) over) lacks.needs)
 
+    own_letters : AreRulesOver tried.presentation.n tried.rules → AreRulesOver gathered.differences.group.n tried.rules
+    own_letters over = back_to_n (λ n. AreRulesOver n tried.rules) over
+
     lists_in_group : (listing : Listing) → Lists gathered.differences.group gathered.differences.words listing
         → Lists group gathered.differences.words listing
     lists_in_group listing lists =
         let P : Group → Type 0 = λ it. Lists it gathered.differences.words listing in subst P same lists
+
+  -- the rules and the equalities of the rounds are over the generators
+  pub stand_over : (gathered : Gathered) → AreRulesOver tried.presentation.n tried.rules → (Gathers tried gathered ⊎ LacksRoom tried gathered)
+      → AreRulesOver gathered.differences.group.n tried.rules × AreEqualitiesOver gathered.differences.group.n gathered.rounds.items
+  stand_over gathered over (inl gathers) =
+      let own = own_letters gathered gathers.group over in
+      (own, gathered_over gathered gathers.group own gathers)
+  stand_over gathered over (inr lacks) =
+      let own = own_letters gathered lacks.group over in
+      (own, lacking_over gathered lacks.group own lacks)
+
+  pub stand_for_pairs : (gathered : Gathered) → (Gathers tried gathered ⊎ LacksRoom tried gathered) → (answer : Grow) × AreOfPairs gathered answer
+  stand_for_pairs gathered (inl gathers) = (Grew, gathered_pairs gathered gathers)
+  stand_for_pairs gathered (inr lacks) =
+      let all = lacking_pairs gathered lacks in (Full all.0 all.1, all.2)
 
   module _ (gathered : Gathered) (listing : Listing)
       (equalities : listing.equalities.items ≡ rule_equalities tried.rules ++ gathered.rounds.items)

@@ -1,9 +1,8 @@
 -- A completion goes on, step after step.
-use Rattle.std.proofs.Common.{◌≡◌, ℕ, ◌+◌, ◌*◌, ◌/◌, ◌<◌, ◌≤◌, List, length, ap, arith, length-append}
-use Rattle.kb_machine.specs.States.{Problem}
+use Rattle.std.proofs.Common.{length, ap, arith, length-append}
 use Rattle.kb_machine.specs.Course.{Course}
 use Rattle.kb_share.proofs.Stages.{later_itself, later_then}
-use Rattle.kb_complete.specs.Completing.{Continues, Grows, IsCompleted, IsHalted}
+use Rattle.kb_complete.specs.Completing.{Continues, Grows}
 
 pub continues_itself : (course : Course) → Continues course course
 continues_itself course =

@@ -1,20 +1,19 @@
 -- The differences that are kept of rules and of failed rounds, as those of one list of pairs.
-use Rattle.std.proofs.Common.{◌≡◌, ◌≢◌, ◌↔◌, ◌⊎◌, ℕ, ◌+◌, ◌<◌, ◌≤◌, inl, inr, List, [], ◌∷◌, ◌++◌, length, Option, Some, None, refl, sym, ap, ◌∙◌, subst, arith, append_assoc, length-append}
+use Rattle.std.proofs.Common.{◌≡◌, ◌≢◌, ◌↔◌, ◌⊎◌, ℕ, ◌<◌, ◌≤◌, inl, inr, List, [], ◌∷◌, ◌++◌, length, Option, Some, None, refl, sym, ap, ◌∙◌, subst, arith, append_assoc, length-append}
 use Rattle.std.specs.Prelude.{map, All}
 use Rattle.std.specs.List.{Contains}
 use Rattle.std.proofs.lemmas.List.{append-nil, map-append}
 use Rattle.std.proofs.lemmas.List.Elements.{All-nil, All-push}
 use Rattle.kb_word.specs.Words.{Pair}
 use Rattle.kb_diff.specs.Groups.{AreRulesOver, Group, group_of}
-use Rattle.kb_diff.specs.Keeping.{Adds, AddsEach, AddsPairs, Grows, IsFull, Keeps, and_next, each, grown, no_room, none_left, stopped}
+use Rattle.kb_diff.specs.Keeping.{Adds, AddsEach, AddsPairs, Grows, IsFull, Keeps, each, grown, no_room, stopped}
 use Rattle.kb_diff.specs.declared.grow.Grow.{Grow}
 use Rattle.kb_diff.specs.declared.grow.Grow.TheVariants.{Full, Grew, Same}
 use Rattle.kb_diff.proofs.Growing.{Keeps-front, Keeps-seen}
 use Rattle.kb_diff.proofs.PathLemmas.{each_more}
-use Rattle.kb_kept.specs.Listed.{AreEqualitiesOver, Lists, pair_of, rule_equality, rule_equalities}
+use Rattle.kb_kept.specs.Listed.{AreEqualitiesOver, Lists, pair_of, rule_equalities}
 use Rattle.kb_kept.specs.declared.listing.Listing.{Listing}
 use Rattle.kb_kept.specs.declared.equality.Equality.{Equality}
-use Rattle.kb_kept.specs.declared.seen.Seen.{Seen}
 use Rattle.kb_auto.specs.Autgroup.{IsShort}
 use Rattle.kb_auto.specs.Kept.{IsKept, IsEqualityOfRound, KeepsRounds, KeepsRules, NeedsMore, Tried, of_round, of_rule, one_more, rules_alone}
 use Rattle.kb_auto.proofs.EqualitiesOver.{IsEqualityOver, equality_is_over}

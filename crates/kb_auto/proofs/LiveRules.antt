@@ -1,15 +1,14 @@
 -- Live rules, and those of a reduced complete system, are rules of the group.
-use Rattle.std.proofs.Common.{◌≡◌, ◌⊎◌, ℕ, ◌<◌, ◌≤◌, false, inl, inr, List, [], ◌++◌, length, Some, refl, sym, ap, ◌∙◌, subst, arith}
+use Rattle.std.proofs.Common.{◌≡◌, ◌⊎◌, ℕ, false, inl, inr, List, [], length, Some, refl, sym, ap, ◌∙◌, subst, arith}
 use Rattle.std.specs.Prelude.{slice_get, map}
 use Rattle.std.specs.Option.{option_map}
 use Rattle.std.specs.List.{Contains}
 use Rattle.std.proofs.lemmas.Option.{slice_get-map, slice_get_read}
 use Rattle.kb_word.specs.Words.{Pair, OneOf}
-use Rattle.kb_word.specs.Congruence.{Congruent, SameCongruence}
+use Rattle.kb_word.specs.Congruence.{SameCongruence}
 use Rattle.kb_word.specs.Presentations.{parts_of}
 use Rattle.kb_word.specs.Relations.{IsOver, relations_of}
 use Rattle.kb_word.specs.declared.presentation.Presentation.{Presentation}
-use Rattle.kb_word.specs.declared.word_order.WordOrder.{WordOrder}
 use Rattle.kb_word.proofs.PathLemmas.{congruent_implied}
 use Rattle.kb_diff.specs.Groups.{AreRulesOver}
 use Rattle.kb_machine.specs.Course.{IsSound}
@@ -18,7 +17,6 @@ use Rattle.kb_machine.specs.States.{Problem, State, live_rules, rule_numbered, I
 use Rattle.kb_machine.proofs.Numbers.{numbered_one}
 use Rattle.kb_machine.proofs.Relations.{relations_over}
 use Rattle.kb_share.proofs.LiveRules.{live_rule_is, one_of_live}
-use Rattle.kb_reduced.specs.Reduced.{IsReducedRule}
 use Rattle.kb_structure.specs.Structure.{Structure}
 use Rattle.kb_structure.proofs.Words.{equal_over}
 use Rattle.kb_system.specs.Completed.{IsReducedSystem}

@@ -1,9 +1,9 @@
 -- The differences of rules that were tried at a halt.
-use Rattle.std.proofs.Common.{◌≡◌, ℕ, zero, suc, List, [], ◌∷◌, ◌++◌, refl, sym, ap, ◌∙◌, subst}
+use Rattle.std.proofs.Common.{◌≡◌, ℕ, suc, List, [], ◌∷◌, ◌++◌, refl, sym, ap, ◌∙◌, subst}
 use Rattle.std.specs.Prelude.{map}
 use Rattle.std.proofs.lemmas.List.Elements.{All-append, All-cons, All-nil}
 use Rattle.kb_word.specs.Words.{Pair}
-use Rattle.kb_diff.specs.Groups.{AreRulesOver, Group, group_of}
+use Rattle.kb_diff.specs.Groups.{AreRulesOver, Group}
 use Rattle.kb_diff.specs.Keeping.{AddsPairs}
 use Rattle.kb_diff.specs.Kept.{KeptDifferences}
 use Rattle.kb_diff.specs.declared.grow.Grow.{Grow}
@@ -12,6 +12,7 @@ use Rattle.kb_kept.specs.declared.listing.Listing.{Listing}
 use Rattle.kb_kept.specs.declared.equality.Equality.{Equality}
 use Rattle.kb_auto.specs.Autgroup.{HasFailed, IsTriedAtHalt}
 use Rattle.kb_auto.specs.Kept.{Tried}
+use Rattle.kb_auto.specs.Trials.{KeepsDifferences}
 use Rattle.kb_auto.proofs.KeptEqualities.{pairs_of_all, pairs_of_rules}
 use Rattle.kb_auto.proofs.EqualitiesOver.{IsEqualityOver}
 
@@ -44,7 +45,7 @@ of_all_equalities {group = group} {most = most} {words = words} rules rounds equ
     subst P (sym (ap (λ (l : List Equality). map pair_of l) are ∙ pairs_of_all rules rounds)) adds
 
 -- the same, where the group and the limit go by other names
-pub by_own_names : {group own : Group} {most limit : ℕ} {pairs : List Pair} {words : List (List ℕ)} {answer : Grow} → own ≡ group
+by_own_names : {group own : Group} {most limit : ℕ} {pairs : List Pair} {words : List (List ℕ)} {answer : Grow} → own ≡ group
     → limit ≡ most → AddsPairs group most pairs ([] ∷ []) words answer → AddsPairs own limit pairs ([] ∷ []) words answer
 by_own_names {group = group} {own = own} {most = most} {pairs = pairs} {words = words} {answer = answer} same count adds =
     let G : Group → Type 0 = λ it. AddsPairs it most pairs ([] ∷ []) words answer in
@@ -52,20 +53,28 @@ by_own_names {group = group} {own = own} {most = most} {pairs = pairs} {words = 
     subst M (sym count) (subst G (sym same) adds)
 
 -- the rules that were tried, and their differences where they were first seen
-pub is_tried_at_halt : (tried : Tried) (differences : KeptDifferences) (answer : Grow) (equalities : List Equality) (listing : Listing)
-    → differences.group ≡ group_of tried.presentation tried.rules → differences.most ≡ tried.most
-    → AddsPairs differences.group differences.most tried.rules ([] ∷ []) differences.words answer
-    → equalities ≡ rule_equalities tried.rules → listing.equalities.items ≡ equalities → Lists differences.group differences.words listing
-    → HasFailed tried differences.words → IsTriedAtHalt tried listing
-is_tried_at_halt tried differences answer equalities listing same most adds are listed lists failed =
-    let G : Group → Type 0 = λ it. AddsPairs it differences.most tried.rules ([] ∷ []) differences.words answer in
-    let M : ℕ → Type 0 = λ it. AddsPairs (group_of tried.presentation tried.rules) it tried.rules ([] ∷ []) differences.words answer in
+pub is_tried_at_halt : (tried : Tried) (differences : KeptDifferences) → KeepsDifferences tried differences → (equalities : List Equality)
+    (listing : Listing) → equalities ≡ rule_equalities tried.rules → listing.equalities.items ≡ equalities
+    → Lists differences.group differences.words listing → HasFailed tried differences.words → IsTriedAtHalt tried listing
+is_tried_at_halt tried differences keeps equalities listing are listed lists failed =
     let L : Group → Type 0 = λ it. Lists it differences.words listing in
     record {
       words = differences.words;
-      answer = answer;
-      keeps = subst M most (subst G same adds);
+      answer = keeps.answer;
+      keeps = keeps.keeps;
       equalities = listed ∙ are;
-      lists = subst L same lists;
+      lists = subst L keeps.group lists;
       failed = failed;
     }
+
+-- differences that are kept of rules are so in their own group
+pub own_pairs : (tried : Tried) (differences : KeptDifferences) → KeepsDifferences tried differences
+    → (answer : Grow) × AddsPairs differences.group differences.most tried.rules ([] ∷ []) differences.words answer
+own_pairs tried differences keeps = (keeps.answer, by_own_names keeps.group keeps.most keeps.keeps)
+
+-- the rules are over its generators
+pub own_letters : (tried : Tried) (differences : KeptDifferences) → KeepsDifferences tried differences
+    → AreRulesOver tried.presentation.n tried.rules → AreRulesOver differences.group.n tried.rules
+own_letters tried differences keeps over =
+    let P : Group → Type 0 = λ it. AreRulesOver it.n tried.rules in
+    subst P (sym keeps.group) over

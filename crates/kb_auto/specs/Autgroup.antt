@@ -1,7 +1,7 @@
 -- What the search for a group's automatic structure comes to.
 -- Epstein et al., Word Processing in Groups, chapter 6; Holt, Eick, O'Brien, Handbook of Computational Group Theory,
 -- chapter 13.
-use Rattle.std.specs.Prelude.{◌≡◌, ◌≢◌, ℕ, Bool, true, false, List, [], ◌++◌, length, None}
+use Rattle.std.specs.Prelude.{◌≡◌, ◌≢◌, ℕ, Bool, true, false, List, ◌++◌, length, None}
 use Rattle.kb_word.specs.Congruence.{SameCongruence}
 use Rattle.kb_word.specs.Words.{Pair}
 use Rattle.kb_word.specs.Presentations.{PresentationParts, parts_of}

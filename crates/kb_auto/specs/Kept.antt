@@ -6,14 +6,13 @@ use Rattle.kb_word.specs.Words.{Pair, OneOf}
 use Rattle.kb_word.specs.Rewriting.{IsIrreducible}
 use Rattle.kb_word.specs.declared.presentation.Presentation.{Presentation}
 use Rattle.kb_diff.specs.Groups.{group_of}
-use Rattle.kb_diff.specs.Keeping.{Adds, AddsPairs, IsFull}
+use Rattle.kb_diff.specs.Keeping.{Adds, AddsPairs}
 use Rattle.kb_diff.specs.declared.grow.Grow.{Grow}
 use Rattle.kb_diff.specs.declared.grow.Grow.TheVariants.{Grew, Full}
 use Rattle.kb_kept.specs.Listed.{Lists, rule_equalities}
 use Rattle.kb_kept.specs.declared.equality.Equality.{Equality}
 use Rattle.kb_kept.specs.declared.listing.Listing.{Listing}
-use Rattle.kb_round.specs.Rounds.{IsCounted, RefutesBy}
-use Rattle.kb_round.specs.declared.answers.Construction.{Construction}
+use Rattle.kb_round.specs.Rounds.{RefutesBy}
 
 -- rules of a group, with how many differences may be kept, and how many states a construction may have
 pub record Tried : Type 0 where

@@ -1,24 +1,27 @@
 //! The word differences of rules, and those of failed rounds.
 
-ghost use Rattle.std.specs.Prelude.{◌≡◌, ◌↔◌, ◌≢◌, ◌++◌, [], ◌∷◌, IfOk, IsTrue, None, map};
+ghost use Rattle.std.specs.Prelude.{◌≡◌, ◌↔◌, ◌⊎◌, ◌++◌, IfOk, IsTrue};
 ghost use Rattle.kb_word.specs.Words.{OneOf};
 ghost use Rattle.kb_word.specs.Relations.{IsOver};
 ghost use Rattle.kb_word.specs.Rewriting.{IsIrreducible};
 ghost use Rattle.kb_diff.specs.Groups.{AreRulesOver};
 ghost use Rattle.kb_diff.specs.declared.grow.Grow.{Grow as Answer};
 ghost use Rattle.kb_diff.specs.declared.grow.Grow.TheVariants.{Same};
-ghost use Rattle.kb_diff.specs.Keeping.{AddsPairs, IsFull};
 ghost use Rattle.kb_kept.specs.declared.equality.Equality.{Equality as Round};
-ghost use Rattle.kb_kept.specs.Listed.{AreEqualitiesOver, Lists, pair_of, rule_equalities};
-ghost use Rattle.kb_auto.specs.Trials.{AddsRound, BringsNothing, GatheringSays};
+ghost use Rattle.kb_system.specs.Problems.{limits_of};
+ghost use Rattle.kb_auto.specs.Autgroup.{IsShort, tried_by};
+ghost use Rattle.kb_auto.specs.Kept.{IsKept};
+ghost use Rattle.kb_auto.specs.Trials.{AddsRound, BringsNothing, GatheringSays, Gathers, LacksRoom};
 ghost use Rattle.kb_auto.specs.declared.gathering.Gathered.{Gathered as Kept};
 
+use kb_book::Limits;
 use kb_diff::{Differences, Grow};
 use kb_index::Index;
 use kb_kept::{Equality, Listing, list_differences, rule_equalities};
 use kb_rules::{Reducer, Rules};
-use kb_word::{Memory, Word};
+use kb_word::{Memory, Presentation, Word};
 use std::alloc::Global;
+use std::mem::replace;
 
 /// The word differences that are kept of rules and of the equalities of failed rounds.
 #[derive(Drop)]
@@ -30,22 +33,22 @@ pub(crate) struct Gathered {
 }
 
 /// What comes of the equality of a failed round.
-#[derive(Drop)]
+#[derive(Clone, Copy, Debug, PartialEq, Eq)]
 pub(crate) enum Gathering {
     /// It has more differences, and they are kept.
-    More(Gathered),
+    More,
     /// It has one for which there is no room.
-    NoRoom(Gathered),
+    NoRoom,
     /// A word of it is reducible, or its differences are kept already: another round would come to the same.
     Nothing,
 }
 
 impl Gathered {
     /// Keeps the differences of the equality of a failed round, and the equality.
-    pub(crate) fn gather(self, alloc: Global, equality: Equality) -> Result<Gathering, Memory>
-        requires first { IsOver self.differences.group.n equality.u }
-        requires second { IsOver self.differences.group.n equality.v }
-        ensures { IfOk result (GatheringSays self equality) }
+    pub(crate) fn gather(&mut self, alloc: Global, equality: Equality) -> Result<Gathering, Memory>
+        requires first { IsOver self.old.differences.group.n equality.u }
+        requires second { IsOver self.old.differences.group.n equality.v }
+        ensures { IfOk result (GatheringSays self.old self.new equality) }
     {
         if are_irreducible(alloc, &equality, self.differences.reducer())? {
             self.gather_irreducible(alloc, equality)
@@ -55,49 +58,61 @@ impl Gathered {
     }
 
     /// Keeps the differences of an equality of irreducible words, and the equality.
-    fn gather_irreducible(mut self, alloc: Global, equality: Equality) -> Result<Gathering, Memory>
-        requires first { IsOver self.differences.group.n equality.u }
-        requires second { IsOver self.differences.group.n equality.v }
-        requires first_is_irreducible { IsIrreducible (OneOf self.differences.group.rules) equality.u }
-        requires second_is_irreducible { IsIrreducible (OneOf self.differences.group.rules) equality.v }
-        ensures { IfOk result (GatheringSays self equality) }
+    fn gather_irreducible(&mut self, alloc: Global, equality: Equality) -> Result<Gathering, Memory>
+        requires first { IsOver self.old.differences.group.n equality.u }
+        requires second { IsOver self.old.differences.group.n equality.v }
+        requires first_is_irreducible { IsIrreducible (OneOf self.old.differences.group.rules)
+            equality.u }
+        requires second_is_irreducible { IsIrreducible (OneOf self.old.differences.group.rules)
+            equality.v }
+        ensures { IfOk result (GatheringSays self.old self.new equality) }
     {
         let none = Word::new(alloc);
         let answer = self
             .differences
             .add_path(alloc, &equality.u, &equality.v, &none)?;
         self.rounds.push(equality)?;
-        Ok(gathering_of(self, answer))
+        Ok(gathering_of(answer))
     }
 
-    /// Where the differences were first seen.
-    pub(crate) fn list(self, alloc: Global, rules: &Rules) -> Result<Listing, Memory>
-        requires rules { AreRulesOver self.differences.group.n rules.now.rules }
-        requires rounds { AreEqualitiesOver self.differences.group.n self.rounds.items }
-        requires kept { (answer : Answer) × AddsPairs self.differences.group self.differences.most
-            (rules.now.rules ++ map pair_of self.rounds.items) ([] ∷ []) self.differences.words answer }
-        ensures equalities { IfOk result
-            (λ listing. listing.equalities.items ≡ rule_equalities rules.now.rules ++ self.rounds.items) }
-        ensures lists { IfOk result (Lists self.differences.group self.differences.words) }
-        ensures needed { (answer : Answer)
-            → AddsPairs self.differences.group self.differences.most
-            (rules.now.rules ++ map pair_of self.rounds.items) ([] ∷ []) self.differences.words answer
-            → IfOk result (λ listing. (listing.needed ≢ None) ↔ IsFull answer) }
+    /// Where the differences of the rules and of the failed rounds were first seen, and the one for which there is no
+    /// room. The equalities of the rounds go into the listing.
+    pub(crate) fn list(
+        &mut self,
+        alloc: Global,
+        presentation: &Presentation,
+        rules: &Rules,
+        limits: &Limits,
+    ) -> Result<Listing, Memory>
+        requires letters { AreRulesOver presentation.now.n rules.now.rules }
+        requires gathered { Gathers (tried_by (limits_of limits.now) limits.now.diffs
+            presentation.now rules.now.rules) self.old ⊎ LacksRoom (tried_by
+            (limits_of limits.now) limits.now.diffs presentation.now rules.now.rules) self.old }
+        ensures kept { Gathers (tried_by (limits_of limits.now) limits.now.diffs
+            presentation.now rules.now.rules) self.old
+            → IfOk result (IsKept (tried_by (limits_of limits.now) limits.now.diffs
+            presentation.now rules.now.rules) self.old.differences.words) }
+        ensures short { LacksRoom (tried_by (limits_of limits.now) limits.now.diffs
+            presentation.now rules.now.rules) self.old
+            → IfOk result (IsShort (tried_by (limits_of limits.now) limits.now.diffs
+            presentation.now rules.now.rules)) }
     {
-        let equalities = joined(rule_equalities(alloc, rules)?, self.rounds)?;
-        list_differences(alloc, &self.differences, equalities)
+        let rounds = replace(&mut self.rounds, Vec::new(alloc));
+        let equalities = joined(rule_equalities(alloc, rules)?, rounds)?;
+        Ok(list_differences(alloc, &self.differences, equalities)?)
     }
 }
 
 /// What comes of an equality whose differences were added with an answer.
-fn gathering_of(after: Gathered, answer: Grow) -> Gathering
-    ensures { (before : Kept) (equality : Round) → AddsRound before equality answer after
-        → ((answer ≡ Same) → BringsNothing before equality) → GatheringSays before equality result }
+fn gathering_of(answer: Grow) -> Gathering
+    ensures { (before after : Kept) (equality : Round) → AddsRound before equality answer after
+        → ((answer ≡ Same) → BringsNothing before equality)
+        → GatheringSays before after equality result }
 {
     match answer {
-        Grow::Grew => Gathering::More(after),
+        Grow::Grew => Gathering::More,
         Grow::Same => Gathering::Nothing,
-        Grow::Full { .. } => Gathering::NoRoom(after),
+        Grow::Full { .. } => Gathering::NoRoom,
     }
 }
 

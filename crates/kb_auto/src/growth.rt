@@ -7,7 +7,7 @@ ghost use Rattle.kb_auto.specs.Trials.{IsTwofold};
 
 use kb_book::Book;
 use kb_complete::{Grown, grow};
-use kb_index::Index;
+use kb_index::HasAutomaton;
 use kb_io::Gate;
 use kb_share::{Finder, Watch, book_is_sound};
 use kb_threads::Workers;
@@ -17,14 +17,19 @@ use std::sync::Wait;
 use std::thread::Threads;
 
 /// Goes on until the log has at least twice as many lines as the book given has, or the completion is at its end.
-pub(crate) fn grow_twofold<G: Gate, W: Watch, T: Threads + Wait + Sync>(
+pub(crate) fn grow_twofold<
+    R: HasAutomaton + Send + Sync,
+    G: Gate,
+    W: Watch,
+    T: Threads + Wait + Sync,
+>(
     rt: &T,
     alloc: Global,
-    mut book: Book<Index>,
+    mut book: Book<R>,
     finder: &mut Finder,
     workers: &Workers<'_, G>,
     watch: &mut W,
-) -> Result<Grown<Index>, Memory>
+) -> Result<Grown<R>, Memory>
     requires { Knows finder.old book.course.state }
     ensures says { IfOk result (GrowSays book.course) }
     ensures known { IfOk result (KnowsGrown finder.new) }

@@ -1,47 +1,53 @@
 //! How the search for an automatic structure ends.
 
-ghost use Rattle.std.specs.Prelude.{◌≡◌, ◌≤◌, ℕ, [], ◌∷◌, true, IfOk};
+ghost use Rattle.std.specs.Prelude.{◌≡◌, ◌≤◌, [], ◌∷◌, IfOk};
 ghost use Rattle.kb_word.specs.Presentations.{parts_of};
-ghost use Rattle.kb_word.specs.declared.presentation.Presentation.{Presentation as Presented};
+ghost use Rattle.kb_word.specs.Relations.{relations_of};
 ghost use Rattle.kb_word.specs.declared.word_order.WordOrder.TheVariants.{ShortLex};
-ghost use Rattle.kb_diff.specs.Groups.{AreRulesOver, EachInverts, group_of};
+ghost use Rattle.kb_diff.specs.Groups.{AreRulesOver, EachInverts};
 ghost use Rattle.kb_diff.specs.Keeping.{AddsPairs};
 ghost use Rattle.kb_diff.specs.declared.grow.Grow.{Grow};
+ghost use Rattle.kb_labels.specs.Labels.{AreEqualSides};
 ghost use Rattle.kb_complete.specs.Completing.{AreReduced, IsCompleted, IsHalted};
-ghost use Rattle.kb_round.specs.Rounds.{IsCounted};
-ghost use Rattle.kb_system.specs.Ended.{ShowsHalt};
-ghost use Rattle.kb_system.specs.Evidence.{Limits as MostOf};
 ghost use Rattle.kb_system.specs.Problems.{limits_of, problem_of};
-ghost use Rattle.kb_auto.specs.Autgroup.{AreRulesOfLog, AutgroupSays, HasFailed, tried_by};
-ghost use Rattle.kb_auto.specs.Trials.{Gathers, LacksRoom};
+ghost use Rattle.kb_auto.specs.Autgroup.{AutgroupSays, HasFailed, tried_by};
+ghost use Rattle.kb_auto.specs.Kept.{Tried};
+ghost use Rattle.kb_auto.specs.Trials.{KeepsDifferences, LastRoundSays};
 
 use crate::answers::Autgroup;
-use crate::gathering::Gathered;
 use crate::live::live_rules_are_of_the_group;
 use crate::trying::{Trial, try_rules, watched_round};
 use kb_book::{Book, Limits};
 use kb_diff::Differences;
 use kb_index::Index;
-use kb_kept::{list_differences, rule_equalities};
-use kb_machine::Line;
+use kb_kept::{Listing, list_differences, rule_equalities};
 use kb_reduced::{reduced_complete_systems_are_complete, reduced_left_sides_keep_the_letters};
-use kb_round::{Construction, Round, WatchRounds};
-use kb_rules::Rules;
+use kb_round::{Round, Structure, WatchRounds};
+use kb_rules::{Reducer, Rules};
 use kb_share::book_is_sound;
-use kb_system::{Halted, halted};
+use kb_system::halted;
 use kb_word::{Memory, Presentation};
 use std::alloc::Global;
 use std::sync::Wait;
 use std::thread::Threads;
 
+/// What the last round comes to, where a completion halted.
+#[derive(Drop)]
+enum LastRound {
+    /// The group's own automatic structure.
+    Own(Structure),
+    /// It failed: where its differences were first seen.
+    Failed(Listing),
+}
+
 /// What the reduced complete system of the group answers: rounds by it keep more differences each, until the automata
 /// are the group's own or a limit is reached.
-pub(crate) fn answer_by_complete<W: WatchRounds, T: Threads + Wait + Sync>(
+pub(crate) fn answer_by_complete<R: Reducer, W: WatchRounds, T: Threads + Wait + Sync>(
     rt: &T,
     alloc: Global,
     presentation: &Presentation,
     rules: Rules,
-    book: Book<Index>,
+    book: Book<R>,
     limits: &Limits,
     workers: u32,
     watch: &mut W,
@@ -71,72 +77,29 @@ pub(crate) fn answer_by_complete<W: WatchRounds, T: Threads + Wait + Sync>(
         watch,
     )? {
         Trial::Own(structure) => Ok(Autgroup::Own(structure)),
-        Trial::NoRoom(gathered) => too_many_differences(alloc, lines, rules, true, gathered),
-        Trial::Counted(which, gathered) => too_many_states(alloc, which, lines, rules, gathered),
+        Trial::NoRoom(listing) => Ok(Autgroup::TooManyDifferences {
+            lines,
+            rules,
+            confluent: true,
+            listing,
+        }),
+        Trial::Counted(which, listing) => Ok(Autgroup::TooManyStates {
+            which,
+            lines,
+            rules,
+            listing,
+        }),
         Trial::Stuck => unreachable!(),
     }
 }
 
-/// As many differences are kept as may be, and another one is needed.
-pub(crate) fn too_many_differences(
-    alloc: Global,
-    lines: Vec<Line>,
-    rules: Rules,
-    confluent: bool,
-    gathered: Gathered,
-) -> Result<Autgroup, Memory>
-    requires letters { AreRulesOver gathered.differences.group.n rules.rules }
-    requires lacks { (limits : MostOf) × (most : ℕ) × (presentation : Presented)
-        × LacksRoom (tried_by limits most presentation rules.rules) gathered }
-    ensures { (limits : MostOf) (most : ℕ) (presentation : Presented)
-        → rules.order ≡ presentation.order
-        → AreRulesOfLog (parts_of presentation) lines.items rules.rules confluent
-        → LacksRoom (tried_by limits most presentation rules.rules) gathered
-        → IfOk result (AutgroupSays limits most presentation) }
-{
-    let listing = gathered.list(alloc, &rules)?;
-    Ok(Autgroup::TooManyDifferences {
-        lines,
-        rules,
-        confluent,
-        listing,
-    })
-}
-
-/// By the reduced complete system, a construction would have more states than it may have.
-fn too_many_states(
-    alloc: Global,
-    which: Construction,
-    lines: Vec<Line>,
-    rules: Rules,
-    gathered: Gathered,
-) -> Result<Autgroup, Memory>
-    requires letters { AreRulesOver gathered.differences.group.n rules.rules }
-    requires gathers { (limits : MostOf) × (most : ℕ) × (presentation : Presented)
-        × Gathers (tried_by limits most presentation rules.rules) gathered }
-    ensures { (limits : MostOf) (most : ℕ) (presentation : Presented)
-        → rules.order ≡ presentation.order
-        → AreRulesOfLog (parts_of presentation) lines.items rules.rules true
-        → Gathers (tried_by limits most presentation rules.rules) gathered
-        → IsCounted presentation rules.rules gathered.differences.words limits.states which
-        → IfOk result (AutgroupSays limits most presentation) }
-{
-    let listing = gathered.list(alloc, &rules)?;
-    Ok(Autgroup::TooManyStates {
-        which,
-        lines,
-        rules,
-        listing,
-    })
-}
-
 /// What a completion answers that halted: a last round is made by its live rules, by as many of their differences as
 /// there is room for.
-pub(crate) fn answer_at_halt<W: WatchRounds, T: Threads + Wait + Sync>(
+pub(crate) fn answer_at_halt<R: Reducer, W: WatchRounds, T: Threads + Wait + Sync>(
     rt: &T,
     alloc: Global,
     presentation: &Presentation,
-    book: Book<Index>,
+    book: Book<R>,
     limits: &Limits,
     workers: u32,
     watch: &mut W,
@@ -153,44 +116,100 @@ pub(crate) fn answer_at_halt<W: WatchRounds, T: Threads + Wait + Sync>(
 {
     live_rules_are_of_the_group(presentation, &book);
     let halt = halted(alloc, book)?;
-    let rules = &halt.rules;
+    match last_round(rt, alloc, presentation, &halt.rules, limits, workers, watch)? {
+        LastRound::Own(structure) => Ok(Autgroup::Own(structure)),
+        LastRound::Failed(listing) => Ok(Autgroup::Halted {
+            halted: halt,
+            listing,
+        }),
+    }
+}
+
+/// Makes a round by as many differences of the rules as there is room for.
+fn last_round<W: WatchRounds, T: Threads + Wait + Sync>(
+    rt: &T,
+    alloc: Global,
+    presentation: &Presentation,
+    rules: &Rules,
+    limits: &Limits,
+    workers: u32,
+    watch: &mut W,
+) -> Result<LastRound, Memory>
+    requires group { EachInverts presentation.now.n presentation.now.inv }
+    requires shortlex { presentation.now.order ≡ ShortLex }
+    requires letters { AreRulesOver presentation.now.n rules.now.rules }
+    requires sides { AreEqualSides (relations_of presentation.now.inv presentation.now.eqs)
+        rules.now.rules }
+    requires workers { (1 ≤ workers) × (workers ≤ 64) }
+    ensures { IfOk result (LastRoundSays (tried_by (limits_of limits.now) limits.now.diffs
+        presentation.now rules.now.rules)) }
+{
     let (differences, _) = Differences::from_rules(alloc, presentation, rules, limits.diffs)?;
+    round_by(
+        rt,
+        alloc,
+        presentation,
+        rules,
+        &differences,
+        limits,
+        workers,
+        watch,
+    )
+}
+
+/// Makes a round by these differences of the rules.
+fn round_by<W: WatchRounds, T: Threads + Wait + Sync>(
+    rt: &T,
+    alloc: Global,
+    presentation: &Presentation,
+    rules: &Rules,
+    differences: &Differences<Index>,
+    limits: &Limits,
+    workers: u32,
+    watch: &mut W,
+) -> Result<LastRound, Memory>
+    requires group { EachInverts presentation.now.n presentation.now.inv }
+    requires shortlex { presentation.now.order ≡ ShortLex }
+    requires letters { AreRulesOver presentation.now.n rules.now.rules }
+    requires sides { AreEqualSides (relations_of presentation.now.inv presentation.now.eqs)
+        rules.now.rules }
+    requires workers { (1 ≤ workers) × (workers ≤ 64) }
+    requires kept { KeepsDifferences (tried_by (limits_of limits.now) limits.now.diffs
+        presentation.now rules.now.rules) differences.now }
+    ensures { IfOk result (LastRoundSays (tried_by (limits_of limits.now) limits.now.diffs
+        presentation.now rules.now.rules)) }
+{
     let states = limits.states;
     match watched_round(
         rt,
         alloc,
         presentation,
         rules,
-        &differences,
+        differences,
         states,
         workers,
         watch,
     )? {
-        Round::Own(structure) => Ok(Autgroup::Own(structure)),
-        Round::Refuted(_) => failed_at_halt(alloc, halt, differences),
-        Round::TooManyStates(_) => failed_at_halt(alloc, halt, differences),
+        Round::Own(structure) => Ok(LastRound::Own(structure)),
+        Round::Refuted(_) => failed(alloc, rules, differences),
+        Round::TooManyStates(_) => failed(alloc, rules, differences),
     }
 }
 
-/// The completion halted, and the last round failed.
-fn failed_at_halt(
+/// The round failed: where its differences were first seen.
+fn failed(
     alloc: Global,
-    halt: Halted,
-    differences: Differences<Index>,
-) -> Result<Autgroup, Memory>
-    requires letters { AreRulesOver differences.group.n halt.rules.rules }
-    requires kept { (answer : Grow) × AddsPairs differences.group differences.most
-        halt.rules.rules ([] ∷ []) differences.words answer }
-    ensures { (limits : MostOf) (most : ℕ) (presentation : Presented)
-        → ShowsHalt limits (parts_of presentation) halt
-        → differences.group ≡ group_of presentation halt.rules.rules → differences.most ≡ most
-        → HasFailed (tried_by limits most presentation halt.rules.rules) differences.words
-        → IfOk result (AutgroupSays limits most presentation) }
+    rules: &Rules,
+    differences: &Differences<Index>,
+) -> Result<LastRound, Memory>
+    requires letters { AreRulesOver differences.now.group.n rules.now.rules }
+    requires kept { (answer : Grow) × AddsPairs differences.now.group differences.now.most
+        rules.now.rules ([] ∷ []) differences.now.words answer }
+    ensures { (tried : Tried) → tried.rules ≡ rules.now.rules
+        → KeepsDifferences tried differences.now → HasFailed tried differences.now.words
+        → IfOk result (LastRoundSays tried) }
 {
-    let equalities = rule_equalities(alloc, &halt.rules)?;
-    let listing = list_differences(alloc, &differences, equalities)?;
-    Ok(Autgroup::Halted {
-        halted: halt,
-        listing,
-    })
+    let equalities = rule_equalities(alloc, rules)?;
+    let listing = list_differences(alloc, differences, equalities)?;
+    Ok(LastRound::Failed(listing))
 }

@@ -11,7 +11,7 @@ use crate::asking::{decide_at_halt, decide_by_complete, live_rules_show};
 use kb_book::{Book, Limits};
 use kb_complete::{Grown, grow};
 use kb_fsa::Fsa;
-use kb_index::Index;
+use kb_index::{HasAutomaton, Index};
 use kb_io::Gate;
 use kb_share::{Finder, Watch, book_is_sound};
 use kb_threads::Workers;
@@ -51,13 +51,13 @@ pub(crate) fn decide<G: Gate, W: Watch, T: Threads + Wait + Sync>(
 }
 
 /// Grows the book until its rules settle it, or a limit is reached.
-fn decide_by_rounds<G: Gate, W: Watch, T: Threads + Wait + Sync>(
+fn decide_by_rounds<R: HasAutomaton + Send + Sync, G: Gate, W: Watch, T: Threads + Wait + Sync>(
     rt: &T,
     alloc: Global,
     presentation: &Presentation,
     multipliers: &[Fsa],
     limits: &Limits,
-    mut book: Book<Index>,
+    mut book: Book<R>,
     finder: &mut Finder,
     workers: &Workers<'_, G>,
     watch: &mut W,

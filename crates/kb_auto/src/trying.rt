@@ -8,12 +8,13 @@ ghost use Rattle.kb_labels.specs.Labels.{AreEqualSides};
 ghost use Rattle.kb_round.specs.Rounds.{RoundSays};
 ghost use Rattle.kb_system.specs.Problems.{limits_of};
 ghost use Rattle.kb_auto.specs.Autgroup.{tried_by};
-ghost use Rattle.kb_auto.specs.Trials.{Gathers, TrialSays};
+ghost use Rattle.kb_auto.specs.Trials.{Gathers, GathersRules, TrialSays};
 
 use crate::gathering::{Gathered, Gathering};
 use kb_book::Limits;
 use kb_diff::Differences;
 use kb_index::Index;
+use kb_kept::Listing;
 use kb_reduced::reduced_complete_systems_are_complete;
 use kb_reducedrounds::{
     rounds_by_reduced_systems_keep_more, rounds_by_reduced_systems_lack_images,
@@ -31,10 +32,11 @@ pub(crate) enum Trial {
     /// The group's own automatic structure.
     Own(Structure),
     /// As many differences are kept as may be, and another one is needed.
-    NoRoom(Gathered),
-    /// A construction would have more states than it may have.
-    Counted(Construction, Gathered),
-    /// The rules lead no further: more rounds would come to the same, or they have no more budget.
+    NoRoom(Listing),
+    /// Without a budget: a construction would have more states than it may have.
+    Counted(Construction, Listing),
+    /// The rules lead no further: more rounds would come to the same, or they have a budget, which is used up or whose
+    /// last round would have made more states than a construction may have.
     Stuck,
 }
 
@@ -60,13 +62,51 @@ pub(crate) fn try_rules<W: WatchRounds, T: Threads + Wait + Sync>(
         presentation.now rules.now.rules) budget) }
 {
     let (differences, answer) = Differences::from_rules(alloc, presentation, rules, limits.diffs)?;
-    let rounds = Vec::new(alloc);
-    let gathered = Gathered {
+    let mut gathered = Gathered {
         differences,
-        rounds,
+        rounds: Vec::new(alloc),
     };
-    if answer.is_full() {
-        return Ok(Trial::NoRoom(gathered));
+    try_gathered(
+        rt,
+        alloc,
+        presentation,
+        rules,
+        &mut gathered,
+        answer.is_full(),
+        limits,
+        budget,
+        workers,
+        watch,
+    )
+}
+
+/// Makes rounds by the differences of the rules, unless there is no room for one of them.
+fn try_gathered<W: WatchRounds, T: Threads + Wait + Sync>(
+    rt: &T,
+    alloc: Global,
+    presentation: &Presentation,
+    rules: &Rules,
+    gathered: &mut Gathered,
+    is_full: bool,
+    limits: &Limits,
+    budget: Option<u32>,
+    workers: u32,
+    watch: &mut W,
+) -> Result<Trial, Memory>
+    requires group { EachInverts presentation.now.n presentation.now.inv }
+    requires shortlex { presentation.now.order ≡ ShortLex }
+    requires letters { AreRulesOver presentation.now.n rules.now.rules }
+    requires sides { AreEqualSides (relations_of presentation.now.inv presentation.now.eqs)
+        rules.now.rules }
+    requires workers { (1 ≤ workers) × (workers ≤ 64) }
+    requires gathered { GathersRules (tried_by (limits_of limits.now) limits.now.diffs
+        presentation.now rules.now.rules) is_full gathered.old }
+    ensures { IfOk result (TrialSays (tried_by (limits_of limits.now) limits.now.diffs
+        presentation.now rules.now.rules) budget) }
+{
+    if is_full {
+        let listing = gathered.list(alloc, presentation, rules, limits)?;
+        return Ok(Trial::NoRoom(listing));
     }
     try_rounds(
         rt,
@@ -87,7 +127,7 @@ fn try_rounds<W: WatchRounds, T: Threads + Wait + Sync>(
     alloc: Global,
     presentation: &Presentation,
     rules: &Rules,
-    mut gathered: Gathered,
+    gathered: &mut Gathered,
     limits: &Limits,
     budget: Option<u32>,
     workers: u32,
@@ -100,7 +140,7 @@ fn try_rounds<W: WatchRounds, T: Threads + Wait + Sync>(
         rules.now.rules }
     requires workers { (1 ≤ workers) × (workers ≤ 64) }
     requires gathered { Gathers (tried_by (limits_of limits.now) limits.now.diffs
-        presentation.now rules.now.rules) gathered }
+        presentation.now rules.now.rules) gathered.old }
     ensures { IfOk result (TrialSays (tried_by (limits_of limits.now) limits.now.diffs
         presentation.now rules.now.rules) budget) }
 {
@@ -108,27 +148,32 @@ fn try_rounds<W: WatchRounds, T: Threads + Wait + Sync>(
     rounds_by_reduced_systems_lack_images();
     rounds_by_reduced_systems_keep_more();
     'rounds: loop {
-        let differences = &gathered.differences;
-        let states = limits.states;
         match watched_round(
             rt,
             alloc,
             presentation,
             rules,
-            differences,
-            states,
+            &gathered.differences,
+            limits.states,
             workers,
             watch,
         )? {
             Round::Own(structure) => return Ok(Trial::Own(structure)),
-            Round::TooManyStates(which) => return Ok(Trial::Counted(which, gathered)),
+            Round::TooManyStates(_) if budget.is_some() => return Ok(Trial::Stuck),
+            Round::TooManyStates(which) => {
+                let listing = gathered.list(alloc, presentation, rules, limits)?;
+                return Ok(Trial::Counted(which, listing));
+            }
             Round::Refuted(equality) => {
                 if is_used_up(budget, gathered.rounds.len()) {
                     return Ok(Trial::Stuck);
                 }
                 match gathered.gather(alloc, equality)? {
-                    Gathering::More(more) => gathered = more,
-                    Gathering::NoRoom(full) => return Ok(Trial::NoRoom(full)),
+                    Gathering::More => (),
+                    Gathering::NoRoom => {
+                        let listing = gathered.list(alloc, presentation, rules, limits)?;
+                        return Ok(Trial::NoRoom(listing));
+                    }
                     Gathering::Nothing => return Ok(Trial::Stuck),
                 }
             }

@@ -1,10 +1,14 @@
+use Rattle.std.proofs.Common.{sym, subst}
+use Rattle.kb_auto.specs.Trials.{GatheringSays}
+use Rattle.kb_auto.specs.declared.gathering.Gathering.{Gathering}
 use Rattle.kb_auto.proofs.gathering.gathering_of.Goals as goal
+use Rattle.kb_auto.proofs.gathering.gathering_of.Goals.{in-Grew, in-Same, in-Full}
 
-pub returns-in-Grew : goal.returns-in-Grew
-returns-in-Grew c = λ before equality adds nothing. rw c.in-Grew.is at adds
-
-pub returns-in-Same : goal.returns-in-Same
-returns-in-Same c = λ before equality adds nothing. nothing c.in-Same.is
-
-pub returns-in-Full : goal.returns-in-Full
-returns-in-Full c = λ before equality adds nothing. (_, _, rw c.in-Full.is at adds)
+pub returns : goal.returns
+returns c = λ before after equality adds nothing.
+    let P : Gathering → Type 0 = λ it. GatheringSays before after equality it in
+    elim c.match-answer.branch [
+      | in-Grew w ↦ subst P (sym w.result-is) (rw w.in-Grew.is at adds)
+      | in-Same w ↦ subst P (sym w.result-is) (nothing w.in-Same.is)
+      | in-Full w ↦ subst P (sym w.result-is) (_, _, rw w.in-Full.is at adds)
+    ]

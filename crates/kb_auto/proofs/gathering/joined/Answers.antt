@@ -1,5 +1,4 @@
-use Rattle.std.proofs.Common.{rules, ◌≡◌, ◌∙◌, [], ◌∷◌, ◌++◌, arith, sym, ap, length, append_assoc}
-use Rattle.std.proofs.lemmas.List.{append-nil}
+use Rattle.std.proofs.Common.{◌∙◌, [], ◌∷◌, ◌++◌, arith, sym, ap, length, append_assoc}
 use Rattle.kb_auto.proofs.gathering.joined.Goals as goal
 
 pub loop-equality-preserved : goal.loop-equality-preserved

@@ -1,4 +1,3 @@
-use Rattle.std.proofs.Common.{arith, ap, length}
 use Rattle.kb_complete.specs.declared.answers.Grown.TheVariants as grown
 use Rattle.kb_auto.proofs.Growing.{grown_said, known_grown, fewer_left}
 use Rattle.kb_auto.proofs.GoingOn.{continues_itself, continues_then, grows_then}

@@ -1,7 +1,5 @@
-use Rattle.std.proofs.Common.{List, refl, sym, subst}
-use Rattle.kb_word.specs.Presentations.{parts_of}
+use Rattle.std.proofs.Common.{refl}
 use Rattle.kb_word.specs.Relations.{relations_of}
-use Rattle.kb_diff.specs.Groups.{AreRulesOver, Group}
 use Rattle.kb_machine.proofs.Relations.{relations_over}
 use Rattle.kb_system.specs.Problems.{limits_of}
 use Rattle.kb_auto.proofs.Decisions.{is_reduced_system}
@@ -29,22 +27,6 @@ try_rules-requires-clause-sides g c κs within =
 pub returns-in-Own : goal.returns-in-Own
 returns-in-Own g c = rw c.in-Own.is at c.in_ok-structure.ensures
 
-pub too_many_differences-requires-clause-letters : goal.too_many_differences-requires-clause-letters
-too_many_differences-requires-clause-letters g c =
-    let presentation = c.args.presentation.now in
-    let lacks = rw c.in-NoRoom.is at c.in_ok-structure.ensures in
-    let reduced =
-    is_reduced_system (limits_of c.args.limits.now) presentation c.args.book.course c.args.rules c.requires.problem c.requires.completed in
-    let P : Group → Type 0 = λ it. AreRulesOver it.n c.args.rules.rules in
-    subst P (sym lacks.group)
-    (reduced_are_over presentation c.args.rules.rules reduced
-    (c.reduced_left_sides_keep_the_letters.ensures presentation.order presentation.n (relations_of presentation.inv presentation.eqs)
-    c.args.rules.rules (relations_over presentation.is_presentation) reduced))
-
-pub too_many_differences-requires-clause-lacks : goal.too_many_differences-requires-clause-lacks
-too_many_differences-requires-clause-lacks g c =
-    (limits_of c.args.limits.now, c.args.limits.now.diffs, c.args.presentation.now, rw c.in-NoRoom.is at c.in_ok-structure.ensures)
-
 pub returns-in-NoRoom : goal.returns-in-NoRoom
 returns-in-NoRoom g c =
     let limits = limits_of c.args.limits.now in
@@ -52,28 +34,12 @@ returns-in-NoRoom g c =
     let course = c.args.book.course in
     let rules = c.args.rules in
     let lines = c.into_log-lines.result.0.items in
-    let reduced = is_reduced_system limits presentation course rules c.requires.problem c.requires.completed in
-    c.too_many_differences.ensures limits c.args.limits.now.diffs presentation
-    (order_given limits presentation course.problem course.state lines rules.rules c.requires.problem rules.order c.requires.completed.order)
-    (log_of_complete limits presentation course.problem course.state lines rules.rules c.requires.problem c.book_is_sound.ensures
-    c.into_log-lines.ensures.lines reduced)
-    (rw c.in-NoRoom.is at c.in_ok-structure.ensures)
-
-pub too_many_states-requires-clause-letters : goal.too_many_states-requires-clause-letters
-too_many_states-requires-clause-letters g c =
-    let presentation = c.args.presentation.now in
-    let says = rw c.in-Counted.is at c.in_ok-structure.ensures in
-    let reduced =
-    is_reduced_system (limits_of c.args.limits.now) presentation c.args.book.course c.args.rules c.requires.problem c.requires.completed in
-    let P : Group → Type 0 = λ it. AreRulesOver it.n c.args.rules.rules in
-    subst P (sym says.0.group)
-    (reduced_are_over presentation c.args.rules.rules reduced
-    (c.reduced_left_sides_keep_the_letters.ensures presentation.order presentation.n (relations_of presentation.inv presentation.eqs)
-    c.args.rules.rules (relations_over presentation.is_presentation) reduced))
-
-pub too_many_states-requires-clause-gathers : goal.too_many_states-requires-clause-gathers
-too_many_states-requires-clause-gathers g c =
-    (limits_of c.args.limits.now, c.args.limits.now.diffs, c.args.presentation.now, (rw c.in-Counted.is at c.in_ok-structure.ensures).0)
+    let reduced = is_reduced_system limits presentation course rules c.requires.problem c.requires.completed in (
+      order_given limits presentation course.problem course.state lines rules.rules c.requires.problem rules.order c.requires.completed.order,
+      log_of_complete limits presentation course.problem course.state lines rules.rules c.requires.problem c.book_is_sound.ensures
+          c.into_log-lines.ensures.lines reduced,
+      rw c.in-NoRoom.is at c.in_ok-structure.ensures,
+    )
 
 pub returns-in-Counted : goal.returns-in-Counted
 returns-in-Counted g c =
@@ -82,13 +48,12 @@ returns-in-Counted g c =
     let course = c.args.book.course in
     let rules = c.args.rules in
     let lines = c.into_log-lines.result.0.items in
-    let says = rw c.in-Counted.is at c.in_ok-structure.ensures in
-    let reduced = is_reduced_system limits presentation course rules c.requires.problem c.requires.completed in
-    c.too_many_states.ensures limits c.args.limits.now.diffs presentation
-    (order_given limits presentation course.problem course.state lines rules.rules c.requires.problem rules.order c.requires.completed.order)
-    (log_of_complete limits presentation course.problem course.state lines rules.rules c.requires.problem c.book_is_sound.ensures
-    c.into_log-lines.ensures.lines reduced)
-    says.0 says.1
+    let reduced = is_reduced_system limits presentation course rules c.requires.problem c.requires.completed in (
+      order_given limits presentation course.problem course.state lines rules.rules c.requires.problem rules.order c.requires.completed.order,
+      log_of_complete limits presentation course.problem course.state lines rules.rules c.requires.problem c.book_is_sound.ensures
+          c.into_log-lines.ensures.lines reduced,
+      rw c.in-Counted.is at c.in_ok-structure.ensures,
+    )
 
 pub unreachable-requires : goal.unreachable-requires
 unreachable-requires g c =

@@ -1,4 +1,3 @@
-use Rattle.std.proofs.Common.{refl}
 use Rattle.kb_auto.proofs.gathering.Gathered.gather_irreducible.Goals as goal
 
 pub add_path-requires-clause-first : goal.add_path-requires-clause-first
@@ -9,7 +8,7 @@ add_path-requires-clause-second c = c.requires.second
 
 pub returns : goal.returns
 returns c =
-    c.gathering_of.ensures c.args.self c.args.equality (record {
+    c.gathering_of.ensures c.args.self.now _ c.args.equality (record {
       group = c.in_ok-answer.ensures.group;
       most = c.in_ok-answer.ensures.most;
       first = c.requires.first_is_irreducible;
