@@ -9,7 +9,6 @@ use Rattle.kb_fsa.specs.PairSymbols.{pair_symbol}
 use Rattle.kb_fsa.specs.Padding.{padded}
 use Rattle.kb_fsa.specs.Language.{Automaton, IsAutomaton, AcceptsText, generators}
 use Rattle.kb_fsa.proofs.Lookups.{after-append}
-use Rattle.kb_cascade.specs.Cascade.{AcceptsLed, IsLeastLed, followed}
 use Rattle.kb_leastpair.specs.LeastPair.{IsLeastWord}
 use Rattle.kb_leastpair.proofs.SecondMoves.{letter_true}
 use Rattle.kb_structure.specs.Structure.{Structure, Accepts}
@@ -17,6 +16,7 @@ use Rattle.kb_structure.specs.StructureOf.{FitTogether, multiplier_of, structure
 use Rattle.kb_structure.specs.Certificates.{MissingExtension}
 use Rattle.kb_structure.proofs.Letters.{over_first, over_front, over_later}
 use Rattle.kb_structure.proofs.OfAutomata.{accepts_word, multiplied_pair, pair_multiplied}
+use Rattle.kb_certificates.specs.Cascade.{AcceptsLed, IsLeastLed, followed}
 use Rattle.kb_certificates.specs.Followers.{own_pair}
 use Rattle.kb_certificates.proofs.Leasts.{least_word_led}
 

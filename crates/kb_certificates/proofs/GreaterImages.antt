@@ -10,13 +10,13 @@ use Rattle.kb_fsa.specs.PairSymbols.{pair_symbol}
 use Rattle.kb_fsa.specs.Padding.{padded}
 use Rattle.kb_fsa.specs.Language.{Automaton, generators}
 use Rattle.kb_fsa.proofs.PairSymbolLaws.{first_letter-pair_symbol, second_letter-pair_symbol}
-use Rattle.kb_cascade.specs.Cascade.{followed}
 use Rattle.kb_leastpair.specs.LeastPair.{IsLeastPair}
 use Rattle.kb_structure.specs.Structure.{Structure}
 use Rattle.kb_structure.specs.StructureOf.{FitTogether, multiplier_of, structure_of}
 use Rattle.kb_structure.specs.Certificates.{ImageNotLeast}
 use Rattle.kb_structure.proofs.Letters.{over_first, over_later}
 use Rattle.kb_structure.proofs.OfAutomata.{multiplied_pair, pair_multiplied}
+use Rattle.kb_certificates.specs.Cascade.{followed}
 use Rattle.kb_certificates.specs.declared.comparison.Comparison.{Comparison}
 use Rattle.kb_certificates.specs.declared.comparison.Comparison.TheVariants.{Same, Earlier, Later, Reached, Lower}
 use Rattle.kb_certificates.specs.Followers.{compared, comparing, is_lower, lengthened, outlasted}

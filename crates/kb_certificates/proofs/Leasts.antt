@@ -3,8 +3,8 @@ use Rattle.std.proofs.Common.{◌↔◌, ℕ, List, [], ◌∷◌, arith}
 use Rattle.kb_word.specs.Words.{Less}
 use Rattle.kb_word.specs.Words.Less.{shorter, earlier}
 use Rattle.kb_fsa.specs.Table.{Table}
-use Rattle.kb_cascade.specs.Cascade.{Follower, AcceptsLed, IsLeastLed}
 use Rattle.kb_leastpair.specs.LeastPair.{IsLeastWord, IsLeastPair}
+use Rattle.kb_certificates.specs.Cascade.{Follower, AcceptsLed, IsLeastLed}
 
 pub least_word_led : {X : Type 0} (table : Table) (follower : Follower X) (Holds : List ℕ → Type 0)
     → ((word : List ℕ) → AcceptsLed table follower word ↔ Holds word) → (word : List ℕ) → IsLeastLed table follower word

@@ -8,9 +8,9 @@ use Rattle.kb_fsa.specs.declared.alphabet.Alphabet.{Alphabet}
 use Rattle.kb_fsa.specs.declared.alphabet.Alphabet.TheVariants.{Plain}
 use Rattle.kb_fsa.specs.Table.{Table, state_after}
 use Rattle.kb_fsa.specs.Language.{Automaton, IsAutomaton, IsTextOf, AcceptsText, generators}
-use Rattle.kb_cascade.specs.Cascade.{AcceptsLed, Follower, followed}
 use Rattle.kb_leastpair.specs.LeastPair.{IsAccepted, IsLeastPair}
 use Rattle.kb_leastpair.proofs.Pairs.{letters_fit}
+use Rattle.kb_certificates.specs.Cascade.{AcceptsLed, Follower, followed}
 use Rattle.kb_certificates.specs.LedPairs.{IsLedPair}
 use Rattle.kb_certificates.proofs.Leasts.{least_pair_same}
 

@@ -9,8 +9,8 @@ use Rattle.kb_fsa.specs.PairSymbols.{pair_symbol, pads_second, second_letter}
 use Rattle.kb_fsa.specs.Padding.{padded}
 use Rattle.kb_fsa.specs.Language.{Automaton, generators}
 use Rattle.kb_fsa.proofs.PairSymbolLaws.{pads_second-letter, pads_second-padding, second_letter-pair_symbol}
-use Rattle.kb_cascade.specs.Cascade.{followed}
 use Rattle.kb_leastpair.specs.LeastPair.{IsAccepted, IsLeastWord}
+use Rattle.kb_certificates.specs.Cascade.{followed}
 use Rattle.kb_certificates.specs.declared.agreement.Agreement.{Agreement}
 use Rattle.kb_certificates.specs.declared.agreement.Agreement.TheVariants.{Front, Apart}
 use Rattle.kb_certificates.specs.First.{IsOther}

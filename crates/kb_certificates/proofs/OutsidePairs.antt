@@ -9,13 +9,13 @@ use Rattle.kb_fsa.specs.PairSymbols.{pair_symbol}
 use Rattle.kb_fsa.specs.Padding.{padded}
 use Rattle.kb_fsa.specs.Language.{Automaton, IsAutomaton, AcceptsText, generators}
 use Rattle.kb_fsa.proofs.PairSymbolLaws.{first_letter-pair_symbol, second_letter-pair_symbol}
-use Rattle.kb_cascade.specs.Cascade.{followed}
 use Rattle.kb_leastpair.specs.LeastPair.{IsLeastPair}
 use Rattle.kb_structure.specs.Structure.{Structure, Accepts}
 use Rattle.kb_structure.specs.StructureOf.{FitTogether, multiplier_of, structure_of}
 use Rattle.kb_structure.specs.Certificates.{PairOutsideAcceptor}
 use Rattle.kb_structure.proofs.Letters.{over_first, over_later}
 use Rattle.kb_structure.proofs.OfAutomata.{accepts_word, multiplied_pair, pair_multiplied}
+use Rattle.kb_certificates.specs.Cascade.{followed}
 use Rattle.kb_certificates.specs.declared.word_states.WordStates.{WordStates}
 use Rattle.kb_certificates.specs.Followers.{after_letter, word_states}
 use Rattle.kb_certificates.specs.LedPairs.{IsLedPair}

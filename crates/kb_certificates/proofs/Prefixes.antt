@@ -7,13 +7,13 @@ use Rattle.kb_word.specs.declared.word_order.WordOrder.{WordOrder}
 use Rattle.kb_fsa.specs.declared.alphabet.Alphabet.TheVariants.{Plain}
 use Rattle.kb_fsa.specs.Table.{Table, AcceptsFrom, is_accepting, state_after, step}
 use Rattle.kb_fsa.specs.Language.{Automaton, IsAutomaton, AcceptsText, generators}
-use Rattle.kb_cascade.specs.Cascade.{AcceptsLed, IsLeastLed, followed}
 use Rattle.kb_leastpair.specs.LeastPair.{IsLeastWord}
 use Rattle.kb_structure.specs.Structure.{Structure, Accepts}
 use Rattle.kb_structure.specs.StructureOf.{structure_of}
 use Rattle.kb_structure.specs.Certificates.{PrefixNotAccepted}
 use Rattle.kb_structure.specs.Certificates.PrefixNotAccepted.{empty_word, prefix}
 use Rattle.kb_structure.proofs.OfAutomata.{accepts_word}
+use Rattle.kb_certificates.specs.Cascade.{AcceptsLed, IsLeastLed, followed}
 use Rattle.kb_certificates.specs.Followers.{rejected_prefix}
 use Rattle.kb_certificates.proofs.Leasts.{least_word_led, none_below}
 

@@ -6,11 +6,11 @@ use Rattle.kb_word.specs.Relations.{IsOver}
 use Rattle.kb_word.specs.declared.word_order.WordOrder.{WordOrder}
 use Rattle.kb_fsa.specs.Language.{Automaton, generators}
 use Rattle.kb_leastpair.specs.LeastPair.{IsAccepted, IsLeastWord}
-use Rattle.kb_laterpairs.specs.Later.{HasLater}
 use Rattle.kb_structure.specs.Structure.{Structure, Multiplies}
 use Rattle.kb_structure.specs.StructureOf.{FitTogether, multiplier_of, structure_of}
 use Rattle.kb_structure.specs.Certificates.{TwoImages}
 use Rattle.kb_structure.proofs.OfAutomata.{multiplied_pair, pair_multiplied}
+use Rattle.kb_certificates.specs.Later.{HasLater}
 use Rattle.kb_certificates.specs.First.{HasTwo, IsLeastTriple, IsOther}
 
 module _ (pairs : Automaton) where

@@ -4,7 +4,7 @@ use Rattle.kb_fsa.specs.declared.alphabet.Alphabet.TheVariants.{Plain}
 use Rattle.kb_fsa.specs.Table.{Table, step, is_accepting}
 use Rattle.kb_fsa.specs.PairSymbols.{pair_symbol, first_letter, second_letter, pads_second}
 use Rattle.kb_fsa.specs.EndedWords.{is_symbol}
-use Rattle.kb_cascade.specs.Cascade.{Follower}
+use Rattle.kb_certificates.specs.Cascade.{Follower}
 use Rattle.kb_certificates.specs.declared.agreement.Agreement.{Agreement}
 use Rattle.kb_certificates.specs.declared.agreement.Agreement.TheVariants.{Front, Apart}
 use Rattle.kb_certificates.specs.declared.comparison.Comparison.{Comparison}

@@ -3,7 +3,7 @@ use Rattle.std.specs.Prelude.{ℕ, List}
 use Rattle.kb_word.specs.Relations.{IsOver}
 use Rattle.kb_fsa.specs.Padding.{padded}
 use Rattle.kb_fsa.specs.Language.{Automaton, generators}
-use Rattle.kb_cascade.specs.Cascade.{Follower, AcceptsLed}
+use Rattle.kb_certificates.specs.Cascade.{Follower, AcceptsLed}
 
 -- the pair of words over the generators leads both to acceptance
 pub record IsLedPair {X : Type 0} (pairs : Automaton) (follower : Follower X)

@@ -1,5 +1,12 @@
 pub mod First
+pub mod Cascade
+pub mod LedStates
 pub mod Followers
 pub mod LedPairs
+pub mod FirstWords
+pub mod Later
+pub mod Rivalry
+pub mod Containing
+pub mod Reading
 pub mod Places
 pub mod Images

@@ -2,7 +2,7 @@
 
 /// How a word, with a generator after it, compares in the shortlex order with a second word, as both are read.
 #[derive(Clone, Copy, Debug, PartialEq, Eq, Hash)]
-pub enum Comparison {
+pub(crate) enum Comparison {
     /// The words are the same so far.
     Same,
     /// They are as long so far, and the first is earlier.

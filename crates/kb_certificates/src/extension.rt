@@ -8,8 +8,8 @@ ghost use Rattle.kb_certificates.specs.First.{HasNone, IsFirstWord};
 ghost use Rattle.kb_certificates.specs.Followers.{own_pair};
 
 use crate::automata::Automata;
+use crate::cascade::Follower;
 use crate::least::least_word;
-use kb_cascade::Follower;
 use kb_fsa::{Fsa, PairSymbols};
 use kb_search::{Search, first_found};
 use kb_word::{Letter, Memory, Word};

@@ -10,9 +10,9 @@ ghost use Rattle.kb_certificates.specs.First.{HasNoPair, IsFirstPair};
 ghost use Rattle.kb_certificates.specs.Followers.{compared, comparing, is_lower, lengthened, outlasted};
 
 use crate::automata::Automata;
+use crate::cascade::Follower;
 use crate::comparison::Comparison;
 use crate::least::least_led_pair;
-use kb_cascade::Follower;
 use kb_fsa::{Fsa, PairSymbols};
 use kb_search::{Search, first_found};
 use kb_word::{Letter, Memory, Word};

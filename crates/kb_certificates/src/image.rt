@@ -7,8 +7,8 @@ ghost use Rattle.kb_certificates.specs.Images.{ImagesSay};
 ghost use Rattle.kb_certificates.specs.Followers.{other_state};
 
 use crate::automata::Automata;
+use crate::cascade::Follower;
 use crate::least::least_word;
-use kb_cascade::Follower;
 use kb_fsa::Fsa;
 use kb_fsadet::{Det, exists};
 use kb_search::{Search, first_found};

@@ -3,11 +3,11 @@
 ghost use Rattle.std.specs.Prelude.{◌≡◌, ℕ, List, IfOk, IfSome, IfNone};
 ghost use Rattle.kb_fsa.specs.Language.{IsAutomaton, generators};
 ghost use Rattle.kb_fsa.specs.declared.alphabet.Alphabet.TheVariants.{Plain, Pair};
-ghost use Rattle.kb_cascade.specs.Cascade.{AcceptsLed, IsLeastLed};
 ghost use Rattle.kb_leastpair.specs.LeastPair.{IsLeastPair};
+ghost use Rattle.kb_certificates.specs.Cascade.{AcceptsLed, IsLeastLed};
 ghost use Rattle.kb_certificates.specs.LedPairs.{IsLedPair};
 
-use kb_cascade::{Follower, cascade_product, least_led};
+use crate::cascade::{Follower, cascade_product, least_led};
 use kb_fsa::{Alphabet, Fsa, word_of};
 use kb_leastpair::least_pair;
 use kb_word::{Memory, Word};

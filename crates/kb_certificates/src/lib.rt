@@ -24,36 +24,52 @@
 //!
 //! # How they are found
 //!
-//! A machine follows an automaton along its texts, and tells at their ends whether they are a certificate
-//! (`kb_cascade`). It follows the acceptor along words: whether some prefix wasn't accepted (N1), where the
-//! multiplier is after the pair of the word with itself (N6), or where the projection of the multiplier is after the
-//! word (N4). Or it follows a multiplier along pairs: where the acceptor is after both words (N2), or how the words
-//! compare so far (N7). The least word is that of the least text, and the least pair is found by `kb_leastpair`. The
-//! least word with two images (N5) is found by `kb_laterpairs`, and its least image by `kb_leastpair`. Then a machine
-//! follows the multiplier along pairs, and tells whose second word is another: its next image is the least of these
-//! beside the word.
+//! A machine follows an automaton, its leader, along texts: it keeps what the leader doesn't tell, and tells at the end
+//! of a text whether that is a certificate (`cascade`). It follows the acceptor along words: whether some prefix wasn't
+//! accepted (N1), where the multiplier is after the pair of the word with itself (N6), or where the projection of the
+//! multiplier is after the word (N4). Or it follows a multiplier along pairs: where the acceptor is after both words
+//! (N2), or how the words compare so far (N7). The least word is that of the least text, and the least pair is found by
+//! `kb_leastpair`.
+//!
+//! A word has two images (N5) where it is the first word of a later pair: the multiplier has another pair with it,
+//! whose second word is less. A branching machine reads a pair of the multiplier and guesses the lesser word, and so
+//! the later pairs have a nondeterministic automaton (`later_pairs`). Another one, with no more states, has their first
+//! words: it accepts where letters of the second word alone lead to acceptance (`first_words`). `kb_fsaleast` finds the
+//! least of them, and `kb_leastpair` the least image of that word. Then a machine follows the multiplier along pairs,
+//! and tells whose second word is another: the next image is the least of these beside the word.
 //!
 //! A generator's multiplier is asked without regard to the others, so each kind but N1 is a search of `kb_search`,
 //! whose places are the generators (`automata`); a multiplier that has a certificate brings its least one.
 //!
 //! # Where things are
 //!
-//! In `specs/`, `First` has what is the first certificate, `Places` what one generator has, `Images` what is answered
-//! of N4, `Followers` the machines that follow, and `LedPairs` the pairs that they accept. In `proofs/`, `Prefixes`
-//! (N1), `OutsidePairs` (N2), `FirstWords` (N4), `OtherWords` and `TwoImages` (N5), `Extensions` (N6) and
-//! `GreaterImages` (N7) have that these are the certificates; `Leasts` and `LedWords` what the least of them are, and
-//! `Loops` the way from what each generator has to what is first.
+//! In `specs/`, `First` has what is the first certificate, `Places` what one generator has, and `Images` what is
+//! answered of N4. `Cascade` has the cascade product and what it accepts, `LedStates` when its states are the same,
+//! `Followers` the machines that follow, and `LedPairs` the pairs that they accept. `Later` has what later pairs are,
+//! `Rivalry` the machine that guesses, `Containing` what lists have that are made from others, `Reading` that the
+//! machine reads pairs alone, and `FirstWords` the automaton of first words and what it accepts.
 //!
-//! Below are `kb_structure`, with the certificates, `kb_cascade`, `kb_leastpair`, `kb_laterpairs`, `kb_fsadet` and
-//! `kb_search`.
+//! In `proofs/`, `Prefixes` (N1), `OutsidePairs` (N2), `WithoutImages` (N4), `OtherWords` and `TwoImages` (N5),
+//! `Extensions` (N6) and `GreaterImages` (N7) have that these are the certificates; `Leasts` and `LedWords` what the
+//! least of them are, and `Loops` the way from what each generator has to what is first. `LedMoves` has the moves of
+//! the product, and `LedRuns` where texts lead in it. `RivalMoves` has moves of the machine that guesses,
+//! `RivalComparing` how a rival, which is its guess, compares letter by letter, `RivalRuns` what it accepts, and
+//! `LaterPairs` what is said of pairs. `Tails` has where letters of the second word alone lead to acceptance, and
+//! `FirstWords` that the automaton accepts the first words.
+//!
+//! Below are `kb_structure`, with the certificates, `kb_explore`, which explores the product, `kb_branching`, which
+//! explores the machine that guesses, `kb_fsadet`, `kb_fsaleast`, `kb_leastpair` and `kb_search`.
 #![tactic(auto)]
 
 mod agreement;
 mod automata;
+mod cascade;
 mod comparison;
 mod extension;
+mod first_words;
 mod greater;
 mod image;
+mod later_pairs;
 mod least;
 mod other;
 mod outside;
@@ -61,12 +77,9 @@ mod prefix;
 mod two;
 mod word_states;
 
-pub use agreement::Agreement;
-pub use comparison::Comparison;
 pub use extension::missing_extension;
 pub use greater::image_not_least;
 pub use image::{Images, check_images};
 pub use outside::pair_outside_acceptor;
 pub use prefix::prefix_not_accepted;
 pub use two::two_images;
-pub use word_states::WordStates;

@@ -10,7 +10,7 @@ ghost use Rattle.kb_certificates.specs.First.{IsOther};
 ghost use Rattle.kb_certificates.specs.Followers.{agreed, other_second};
 
 use crate::agreement::Agreement;
-use kb_cascade::{Follower, cascade_product};
+use crate::cascade::{Follower, cascade_product};
 use kb_fsa::{Fsa, PairSymbols};
 use kb_leastpair::least_second;
 use kb_word::{Letter, Memory, Word};

@@ -8,9 +8,9 @@ ghost use Rattle.kb_certificates.specs.First.{HasNoPair, IsFirstPair};
 ghost use Rattle.kb_certificates.specs.Followers.{after_letter, word_states};
 
 use crate::automata::Automata;
+use crate::cascade::Follower;
 use crate::least::least_led_pair;
 use crate::word_states::WordStates;
-use kb_cascade::Follower;
 use kb_fsa::{Fsa, PairSymbols};
 use kb_search::{Search, first_found};
 use kb_word::{Letter, Memory, Word};

@@ -9,8 +9,8 @@ ghost use Rattle.kb_leastpair.specs.LeastPair.{IsLeastWord};
 ghost use Rattle.kb_structure.specs.StructureOf.{OfAutomata};
 ghost use Rattle.kb_certificates.specs.Followers.{rejected_prefix};
 
+use crate::cascade::Follower;
 use crate::least::least_word;
-use kb_cascade::Follower;
 use kb_fsa::Fsa;
 use kb_word::{Memory, Word};
 use std::alloc::Global;

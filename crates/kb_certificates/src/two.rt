@@ -8,9 +8,9 @@ ghost use Rattle.kb_structure.specs.StructureOf.{FitTogether, OfAutomata};
 ghost use Rattle.kb_certificates.specs.First.{HasNoTriple, HasTwo, IsFirstTriple, IsLeastTriple};
 
 use crate::automata::Automata;
+use crate::later_pairs::least_later_first;
 use crate::other::least_other;
 use kb_fsa::Fsa;
-use kb_laterpairs::least_later_first;
 use kb_leastpair::least_second;
 use kb_search::{Search, first_found};
 use kb_word::{Letter, Memory, Word};

@@ -1,5 +1,5 @@
 use Rattle.std.proofs.Common.{length, arith}
-use Rattle.kb_certificates.proofs.FirstWords.{all_given}
+use Rattle.kb_certificates.proofs.WithoutImages.{all_given}
 use Rattle.kb_certificates.proofs.image.check_images.Goals as goal
 
 pub returns-in-Some : goal.returns-in-Some

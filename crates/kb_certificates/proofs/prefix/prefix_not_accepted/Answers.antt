@@ -3,11 +3,11 @@ use Rattle.std.proofs.lemmas.Option.{IfSome_then}
 use Rattle.std.proofs.lemmas.Result.{IfOk-weaker}
 use Rattle.kb_fsa.specs.Table.{is_accepting}
 use Rattle.kb_fsa.specs.Language.{Automaton}
-use Rattle.kb_cascade.specs.Cascade.{AcceptsLed, IsLeastLed}
 use Rattle.kb_leastpair.specs.LeastPair.{IsLeastWord}
 use Rattle.kb_leastpair.proofs.Pairs.{none_kept}
 use Rattle.kb_structure.specs.Certificates.{PrefixNotAccepted}
 use Rattle.kb_structure.specs.StructureOf.{OfAutomata}
+use Rattle.kb_certificates.specs.Cascade.{AcceptsLed, IsLeastLed}
 use Rattle.kb_certificates.specs.Followers.{rejected_prefix}
 use Rattle.kb_certificates.proofs.Prefixes.{least_prefix, no_prefix}
 use Rattle.kb_certificates.proofs.prefix.prefix_not_accepted.Goals as goal

@@ -1,6 +1,6 @@
 use Rattle.std.proofs.Common.{◌+◌, arith, rules}
 use Rattle.kb_fsa.specs.Language.{generators}
-use Rattle.kb_certificates.proofs.FirstWords.{few_here, first_counted, first_lacking, given_image, least_without}
+use Rattle.kb_certificates.proofs.WithoutImages.{few_here, first_counted, first_lacking, given_image, least_without}
 use Rattle.kb_certificates.proofs.image.WithoutImageSearch.look.Goals as goal
 
 pub exists-requires : goal.exists-requires

@@ -1,2 +1,0 @@
-pub mod LedMoves
-pub mod LedRuns

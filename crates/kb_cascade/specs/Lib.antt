@@ -1,2 +1,0 @@
-pub mod Cascade
-pub mod LedStates

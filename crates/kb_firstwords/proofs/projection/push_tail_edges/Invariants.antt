@@ -1,8 +1,0 @@
-use Rattle.std.proofs.Common.{◌≡◌, ◌++◌, take}
-use Rattle.std.specs.List.{filter_map}
-use Rattle.kb_fsadet.specs.FirstWords.{tail_edge}
-use Rattle.kb_firstwords.proofs.projection.push_tail_edges.Given as goal
-
-abbrev pub invariant-loop-symbol : goal.invariant-loop-symbol
-invariant-loop-symbol l =
-    l.edges.items ≡ l.initial.edges.items ++ filter_map (tail_edge l.symbols.n l.state) (take l.symbol-index l.symbol-items)

@@ -1,4 +1,0 @@
-pub mod RivalMoves
-pub mod Comparing
-pub mod RivalRuns
-pub mod LaterPairs

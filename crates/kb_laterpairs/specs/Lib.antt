@@ -1,4 +1,0 @@
-pub mod Later
-pub mod Rivalry
-pub mod Containing
-pub mod Reading
