@@ -28,7 +28,7 @@ def sentence(date, processors, whole, clock, end):
     return f"On {date}, on {processors} processors: **{whole:.0f} minutes of processor time, {clock:.0f} by the clock**. {end}."
 
 
-SENTENCE = re.compile(r"^On .*: \*\*(\d+) minutes of processor time, \d+ by the clock\*\*\..*$", re.M)
+SENTENCE = re.compile(r"^On .*: \*\*(\d+) minutes of processor time(?:, \d+ by the clock)?\*\*\..*$", re.M)
 ROW = re.compile(r"^\|.*\|$\n?", re.M)
 
 
