@@ -68,7 +68,7 @@ pub(crate) fn command_line_of<'a>(
 /// What `--version` says after the program's name: its version, and what proved means.
 const VERSION: &str = "\
 0.9.0
-Status 0 is a theorem: the answer to each word line is the least word equal to it, rules stored are complete, and each automaton stored has exactly the stated language.";
+Status 0 is a theorem: the answer to each word line is the least word equal to it (by kbcos, in its right coset), rules stored are complete, and each automaton stored has exactly the stated language.";
 
 /// What `--help` says after the list of commands.
 const AFTER_HELP: &str = "\
