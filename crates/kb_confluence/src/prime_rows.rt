@@ -63,7 +63,7 @@ impl<'r, R: Reducer> PrimeRows<'r, R> {
             (λ joined. IsTrue joined → PrimesOfRowAreJoined self.now.rules.now i) }
     {
         for overlap in overlaps {
-            let (j, place) = (overlap.rule as usize, overlap.place as u64);
+            let (j, place) = (overlap.rule, overlap.place as u64);
             match pair.join(self.reducer, first, &self.rules[j], place)? {
                 Joinability::Joined => {}
                 Joinability::Apart => return Ok(false),

@@ -82,7 +82,7 @@ impl<'r, R: Reducer> Rows<'r, R> {
         ensures { IfOk result (IsRowVerdict self.now.rules.now i) }
     {
         for overlap in overlaps {
-            let (j, place) = (overlap.rule as usize, overlap.place as u64);
+            let (j, place) = (overlap.rule, overlap.place as u64);
             let second = &self.rules[j];
             // A rule with itself at place 0 is one replacement, and no overlap.
             if i == j && place == 0 {

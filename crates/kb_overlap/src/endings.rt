@@ -84,17 +84,8 @@ fn add_other(
 ) -> Result<(), Memory>
     ensures { OnOk result (Gains (IsOther index rule place) found.old.items found.new.items) }
 {
-    if rule > u32::MAX as usize {
-        return Err(Memory);
-    }
-    if place > u32::MAX as usize {
-        return Err(Memory);
-    }
     if rule != index || place > 0 {
-        found.push(Overlap {
-            rule: rule as u32,
-            place: place as u32,
-        })?;
+        found.push(Overlap { rule, place })?;
     }
     Ok(())
 }

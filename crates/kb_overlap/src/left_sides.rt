@@ -10,13 +10,14 @@ use kb_word::{Memory, Word};
 use std::alloc::Global;
 use std::marker::Model;
 
-/// An overlap of a word with the left side of a rule. Its numbers are below 2^32: where a larger one is wanted, memory is.
+/// An overlap of a word with the left side of a rule. Its numbers are indices, so that each overlap has some: a list of
+/// overlaps is there for one word at a time, and takes little memory.
 #[derive(Clone, Copy, Debug, PartialEq, Eq, PartialOrd, Ord)]
 pub struct Overlap {
     /// The index of the rule in its list.
-    pub rule: u32,
+    pub rule: usize,
     /// The place of the word at which the left side begins.
-    pub place: u32,
+    pub place: usize,
 }
 
 /// The left sides of a list of rules, by which all overlaps of a word with them are found.
@@ -66,12 +67,9 @@ fn listed<'r>(alloc: Global, rules: &'r [Rule]) -> Result<Vec<Side<'r>>, Memory>
 {
     let mut sides = Vec::with_capacity(alloc, rules.len())?;
     for (rule, sided) in rules.iter().enumerate() {
-        if rule > u32::MAX as usize {
-            return Err(Memory);
-        }
         sides.push(Side {
             letters: sided.left().letters(),
-            rule: rule as u32,
+            rule,
         })?;
     }
     Ok(sides)

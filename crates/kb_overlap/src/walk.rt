@@ -10,7 +10,7 @@ use kb_word::{Letter, Memory};
 #[derive(Drop)]
 pub(crate) struct Side<'r> {
     pub(crate) letters: &'r [Letter],
-    pub(crate) rule: u32,
+    pub(crate) rule: usize,
 }
 
 impl<'r> Side<'r> {
@@ -65,13 +65,10 @@ fn add_at_place(
 fn add(sides: &[Side], place: usize, found: &mut Vec<Overlap>) -> Result<(), Memory>
     ensures { OnOk result (found.new.items ≡ found.old.items ++ map (at_place place) sides.now) }
 {
-    if place > u32::MAX as usize {
-        return Err(Memory);
-    }
     for side in sides {
         found.push(Overlap {
             rule: side.rule,
-            place: place as u32,
+            place,
         })?;
     }
     Ok(())

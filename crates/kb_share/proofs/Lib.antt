@@ -8,6 +8,7 @@ mod RowByRow
 pub mod Entries
 mod Progress
 pub mod Sieving
+pub mod Overlapping
 pub mod NoneApart
 pub mod Marks
 pub mod Known

@@ -5,9 +5,11 @@ use Rattle.kb_word.specs.Words.{Pair}
 use Rattle.kb_word.specs.Overlap.{IsUnresolved, critical_pair}
 use Rattle.kb_machine.specs.declared.origin.Origin.{Origin}
 use Rattle.kb_machine.specs.declared.origin.Origin.TheVariants as origins
+use Rattle.kb_machine.specs.States.{State}
 use Rattle.kb_machine.specs.Course.{Course}
 use Rattle.kb_machine.specs.declared.event.Event.{Event}
 use Rattle.kb_machine.specs.declared.event.Event.TheVariants.{Entered}
+use Rattle.kb_book.specs.Answers.{HasOverlap}
 use Rattle.kb_share.specs.Versions.{VersionParts, version_of, OverlapOfLines}
 use Rattle.kb_share.specs.declared.found.Found.{Found}
 
@@ -31,6 +33,10 @@ pub record AreAllApart (version : VersionParts) (found : List Found) : Type 0 wh
   pub each : All (IsApart version) found
   pub all : (one : Found) → IsApart version one → Contains found one
   pub ascending : AllPairs IsBefore found
+
+-- the two numbers are those of lines that overlap at the place, so that it may be entered
+abbrev pub IsOverlapOfLines : State → Found → Type 0
+IsOverlapOfLines state one = HasOverlap state one.first one.second one.place
 
 -- the origin that an overlap has when it is pending
 abbrev pub origin_of : Found → Origin

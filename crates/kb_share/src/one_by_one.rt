@@ -1,9 +1,8 @@
 //! Passes by one worker.
 
 ghost use Rattle.std.specs.Prelude.{◌≡◌, ◌≤◌, IfOk};
-ghost use Rattle.kb_share.specs.Later.{IsLater};
 ghost use Rattle.kb_share.specs.Versions.{IsPublished};
-ghost use Rattle.kb_share.specs.Passes.{AreAllApart, EntersAllApart, EntersSoMany};
+ghost use Rattle.kb_share.specs.Passes.{AreAllApart, EntersSoMany};
 ghost use Rattle.kb_word.specs.Overlap.{IsConfluent};
 ghost use Rattle.kb_machine.specs.States.{live_rules};
 
@@ -23,17 +22,8 @@ use std::alloc::Global;
 pub struct OneByOne;
 
 impl OneByOne {
-    /// Makes a pass over a book whose last version has its live lines.
-    pub fn pass<R: Reducer>(self, alloc: Global, mut book: Book<R>) -> Result<Book<R>, Memory>
-        requires { IsPublished book.course.state }
-        ensures later { IfOk result (λ after. IsLater book.course after.course) }
-        ensures entered { IfOk result (λ after. EntersAllApart book.course after.course) }
-    {
-        self.enter_apart(alloc, &mut book)?;
-        Ok(book)
-    }
-
-    /// Makes a pass, and tells how many overlaps were entered. Where there was none, the live rules are confluent.
+    /// Makes a pass over a book whose last version has its live lines, and tells how many overlaps were entered. Where
+    /// there was none, the live rules are confluent.
     pub fn enter_apart<R: Reducer>(self, alloc: Global, book: &mut Book<R>) -> Result<usize, Memory>
         requires { IsPublished book.old.course.state }
         ensures entered { IfOk result (EntersSoMany book.old.course book.new.course) }

@@ -48,16 +48,16 @@ fn sift_at<R: Reducer>(
     ensures { IfOk result (SiftsAt version.now index overlap.now) }
 {
     // A line with itself at place 0 is one replacement, and no overlap.
-    if overlap.rule as usize == index && overlap.place == 0 {
+    if overlap.rule == index && overlap.place == 0 {
         return Ok(None);
     }
-    let second = &version.rules().as_slice()[overlap.rule as usize];
+    let second = &version.rules().as_slice()[overlap.rule];
     let place = overlap.place as u64;
     match pair.join(version.reducer(), first, second, place)? {
         Joinability::Joined => Ok(None),
         Joinability::Apart => Ok(Some(Found {
             first: version.numbers()[index],
-            second: version.numbers()[overlap.rule as usize],
+            second: version.numbers()[overlap.rule],
             place,
         })),
     }

@@ -96,14 +96,14 @@ fn sift_prime<R: Reducer>(
     ensures { IfOk result (PrimeSays version.now index overlap.now) }
 {
     let first = &version.rules().as_slice()[index];
-    let second = &version.rules().as_slice()[overlap.rule as usize];
+    let second = &version.rules().as_slice()[overlap.rule];
     let place = overlap.place as u64;
     match pair.join(version.reducer(), first, second, place)? {
         Joinability::Joined => Ok(None),
         Joinability::Apart => Ok(Some(Apart {
             found: Found {
                 first: version.numbers()[index],
-                second: version.numbers()[overlap.rule as usize],
+                second: version.numbers()[overlap.rule],
                 place,
             },
             letters: letters_of(pair),
