@@ -1,6 +1,6 @@
 //! The lines that a new line concerns.
 
-ghost use Rattle.std.specs.Prelude.{◌≡◌, ◌≢◌, ◌↔◌, ◌∷◌, ◌++◌, ◌+◌, ◌<◌, ◌≤◌, ℕ, List, [], length, IsTrue, IfSome, IfNone, None, OnOk, Some, slice_get};
+ghost use Rattle.std.specs.Prelude.{◌≡◌, ◌≢◌, ◌↔◌, ◌∷◌, ◌++◌, ◌+◌, ◌^◌, ◌<◌, ◌≤◌, ℕ, List, [], length, IsTrue, IfSome, IfNone, None, OnOk, Some, slice_get};
 ghost use Rattle.std.specs.List.{AllPairs, Contains};
 ghost use Rattle.kb_word.specs.Words.{Pair, IsFactor};
 ghost use Rattle.kb_machine.specs.Lines.{numbered as rule_with_number, rule_of, rules_of};
@@ -98,6 +98,8 @@ impl Finder {
         ensures all { OnOk result (FindsAll side book.now.course.state k self.new.found.items) }
     {
         book_is_sound(book);
+        // A use of the limits brings that 32 bits number the lines.
+        let _limits = book.limits();
         self.meet(book.lines(), book.live())?;
         self.renew(book.lines(), book.live())?;
         self.search(book.lines(), book.live(), k, side)
@@ -107,6 +109,7 @@ impl Finder {
     fn meet(&mut self, lines: &[Line], live: &[u32]) -> Result<(), Memory>
         requires ascending { AllPairs (λ one other. one < other) live.now }
         requires known { KnowsLines self.old lines.now live.now }
+        requires few { length lines.now < 2 ^ 32 }
         ensures known { OnOk result (KnowsLines self.new lines.now live.now) }
         ensures all { OnOk result (length lines.now ≤ self.new.met) }
     {
@@ -132,11 +135,12 @@ impl Finder {
     /// Keeps the next line, if it is live.
     fn meet_line(&mut self, line: &Line, live: &[u32]) -> Result<(), Memory>
         requires ascending { AllPairs (λ one other. one < other) live.now }
+        requires number { self.old.met + 1 < 2 ^ 32 }
         ensures known { (lines : List Line) → slice_get lines self.old.met ≡ Some line.now
             → KnowsLines self.old lines live.now → OnOk result (KnowsLines self.new lines live.now) }
         ensures met { OnOk result (self.new.met ≡ self.old.met + 1) }
     {
-        let number = self.met.checked_add(1).ok_or(Memory)?;
+        let number = self.met + 1;
         self.kept.add_live(number, line, live)?;
         self.met = number;
         Ok(())
