@@ -117,7 +117,7 @@ def has_origin_fault(relations, earlier, origin):
 def fault_of(relations, less, earlier, line, waits):
     """The first reason why the line doesn't follow behind the earlier ones, or none."""
     is_shortened = line.origin[0] == "S"
-    if has_origin_fault(relations, earlier, line.origin) or (waits and is_shortened):
+    if has_origin_fault(relations, earlier, line.origin):
         return "Origin"
     one, other = pair_of(relations, earlier, line.origin)
     if is_shortened:
@@ -134,7 +134,7 @@ def fault_of(relations, less, earlier, line, waits):
             return "Result"
     if not less(line.right, line.left):
         return "Order"
-    if is_shortened:
+    if is_shortened and not waits:
         return None
     words = [line.left, line.right] if waits else [line.left]
     return "Earlier" if any(has_factor(word, it.left) for it in earlier for word in words) else None

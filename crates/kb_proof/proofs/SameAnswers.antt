@@ -1,5 +1,5 @@
 -- Logs that say the same have one answer.
-use Rattle.std.proofs.Common.{◌≡◌, ◌∙◌, ℕ, zero, suc, List, [], ◌∷◌, take, Option, Some, None, refl, sym, subst, inl, inr}
+use Rattle.std.proofs.Common.{◌≡◌, ◌∙◌, ℕ, zero, suc, List, [], ◌∷◌, take, Option, Some, None, refl, sym, subst}
 use Rattle.std.specs.Prelude.{◌⊎◌, slice_get}
 use Rattle.std.specs.List.{AllZip}
 use Rattle.std.proofs.lemmas.Option.{none-some, same_Some}
@@ -102,8 +102,7 @@ module _ (below : List ℕ → List ℕ → Type 0) (relations : List Pair) (ear
       (kept_along same (λ o u v first second. ¬ IsShortening o) fault.0, kept_along same (λ o u v first second. HasLeftSide (rules_of earlier) u) fault.1)
 
   waiting_of_line : (why : Why) → HasWaitingFault below relations earlier one why → HasWaitingFault below relations earlier other why
-  waiting_of_line reasons.Origin fault =
-      kept_along same (λ o u v first second. HasOriginFault relations earlier o ⊎ IsShortening o) fault
+  waiting_of_line reasons.Origin fault = fault_of_line reasons.Origin fault
   waiting_of_line reasons.Step fault = fault_of_line reasons.Step fault
   waiting_of_line reasons.Result fault = fault_of_line reasons.Result fault
   waiting_of_line reasons.Order fault = fault_of_line reasons.Order fault
@@ -181,8 +180,7 @@ module _ (below : List ℕ → List ℕ → Type 0) (relations : List Pair) (xs 
   fault_behind line reasons.Earlier fault = (fault.0, by_rules (λ rules. HasLeftSide rules line.left) fault.1)
 
   waiting_behind : (line : Line) (why : Why) → HasWaitingFault below relations xs line why → HasWaitingFault below relations ys line why
-  waiting_behind line reasons.Origin (inl fault) = inl (origin_behind line.origin fault)
-  waiting_behind line reasons.Origin (inr short) = inr short
+  waiting_behind line reasons.Origin fault = fault_behind line reasons.Origin fault
   waiting_behind line reasons.Step fault = fault_behind line reasons.Step fault
   waiting_behind line reasons.Result fault = fault_behind line reasons.Result fault
   waiting_behind line reasons.Order fault = fault

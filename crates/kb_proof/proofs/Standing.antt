@@ -65,10 +65,7 @@ no_fault may reasons.Earlier fault = no_left_side (may.irreducible fault.0) faul
 pub no_waiting_fault : {below : List ℕ → List ℕ → Type 0} {relations : List Pair} {earlier : List Line} {line : Line}
     → MayWait below relations earlier line → (why : Why) → HasWaitingFault below relations earlier line why
     → ⊥
-no_waiting_fault may reasons.Origin fault = elim fault [
-  | inl named ↦ no_origin_fault may.stands.named named
-  | inr shortened ↦ may.not_shortened shortened
-]
+no_waiting_fault may reasons.Origin fault = no_fault may.stands reasons.Origin fault
 no_waiting_fault may reasons.Step fault = no_fault may.stands reasons.Step fault
 no_waiting_fault may reasons.Result fault = no_fault may.stands reasons.Result fault
 no_waiting_fault may reasons.Order fault = no_fault may.stands reasons.Order fault

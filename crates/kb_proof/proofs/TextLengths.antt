@@ -1,12 +1,16 @@
--- What a text of few bytes bounds: its lines, the letters of their sides, and their steps.
-use Rattle.std.proofs.Common.{◌≡◌, ◌⊎◌, ℕ, zero, suc, ◌+◌, ◌<◌, ◌≤◌, List, [], ◌∷◌, ◌++◌, length, map, decimal, codes, subst, inl, inr, arith, option_to_list, Option, None, Some, length-append}
-use Rattle.std.specs.Prelude.{slice_get}
+-- What a text of few bytes bounds: the lines of its log, the letters of their sides, and their steps.
+use Rattle.std.proofs.Common.{◌≡◌, ◌⊎◌, ℕ, zero, suc, ◌+◌, ◌<◌, ◌≤◌, List, [], ◌∷◌, ◌++◌, length, map, decimal, codes, ap, subst, inl, inr, arith, option_to_list, Option, None, Some, length-append}
+use Rattle.std.specs.Prelude.{slice_get, Result, Ok, Err, IfOk}
 use Rattle.std.specs.List.{join_with_byte}
 use Rattle.std.proofs.lemmas.List.{length-map}
 use Rattle.kb_word.specs.Printed.{text_of_word, letter_name}
 use Rattle.kb_machine.specs.declared.line.Line.{Line}
 use Rattle.kb_machine.specs.declared.line.LogStep.{LogStep}
-use Rattle.kb_proof.specs.Printed.{field_texts, listed, text_of_step, text_of_steps, text_of_line, text_of_open, text_of_lines, text_of_waiting, text_of_body}
+use Rattle.kb_proof.specs.Printed.{field_texts, header, listed, text_of_step, text_of_steps, text_of_line, text_of_open, text_of_lines, text_of_waiting, text_of_body}
+use Rattle.kb_proof.specs.Reading.{IsLogOf}
+use Rattle.kb_proof.specs.declared.error.LogError.{LogError}
+use Rattle.kb_proof.specs.declared.log.Log.{Log}
+use Rattle.kb_proof.specs.declared.log.Version.{Version}
 use Rattle.kb_proof.specs.declared.log.Version.TheVariants.{Two}
 
 -- ---- parts of a text
@@ -89,11 +93,12 @@ lines_small names k (first ∷ lines) most short (suc index) line at =
     lines_small names (k + 1) lines most (omega (arith, short, long)) index line at
 
 -- there are few of them
-lines_few : (names : List (List ℕ)) (k : ℕ) (lines : List Line) → length lines ≤ length (text_of_lines Two names k lines)
-lines_few names k [] = omega arith
-lines_few names k (line ∷ lines) =
-    let long = length-append (text_of_line Two names k line) (10 ∷ text_of_lines Two names (k + 1) lines) in
-    omega (arith, long, lines_few names (k + 1) lines)
+lines_few : (version : Version) (names : List (List ℕ)) (k : ℕ) (lines : List Line)
+    → length lines ≤ length (text_of_lines version names k lines)
+lines_few version names k [] = omega arith
+lines_few version names k (line ∷ lines) =
+    let long = length-append (text_of_line version names k line) (10 ∷ text_of_lines version names (k + 1) lines) in
+    omega (arith, long, lines_few version names (k + 1) lines)
 
 -- ---- logs
 
@@ -133,4 +138,17 @@ pub body_few : (names : List (List ℕ)) (lines : List Line) (waiting : Option L
     → length (text_of_body Two names lines waiting) ≤ most → length (lines ++ option_to_list waiting) ≤ most + 1
 body_few names lines waiting most short =
     let long = length-append (text_of_lines Two names 1 lines) (text_of_waiting Two names waiting) in
-    omega (arith, short, long, lines_few names 1 lines, waiting_few waiting, length-append lines (option_to_list waiting))
+    omega (arith, short, long, lines_few Two names 1 lines, waiting_few waiting, length-append lines (option_to_list waiting))
+
+-- ---- logs that are read
+
+-- no more lines are read than there are bytes
+pub few_read : (version : Version) (names : List (List ℕ)) (bytes body : List ℕ) (result : Result Log LogError)
+    → bytes ≡ header version ++ body → IfOk result (IsLogOf version names body)
+    → IfOk result (λ log. length log.lines.items ≤ length bytes)
+few_read version names bytes body (Ok log) whole is =
+    let lines = text_of_lines version names 1 log.lines.items in
+    let waiting = text_of_waiting version names log.waiting in
+    let few = lines_few version names 1 log.lines.items in
+    omega (arith, few, ap length whole, ap length is.whole, length-append (header version) body, length-append lines waiting)
+few_read version names bytes body (Err error) whole is = tt

@@ -100,12 +100,12 @@ HasFault below relations earlier line reasons.Order = ¬ below line.right line.l
 HasFault below relations earlier line reasons.Earlier =
     (¬ IsShortening line.origin) × HasLeftSide (rules_of earlier) line.left
 
--- The line of the pair that waits has the same faults; and it has a fault of origin where it was shortened, and an
--- earlier fault where a left side is a factor of either of its words.
+-- The line of the pair that waits has the same faults; but whatever its origin, it has an earlier fault where a left
+-- side is a factor of either of its words. One that was shortened has that one at least: its left word is a left side.
 abbrev pub HasWaitingFault : (List ℕ → List ℕ → Type 0) → List Pair → List Line → Line → Why
     → Type 0
 HasWaitingFault below relations earlier line reasons.Origin =
-    HasOriginFault relations earlier line.origin ⊎ IsShortening line.origin
+    HasFault below relations earlier line reasons.Origin
 HasWaitingFault below relations earlier line reasons.Step =
     HasFault below relations earlier line reasons.Step
 HasWaitingFault below relations earlier line reasons.Result =

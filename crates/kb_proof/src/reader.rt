@@ -1,6 +1,6 @@
 //! From bytes to logs.
 
-ghost use Rattle.std.specs.Prelude.{◌≡◌, ◌+◌, ◌++◌, length, All, IfOk, IfErr};
+ghost use Rattle.std.specs.Prelude.{◌≡◌, ◌+◌, ◌≤◌, ◌++◌, length, All, IfOk, IfErr};
 ghost use Rattle.kb_proof.specs.Faults.{HasBodyFault, HasLogFault};
 ghost use Rattle.kb_proof.specs.Printable.{AreReadableNames, IsPrintable, IsPrintableLine};
 ghost use Rattle.kb_proof.specs.Printed.{text_of_line, text_of_lines, text_of_log};
@@ -22,6 +22,7 @@ pub fn read_log(alloc: Global, bytes: &[u8], presentation: &Presentation) -> Res
     requires { AreReadableNames presentation.now.names }
     ensures read { IfOk result (λ log. bytes.now ≡ text_of_log presentation.now.names log) }
     ensures printable { IfOk result (λ log. IsPrintable presentation.now.names log) }
+    ensures few { IfOk result (λ log. length log.lines.items ≤ length bytes.now) }
     ensures fault { IfErr result (HasLogFault presentation.now.names bytes.now) }
 {
     let (version, body) = read_header(bytes)?;

@@ -12,7 +12,8 @@ pub enum Why {
     Result,
     /// The right word isn't less than the left one.
     Order,
-    /// An earlier left side is a factor of the left word; of the pair that waits, of either word.
+    /// An earlier left side is a factor of the left word of a line that wasn't shortened; of the pair that waits, of
+    /// either word, whatever its origin.
     Earlier,
 }
 

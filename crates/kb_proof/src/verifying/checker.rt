@@ -70,7 +70,8 @@ impl Checker {
         Ok(None)
     }
 
-    /// The first fault of the line of a pair that waits behind these lines.
+    /// The first fault of the line of a pair that waits behind these lines. One that was shortened has the left side of
+    /// an earlier line.
     pub(crate) fn waiting_fault_of(
         &mut self,
         alloc: Global,
@@ -81,16 +82,18 @@ impl Checker {
         requires { Knows presentation.now earlier.now self.old }
         ensures { IfOk result (WaitingSays presentation.now earlier.now line.now) }
     {
-        if is_shortening(line.origin) {
-            return Ok(Some(Why::Origin));
-        }
         if let Some(why) = self.fault_of(alloc, presentation, earlier, line)? {
             return Ok(Some(why));
         }
-        if !self.rules.leave(&line.right)? {
-            return Ok(Some(Why::Earlier));
+        match line.origin {
+            Origin::Shortened(_) => Ok(Some(Why::Earlier)),
+            _ => {
+                if !self.rules.leave(&line.right)? {
+                    return Ok(Some(Why::Earlier));
+                }
+                Ok(None)
+            }
         }
-        Ok(None)
     }
 
     /// Keeps what the next lines have to be checked for, of a line that decreases.
