@@ -2,7 +2,7 @@
 use Rattle.std.proofs.Common.{◌≡◌, ◌∙◌, ℕ, ◌+◌, ◌<◌, ◌≤◌, zero, suc, List, [], ◌∷◌, ◌++◌, length, take, get_or, slice_get, Some, refl, sym, ap, subst, inl, inr, arith, take_all, option_to_list, true, false, true≢false}
 use Rattle.std.specs.Prelude.{◌↔◌, Bool, IsTrue, Result, Ok, Err, IfOk}
 use Rattle.std.proofs.lemmas.Bool.{cases_lt}
-use Rattle.std.proofs.lemmas.List.{map-append}
+use Rattle.std.proofs.lemmas.List.{length-map, map-append}
 use Rattle.std.proofs.lemmas.Option.{none-some, same_Some, slice_get_read, slice_get_within}
 use Rattle.kb_word.specs.Words.{Pair, OneOf}
 use Rattle.kb_word.specs.WordOrders.{Below}
@@ -86,6 +86,10 @@ rules_more lines index line rules next rule within read so_far is new =
 pub rules_all : (lines : List Line) (index : ℕ) (rules : List Pair) → length lines ≤ index → rules ≡ rules_of (take index lines)
     → rules ≡ rules_of lines
 rules_all lines index rules past so_far = so_far ∙ ap (λ (ls : List Line). rules_of ls) (take_all index lines past)
+
+-- there are no more than lines
+pub few_lines : (lines : List Line) (rules : List Pair) (most : ℕ) → rules ≡ rules_of lines → length lines ≤ most → length rules ≤ most
+few_lines lines rules most is few = omega (arith, ap length is, length-map lines rule_of)
 
 -- ---- one pair after another
 

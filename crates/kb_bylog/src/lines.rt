@@ -1,6 +1,6 @@
 //! The lines of a log as rules.
 
-ghost use Rattle.std.specs.Prelude.{◌≡◌, ◌≤◌, ◌^◌, IfOk, IsTrue, length};
+ghost use Rattle.std.specs.Prelude.{◌≡◌, ◌≤◌, ◌^◌, IfOk, length};
 ghost use Rattle.kb_word.specs.WordOrders.{Below};
 ghost use Rattle.kb_word.specs.Presentations.{parts_of};
 ghost use Rattle.kb_word.specs.Rewriting.{AreDecreasing};
@@ -14,28 +14,16 @@ use kb_rules::{Reducer, Rule, Rules};
 use kb_word::{Memory, Presentation, WordOrder};
 use std::alloc::Global;
 
-/// Of so many rules the confluence can be checked. A log that was read from a file has fewer lines.
-const MOST_RULES: usize = 2_147_483_648;
-
-/// The index of the lines of a justified log.
+/// The index of the lines of a justified log, of which there are so few that their confluence can be checked.
 pub fn index_of(alloc: Global, presentation: &Presentation, log: &Log) -> Result<Index, Memory>
-    requires { IsJustifiedBy (parts_of presentation.now) log.now }
+    requires justified { IsJustifiedBy (parts_of presentation.now) log.now }
+    requires few { length log.now.lines.items ≤ 2 ^ 31 }
     ensures rules { IfOk result (λ index. index.rules ≡ lines_of log.now) }
     ensures few { IfOk result (λ index. length index.rules ≤ 2 ^ 31) }
 {
     let order = presentation.order.copy(alloc)?;
     let rules = line_rules(alloc, order, log.lines.as_slice())?;
-    if !are_few(&rules) {
-        return Err(Memory);
-    }
     Index::of(alloc, &rules)
-}
-
-/// Whether the rules are so few that their confluence can be checked.
-fn are_few(rules: &Rules) -> bool
-    ensures { IsTrue result → length rules.now.rules ≤ 2 ^ 31 }
-{
-    rules.len() <= MOST_RULES
 }
 
 /// The rules of lines, in their order.

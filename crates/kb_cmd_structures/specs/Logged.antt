@@ -1,5 +1,5 @@
 -- What is loaded where the lines of a log decide, and what is found of it, as the code has it.
-use Rattle.std.specs.Prelude.{ℕ, List, [], length}
+use Rattle.std.specs.Prelude.{ℕ, ◌≤◌, List, [], length}
 use Rattle.kb_word.specs.Presentations.{parts_of}
 use Rattle.kb_word.specs.declared.presentation.Presentation.{Presentation}
 use Rattle.kb_fsa.specs.Language.{Automaton}
@@ -12,7 +12,7 @@ use Rattle.kb_axioms.specs.Checked.{IsFirstCount, PassesRelations, own_structure
 use Rattle.kb_axioms.specs.Truth.{AgreeUpTo}
 use Rattle.kb_axioms.specs.declared.answers.Axioms.{Axioms}
 use Rattle.kb_axioms.specs.declared.answers.Axioms.TheVariants as answers
-use Rattle.kb_task.specs.Loads.{Files}
+use Rattle.kb_task.specs.Loads.{Files, most_file}
 use Rattle.kb_task.specs.Reasons.{unjustified_line}
 use Rattle.kb_task.specs.Stores.{texts_of}
 use Rattle.kb_task.specs.declared.status.Cert.TheVariants.{NotJustified}
@@ -40,11 +40,13 @@ AreLogged files file (Justified loaded log) =
     × HoldsLogBeside files file loaded.presentation log
 AreLogged files file (Unjustified number why) = HoldUnjustified files file number why
 
--- the log is justified, and the automata are over the group's generators
+-- the log is justified and has no more lines than a file may have bytes, and the automata are over the group's
+-- generators
 pub record AreReady (presentation : Presentation) (acceptor : Automaton)
     (multipliers : List Automaton) (log : Log) : Type 0 where
   pub over : AreAutomataOver presentation acceptor multipliers
   pub justified : IsJustifiedBy (parts_of presentation) log
+  pub few : length log.lines.items ≤ most_file
 
 abbrev pub AreReadyIn : Logged → Type 0
 AreReadyIn (Justified loaded log) =

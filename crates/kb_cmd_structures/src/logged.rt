@@ -1,12 +1,12 @@
 //! A group, its log and its automata from files, where the lines of the log decide.
 
-ghost use Rattle.std.specs.Prelude.{IsTrue, IfOk, IfErr};
+ghost use Rattle.std.specs.Prelude.{◌≤◌, length, IsTrue, IfOk, IfErr};
 ghost use Rattle.kb_io.specs.Outside.{outside};
 ghost use Rattle.kb_io.specs.States.{SourceState, SinkState};
 ghost use Rattle.kb_word.specs.Presentations.{parts_of};
 ghost use Rattle.kb_proof.specs.Printable.{AreReadableNames};
 ghost use Rattle.kb_bylog.specs.LogLines.{IsJustifiedBy};
-ghost use Rattle.kb_task.specs.Loads.{EndsAtLoad, OnlyLoads};
+ghost use Rattle.kb_task.specs.Loads.{most_file, EndsAtLoad, OnlyLoads};
 ghost use Rattle.kb_task.specs.Runs.{FaultIsCounted};
 ghost use Rattle.kb_evidence.specs.Files.{log_file};
 ghost use Rattle.kb_cmd_structures.specs.ByLog.{EndsAtLogged, HoldLogged, HoldsLogBeside, IsLogFaultBeside};
@@ -94,6 +94,7 @@ fn log_beside<F: Shelf>(
     requires { AreReadableNames presentation.now.names }
     ensures holds { IsTrue (F.state shelf.old).told → IfOk result
         (HoldsLogBeside (F.state shelf.old).holds file.now presentation.now) }
+    ensures few { IfOk result (λ log. length log.lines.items ≤ most_file) }
     ensures ends { IsTrue (F.state shelf.old).told → IfErr result
         (EndsAtLoad (IsLogFaultBeside (F.state shelf.old).holds file.now presentation.now)
         (log_file file.now)) }
@@ -116,7 +117,8 @@ fn load_justified<F: Shelf>(
     log: Log,
     shelf: &mut F,
 ) -> Result<Logged, Status>
-    requires { IsGroup presentation }
+    requires group { IsGroup presentation }
+    requires few { length log.lines.items ≤ most_file }
     ensures holds { IsTrue (F.state shelf.old).told
         → HoldLogged (F.state shelf.old).holds file.now presentation log
         → IfOk result (AreLogged (F.state shelf.old).holds file.now) }
@@ -146,6 +148,7 @@ fn load_all<F: Shelf>(
 ) -> Result<Logged, Status>
     requires group { IsGroup presentation }
     requires justified { IsJustifiedBy (parts_of presentation) log }
+    requires few { length log.lines.items ≤ most_file }
     ensures holds { IsTrue (F.state shelf.old).told
         → HoldLogged (F.state shelf.old).holds file.now presentation log
         → IfOk result (AreLogged (F.state shelf.old).holds file.now) }

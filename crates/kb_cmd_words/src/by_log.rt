@@ -7,6 +7,7 @@ ghost use Rattle.kb_word.specs.Presentations.{parts_of};
 ghost use Rattle.kb_word.specs.WordOrders.{Below};
 ghost use Rattle.kb_proof.specs.Verifying.{VerifiedSays};
 ghost use Rattle.kb_proof.specs.declared.log.Log.{Log as SomeLog};
+ghost use Rattle.kb_task.specs.Loads.{most_file};
 ghost use Rattle.kb_task.specs.Runs.{IsRun};
 ghost use Rattle.kb_cmd_words.specs.Confluence.{relations};
 ghost use Rattle.kb_cmd_words.specs.ByLog.{ByLogMeans, LogMeans};
@@ -73,7 +74,8 @@ fn check_log<T: Threads + Wait + Sync, G: Gate, I: Source, O: Sink>(
     input: &mut I,
     out: &mut O,
 ) -> Status
-    requires { (1 ≤ workers) × (workers ≤ 64) }
+    requires workers { (1 ≤ workers) × (workers ≤ 64) }
+    requires few { length log.now.lines.items ≤ most_file }
     ensures { (shelf : ShelfState) → IsRun (LogMeans (parts_of presentation) log.now) StoresNothing
         (outside shelf (I.state input.old) (O.state out.old))
         (outside shelf (I.state input.new) (O.state out.new)) result }
@@ -107,6 +109,7 @@ fn go_on<T: Threads + Wait + Sync, G: Gate, I: Source, O: Sink>(
     out: &mut O,
 ) -> Status
     requires workers { (1 ≤ workers) × (workers ≤ 64) }
+    requires few { length log.now.lines.items ≤ most_file }
     requires says { VerifiedSays (Below presentation.order) (relations (parts_of presentation))
         log.now answer }
     ensures { (shelf : ShelfState) → IsRun (LogMeans (parts_of presentation) log.now) StoresNothing
@@ -143,6 +146,7 @@ fn check_relations<T: Threads + Wait + Sync, G: Gate, I: Source, O: Sink>(
     out: &mut O,
 ) -> Status
     requires workers { (1 ≤ workers) × (workers ≤ 64) }
+    requires few { length log.now.lines.items ≤ most_file }
     requires justified { IsJustifiedBy (parts_of presentation) log.now }
     ensures { (shelf : ShelfState) → IsRun (LogMeans (parts_of presentation) log.now) StoresNothing
         (outside shelf (I.state input.old) (O.state out.old))

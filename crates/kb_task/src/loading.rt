@@ -1,7 +1,7 @@
 //! Files from the shelf.
 
-ghost use Rattle.std.specs.Prelude.{◌≡◌, IsTrue, IfOk, IfErr};
-ghost use Rattle.kb_task.specs.Loads.{IsHeld, IsNoText, IsCause, OnlyLoads, LoadIsCounted, stopped_at};
+ghost use Rattle.std.specs.Prelude.{◌≡◌, ◌≤◌, length, IsTrue, IfOk, IfErr};
+ghost use Rattle.kb_task.specs.Loads.{most_file, IsHeld, IsNoText, IsCause, OnlyLoads, LoadIsCounted, stopped_at};
 
 use crate::status::{FileFault, Refusal, Status, Which};
 use kb_io::{Load, Shelf, ShelfFault};
@@ -40,17 +40,20 @@ impl LoadStop {
     }
 }
 
-/// The bytes of the file of this name.
+/// The bytes of the file of this name. They are counted here, since a shelf whose bytes contracts don't know promises
+/// nothing of their number.
 pub fn load_text<F: Shelf>(alloc: Global, name: &str, shelf: &mut F) -> Result<Vec<u8>, LoadStop>
     ensures held { IsTrue (F.state shelf.old).told
         → IfOk result (λ bytes. IsHeld (F.state shelf.old).holds name.now bytes.items) }
+    ensures short { IfOk result (λ bytes. length bytes.items ≤ most_file) }
     ensures stops { IsTrue (F.state shelf.old).told
         → IfErr result (IsCause (IsNoText (F.state shelf.old).holds name.now)) }
     ensures counted { IfErr result (LoadIsCounted (F.state shelf.old) (F.state shelf.new)) }
     ensures only_loads { OnlyLoads (F.state shelf.old) (F.state shelf.new) }
 {
     match shelf.load(alloc, name, MOST_FILE) {
-        Ok(Load::Text(bytes)) => Ok(bytes),
+        Ok(Load::Text(bytes)) if bytes.len() <= MOST_FILE => Ok(bytes),
+        Ok(Load::Text(_)) => Err(LoadStop::Refused(FileFault::TooLong)),
         Ok(Load::Missing) => Err(LoadStop::Refused(FileFault::Missing)),
         Ok(Load::TooLong) => Err(LoadStop::Refused(FileFault::TooLong)),
         Err(ShelfFault::Failed) => Err(LoadStop::Failed),

@@ -1,12 +1,12 @@
 //! Logs from files.
 
-ghost use Rattle.std.specs.Prelude.{ℕ, List, Option, IsTrue, IfOk, IfErr};
+ghost use Rattle.std.specs.Prelude.{ℕ, ◌≤◌, List, length, Option, IsTrue, IfOk, IfErr};
 ghost use Rattle.kb_io.specs.Outside.{outside};
 ghost use Rattle.kb_io.specs.States.{ShelfState, SourceState, SinkState};
 ghost use Rattle.kb_word.specs.Presentations.{PresentationParts};
 ghost use Rattle.kb_machine.specs.declared.line.Line.{Line};
 ghost use Rattle.kb_proof.specs.Printable.{AreReadableNames};
-ghost use Rattle.kb_task.specs.Loads.{Files, IsHeld, IsCause, EndsAtLoad, OnlyLoads, LoadIsCounted};
+ghost use Rattle.kb_task.specs.Loads.{Files, most_file, IsHeld, IsCause, EndsAtLoad, OnlyLoads, LoadIsCounted};
 ghost use Rattle.kb_task.specs.Logs.{HoldsDerivations, HoldsLog, IsDerivationsFault, IsLogFault};
 ghost use Rattle.kb_task.specs.Runs.{FaultIsCounted};
 ghost use Rattle.kb_task.specs.StoredLogs.{StoresLog, IsReadAsLog};
@@ -29,6 +29,7 @@ pub fn load_log<F: Shelf>(
     requires { AreReadableNames presentation.now.names }
     ensures holds { IsTrue (F.state shelf.old).told
         → IfOk result (λ log. HoldsLog (F.state shelf.old).holds file presentation.now.names log) }
+    ensures few { IfOk result (λ log. length log.lines.items ≤ most_file) }
     ensures ends { IsTrue (F.state shelf.old).told
         → IfErr result (EndsAtLoad
         (IsLogFault presentation.now.names (F.state shelf.old).holds file) file) }
@@ -55,6 +56,7 @@ pub fn load_derivations<F: Shelf>(
     ensures holds { IsTrue (F.state shelf.old).told
         → IfOk result (λ log.
         HoldsDerivations (F.state shelf.old).holds file presentation.now.names log) }
+    ensures few { IfOk result (λ log. length log.lines.items ≤ most_file) }
     ensures ends { IsTrue (F.state shelf.old).told
         → IfErr result (EndsAtLoad
         (IsDerivationsFault presentation.now.names (F.state shelf.old).holds file) file) }
@@ -80,6 +82,7 @@ fn derivations_in<F: Shelf>(
     ensures holds { IsTrue (F.state shelf.old).told
         → IfOk result (λ log.
         HoldsDerivations (F.state shelf.old).holds name.now presentation.now.names log) }
+    ensures few { IfOk result (λ log. length log.lines.items ≤ most_file) }
     ensures stops { IsTrue (F.state shelf.old).told
         → IfErr result (IsCause
         (IsDerivationsFault presentation.now.names (F.state shelf.old).holds name.now)) }
@@ -94,9 +97,11 @@ fn derivations_in<F: Shelf>(
 
 /// The log, if it has derivations.
 fn with_derivations(log: Log) -> Result<Log, LoadStop>
+    requires { length log.lines.items ≤ most_file }
     ensures holds { (files : Files) (name : List ℕ) (names : List (List ℕ))
         → HoldsLog files name names log
         → IfOk result (λ found. HoldsDerivations files name names found) }
+    ensures few { IfOk result (λ found. length found.lines.items ≤ most_file) }
     ensures stops { (files : Files) (name : List ℕ) (names : List (List ℕ))
         → HoldsLog files name names log
         → IfErr result (IsCause (IsDerivationsFault names files name)) }
@@ -119,6 +124,7 @@ fn log_in<F: Shelf>(
     ensures holds { IsTrue (F.state shelf.old).told
         → IfOk result (λ log.
         HoldsLog (F.state shelf.old).holds name.now presentation.now.names log) }
+    ensures few { IfOk result (λ log. length log.lines.items ≤ most_file) }
     ensures stops { IsTrue (F.state shelf.old).told
         → IfErr result (IsCause
         (IsLogFault presentation.now.names (F.state shelf.old).holds name.now)) }
@@ -133,9 +139,11 @@ fn log_in<F: Shelf>(
 
 /// The log that the bytes are a text of.
 fn log_of(alloc: Global, bytes: &[u8], presentation: &Presentation) -> Result<Log, LoadStop>
-    requires { AreReadableNames presentation.now.names }
+    requires names { AreReadableNames presentation.now.names }
+    requires short { length bytes.now ≤ most_file }
     ensures holds { (files : Files) (name : List ℕ) → IsHeld files name bytes.now
         → IfOk result (λ log. HoldsLog files name presentation.now.names log) }
+    ensures few { IfOk result (λ log. length log.lines.items ≤ most_file) }
     ensures stops { (files : Files) (name : List ℕ) → IsHeld files name bytes.now
         → IfErr result (IsCause (IsLogFault presentation.now.names files name)) }
     ensures unfailed { (a b : ShelfState) → IfErr result (LoadIsCounted a b) }

@@ -11,8 +11,8 @@ use Rattle.kb_cmd_structures.specs.Given.{CheckGiven}
 use Rattle.kb_cmd_structures.proofs.LinesLemmas.{confluent_rules, lines_say}
 use Rattle.kb_cmd_structures.proofs.by_lines.check_by_lines.Goals as goal
 
-pub index_of-requires : goal.index_of-requires
-index_of-requires g c = c.requires.justified
+pub index_of-requires-clause-justified : goal.index_of-requires-clause-justified
+index_of-requires-clause-justified g c = c.requires.justified
 
 pub check-requires-clause-confluent : goal.check-requires-clause-confluent
 check-requires-clause-confluent g c = λ lifetimes outlive is_yes.

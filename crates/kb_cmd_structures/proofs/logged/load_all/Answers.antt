@@ -13,7 +13,7 @@ returns-in-Ok-clause-holds g c = λ told held.
 pub returns-in-Ok-clause-ready : goal.returns-in-Ok-clause-ready
 returns-in-Ok-clause-ready g c =
     let By : Presentation → Type 0 = λ p. IsJustifiedBy (parts_of p) c.args.log in
-    record { over = c.in-Ok.ensures.over; justified = subst By (sym c.in-Ok.ensures.same) c.requires.justified }
+    record { over = c.in-Ok.ensures.over; justified = subst By (sym c.in-Ok.ensures.same) c.requires.justified; few = c.requires.few }
 
 pub returns-in-Err-clause-ends : goal.returns-in-Err-clause-ends
 returns-in-Err-clause-ends g c = λ told held. at_logged_automata held c.requires.justified (c.in-Err.ensures.ends told)
