@@ -1,6 +1,7 @@
 -- How a batch goes on: lines are taken, and then answered together.
-use Rattle.std.proofs.Common.{◌≡◌, ◌≢◌, ℕ, ◌+◌, ◌≤◌, List, [], ◌∷◌, ◌++◌, length, refl, sym, ◌∙◌, ap, ap₂, subst, append_assoc, append-nil, arith, length-append}
-use Rattle.std.specs.Prelude.{IsTrue}
+use Rattle.std.proofs.Common.{◌≡◌, ◌≢◌, ℕ, ◌+◌, ◌<◌, ◌≤◌, List, [], ◌∷◌, ◌++◌, length, refl, sym, ◌∙◌, ap, ap₂, subst, append_assoc, append-nil, arith, length-append}
+use Rattle.std.specs.Prelude.{IsTrue, Bool, true, false, nat_eq, if◌then◌else◌}
+use Rattle.std.proofs.lemmas.Bool.{ne_eqb}
 use Rattle.std.specs.List.{AllByRecursion}
 use Rattle.kb_io.specs.Bytes.{newline}
 use Rattle.kb_io.specs.States.{SinkState}
@@ -8,13 +9,51 @@ use Rattle.kb_word.specs.Presentations.{PresentationParts}
 use Rattle.kb_record.specs.declared.error.WordError.{WordError}
 use Rattle.kb_lines.specs.WordLines.{IsOneLine, ended}
 use Rattle.kb_lines.specs.Progress.{IsReady, Advances, FrontIn, RefusesIn, StopsIn}
-use Rattle.kb_lines.specs.Batches.{held, taken, joined, AreLines, IsNew, IsHeld, least_taken, BatchAdvances}
+use Rattle.kb_lines.specs.Batches.{held, taken, joined, newlines, lines_held, AreLines, IsNew, IsHeld, IsShortOfBatch, least_taken, BatchAdvances}
 use Rattle.kb_lines.specs.declared.batch.Batch.{Batch}
 use Rattle.kb_lines.specs.declared.progress.Progress.{Progress}
 use Rattle.kb_lines.specs.declared.stop.Stop.{Stop}
 use Rattle.kb_lines.specs.declared.stop.Stop.TheVariants.{Refused, TooLong, Input, Output, Memory}
 use Rattle.kb_lines.proofs.LineLemmas.{all-append, ended-next}
 use Rattle.kb_lines.proofs.ProgressLemmas.{advances-start, advances-end, advances-none, advances-append, stops-append}
+
+-- ---- lines that are counted
+
+pub newlines-append : (bytes more : List ℕ) → newlines (bytes ++ more) ≡ newlines bytes + newlines more
+newlines-append [] more = omega arith
+newlines-append (byte ∷ bytes) more = let others = newlines-append bytes more in omega (arith, others)
+
+-- one line has none
+pub one-line : (line : List ℕ) → IsOneLine line → newlines line ≡ 0
+one-line [] one = refl
+one-line (byte ∷ line) one =
+    let others = one-line line one.1 in
+    let worth : Bool → ℕ = λ is. if is then 1 else 0 in
+    let this = ap worth (ne_eqb byte newline one.0) in
+    omega (arith, others, this)
+
+-- what has come of the next line doesn't count
+pub line-behind : (bytes line : List ℕ) → IsOneLine line → newlines (bytes ++ line) ≡ newlines bytes
+line-behind bytes line one = let none = one-line line one in omega (arith, none, newlines-append bytes line)
+
+-- one line more, of which this is the end
+pub line-more : (bytes end : List ℕ) → IsOneLine end → newlines (bytes ++ (end ++ newline ∷ [])) ≡ newlines bytes + 1
+line-more bytes end one =
+    let none = one-line end one in
+    let last : newlines (newline ∷ []) ≡ 1 = refl in
+    omega (arith, none, last, newlines-append bytes (end ++ newline ∷ []), newlines-append end (newline ∷ []))
+
+one-at-most : (is : Bool) → (if is then 1 else 0) ≤ 1
+one-at-most true = omega arith
+one-at-most false = omega arith
+
+-- each is a byte
+pub newlines-fit : (bytes : List ℕ) → newlines bytes ≤ length bytes
+newlines-fit [] = omega arith
+newlines-fit (byte ∷ bytes) =
+    let others = newlines-fit bytes in
+    let this = one-at-most (nat_eq byte newline) in
+    omega (arith, others, this)
 
 -- ---- what is held
 
@@ -39,8 +78,16 @@ new-held batch new = record {
   few = subst (λ (blocks : List (List ℕ)). length blocks ≤ length (joined blocks)) (sym new.blocks) (omega arith);
   open_block = subst AreLines (sym new.block) no-lines;
   open_line = subst IsOneLine (sym new.line) tt;
+  counted = new.count ∙ sym (ap newlines (new-holds_nothing batch new));
   fresh = new.progress.line;
   sent = new.progress.pending;
+}
+
+-- and so nothing waits
+pub new-short : (batch : Batch) (size : ℕ) → IsNew batch → 1 < size → IsShortOfBatch size batch
+new-short batch size new some = record {
+  caught_up = record { sent = new.progress.pending; open_line = subst IsOneLine (sym new.progress.line) tt };
+  fewer = let none = ap newlines (new-holds_nothing batch new) in omega (arith, none, some);
 }
 
 -- one line more makes lines
@@ -76,15 +123,31 @@ taken-least end old new whole same =
 
 -- the block that is open has one line more
 pub added-held : (end : List ℕ) (old new : Batch) → new.block.items ≡ old.block.items ++ ((old.line.items ++ end) ++ newline ∷ [])
-    → new.blocks.items ≡ old.blocks.items → new.line.items ≡ [] → new.progress ≡ old.progress → IsHeld old → IsOneLine end → IsHeld new
-added-held end old new added same none progress is one = record {
+    → new.blocks.items ≡ old.blocks.items → new.line.items ≡ [] → new.count ≡ old.count + 1 → new.progress ≡ old.progress → IsHeld old
+    → IsOneLine end → IsHeld new
+added-held end old new added same none count progress is one = record {
   each = subst (AllByRecursion AreLines) (sym same) is.each;
   few = subst (λ (bs : List (List ℕ)). length bs ≤ length (joined bs)) (sym same) is.few;
   open_block = subst AreLines (sym added) (more-lines old.block.items (old.line.items ++ end) is.open_block
       (all-append (λ byte. byte ≢ newline) old.line.items end is.open_line one));
   open_line = subst IsOneLine (sym none) tt;
+  counted =
+      let before = is.counted in
+      let all = ap newlines (added-held_bytes end old new.blocks.items new.block.items new.line.items added same none) in
+      omega (arith, count, before, all, line-more (held old) end one);
   fresh = ap (λ (p : Progress). p.line.items) progress ∙ is.fresh;
   sent = ap (λ (p : Progress). p.pending.items) progress ∙ is.sent;
+}
+
+-- a batch that has room for a line is of some lines
+pub some-lines : {count size : ℕ} → count < size → 0 < size
+some-lines fewer = omega arith
+
+-- fewer lines are held than make a batch
+pub held-short : (batch : Batch) (size : ℕ) → IsHeld batch → lines_held batch < size → IsShortOfBatch size batch
+held-short batch size is fewer = record {
+  caught_up = record { sent = is.sent; open_line = subst IsOneLine (sym is.fresh) tt };
+  fewer = fewer;
 }
 
 -- no lines wait
@@ -95,13 +158,22 @@ none-wait blocks block none empty = ap₂ (λ (bs : List (List ℕ)) (b : List �
 pub answered-held_bytes : (old new : Batch) → taken new ≡ [] → new.line.items ≡ old.line.items → held new ≡ old.line.items
 answered-held_bytes old new none same = ap₂ (λ (bytes line : List ℕ). bytes ++ line) none same
 
+-- no line is held where none was taken
+pub none-held : (batch : Batch) → IsHeld batch → taken batch ≡ [] → lines_held batch ≡ 0
+none-held batch is none =
+    ap (λ (bytes : List ℕ). newlines (bytes ++ batch.line.items)) none ∙ one-line batch.line.items is.open_line
+
 pub answered-held : (old new : Batch) → IsHeld old → new.blocks.items ≡ [] → new.block.items ≡ [] → new.line.items ≡ old.line.items
-    → new.progress.line.items ≡ [] → new.progress.pending.items ≡ [] → IsHeld new
-answered-held old new is none empty same fresh sent = record {
+    → new.count ≡ 0 → new.progress.line.items ≡ [] → new.progress.pending.items ≡ [] → IsHeld new
+answered-held old new is none empty same count fresh sent = record {
   each = subst (AllByRecursion AreLines) (sym none) tt;
   few = subst (λ (bs : List (List ℕ)). length bs ≤ length (joined bs)) (sym none) (omega arith);
   open_block = subst AreLines (sym empty) no-lines;
   open_line = subst IsOneLine (sym same) is.open_line;
+  counted =
+      let all = ap newlines (answered-held_bytes old new (none-wait new.blocks.items new.block.items none empty) same) in
+      let line = one-line old.line.items is.open_line in
+      omega (arith, count, all, line);
   fresh = fresh;
   sent = sent;
 }
@@ -115,13 +187,23 @@ answered-least old blocks block line number none same count =
     omega (arith, count, bytes, length-append (taken old) old.line.items)
 
 -- more has come of the line that has begun
+pub more-lines_held : (rest : List ℕ) (old new : Batch) → IsOneLine rest → new.blocks.items ≡ old.blocks.items
+    → new.block.items ≡ old.block.items → new.line.items ≡ old.line.items ++ rest → lines_held new ≡ lines_held old
+more-lines_held rest old new one blocks block line =
+    ap newlines
+    (ap₂ (λ (bytes line : List ℕ). bytes ++ line) (ap₂ (λ (bs : List (List ℕ)) (b : List ℕ). joined bs ++ b) blocks block) line
+    ∙ sym (append_assoc (taken old) old.line.items rest))
+    ∙ line-behind (held old) rest one
+
 pub more-held : (rest : List ℕ) (old new : Batch) → IsHeld old → IsOneLine rest → new.blocks.items ≡ old.blocks.items
-    → new.block.items ≡ old.block.items → new.line.items ≡ old.line.items ++ rest → new.progress ≡ old.progress → IsHeld new
-more-held rest old new is one blocks block line progress = record {
+    → new.block.items ≡ old.block.items → new.line.items ≡ old.line.items ++ rest → new.count ≡ old.count → new.progress ≡ old.progress
+    → IsHeld new
+more-held rest old new is one blocks block line count progress = record {
   each = subst (AllByRecursion AreLines) (sym blocks) is.each;
   few = subst (λ (bs : List (List ℕ)). length bs ≤ length (joined bs)) (sym blocks) is.few;
   open_block = subst AreLines (sym block) is.open_block;
   open_line = subst IsOneLine (sym line) (all-append (λ byte. byte ≢ newline) old.line.items rest is.open_line one);
+  counted = count ∙ is.counted ∙ sym (more-lines_held rest old new one blocks block line);
   fresh = ap (λ (p : Progress). p.line.items) progress ∙ is.fresh;
   sent = ap (λ (p : Progress). p.pending.items) progress ∙ is.sent;
 }
@@ -142,10 +224,16 @@ some-length (x ∷ xs) some = omega arith
 pub no-joined : (blocks : List (List ℕ)) → blocks ≡ [] → joined blocks ≡ []
 no-joined blocks none = ap joined none
 
--- a block ended
+-- a block ended: it holds the same bytes
+pub ended-held_bytes : (old new : Batch) → joined new.blocks.items ≡ taken old → new.block.items ≡ [] → new.line.items ≡ old.line.items
+    → held new ≡ held old
+ended-held_bytes old new all none line =
+    ap₂ (λ (bytes line : List ℕ). bytes ++ line)
+    (ap₂ (λ (blocks block : List ℕ). blocks ++ block) all none ∙ append-nil (taken old)) line
+
 pub ended-held : (old new : Batch) → IsHeld old → old.block.items ≢ [] → new.blocks.items ≡ old.blocks.items ++ old.block.items ∷ []
-    → new.block.items ≡ [] → new.line.items ≡ old.line.items → new.progress ≡ old.progress → IsHeld new
-ended-held old new is some more none line progress = record {
+    → new.block.items ≡ [] → new.line.items ≡ old.line.items → new.count ≡ old.count → new.progress ≡ old.progress → IsHeld new
+ended-held old new is some more none line count progress = record {
   each = subst (AllByRecursion AreLines) (sym more) (all-append AreLines old.blocks.items (old.block.items ∷ []) is.each (is.open_block, tt));
   few =
       let fewer = is.few in
@@ -155,16 +243,11 @@ ended-held old new is some more none line progress = record {
       omega (arith, fewer, longer, next, length-append old.blocks.items (old.block.items ∷ []), length-append (joined old.blocks.items) old.block.items));
   open_block = subst AreLines (sym none) no-lines;
   open_line = subst IsOneLine (sym line) is.open_line;
+  counted = count ∙ is.counted
+      ∙ sym (ap newlines (ended-held_bytes old new (ap joined more ∙ joined-next old.blocks.items old.block.items) none line));
   fresh = ap (λ (p : Progress). p.line.items) progress ∙ is.fresh;
   sent = ap (λ (p : Progress). p.pending.items) progress ∙ is.sent;
 }
-
--- it holds the same bytes
-pub ended-held_bytes : (old new : Batch) → joined new.blocks.items ≡ taken old → new.block.items ≡ [] → new.line.items ≡ old.line.items
-    → held new ≡ held old
-ended-held_bytes old new all none line =
-    ap₂ (λ (bytes line : List ℕ). bytes ++ line)
-    (ap₂ (λ (blocks block : List ℕ). blocks ++ block) all none ∙ append-nil (taken old)) line
 
 -- ---- bytes behind those among which the answers stop
 

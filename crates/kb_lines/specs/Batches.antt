@@ -1,5 +1,5 @@
 -- Lines that are taken, and then answered together.
-use Rattle.std.specs.Prelude.{◌≡◌, ℕ, ◌+◌, ◌≤◌, List, [], ◌∷◌, ◌++◌, length, get_or}
+use Rattle.std.specs.Prelude.{◌≡◌, ℕ, ◌+◌, ◌<◌, ◌≤◌, nat_eq, if◌then◌else◌, List, [], ◌∷◌, ◌++◌, length, get_or}
 use Rattle.std.specs.List.{AllByRecursion}
 use Rattle.kb_each.specs.Made.{AreMadeInOrder}
 use Rattle.kb_io.specs.Bytes.{newline}
@@ -7,7 +7,7 @@ use Rattle.kb_io.specs.States.{SinkState}
 use Rattle.kb_word.specs.Presentations.{PresentationParts}
 use Rattle.kb_record.specs.declared.error.WordError.{WordError}
 use Rattle.kb_lines.specs.WordLines.{IsOneLine, ended, Cuts, LinesGive, LineHasFault}
-use Rattle.kb_lines.specs.Progress.{IsFresh, Advances}
+use Rattle.kb_lines.specs.Progress.{IsFresh, IsCaughtUp, Advances}
 use Rattle.kb_lines.specs.Streams.{Streams, Takes}
 use Rattle.kb_lines.specs.declared.batch.Batch.{Batch}
 use Rattle.kb_lines.specs.declared.progress.Progress.{Progress}
@@ -74,19 +74,36 @@ taken batch = joined batch.blocks.items ++ batch.block.items
 abbrev pub held : Batch → List ℕ
 held batch = taken batch ++ batch.line.items
 
+-- how many newlines are among the bytes
+abbrev pub newlines : List ℕ → ℕ
+newlines [] = 0
+newlines (byte ∷ bytes) = (if nat_eq byte newline then 1 else 0) + newlines bytes
+
+-- how many lines were taken and aren't answered yet
+abbrev pub lines_held : Batch → ℕ
+lines_held batch = newlines (held batch)
+
+-- All that was answered was sent, and fewer lines are held than make a batch: where that is one line, nothing is held
+-- but the line that has begun. Only then is more of the input asked for.
+pub record IsShortOfBatch (size : ℕ) (batch : Batch) : Type 0 where
+  pub caught_up : IsCaughtUp batch.progress
+  pub fewer : lines_held batch < size
+
 -- nothing was taken yet
 pub record IsNew (batch : Batch) : Type 0 where
   pub blocks : batch.blocks.items ≡ []
   pub block : batch.block.items ≡ []
   pub line : batch.line.items ≡ []
+  pub count : batch.count ≡ 0
   pub progress : IsFresh batch.progress
 
--- what is held are lines, and of the lines that were answered nothing is pending
+-- what is held are lines, as many as are counted, and of the lines that were answered nothing is pending
 pub record IsHeld (batch : Batch) : Type 0 where
   pub each : AllByRecursion AreLines batch.blocks.items
   pub few : length batch.blocks.items ≤ length (joined batch.blocks.items)
   pub open_block : AreLines batch.block.items
   pub open_line : IsOneLine batch.line.items
+  pub counted : batch.count ≡ lines_held batch
   pub fresh : batch.progress.line.items ≡ []
   pub sent : batch.progress.pending.items ≡ []
 

@@ -16,6 +16,16 @@ pub record IsFresh (progress : Progress) : Type 0 where
   pub pending : progress.pending.items ≡ []
   pub number : progress.number ≡ 0
 
+-- fewer bytes of answers than this are pending behind each line or block of lines that was answered
+abbrev pub most_pending : ℕ
+most_pending = 65536
+
+-- All that was answered was sent, and what is held is at most a line that has begun: so each line that ended was
+-- answered. Only then is more of the input asked for.
+pub record IsCaughtUp (progress : Progress) : Type 0 where
+  pub sent : progress.pending.items ≡ []
+  pub open_line : IsOneLine progress.line.items
+
 -- the sink tells its bytes, and what has come of the next line has no newline
 pub record IsReady (progress : Progress) (sink : SinkState) : Type 0 where
   pub told : IsTrue sink.told

@@ -5,7 +5,7 @@ ghost use Rattle.kb_io.specs.Bytes.{newline};
 ghost use Rattle.kb_io.specs.States.{SinkGoesOn};
 ghost use Rattle.kb_lines.specs.WordLines.{IsOneLine};
 ghost use Rattle.kb_lines.specs.Progress.{Advances, StopsIn, LineStopIsCounted};
-ghost use Rattle.kb_lines.specs.Batches.{BatchAdvances, IsHeld, IsNew, least_taken, held, taken, joined};
+ghost use Rattle.kb_lines.specs.Batches.{BatchAdvances, IsHeld, IsNew, least_taken, lines_held, held, taken, joined};
 
 use crate::answerer::Answerer;
 use crate::batches::Batches;
@@ -68,6 +68,8 @@ impl Batch {
             (BatchAdvances (A.parts answerer.now) (A.answers answerer.now) bytes.now []
             self.old self.new (O.state out.old) (O.state out.new)) }
         ensures ready { OnOk result (IsHeld self.new) }
+        ensures fewer { lines_held self.old < batches.now.size
+            → OnOk result (lines_held self.new < batches.now.size) }
         ensures number { OnOk result
             (least_taken self.new ≤ least_taken self.old + length bytes.now) }
 
@@ -152,6 +154,8 @@ impl Batch {
             (BatchAdvances (A.parts answerer.now) (A.answers answerer.now)
             (end.now ++ newline ∷ []) [] self.old self.new (O.state out.old) (O.state out.new)) }
         ensures ready { OnOk result (IsHeld self.new) }
+        ensures fewer { 0 < batches.now.size
+            → OnOk result (lines_held self.new < batches.now.size) }
         ensures number { OnOk result
             (least_taken self.new ≤ least_taken self.old + length end.now + 1) }
 
@@ -180,12 +184,13 @@ impl Batch {
     ) -> Result<(), Memory>
         requires ready { IsHeld self.old }
         requires one { IsOneLine end.now }
+        requires room { least_taken self.old + 1 < 2 ^ 32 }
         ensures held { OnOk result (held self.new ≡ held self.old ++ (end.now ++ newline ∷ [])) }
         ensures ready { OnOk result (IsHeld self.new) }
         ensures progress { self.new.progress ≡ self.old.progress }
     {
         self.add_line(end)?;
-        self.count = self.count.saturating_add(1);
+        self.count += 1;
         self.filled = self.filled.saturating_add(1);
         if self.filled <= batches.block() {
             return Ok(());
@@ -200,6 +205,7 @@ impl Batch {
             ≡ self.old.block.items ++ ((self.old.line.items ++ end.now) ++ newline ∷ [])) }
         ensures blocks { self.new.blocks.items ≡ self.old.blocks.items }
         ensures line { OnOk result (self.new.line.items ≡ []) }
+        ensures count { self.new.count ≡ self.old.count }
         ensures progress { self.new.progress ≡ self.old.progress }
     {
         self.line.extend_from_slice(end)?;

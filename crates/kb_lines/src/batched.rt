@@ -1,8 +1,10 @@
 //! Word lines that are answered in batches.
 
-ghost use Rattle.std.specs.Prelude.{OnOk, IfErr};
+ghost use Rattle.std.specs.Prelude.{◌≡◌, ◌↔◌, ◌<◌, ◌≤◌, ◌++◌, [], length, take, IsTrue, OnOk, IfErr, IfOk, OnErr};
+ghost use Rattle.kb_io.specs.States.{SourceGoesOn};
 ghost use Rattle.kb_lines.specs.Streams.{streams, AreTold, StreamsGoOn};
 ghost use Rattle.kb_lines.specs.Answered.{AllAnswered, Stops, StopIsCounted};
+ghost use Rattle.kb_lines.specs.Batches.{IsShortOfBatch};
 
 use crate::answerer::Answerer;
 use crate::batch::Batch;
@@ -61,6 +63,7 @@ fn answer_batches<A: Answerer + Sync, G: Gate, T: Threads + Wait + Sync, I: Sour
 ) -> Result<(), Stop>
 where
     A::Workspace: Send,
+    requires { 1 < batches.now.size }
     ensures answered { AreTold (streams (I.state input.old) (O.state out.old)) → OnOk result
         (AllAnswered (A.parts answerer.now) (A.answers answerer.now)
         (streams (I.state input.old) (O.state out.old))
@@ -83,7 +86,7 @@ where
     let mut batch = Batch::new(alloc);
     let mut count = 0;
     loop {
-        let more = match input.read(buffer) {
+        let more = match read_next(&batch, batches, input, buffer) {
             Ok(more) => more,
             Err(Failed) => {
                 return Err(stop_at_failure(rt, alloc, answerer, batches, &mut batch, out));
@@ -100,4 +103,30 @@ where
         batch.take_bytes(rt, alloc, answerer, batches, &buffer[..more], out)?;
         count += more;
     }
+}
+
+/// Reads more of the input, as [`Source::read`]. Of the batch nothing is read: fewer lines are held than make a batch, and
+/// all that was answered was sent, where more input is asked for.
+fn read_next<G: Gate, I: Source>(
+    batch: &Batch,
+    batches: &Batches<'_, G>,
+    input: &mut I,
+    buffer: &mut [u8],
+) -> Result<usize, Failed>
+    requires some { 0 < length buffer.old }
+    requires short { IsShortOfBatch batches.now.size batch.now }
+    ensures room { IfOk result (λ taken. taken ≤ length buffer.old) }
+    ensures moved { IsTrue (I.state input.old).told
+        → IfOk result (λ taken.
+        (I.state input.old).left ≡ take taken buffer.new ++ (I.state input.new).left) }
+    ensures end { IsTrue (I.state input.old).told
+        → IfOk result (λ taken. (taken ≡ 0) ↔ ((I.state input.old).left ≡ [])) }
+    ensures kept { IsTrue (I.state input.old).told
+        → OnErr result ((I.state input.new).left ≡ (I.state input.old).left) }
+    ensures goes_on { SourceGoesOn (I.state input.old) (I.state input.new) }
+    ensures failed { OnErr result ((I.state input.old).faults < (I.state input.new).faults) }
+{
+    let _ = batch;
+    let _ = batches;
+    input.read(buffer)
 }

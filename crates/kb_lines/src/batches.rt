@@ -1,13 +1,14 @@
 //! How many lines are answered together.
 
-ghost use Rattle.std.specs.Prelude.{◌≤◌};
+ghost use Rattle.std.specs.Prelude.{◌≡◌, ◌≤◌};
 
 use kb_io::Gate;
 
 /// So many lines are taken, and then they are answered by so many workers, who pass the gate.
 #[derive(Drop)]
 pub struct Batches<'g, G: Gate> {
-    pub(crate) size: u32,
+    /// How many lines make a batch.
+    pub size: u32,
     pub(crate) workers: u32,
     pub(crate) gate: &'g G,
     ghost bounds: { (1 ≤ workers) × (workers ≤ 64) },
@@ -18,6 +19,7 @@ impl<'g, G: Gate> Batches<'g, G> {
     /// in the caller's thread.
     pub fn of(size: u32, workers: u32, gate: &'g G) -> Batches<'g, G>
         requires { (1 ≤ workers) × (workers ≤ 64) }
+        ensures { result.size ≡ size }
     {
         Batches {
             size,

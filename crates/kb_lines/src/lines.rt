@@ -1,8 +1,10 @@
 //! Word lines from their first byte to the end of the input.
 
-ghost use Rattle.std.specs.Prelude.{OnOk, IfErr};
+ghost use Rattle.std.specs.Prelude.{◌≡◌, ◌↔◌, ◌<◌, ◌≤◌, ◌++◌, [], length, take, IsTrue, OnOk, IfErr, IfOk, OnErr};
+ghost use Rattle.kb_io.specs.States.{SourceGoesOn};
 ghost use Rattle.kb_lines.specs.Streams.{streams, AreTold, StreamsGoOn};
 ghost use Rattle.kb_lines.specs.Answered.{AllAnswered, Stops, StopIsCounted};
+ghost use Rattle.kb_lines.specs.Progress.{IsCaughtUp};
 
 use crate::answerer::Answerer;
 use crate::line::LineWorkspace;
@@ -51,7 +53,7 @@ pub fn answer_lines<A: Answerer, I: Source, O: Sink>(
     let mut progress = Progress::new(alloc);
     let mut count = 0;
     loop {
-        let more = match input.read(buffer) {
+        let more = match read_next(&progress, input, buffer) {
             Ok(more) => more,
             Err(Failed) => return Err(Stop::Input),
         };
@@ -65,4 +67,28 @@ pub fn answer_lines<A: Answerer, I: Source, O: Sink>(
         }
         count += more;
     }
+}
+
+/// Reads more of the input, as [`Source::read`]. Of the progress nothing is read: all that was answered was sent, and no
+/// line that ended waits, where more input is asked for.
+fn read_next<I: Source>(
+    progress: &Progress,
+    input: &mut I,
+    buffer: &mut [u8],
+) -> Result<usize, Failed>
+    requires some { 0 < length buffer.old }
+    requires caught_up { IsCaughtUp progress.now }
+    ensures room { IfOk result (λ taken. taken ≤ length buffer.old) }
+    ensures moved { IsTrue (I.state input.old).told
+        → IfOk result (λ taken.
+        (I.state input.old).left ≡ take taken buffer.new ++ (I.state input.new).left) }
+    ensures end { IsTrue (I.state input.old).told
+        → IfOk result (λ taken. (taken ≡ 0) ↔ ((I.state input.old).left ≡ [])) }
+    ensures kept { IsTrue (I.state input.old).told
+        → OnErr result ((I.state input.new).left ≡ (I.state input.old).left) }
+    ensures goes_on { SourceGoesOn (I.state input.old) (I.state input.new) }
+    ensures failed { OnErr result ((I.state input.old).faults < (I.state input.new).faults) }
+{
+    let _ = progress;
+    input.read(buffer)
 }

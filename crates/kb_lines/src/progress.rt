@@ -4,7 +4,8 @@ ghost use Rattle.std.specs.Prelude.{◌≡◌, ◌<◌, ◌≤◌, ◌+◌, ◌^
 ghost use Rattle.std.specs.List.{AllByRecursion};
 ghost use Rattle.kb_io.specs.Bytes.{AppendsPrefix};
 ghost use Rattle.kb_io.specs.States.{SinkGoesOn};
-ghost use Rattle.kb_lines.specs.Progress.{IsFresh, IsReady, LineEnds, LineStops, Advances, StopsIn, LineStopIsCounted};
+ghost use Rattle.kb_lines.specs.Progress.{IsFresh, IsReady, LineEnds, LineStops, Advances, StopsIn, LineStopIsCounted, most_pending};
+ghost use Rattle.kb_lines.specs.WordLines.{IsOneLine};
 ghost use Rattle.kb_lines.specs.Batches.{AreBlockAnswers, AreLines, BlockGives, BlockRefused, IsBlockAnswer, joined, lines_in};
 ghost use Rattle.kb_lines.specs.declared.stop.Stop.TheVariants as stops;
 
@@ -28,7 +29,7 @@ pub(crate) struct Progress {
     pending: Vec<u8>,
 }
 
-/// Answers are sent once they have this many bytes, and before the next read.
+/// Answers are sent once they have this many bytes (`most_pending` of `specs/Progress.antt`), and before the next read.
 const ENOUGH: usize = 65_536;
 
 impl Progress {
@@ -58,6 +59,8 @@ impl Progress {
             (Advances (A.parts answerer.now) (A.answers answerer.now) bytes.now [] self.old self.new
             (O.state out.old) (O.state out.new)) }
         ensures sent { OnOk result (self.new.pending.items ≡ []) }
+        ensures open_line { IsOneLine self.old.line.items
+            → OnOk result (IsOneLine self.new.line.items) }
         ensures number { OnOk result (self.new.number ≤ self.old.number + length bytes.now) }
 
         // After a stop.
@@ -110,6 +113,8 @@ impl Progress {
         ensures advances { IsReady self.old (O.state out.old) → OnOk result
             (Advances (A.parts answerer.now) (A.answers answerer.now) bytes.now [] self.old self.new
             (O.state out.old) (O.state out.new)) }
+        ensures open_line { IsOneLine self.old.line.items
+            → OnOk result (IsOneLine self.new.line.items) }
         ensures number { OnOk result (self.new.number ≤ self.old.number + length bytes.now) }
 
         // After a stop.
@@ -142,6 +147,8 @@ impl Progress {
             (LineEnds (A.parts answerer.now) (A.answers answerer.now)
             (self.old.line.items ++ end.now) self.old self.new
             (O.state out.old) (O.state out.new)) }
+        ensures fresh { OnOk result (self.new.line.items ≡ []) }
+        ensures few { OnOk result (length self.new.pending.items < most_pending) }
         ensures number { OnOk result (self.new.number ≡ self.old.number + 1) }
 
         // After a stop.
@@ -177,6 +184,8 @@ impl Progress {
         ensures ends { IsTrue (O.state out.old).told → OnOk result
             (LineEnds (A.parts answerer.now) (A.answers answerer.now) line.now self.old self.new
             (O.state out.old) (O.state out.new)) }
+        ensures fresh { OnOk result (self.new.line.items ≡ []) }
+        ensures few { OnOk result (length self.new.pending.items < most_pending) }
         ensures number { OnOk result (self.new.number ≡ self.old.number + 1) }
 
         // After a stop.
@@ -300,6 +309,7 @@ impl Progress {
             (Advances (A.parts answerer.now) (A.answers answerer.now) block [] self.old self.new
             (O.state out.old) (O.state out.new)) }
         ensures fresh { OnOk result (self.new.line.items ≡ []) }
+        ensures few { OnOk result (length self.new.pending.items < most_pending) }
         ensures number { OnOk result (self.new.number ≡ self.old.number + lines_in answer) }
 
         // After a stop.
@@ -336,6 +346,7 @@ impl Progress {
             (Advances (A.parts answerer.now) (A.answers answerer.now) block [] self.old self.new
             (O.state out.old) (O.state out.new)) }
         ensures fresh { OnOk result (self.new.line.items ≡ []) }
+        ensures few { OnOk result (length self.new.pending.items < most_pending) }
         ensures number { OnOk result (self.new.number ≡ self.old.number + count) }
 
         // After a stop.

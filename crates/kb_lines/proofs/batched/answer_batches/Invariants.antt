@@ -1,5 +1,5 @@
-use Rattle.std.proofs.Common.{◌-◌, ◌≤◌}
-use Rattle.kb_lines.specs.Batches.{IsHeld, IsHolding, least_taken}
+use Rattle.std.proofs.Common.{◌-◌, ◌<◌, ◌≤◌}
+use Rattle.kb_lines.specs.Batches.{IsHeld, IsHolding, least_taken, lines_held}
 use Rattle.kb_lines.specs.Streams.{streams, AreTold, StreamsGoOn}
 use Rattle.kb_lines.proofs.batched.answer_batches.Given as goal
 
@@ -12,6 +12,7 @@ invariant-loop-more g l = record {
       l.batch l.count;
   goes_on : StreamsGoOn (streams (g.I.Source.state l.fn.input) (g.O.Sink.state l.fn.out)) (streams (g.I.Source.state l.input) (g.O.Sink.state l.out));
   ready : IsHeld l.batch;
+  fewer : lines_held l.batch < l.batches.size;
   number : least_taken l.batch ≤ l.count;
   most : l.count ≤ 67108864;
 }

@@ -1,5 +1,6 @@
-use Rattle.std.proofs.Common.{◌≡◌, ◌-◌, ◌≤◌, []}
+use Rattle.std.proofs.Common.{◌-◌, ◌≤◌}
 use Rattle.kb_lines.specs.Streams.{streams, AreTold, StreamsGoOn}
+use Rattle.kb_lines.specs.Progress.{IsCaughtUp}
 use Rattle.kb_lines.specs.Reading.{IsReading}
 use Rattle.kb_lines.proofs.lines.answer_lines.Given as goal
 
@@ -11,7 +12,7 @@ invariant-loop-more g l = record {
       (streams (g.I.Source.state l.fn.input) (g.O.Sink.state l.fn.out)) (streams (g.I.Source.state l.input) (g.O.Sink.state l.out))
       l.progress l.count;
   goes_on : StreamsGoOn (streams (g.I.Source.state l.fn.input) (g.O.Sink.state l.fn.out)) (streams (g.I.Source.state l.input) (g.O.Sink.state l.out));
-  sent : l.progress.pending.items ≡ [];
+  caught_up : IsCaughtUp l.progress;
   number : l.progress.number ≤ l.count;
   most : l.count ≤ 67108864;
 }

@@ -30,6 +30,13 @@ returns-then-is_empty-clause-advances g c = λ told.
     (sym c.end_block.ensures.progress)
     (none-taken old out told c.requires.ready (sym c.in_ok-end_block.ensures.taken ∙ no-joined ended.blocks.items none))
 
+pub returns-then-is_empty-clause-ready : goal.returns-then-is_empty-clause-ready
+returns-then-is_empty-clause-ready g c =
+    let ended : Batch = c.end_block.new.self in
+    let ready = c.in_ok-end_block.ensures.ready in
+    let none = no-length ended.blocks.items (omega (arith, eqb-true _ _ (sym c.if-is_empty.ensures), ended.blocks.ok)) in
+    answered-held ended _ ready none c.in_ok-end_block.ensures.none refl refl ready.fresh ready.sent
+
 pub answer_together-requires-clause-fresh : goal.answer_together-requires-clause-fresh
 answer_together-requires-clause-fresh g c = λ κs lives. c.in_ok-end_block.ensures.ready.fresh
 
@@ -64,7 +71,7 @@ returns-clause-advances g c = λ told.
 pub returns-clause-ready : goal.returns-clause-ready
 returns-clause-ready g c =
     let answer = c.in_ok-answer_together.ensures in
-    answered-held c.end_block.new.self _ c.in_ok-end_block.ensures.ready c.clear.ensures.items c.in_ok-end_block.ensures.none refl
+    answered-held c.end_block.new.self _ c.in_ok-end_block.ensures.ready c.clear.ensures.items c.in_ok-end_block.ensures.none refl refl
     answer.fresh answer.sent
 
 pub returns-clause-none : goal.returns-clause-none

@@ -21,7 +21,7 @@ returns-then-is_empty-clause-none c =
 
 pub returns-then-is_empty-clause-ready : goal.returns-then-is_empty-clause-ready
 returns-then-is_empty-clause-ready c =
-    more-held [] c.args.self.now _ c.requires.ready tt refl refl (sym (append-nil c.args.self.now.line.items)) refl
+    more-held [] c.args.self.now _ c.requires.ready tt refl refl (sym (append-nil c.args.self.now.line.items)) refl refl
 
 -- the lines behind the blocks are one block more
 pub returns-clause-taken : goal.returns-clause-taken
@@ -37,4 +37,4 @@ returns-clause-ready c =
     let own : c.of.result ≡ old.block.items = rw c.replace-block.ensures.value at c.of.ensures in
     let more = one-more old.blocks.items c.push.new.self.items old.block.items c.of.result c.in_ok-push.ensures.items own in
     let some : old.block.items ≢ [] = λ none. eqb-false _ _ (sym c.if-is_empty.ensures) (old.block.ok.0 ∙ ap length none) in
-    ended-held old _ c.requires.ready some more (search rules) refl refl
+    ended-held old _ c.requires.ready some more (search rules) refl refl refl

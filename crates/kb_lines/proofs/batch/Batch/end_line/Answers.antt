@@ -1,7 +1,7 @@
 use Rattle.std.proofs.Common.{◌∷◌, [], ◌++◌, arith}
 use Rattle.std.proofs.lemmas.Result.{err_from_is_err_and}
 use Rattle.kb_io.specs.Bytes.{newline}
-use Rattle.kb_lines.proofs.BatchLemmas.{batch-start, batch-none, batch-taken, batch-answered, batch-answer_stops, taken-least}
+use Rattle.kb_lines.proofs.BatchLemmas.{batch-start, batch-none, batch-taken, batch-answered, batch-answer_stops, taken-least, none-held}
 use Rattle.kb_lines.proofs.batch.Batch.end_line.Goals as goal
 
 -- memory ran out before the line was taken
@@ -67,3 +67,19 @@ returns-clause-number g c =
     let least = taken-least c.args.end.now c.args.self.now c.take_line.new.self take.held c.take_line.ensures.progress in
     let fewer = c.in_ok-answer_taken.ensures.number in
     omega (arith, least, fewer)
+
+-- ---- how many lines are held
+
+pub take_line-requires-clause-room : goal.take_line-requires-clause-room
+take_line-requires-clause-room g c = let room = c.requires.room in omega (arith, room)
+
+pub returns-then-self-batches-clause-fewer : goal.returns-then-self-batches-clause-fewer
+returns-then-self-batches-clause-fewer g c = λ some.
+    let counted = c.in_ok-take_line.ensures.ready.counted in
+    omega (arith, counted)
+
+pub returns-clause-fewer : goal.returns-clause-fewer
+returns-clause-fewer g c = λ some.
+    let answer = c.in_ok-answer_taken.ensures in
+    let none = none-held c.answer_taken.new.self answer.ready answer.none in
+    omega (arith, none)

@@ -18,6 +18,8 @@ returns-in_err-send-in-Err g c =
     rw (p.1, p.2, c.in_err-send-in-Err.ensures.output)
     (record {
       ends = λ told. tt;
+      fresh = tt;
+      few = tt;
       number = tt;
       stops = λ told.
           front-before (g.A.Answerer.parts c.args.answerer.now) (g.A.Answerer.answers c.args.answerer.now) c.args.line.now c.args.self.now.pending.items (g.O.Sink.state c.args.out.now) (g.O.Sink.state c.send-in-Err.new.out)
