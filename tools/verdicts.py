@@ -1,10 +1,13 @@
-"""The must-fail edits that there are, and the table edits/verdicts.csv of what came when each was last tried."""
+"""The must-fail edits that there are, and the table edits/verdicts.csv of what came when each was last tried.
+
+An edit that the prover can't refuse has a line `# refused by: NAME`: NAME is a file of cases of kb_cases, or kb_checks."""
 
 import collections
 import csv
 import functools
 import glob
 import os
+import re
 import subprocess
 
 TOP = os.path.dirname(os.path.dirname(os.path.abspath(__file__)))
@@ -25,6 +28,20 @@ def crate_of(edit):
 def name_of(edit):
     """The crate and the file's name: what an edit is called by, in the gate and beside it."""
     return crate_of(edit), os.path.basename(edit)
+
+
+@functools.lru_cache(maxsize=None)
+def refused_by(edit):
+    """What is to refuse an edit: the prover, or the file of cases, or the crate of tests, that the edit names."""
+    with open(f"{TOP}/{edit}", encoding="utf-8") as it:
+        named = re.search(r"^# refused by: (\S+)$", it.read(), re.M)
+    return named[1] if named else "the prover"
+
+
+def refusal(edit):
+    """The verdict of an edit that is refused as it must be."""
+    by = refused_by(edit)
+    return "refused" if by == "the prover" else f"refused by {by}"
 
 
 def rows():
@@ -57,8 +74,24 @@ def faults():
     if held != sorted(set(held)):
         yield f"{TABLE}: the rows aren't sorted by path, one for each edit: tools/try-edits --list"
     for row in rows():
-        if len(row) != len(COLUMNS) or row[1] not in VERDICTS or (row[1] == "untried" and row[2]):
+        if len(row) != len(COLUMNS) or not is_verdict(row[0], row[1]) or (row[1] == "untried" and row[2]):
             yield f"{TABLE}: no row is {','.join(row)!r}"
+    for edit in sorted(there):
+        yield from faults_of(edit)
+
+
+def is_verdict(edit, verdict):
+    """Whether this can be the verdict of the edit."""
+    return verdict in VERDICTS[1:] or (os.path.exists(f"{TOP}/{edit}") and verdict == refusal(edit))
+
+
+def faults_of(edit):
+    """What is wrong with what an edit says of who refuses it."""
+    by = refused_by(edit)
+    if by not in ("the prover", "kb_checks") and not os.path.exists(f"{TOP}/crates/kb_cases/data/{by}"):
+        yield f"{edit}: kb_cases has no {by}"
+    if by != "the prover" and not edit.startswith("edits/"):
+        yield f"{edit}: an edit that the prover can't refuse stands beside the gate, in edits/"
 
 
 @functools.lru_cache(maxsize=None)
@@ -71,6 +104,6 @@ def has_changed(crate, commit):
 def summary():
     """How many edits have which verdict, and of how many refused ones the crate has changed since, or the commit isn't known."""
     counted = collections.Counter(row[1] for row in rows())
-    older = sum(row[1] == "refused" and (not row[2] or has_changed(crate_of(row[0]), row[2])) for row in rows())
-    said = ", ".join(f"{counted[it]} {it}" for it in VERDICTS if counted[it])
+    older = sum(row[1].startswith("refused") and (not row[2] or has_changed(crate_of(row[0]), row[2])) for row in rows())
+    said = ", ".join(f"{counted[it]} {it}" for it in [VERDICTS[0], *sorted(set(counted) - set(VERDICTS)), *VERDICTS[1:]] if counted[it])
     return f"edits: {said}; of {older} that are refused the crate has changed since they were tried"

@@ -30,6 +30,8 @@ pub struct Case {
 pub struct Devices {
     /// At most so many bytes go through a stream in one call.
     pub piece: usize,
+    /// After each so many lines the input waits until they are answered; where it is absent it waits for nothing.
+    pub dialogue: Option<u64>,
     /// The loads that fail.
     pub loads: Vec<u64>,
     /// The stores that fail.
@@ -57,6 +59,8 @@ pub struct Wanted {
     pub stored: Vec<Named>,
     /// How many workers come to the gate.
     pub workers: Option<usize>,
+    /// How many of them come to it in a later pass than the first.
+    pub later: Option<usize>,
 }
 
 impl Case {
@@ -69,6 +73,7 @@ impl Case {
             input: Vec::new(alloc),
             devices: Devices {
                 piece: 65_536,
+                dialogue: None,
                 loads: Vec::new(alloc),
                 stores: Vec::new(alloc),
                 reads: Vec::new(alloc),
@@ -82,6 +87,7 @@ impl Case {
                 err: None,
                 stored: Vec::new(alloc),
                 workers: None,
+                later: None,
             },
         }
     }
@@ -95,7 +101,9 @@ impl Case {
     ) -> Result<(), Mistake> {
         match section.keyword.as_str() {
             "each" => Ok(()),
-            "kb" | "pieces" | "status" | "workers" | "fails" => self.add_line(rt, section, texts),
+            "kb" | "pieces" | "dialogue" | "status" | "workers" | "fails" => {
+                self.add_line(rt, section, texts)
+            }
             "file" | "stored" => self.add_file(rt, section, texts),
             "input" | "out" | "err" => self.add_text(rt, section, texts),
             _ => Err(Mistake::Keyword),
@@ -122,6 +130,7 @@ impl Case {
                 self.devices.piece = one_number(&tokens)?;
                 Ok(())
             }
+            "dialogue" => self.devices.set_dialogue(&tokens),
             _ => self.devices.add(rt.alloc(), section.argument.as_str()),
         }
     }
@@ -216,7 +225,30 @@ fn one_number(tokens: &[Token]) -> Result<usize, Mistake> {
     }
 }
 
+/// The number of workers that the word is, 1 to 64.
+fn crew(token: &Token) -> Result<usize, Mistake> {
+    let workers = number(token.text()?)?;
+    if workers < 1 || workers > 64 {
+        return Err(Mistake::Number);
+    }
+    Ok(workers)
+}
+
 impl Devices {
+    /// Takes after how many lines the input waits for their answers: after each one, where no number is told.
+    fn set_dialogue(&mut self, tokens: &[Token]) -> Result<(), Mistake> {
+        let lines = match tokens {
+            [] => 1,
+            [lines] => number::<u64>(lines.text()?)?,
+            _ => return Err(Mistake::Number),
+        };
+        if lines < 1 {
+            return Err(Mistake::Number);
+        }
+        self.dialogue = Some(lines);
+        Ok(())
+    }
+
     /// Adds what is told of failing calls: what is called, and the numbers of the calls that fail.
     fn add(&mut self, alloc: Global, line: &str) -> Result<(), Mistake> {
         let (call, rest) = line.split_once(' ').ok_or(Mistake::Number)?;
@@ -249,16 +281,18 @@ impl Wanted {
         Ok(())
     }
 
-    /// Takes how many workers come to the gate, 1 to 64.
+    /// Takes how many workers come to the gate, and behind it how many of them in a later pass.
     fn set_workers(&mut self, tokens: &[Token]) -> Result<(), Mistake> {
         if self.workers.is_some() {
             return Err(Mistake::Twice);
         }
-        let workers = one_number(tokens)?;
-        if workers < 1 || workers > 64 {
-            return Err(Mistake::Number);
-        }
-        self.workers = Some(workers);
+        let (workers, later) = match tokens {
+            [workers] => (workers, None),
+            [workers, later] => (workers, Some(crew(later)?)),
+            _ => return Err(Mistake::Number),
+        };
+        self.workers = Some(crew(workers)?);
+        self.later = later;
         Ok(())
     }
 }

@@ -10,11 +10,16 @@
 //! - `suite` goes through the sections of a file, which `kb_casefile` reads.
 //! - `trial` runs a case, and `report` prints what differs.
 //! - `meeting` is the gate of the run, at which its workers are counted.
+//! - `dialogue` has its input and its out, which go in turns where the case says so, and `noted_shelf` its files.
+//! - `no_memory` has what no case can show, since no case can want memory.
 //!
 //! Below are `kb_casefile` and `kb_cli`.
 #![tactic(auto)]
 
+mod dialogue;
 mod meeting;
+mod no_memory;
+mod noted_shelf;
 mod report;
 mod suite;
 mod trial;
@@ -34,5 +39,9 @@ fn main(rt: HostRuntime) -> anyhow::Result<()> {
         differing = differing.saturating_add(tally.differing);
     }
     ensure!(differing == 0, "{differing} cases differ");
+    ensure!(
+        no_memory::is_told(rt.alloc(), &rt),
+        "want of memory is told otherwise"
+    );
     Ok(())
 }

@@ -1,11 +1,14 @@
 //! One run over memory, compared with what has to come of it.
 
+use crate::dialogue::{Answers, Questions};
 use crate::meeting::Meeting;
+use crate::noted_shelf::NotedShelf;
 use kb_casefile::{Case, Named, Wanted, find};
 use kb_cli::{Status, run};
-use kb_io::{MemShelf, MemSink, MemSource, Shelf, Sink, Source};
+use kb_io::{MemShelf, MemSink, Shelf, Sink, Source};
 use std::alloc::{AllocError, Global};
 use std::sync::Wait;
+use std::sync::atomic::AtomicU64;
 use std::thread::Threads;
 
 /// Something that came of a run otherwise than wanted.
@@ -60,16 +63,39 @@ impl Comparison {
         }
     }
 
-    /// Compares how many workers came to the gate, where it is told. Of several the first has to meet another.
+    /// Compares how many workers came to the gate, and how many of them in a later pass, where it is told. Of several
+    /// the first has to meet another.
     fn compare_workers(&mut self, wanted: &Wanted, meeting: &Meeting) -> Result<(), AllocError> {
-        let Some(wanted) = wanted.workers else {
+        let came = shown_workers(self.alloc, meeting)?;
+        self.compare_crew("the workers", wanted.workers, came.as_str())?;
+        let later = meeting.later_workers().max(1);
+        let later = format!(in self.alloc; "{later}")?;
+        self.compare_crew("the workers of a later pass", wanted.later, later.as_str())
+    }
+
+    /// Compares a number of workers, where it is told.
+    fn compare_crew(
+        &mut self,
+        what: &str,
+        wanted: Option<usize>,
+        came: &str,
+    ) -> Result<(), AllocError> {
+        let Some(wanted) = wanted else {
             return Ok(());
         };
         let wanted = format!(in self.alloc; "{wanted}")?;
-        let came = shown_workers(self.alloc, meeting)?;
+        self.compare(what, Some(wanted.as_bytes()), Some(came.as_bytes()))
+    }
+
+    /// Compares when the lines of a dialogue are asked for. This one was before its turn.
+    fn compare_dialogue(&mut self, early: Option<u64>) -> Result<(), AllocError> {
+        let Some(line) = early else {
+            return Ok(());
+        };
+        let came = format!(in self.alloc; "asked for line {line} before an answer")?;
         self.compare(
-            "the workers",
-            Some(wanted.as_bytes()),
+            "the dialogue",
+            Some(b"each line in its turn"),
             Some(came.as_bytes()),
         )
     }
@@ -90,9 +116,9 @@ impl Comparison {
         }
     }
 
-    /// Compares the files: those that have to be stored are there, the others are as they were, and
-    /// no word of the command line names a new one.
-    fn compare_files(&mut self, case: &Case, shelf: &MemShelf) -> Result<(), AllocError> {
+    /// Compares the files: those that have to be stored are there, the others are as they were, and no other file is
+    /// there.
+    fn compare_files(&mut self, case: &Case, shelf: &NotedShelf) -> Result<(), AllocError> {
         let stored = case.wanted.stored.as_slice();
         self.compare_each(stored, shelf)?;
         for file in &case.files {
@@ -101,8 +127,8 @@ impl Comparison {
                 self.compare(name, Some(file.bytes.as_slice()), shelf.get(name))?;
             }
         }
-        for word in &case.words {
-            let name = word.as_str();
+        for name in shelf.names() {
+            let name = name.as_str();
             if find(stored, name).is_none() && find(case.files.as_slice(), name).is_none() {
                 self.compare(name, None, shelf.get(name))?;
             }
@@ -111,7 +137,7 @@ impl Comparison {
     }
 
     /// Compares files that have to be there.
-    fn compare_each(&mut self, files: &[Named], shelf: &MemShelf) -> Result<(), AllocError> {
+    fn compare_each(&mut self, files: &[Named], shelf: &NotedShelf) -> Result<(), AllocError> {
         for file in files {
             let name = file.name.as_str();
             self.compare(name, Some(file.bytes.as_slice()), shelf.get(name))?;
@@ -147,14 +173,14 @@ fn shown_workers(alloc: Global, meeting: &Meeting) -> Result<String, AllocError>
 }
 
 /// A shelf with the case's files, on which its loads and stores fail.
-fn shelf_of(alloc: Global, case: &Case) -> Result<MemShelf, AllocError> {
+fn shelf_of(alloc: Global, case: &Case) -> Result<NotedShelf, AllocError> {
     let loads = case.devices.loads.clone()?;
     let stores = case.devices.stores.clone()?;
     let mut shelf = MemShelf::new(alloc, loads, stores);
     for file in &case.files {
         shelf.insert(alloc, file.name.as_str(), file.bytes.as_slice())?;
     }
-    Ok(shelf)
+    Ok(NotedShelf::of(alloc, shelf))
 }
 
 /// Runs the program. Nothing is stated of what it does, so that what is proved here needn't take the program's contract
@@ -180,9 +206,10 @@ pub(crate) fn differences<R: Threads + Wait + Sync>(
 ) -> Result<Vec<Difference>, AllocError> {
     let mut shelf = shelf_of(alloc, case)?;
     let piece = case.devices.piece.max(1);
-    let input = Vec::from_slice(alloc, case.input.as_slice())?;
-    let mut input = MemSource::new(input, piece, case.devices.reads.clone()?);
-    let mut out = MemSink::new(alloc, rt, piece, case.devices.writes.clone()?);
+    let answered = AtomicU64::new(0);
+    let mut input = Questions::of(alloc, case, &answered)?;
+    let out = MemSink::new(alloc, rt, piece, case.devices.writes.clone()?);
+    let mut out = Answers::of(out, &answered);
     let mut err = MemSink::new(alloc, rt, piece, case.devices.messages.clone()?);
     let words = case.words.as_slice();
     let meeting = Meeting::of(case.wanted.workers.unwrap_or(1));
@@ -195,6 +222,7 @@ pub(crate) fn differences<R: Threads + Wait + Sync>(
         &status,
         &meeting,
         &shelf,
+        input.early(),
         out.written(),
         err.written(),
     )
@@ -206,7 +234,8 @@ fn compared(
     case: &Case,
     status: &Status,
     meeting: &Meeting,
-    shelf: &MemShelf,
+    shelf: &NotedShelf,
+    early: Option<u64>,
     out: &[u8],
     err: &[u8],
 ) -> Result<Vec<Difference>, AllocError> {
@@ -216,6 +245,7 @@ fn compared(
     };
     comparison.compare_status(&case.wanted, status)?;
     comparison.compare_workers(&case.wanted, meeting)?;
+    comparison.compare_dialogue(early)?;
     comparison.compare("out", Some(case.wanted.out.as_slice()), Some(out))?;
     comparison.compare_err(&case.wanted, err)?;
     comparison.compare_files(case, shelf)?;

@@ -17,16 +17,18 @@ use std::thread;
 /// As many overlaps are entered by a pass at least, where so many are apart.
 const FEWEST: u32 = 16;
 
-/// So many relations of two letters each, and one more with longer sides. Each line overlaps itself alone, and is apart.
+/// Relations of two letters each, so many but one, then one with longer sides, and one more with yet longer ones. Each
+/// line overlaps itself alone, and is apart.
 fn relations(alloc: Global) -> Result<String, AllocError> {
     let mut names = String::new(alloc);
     let mut equations = String::new(alloc);
-    for k in 1..=FEWEST {
+    for k in 1..FEWEST {
         names.push_str(format!(in alloc; "a{k},b{k},")?.as_str())?;
         equations.push_str(format!(in alloc; "[b{k}*a{k}*b{k},a{k}*b{k}*a{k}],")?.as_str())?;
     }
     format!(in alloc;
-        "_RWS := rec(isRWS := true, generatorOrder := [{names}y,z], equations := [{equations}[z*y*y*z,y*z*z*y]]);"
+        "_RWS := rec(isRWS := true, generatorOrder := [{names}w,x,y,z], \
+        equations := [{equations}[z*y*y*z,y*z*z*y],[x*w*w*w*x,w*x*x*x*w]]);"
     )
 }
 
@@ -69,13 +71,13 @@ fn entered(alloc: Global, events: &[Event], by: u8) -> Result<Vec<Found>, Memory
     Ok(found)
 }
 
-/// Whether these are the overlaps of the lines with the shorter sides, each once.
+/// Whether these are the overlaps of all lines but that with the longest sides, each once.
 fn are_shortest(found: &[Found]) -> bool {
     for line in 1..=FEWEST {
         let own = Found {
             first: line,
             second: line,
-            place: 2,
+            place: if line < FEWEST { 2 } else { 3 },
         };
         if !found.contains(&own) {
             return false;

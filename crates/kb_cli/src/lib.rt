@@ -12,7 +12,7 @@
 //!
 //! - `command` is the list of the families of commands, each of which is a crate; `program_line` is the program's
 //!   command line, made of the families' parts, and `arguments` reads it.
-//! - `program` is [`run`], and `report` the messages to err, of which no clause speaks.
+//! - `program` is [`run`], and [`report`] writes the message to err that a status has, of which no clause speaks.
 //!
 //! Below are the families of commands, `kb_commands`, which says what the command line has of them, and `kb_task`, what
 //! they have in common.
@@ -35,3 +35,4 @@ pub use laws::{
     where_nothing_is_refused_there_is_an_answer,
 };
 pub use program::run;
+pub use report::report;

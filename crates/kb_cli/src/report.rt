@@ -7,7 +7,7 @@ use std::fmt;
 use std::fmt::Write;
 
 /// Writes the status's message, where it has one.
-pub(crate) fn report<E: Sink>(alloc: Global, status: &Status, err: &mut E) {
+pub fn report<E: Sink>(alloc: Global, status: &Status, err: &mut E) {
     match status {
         Status::Refused(refusal) => message(alloc, refusal, err),
         Status::Fault(which) => message(alloc, which, err),
