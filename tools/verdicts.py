@@ -14,6 +14,7 @@ TOP = os.path.dirname(os.path.dirname(os.path.abspath(__file__)))
 TABLE = "edits/verdicts.csv"
 COLUMNS = ["edit", "verdict", "commit"]
 VERDICTS = ["refused", "accepted", "bad", "untried"]
+PROVER = "the prover"
 
 
 def edits():
@@ -35,13 +36,13 @@ def refused_by(edit):
     """What is to refuse an edit: the prover, or the file of cases, or the crate of tests, that the edit names."""
     with open(f"{TOP}/{edit}", encoding="utf-8") as it:
         named = re.search(r"^# refused by: (\S+)$", it.read(), re.M)
-    return named[1] if named else "the prover"
+    return named[1] if named else PROVER
 
 
 def refusal(edit):
     """The verdict of an edit that is refused as it must be."""
     by = refused_by(edit)
-    return "refused" if by == "the prover" else f"refused by {by}"
+    return "refused" if by == PROVER else f"refused by {by}"
 
 
 def rows():
@@ -88,9 +89,9 @@ def is_verdict(edit, verdict):
 def faults_of(edit):
     """What is wrong with what an edit says of who refuses it."""
     by = refused_by(edit)
-    if by not in ("the prover", "kb_checks") and not os.path.exists(f"{TOP}/crates/kb_cases/data/{by}"):
+    if by not in (PROVER, "kb_checks") and not os.path.exists(f"{TOP}/crates/kb_cases/data/{by}"):
         yield f"{edit}: kb_cases has no {by}"
-    if by != "the prover" and not edit.startswith("edits/"):
+    if by != PROVER and not edit.startswith("edits/"):
         yield f"{edit}: an edit that the prover can't refuse stands beside the gate, in edits/"
 
 
