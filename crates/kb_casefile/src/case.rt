@@ -57,6 +57,8 @@ pub struct Wanted {
     pub err: Option<Vec<u8>>,
     /// The files that are stored.
     pub stored: Vec<Named>,
+    /// The names of files that are stored, whatever their text is.
+    pub left: Vec<String>,
     /// How many workers come to the gate.
     pub workers: Option<usize>,
     /// How many of them come to it in a later pass than the first.
@@ -86,6 +88,7 @@ impl Case {
                 out: Vec::new(alloc),
                 err: None,
                 stored: Vec::new(alloc),
+                left: Vec::new(alloc),
                 workers: None,
                 later: None,
             },
@@ -101,7 +104,7 @@ impl Case {
     ) -> Result<(), Mistake> {
         match section.keyword.as_str() {
             "each" => Ok(()),
-            "kb" | "pieces" | "dialogue" | "status" | "workers" | "fails" => {
+            "kb" | "pieces" | "dialogue" | "status" | "workers" | "leaves" | "fails" => {
                 self.add_line(rt, section, texts)
             }
             "file" | "stored" => self.add_file(rt, section, texts),
@@ -125,6 +128,10 @@ impl Case {
                 Ok(())
             }
             "status" => self.wanted.set_status(rt.alloc(), &tokens),
+            "leaves" => {
+                self.wanted.left = words(rt.alloc(), &tokens)?;
+                Ok(())
+            }
             "workers" => self.wanted.set_workers(&tokens),
             "pieces" => {
                 self.devices.piece = one_number(&tokens)?;
@@ -181,7 +188,7 @@ fn line_of<R: Files + AllocGlobal>(
     tokens(rt.alloc(), section.argument.as_str())
 }
 
-/// The words of a command line.
+/// The words of a command line, or the names on a line.
 fn words(alloc: Global, tokens: &[Token]) -> Result<Vec<String>, Mistake> {
     let mut words = Vec::new(alloc);
     for token in tokens {

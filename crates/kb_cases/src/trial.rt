@@ -127,10 +127,23 @@ impl Comparison {
                 self.compare(name, Some(file.bytes.as_slice()), shelf.get(name))?;
             }
         }
+        self.compare_left(&case.wanted.left, shelf)?;
         for name in shelf.names() {
+            let is_left = case.wanted.left.contains(name);
             let name = name.as_str();
-            if find(stored, name).is_none() && find(case.files.as_slice(), name).is_none() {
+            let is_known = find(stored, name).or(find(&case.files, name)).is_some();
+            if !is_left && !is_known {
                 self.compare(name, None, shelf.get(name))?;
+            }
+        }
+        Ok(())
+    }
+
+    /// Compares whether files are there that have to be, whatever their text is.
+    fn compare_left(&mut self, names: &[String], shelf: &NotedShelf) -> Result<(), AllocError> {
+        for name in names {
+            if shelf.get(name).is_none() {
+                self.compare(name, Some(b"a text"), None)?;
             }
         }
         Ok(())
