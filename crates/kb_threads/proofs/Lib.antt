@@ -1,3 +1,3 @@
-pub mod Lasts
+pub mod Numbers
 pub mod Stages
 mod Keeping

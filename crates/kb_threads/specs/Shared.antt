@@ -1,11 +1,11 @@
 -- A completion that workers share under one lock.
-use Rattle.std.specs.Prelude.{◌≡◌, ℕ, ◌+◌, List, [], None, Result, Ok, Err}
+use Rattle.std.specs.Prelude.{◌≡◌, ℕ, ◌+◌, List, [], All, Some, None, Result, Ok, Err, slice_get}
 use Rattle.kb_word.specs.declared.word_order.WordOrder.TheVariants.{ShortLex}
 use Rattle.kb_draw.specs.Totals.{total}
 use Rattle.kb_machine.specs.Course.{Course, Takes}
-use Rattle.kb_book.specs.Answers.{HasOverlap}
 use Rattle.kb_share.specs.Later.{OnlyEnters, entries}
-use Rattle.kb_share.specs.Passes.{entry_of}
+use Rattle.kb_share.specs.Passes.{IsOverlapOfLines, entry_of}
+use Rattle.kb_share.specs.declared.found.Apart.{Apart}
 use Rattle.kb_share.specs.declared.found.Found.{Found}
 use Rattle.kb_threads.specs.declared.answers.ShareFault.{ShareFault}
 use Rattle.kb_threads.specs.declared.answers.ShareFault.TheVariants as faults
@@ -35,9 +35,18 @@ pub record PassParts : Type 0 where
   pub worker : ℕ
   pub entered : ℕ
 
+-- the workers' numbers go from 1 on
+abbrev pub AreNumbered : List PassParts → Type 0
+AreNumbered passes = (place : ℕ) (pass : PassParts) → slice_get passes place ≡ Some pass
+    → pass.worker ≡ place + 1
+
 -- the two numbers are not those of lines that overlap at the place
 abbrev pub IsNoOverlap : Course → Found → Type 0
-IsNoOverlap course one = ¬ HasOverlap course.state one.first one.second one.place
+IsNoOverlap course one = ¬ IsOverlapOfLines course.state one
+
+-- none of them is no overlap, so that each may be entered
+abbrev pub AreOverlaps : Course → List Apart → Type 0
+AreOverlaps course = All (λ one. ¬ IsNoOverlap course one.found)
 
 -- what entering an overlap does to the completion and to the worker's token
 abbrev pub EnterSays : Course → Course → PassParts → PassParts → Found

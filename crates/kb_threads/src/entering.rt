@@ -1,7 +1,8 @@
 //! Workers enter what they kept.
 
-ghost use Rattle.std.specs.Prelude.{◌≡◌, ◌≤◌, ◌<◌, IfOk, length};
+ghost use Rattle.std.specs.Prelude.{◌≡◌, ◌≤◌, All, IfOk, length};
 ghost use Rattle.kb_share.specs.Later.{OnlyEnters};
+ghost use Rattle.kb_threads.specs.Shared.{AreOverlaps, IsNoOverlap};
 
 use crate::answers::ShareFault;
 use crate::kept::Least;
@@ -24,6 +25,7 @@ use std::thread::Threads;
 struct Entrant<S: Sharing> {
     pass: Pass<S>,
     kept: Vec<Apart>,
+    ghost overlaps: { AreOverlaps S.given kept.items },
 }
 
 /// So many workers enter the shortest of what they kept into a book, which is shared under a name.
@@ -44,10 +46,13 @@ pub(crate) fn enter_shared<
     requires name { blank.name ≡ S.name }
     requires parts { (blank.parts ≡ S.parts) × (S.parts ≡ workers) × (1 ≤ workers) }
     requires given { book.course ≡ S.given }
+    requires overlaps { All (λ list. AreOverlaps S.given list.items) kept.items }
     ensures { IfOk result (λ after. OnlyEnters S.given after.course) }
 {
     let bound = bound_of(alloc, &kept)?;
-    let (shared, passes) = Shared::<R, S>::new(alloc, book, blank, workers)?;
+    let Ok((shared, passes)) = Shared::<R, S>::new(alloc, book, blank, workers) else {
+        return Err(Memory);
+    };
     let done = all_enter(rt, alloc, &shared, gate, passes, kept, bound)?;
     Ok(shared.finish(done))
 }
@@ -73,6 +78,7 @@ fn all_enter<S: Sharing + Send + Sync, R: Reducer + Send + Sync, G: Gate, T: Thr
     kept: Vec<Vec<Apart>>,
     bound: u64,
 ) -> Result<Vec<Pass<S>>, Memory>
+    requires { All (λ list. AreOverlaps S.given list.items) kept.items }
     ensures { IfOk result (λ done. length done.items ≡ length passes.items) }
 {
     let crew = entrants(alloc, passes, kept)?;
@@ -89,6 +95,7 @@ fn entrants<S: Sharing>(
     mut passes: Vec<Pass<S>>,
     mut kept: Vec<Vec<Apart>>,
 ) -> Result<Vec<Entrant<S>>, Memory>
+    requires { All (λ list. AreOverlaps S.given list.items) kept.items }
     ensures { IfOk result (λ crew. length crew.items ≡ length passes.items) }
 {
     let mut crew = Vec::with_capacity(alloc, passes.len())?;
@@ -116,17 +123,20 @@ fn enter_own<R: Reducer, S: Sharing, G: Gate, T: Wait>(
     Ok(pass)
 }
 
-/// Enters an overlap. What is none of the book's lines is left out, though versions have none such.
+/// Enters an overlap, so that nothing but memory can be wanting.
 fn enter_one<R: Reducer, S: Sharing, G: Gate, T: Wait>(
     rt: &T,
     shared: &Shared<R, S>,
     gate: &G,
     pass: &mut Pass<S>,
     one: &Found,
-) -> Result<(), Memory> {
+) -> Result<(), Memory>
+    requires { ¬ IsNoOverlap S.given one.now }
+{
     gate.at(u32::from(pass.worker()), Point::Enter);
     match shared.enter(rt, pass, one) {
-        Ok(()) | Err(ShareFault::NotOverlap) => Ok(()),
+        Ok(()) => Ok(()),
+        Err(ShareFault::NotOverlap) => unreachable!(),
         Err(ShareFault::Memory) => Err(Memory),
     }
 }

@@ -6,9 +6,10 @@
 //!   for: one, who needs no thread, or more. What [`Passed`] says of a pass (`PassSays` of `specs/Passes.antt`):
 //!   overlaps were entered, and nothing else happened to the book given; or none is apart, the live rules are
 //!   confluent, and the book is as it was.
-//! - [`Shared`] is a book under a lock, whose workers hold a [`Pass`] each. [`Shared::enter`] enters an overlap, and
-//!   says so only where it did: the pass counts it. [`Shared::finish`] takes all passes back: the book is the one
-//!   that was given, with just as many entries more as the passes counted, and nothing else happened.
+//! - [`Shared`] is a book under a lock, whose workers hold a [`Pass`] each. Where there is no memory for the passes,
+//!   [`Shared::new`] gives the book back. [`Shared::enter`] enters an overlap, and says so only where it did: the pass
+//!   counts it. [`Shared::finish`] takes all passes back: the book is the one that was given, with just as many entries
+//!   more as the passes counted, and nothing else happened.
 //!
 //! # How a pass goes
 //!
@@ -16,8 +17,9 @@
 //! (`kb_draw`): each worker draws rows from one counter, sifts their prime overlaps, and keeps what is apart with the
 //! number of letters of its two normal forms (`sweeping`). The owner takes the bound from all lists: the least number
 //! by which all that are apart are entered, or at least 16. Then each worker enters its own up to that bound, under
-//! the lock (`entering`). A worker drops what is above its own bound, since the common one is at most that, so its
-//! list is short; it never drops the last one.
+//! the lock (`entering`). What a sieve finds are overlaps of two of the book's lines, so that none is refused. A worker
+//! drops what is above its own bound, since the common one is at most that, so its list is short; it never drops the
+//! last one.
 //!
 //! So which overlaps are entered is the same for any number of workers from two on; the order in which they come is
 //! left open. A pass that enters nothing is the proof of confluence: each row was done by one of the workers, and

@@ -2,7 +2,7 @@
 
 ghost use Rattle.std.specs.Prelude.{◌≡◌, ◌+◌, ◌≤◌, ◌<◌, length, All, IfOk, IfErr, OnOk, OnErr};
 ghost use Rattle.kb_share.specs.Later.{OnlyEnters, entries};
-ghost use Rattle.kb_threads.specs.Shared.{IsNoOverlap, entered_by};
+ghost use Rattle.kb_threads.specs.Shared.{AreNumbered, IsNoOverlap, entered_by};
 ghost use Rattle.kb_threads.specs.declared.answers.ShareFault.TheVariants.{NotOverlap};
 
 use crate::answers::ShareFault;
@@ -25,21 +25,26 @@ pub struct Shared<R: Reducer, S: Sharing> {
 }
 
 impl<R: Reducer, S: Sharing> Shared<R, S> {
-    /// Shares a book with workers, each of which gets a pass. They are numbered from 1 on.
+    /// Shares a book with workers, each of which gets a pass. They are numbered from 1 on. Where there is no memory for
+    /// the passes, the book comes back.
     pub fn new(
         alloc: Global,
         book: Book<R>,
         blank: Blank,
         workers: u8,
-    ) -> Result<(Shared<R, S>, Vec<Pass<S>>), Memory>
+    ) -> Result<(Shared<R, S>, Vec<Pass<S>>), Book<R>>
         requires name { blank.name ≡ S.name }
         requires parts { (blank.parts ≡ S.parts) × (blank.parts ≡ workers) × (1 ≤ workers) }
         requires given { book.course ≡ S.given }
         ensures count { IfOk result (λ made. length made.1.items ≡ S.parts) }
         ensures none { IfOk result (λ made. All (λ pass. pass.entered ≡ 0) made.1.items) }
+        ensures numbers { IfOk result (λ made. AreNumbered made.1.items) }
+        ensures back { IfErr result (λ same. same ≡ book) }
     {
         let (entered, all) = blank.open::<S>();
-        let passes = passes_of(alloc, all, workers)?;
+        let Ok(passes) = passes_of(alloc, all, workers) else {
+            return Err(book);
+        };
         let locked = Mutex::new(Locked::new(book, entered));
         Ok((Shared { locked }, passes))
     }
@@ -75,6 +80,7 @@ fn passes_of<S: Sharing>(
     requires { (rest.parts ≡ workers) × (rest.amount ≡ 0) }
     ensures count { IfOk result (λ passes. length passes.items ≡ workers) }
     ensures none { IfOk result (λ passes. All (λ pass. pass.entered ≡ 0) passes.items) }
+    ensures numbers { IfOk result (λ passes. AreNumbered passes.items) }
 {
     let mut passes = Vec::new(alloc);
     for worker in 0..workers {

@@ -1,7 +1,8 @@
 //! Workers sift the rows of a version, which they draw.
 
-ghost use Rattle.std.specs.Prelude.{◌≡◌, ◌≤◌, ◌^◌, [], All, IfOk, IfNone, IsTrue, length};
-ghost use Rattle.kb_threads.specs.Sweeps.{RowsAreJoined};
+ghost use Rattle.std.specs.Prelude.{◌≡◌, ◌≤◌, ◌^◌, [], All, IfOk, IfNone, IfSome, IsTrue, length};
+ghost use Rattle.kb_share.specs.Versions.{VersionParts};
+ghost use Rattle.kb_threads.specs.Sweeps.{AreFoundIn, RowsAreJoined};
 
 use crate::kept::Kept;
 use kb_draw::{Work, share_out};
@@ -36,12 +37,13 @@ struct Sifted {
 impl<'b, R: HasAutomaton, G: Gate> Work for Rows<'b, R, G> {
     ghost use Rattle.std.specs.Prelude.{◌≡◌, []};
     ghost use Rattle.kb_share.specs.Primes.{PrimesOfRowAreJoined};
+    ghost use Rattle.kb_threads.specs.Sweeps.{AreFoundIn};
 
     type Share = Sifted;
 
     ghost parts = { λ rows. rows.rows };
 
-    ghost sound = { λ rows share. Unit {0} };
+    ghost sound = { λ rows share. AreFoundIn rows.sieve.version share.kept };
 
     ghost done = { λ rows share row.
         share.kept ≡ [] → PrimesOfRowAreJoined rows.sieve.version.rules row };
@@ -80,7 +82,9 @@ pub(crate) fn sweep<R: HasAutomaton + Sync, G: Gate, T: Threads + Wait + Sync>(
     workers: u32,
 ) -> Result<Option<Vec<Vec<Apart>>>, Memory>
     requires { (1 ≤ workers) × (workers ≤ 64) }
-    ensures { IfOk result (λ kept. IfNone kept (RowsAreJoined version.entry.rules)) }
+    ensures none { IfOk result (λ kept. IfNone kept (RowsAreJoined version.entry.rules)) }
+    ensures found { IfOk result (λ kept. IfSome kept
+        (λ lists. All (λ list. AreFoundIn version.entry list.items) lists.items)) }
 {
     let rows = version.numbers().len() as u64;
     let sieve = Sieve::of(alloc, version)?;
@@ -100,7 +104,10 @@ fn nothing_kept(shares: &[Sifted]) -> bool
 }
 
 /// What each worker kept.
-fn lists_of(alloc: Global, shares: Vec<Sifted>) -> Result<Vec<Vec<Apart>>, Memory> {
+fn lists_of(alloc: Global, shares: Vec<Sifted>) -> Result<Vec<Vec<Apart>>, Memory>
+    ensures { (version : VersionParts) → All (λ share. AreFoundIn version share.kept) shares.items
+        → IfOk result (λ lists. All (λ list. AreFoundIn version list.items) lists.items) }
+{
     let mut lists = Vec::with_capacity(alloc, shares.len())?;
     for share in shares {
         lists.push(share.kept.into_vec())?;

@@ -1,9 +1,10 @@
 //! The pool of workers that are threads.
 
-ghost use Rattle.std.specs.Prelude.{◌≡◌, ◌≤◌, IfOk};
+ghost use Rattle.std.specs.Prelude.{◌≡◌, ◌≤◌, All, IfOk};
 ghost use Rattle.kb_share.specs.Later.{OnlyEnters};
 ghost use Rattle.kb_share.specs.Versions.{IsPublished};
 ghost use Rattle.kb_threads.specs.Passes.{PassSays};
+ghost use Rattle.kb_threads.specs.Shared.{AreOverlaps};
 
 use crate::entering::enter_shared;
 use crate::passed::Passed;
@@ -12,7 +13,7 @@ use kb_book::Book;
 use kb_index::HasAutomaton;
 use kb_io::Gate;
 use kb_rules::Reducer;
-use kb_share::{Apart, Version, prime_overlaps_decide};
+use kb_share::{Apart, Version, book_is_sound, prime_overlaps_decide};
 use kb_word::Memory;
 use std::alloc::Global;
 use std::marker::Brand;
@@ -70,7 +71,10 @@ impl<'g, G: Gate> Threads<'g, G> {
                 prime_overlaps_decide(&book);
                 Ok(Passed::Confluent(book))
             }
-            Some(kept) => Ok(Passed::Entered(self.enter(rt, alloc, book, kept)?)),
+            Some(kept) => {
+                book_is_sound(&book);
+                Ok(Passed::Entered(self.enter(rt, alloc, book, kept)?))
+            }
         }
     }
 
@@ -82,6 +86,7 @@ impl<'g, G: Gate> Threads<'g, G> {
         book: Book<R>,
         kept: Vec<Vec<Apart>>,
     ) -> Result<Book<R>, Memory>
+        requires { All (λ list. AreOverlaps book.course list.items) kept.items }
         ensures { IfOk result (λ after. OnlyEnters book.course after.course) }
     {
         let blank = Blank::new(self.workers as u64);

@@ -1,6 +1,7 @@
-use Rattle.std.proofs.Common.{◌≡◌, [], List, All, ap, length, sym, ◌∙◌, subst}
+use Rattle.std.proofs.Common.{◌≡◌, [], List, All, Vec, Global, ap, length, sym, ◌∙◌, subst}
 use Rattle.kb_share.specs.Versions.{VersionParts}
-use Rattle.kb_threads.specs.Sweeps.{RowsAreJoined}
+use Rattle.kb_share.specs.declared.found.Apart.{Apart}
+use Rattle.kb_threads.specs.Sweeps.{AreFoundIn, RowsAreJoined}
 use Rattle.kb_threads.specs.declared.sweeping.Sifted.{Sifted}
 use Rattle.kb_threads.proofs.Keeping.{rows_joined}
 use Rattle.kb_threads.proofs.sweeping.sweep.Goals as goal
@@ -15,5 +16,14 @@ returns-then-nothing_kept g c =
     let same : length sieved.rules ≡ length version.rules = ap (λ (v : VersionParts). length v.rules) c.in_ok-sieve.ensures in
     let none = subst (λ (l : List Sifted). All (λ share. share.kept ≡ []) l) c.deref.ensures.value
     (c.nothing_kept.ensures c.if-nothing_kept.true) in
-    subst (λ (v : VersionParts). RowsAreJoined v.rules) c.in_ok-sieve.ensures
-    (rows_joined sieved.rules (length c.numbers.result.now) shares (count ∙ sym same) c.in_ok-shares.ensures.done none)
+    record {
+      none = subst (λ (v : VersionParts). RowsAreJoined v.rules) c.in_ok-sieve.ensures
+          (rows_joined sieved.rules (length c.numbers.result.now) shares (count ∙ sym same) c.in_ok-shares.ensures.done none);
+      found = tt;
+    }
+
+pub returns-clause-found : goal.returns-clause-found
+returns-clause-found g c =
+    let lists = c.in_ok-lists_of.field-0 in
+    subst (λ (v : VersionParts). All (λ (list : Vec Apart Global). AreFoundIn v list.items) lists.items) c.in_ok-sieve.ensures
+    (c.in_ok-lists_of.ensures c.in_ok-sieve.sieve.version c.in_ok-shares.ensures.sound)

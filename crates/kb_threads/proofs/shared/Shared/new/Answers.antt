@@ -13,5 +13,10 @@ new-requires g c = record { given = c.requires.given; none = c.open-entered.ensu
 pub returns : goal.returns
 returns g c =
     let parts = c.requires.parts in
-    let passes = c.in_ok-passes.ensures in
-    record { count = passes.count ∙ (sym parts.1 ∙ parts.0); none = passes.none }
+    let passes = c.in-Ok.ensures in
+    record {
+      count = passes.count ∙ (sym parts.1 ∙ parts.0);
+      none = passes.none;
+      numbers = passes.numbers;
+      back = tt;
+    }
