@@ -65,7 +65,7 @@ impl Command {
             Command::Completion(task) => task.run(rt, alloc, gate, shelf, input, out, err),
             Command::Elements(task) => task.run(rt, alloc, gate, shelf, input, out, err),
             Command::Structures(task) => task.run(rt, alloc, gate, shelf, input, out, err),
-            Command::Proofs(task) => task.run(rt, alloc, shelf, input, out, err),
+            Command::Proofs(task) => task.run(rt, alloc, gate, shelf, input, out, err),
         }
     }
 }

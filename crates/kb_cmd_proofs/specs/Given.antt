@@ -8,4 +8,5 @@ pub record KbverifyGiven : Type 0 where
 
 pub record KbcertifyGiven : Type 0 where
   pub file : List ℕ
+  pub workers : ℕ
   pub limits : Limits

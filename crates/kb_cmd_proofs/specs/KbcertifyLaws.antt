@@ -165,7 +165,7 @@ module _ {file : List ℕ} {parts : PresentationParts}
   }
 
 -- What a yes writes, and what it stores under the names of the rules and of the word acceptor, is one function of the
--- presentation that the file holds: no limit changes a byte of it. Which log certifies that is left open.
+-- presentation that the file holds: no option changes a byte of it. Which log certifies that is left open.
 certify_one_function : (given other_given : KbcertifyGiven)
     (before after other_before other_after : Outside) (status other : Status)
     → KbcertifyMeans given before after status

@@ -9,11 +9,12 @@ ghost use Rattle.kb_cmd_proofs.specs.Kbcertify.{IsFound};
 use crate::certificate::finding_of;
 use crate::finding::{Finding, show};
 use kb_book::Limits;
-use kb_io::{Shelf, Sink, Source};
+use kb_io::{Gate, Shelf, Sink, Source};
 use kb_logged::{LoggedEnding, complete_with_log};
 use kb_progress::{Evidence, Limit, Progress, Stored, Summary};
 use kb_system::Reached;
 use kb_task::{Status, Task, load_presentation};
+use kb_threads::Workers;
 use kb_word::{Memory, OwnedText, Presentation};
 use std::alloc::Global;
 use std::marker::Model;
@@ -25,16 +26,25 @@ use std::thread::Threads;
 pub struct Kbcertify {
     /// The name of the file with the presentation.
     pub file: OwnedText,
+    /// How many threads may work side by side.
+    pub workers: u32,
     /// The limits of the completion.
     pub limits: Limits,
 }
 
 impl Model for Kbcertify {
+    ghost use Rattle.std.specs.Prelude.{◌≤◌};
     ghost use Rattle.kb_cmd_proofs.specs.Given.{KbcertifyGiven, limits_of};
 
     ghost Value = { KbcertifyGiven };
 
-    ghost view = { λ task. record { file = task.file; limits = limits_of task.limits } };
+    ghost view = { λ task. record {
+      file = task.file;
+      workers = task.workers;
+      limits = limits_of task.limits;
+    } };
+
+    ghost invariant = { λ task. (1 ≤ task.workers) × (task.workers ≤ 64) };
 }
 
 impl Task for Kbcertify {
@@ -50,12 +60,13 @@ impl Kbcertify {
     ghost use Rattle.kb_task.specs.Promises.{Keeps};
     ghost use Rattle.kb_cmd_proofs.specs.Kbcertify.{kbcertify_promise};
 
-    /// Runs the command. What it writes to `err` only shows that it lives. One worker completes, in the caller's
-    /// thread.
-    pub fn run<T: Threads + Wait + Sync, F: Shelf, I: Source, O: Sink, E: Sink>(
+    /// Runs the command. What it writes to `err` only shows that it lives. Workers are threads of `rt`, and
+    /// pass the gate.
+    pub fn run<T: Threads + Wait + Sync, G: Gate, F: Shelf, I: Source, O: Sink, E: Sink>(
         self,
         rt: &T,
         alloc: Global,
+        gate: &G,
         shelf: &mut F,
         input: &mut I,
         out: &mut O,
@@ -72,7 +83,7 @@ impl Kbcertify {
         match load_presentation(alloc, file, shelf) {
             Ok(presentation) => {
                 let mut progress = Progress::on(err, Some(&self.file));
-                match find(rt, alloc, &self, presentation, &mut progress) {
+                match find(rt, alloc, gate, &self, presentation, &mut progress) {
                     Ok(finding) => show(alloc, finding, &mut progress, shelf, out),
                     Err(Memory) => Status::Memory,
                 }
@@ -83,9 +94,10 @@ impl Kbcertify {
 }
 
 /// Completes the presentation, and makes what is stored and written of that.
-fn find<T: Threads + Wait + Sync, E: Sink>(
+fn find<T: Threads + Wait + Sync, G: Gate, E: Sink>(
     rt: &T,
     alloc: Global,
+    gate: &G,
     task: &Kbcertify,
     presentation: Presentation,
     progress: &mut Progress<'_, E>,
@@ -93,7 +105,8 @@ fn find<T: Threads + Wait + Sync, E: Sink>(
     ensures { IfOk result (IsFound task.now (parts_of presentation)) }
 {
     let limits = &task.limits;
-    let ending = complete_with_log(rt, alloc, &presentation, limits, progress)?;
+    let workers = Workers::of(task.workers, gate);
+    let ending = complete_with_log(rt, alloc, &presentation, limits, &workers, progress)?;
     progress.ended(figures_of(&ending, limits));
     Ok(finding_of(alloc, task, &presentation, ending)?)
 }

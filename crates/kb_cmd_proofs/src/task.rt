@@ -2,7 +2,7 @@
 
 use crate::kbcertify::Kbcertify;
 use crate::kbverify::Kbverify;
-use kb_io::{Shelf, Sink, Source};
+use kb_io::{Gate, Shelf, Sink, Source};
 use kb_task::{Status, Task};
 use std::alloc::Global;
 use std::sync::Wait;
@@ -31,11 +31,13 @@ impl ProofsTask {
     ghost use Rattle.kb_task.specs.Promises.{Keeps};
     ghost use Rattle.kb_cmd_proofs.specs.Tasks.{proofs_promise};
 
-    /// Runs the command. What is written to `err` only shows that it lives. No thread is started.
-    pub fn run<T: Threads + Wait + Sync, F: Shelf, I: Source, O: Sink, E: Sink>(
+    /// Runs the command. What it writes to `err` only shows that it lives. Workers are threads of `rt`, and
+    /// pass the gate.
+    pub fn run<T: Threads + Wait + Sync, G: Gate, F: Shelf, I: Source, O: Sink, E: Sink>(
         self,
         rt: &T,
         alloc: Global,
+        gate: &G,
         shelf: &mut F,
         input: &mut I,
         out: &mut O,
@@ -47,7 +49,7 @@ impl ProofsTask {
     {
         match self {
             ProofsTask::Kbverify(task) => task.run(alloc, shelf, input, out),
-            ProofsTask::Kbcertify(task) => task.run(rt, alloc, shelf, input, out, err),
+            ProofsTask::Kbcertify(task) => task.run(rt, alloc, gate, shelf, input, out, err),
         }
     }
 }

@@ -7,10 +7,11 @@ use Rattle.clap.specs.Words.{AddsSubcommand, App, Row, Text, app_of, with_subcom
 use Rattle.clap.specs.declared.builder.command.Command.{Command}
 use Rattle.clap.specs.declared.builder.command.Command.TheViews.{out-Command}
 use Rattle.kb_system.specs.Evidence.{Limits}
-use Rattle.kb_commands.specs.Arguments.{Entered, ReadsAs}
+use Rattle.kb_commands.specs.Arguments.{Entered, GivesOption, ReadsAs}
+use Rattle.kb_commands.specs.declared.arguments.NumberOption.TheVariants.{Workers}
 use Rattle.kb_commands.proofs.ArgumentLemmas.{added, text_given-at, own_name, own_rows}
 use Rattle.kb_commands.specs.Limits.{GivesLimits}
-use Rattle.kb_commands.proofs.LimitLemmas.{same_limits}
+use Rattle.kb_commands.proofs.LimitLemmas.{same_limits, same_workers}
 use Rattle.kb_cmd_proofs.specs.Given.{KbcertifyGiven, KbverifyGiven}
 use Rattle.kb_commands.specs.Proofs.{name_text, command_app, with_commands, all_names, name_of_task, GivesTask, GivesKbcertify, GivesKbverify, IsProofsTask, IsRead}
 use Rattle.kb_commands.specs.declared.proofs.name.Name.{Name}
@@ -45,8 +46,9 @@ same_kbcertify : (rows : List Row) (given other : KbcertifyGiven) → GivesKbcer
 same_kbcertify rows given other a b =
     let files : given.file ≡ other.file =
     text_given-at rows (codes "file") given.file a.file ∙ sym (text_given-at rows (codes "file") other.file b.file) in
+    let threads : given.workers ≡ other.workers = same_workers rows given.workers other.workers a.workers b.workers in
     let bounds : given.limits ≡ other.limits = same_limits rows given.limits other.limits a.limits b.limits in
-    λ i. record { file = files i; limits = bounds i }
+    λ i. record { file = files i; workers = threads i; limits = bounds i }
 
 same_task : (rows : List Row) (task other : ProofsTask) → name_of_task task ≡ name_of_task other → GivesTask task rows → GivesTask other rows
     → task ≡ other
@@ -74,6 +76,11 @@ read-entered entered name rows None is reads = λ task entered_task.
     (own_rows entered (name_text name) (name_text (name_of_task task)) rows (GivesTask task) is entered_task)
 
 -- ---- options that give no command
+
+pub no_workers : (rows : List Row) → ((n : ℕ) → ¬ GivesOption rows Workers n)
+    → (task : ProofsTask) → name_of_task task ≡ names.Kbcertify → ¬ GivesTask task rows
+no_workers rows none (tasks.Kbcertify task) is gives = none task.workers gives.workers
+no_workers rows none _ is gives = cc
 
 pub no_limits : (rows : List Row) → ((limits : Limits) → ¬ GivesLimits rows limits)
     → (task : ProofsTask) → name_of_task task ≡ names.Kbcertify → ¬ GivesTask task rows

@@ -1,8 +1,8 @@
 -- The commands about proofs on the command line, by clap's own definition of what a command takes.
 use Rattle.std.specs.Prelude.{◌≡◌, List, [], ◌∷◌, Option, Some, None, codes}
-use Rattle.clap.specs.Words.{App, Row, Text, new_app, with_rule, with_subcommand}
-use Rattle.kb_commands.specs.Arguments.{Entered, IsEntered, GivesText, needed_rule, option_rule}
-use Rattle.kb_commands.specs.declared.arguments.NumberOption.TheVariants.{MaxRules, MaxLen, MaxStates}
+use Rattle.clap.specs.Words.{App, Row, Rule, Text, new_app, with_rule, with_subcommand}
+use Rattle.kb_commands.specs.Arguments.{Entered, IsEntered, GivesOption, GivesText, needed_rule, option_rule}
+use Rattle.kb_commands.specs.declared.arguments.NumberOption.TheVariants.{Workers, MaxRules, MaxLen, MaxStates}
 use Rattle.kb_commands.specs.Limits.{GivesLimits}
 use Rattle.kb_cmd_proofs.specs.Given.{KbcertifyGiven, KbverifyGiven}
 use Rattle.kb_commands.specs.declared.proofs.name.Name.{Name}
@@ -26,6 +26,10 @@ all_names = names.Kbverify ∷ names.Kbcertify ∷ []
 abbrev pub with_file : App → App
 with_file app = with_rule app (needed_rule (codes "file"))
 
+-- how many workers complete: one, where it isn't given
+abbrev pub workers_rule : Rule
+workers_rule = record (option_rule Workers) { defaults = codes "1" ∷ [] }
+
 -- the limits of a completion
 abbrev pub with_bounds : App → App
 with_bounds app =
@@ -35,7 +39,8 @@ with_bounds app =
 -- `kbverify FILE` and `kbcertify FILE`
 abbrev pub command_app : Name → App
 command_app names.Kbverify = with_file (new_app (name_text names.Kbverify))
-command_app names.Kbcertify = with_bounds (with_file (new_app (name_text names.Kbcertify)))
+command_app names.Kbcertify =
+    with_bounds (with_rule (with_file (new_app (name_text names.Kbcertify))) workers_rule)
 
 -- a program with commands added
 abbrev pub with_commands : App → List Name → App
@@ -56,6 +61,7 @@ pub record GivesKbverify (rows : List Row) (given : KbverifyGiven) : Type 0 wher
 -- the argument and the options give the command
 pub record GivesKbcertify (rows : List Row) (given : KbcertifyGiven) : Type 0 where
   pub file : GivesText rows (codes "file") given.file
+  pub workers : GivesOption rows Workers given.workers
   pub limits : GivesLimits rows given.limits
 
 -- the name of a command, and what its arguments and options give

@@ -10,10 +10,10 @@ use kb_book::{Book, Limits};
 use kb_complete::{Outcome, complete_watched};
 use kb_fsa::Fsa;
 use kb_index::Index;
-use kb_io::OpenGate;
+use kb_io::Gate;
 use kb_machine::Line;
 use kb_rules::{Reducer, Rules};
-use kb_share::{OneByOne, Watch, book_is_sound};
+use kb_share::{Watch, book_is_sound};
 use kb_system::{Halted, halted, word_acceptor};
 use kb_threads::Workers;
 use kb_word::{Memory, Presentation};
@@ -39,26 +39,18 @@ pub enum LoggedEnding {
     },
 }
 
-/// Completes a presentation within limits, by one worker in the caller's thread, makes its word acceptor, and keeps
-/// the log.
-pub fn complete_with_log<W: Watch, T: Threads + Wait + Sync>(
+/// Completes a presentation within limits, by so many workers, makes its word acceptor, and keeps the log.
+pub fn complete_with_log<G: Gate, W: Watch, T: Threads + Wait + Sync>(
     rt: &T,
     alloc: Global,
     presentation: &Presentation,
     limits: &Limits,
+    workers: &Workers<'_, G>,
     watch: &mut W,
 ) -> Result<LoggedEnding, Memory>
     ensures { IfOk result (EndsLogged (limits_of limits.now) (parts_of presentation.now)) }
 {
-    let alone: Workers<'_, OpenGate> = Workers::One(OneByOne);
-    match complete_watched::<Index, OpenGate, W, T>(
-        rt,
-        alloc,
-        presentation,
-        limits,
-        &alone,
-        watch,
-    )? {
+    match complete_watched::<Index, G, W, T>(rt, alloc, presentation, limits, workers, watch)? {
         Outcome::Confluent(rules, book) => completed(alloc, presentation, limits, rules, book),
         Outcome::Halted(book) => Ok(LoggedEnding::Halted(halted(alloc, book)?)),
     }

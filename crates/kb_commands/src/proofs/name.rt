@@ -52,7 +52,8 @@ impl Name {
                 after_help: help_end!(
                     "The files FILE.kblog, the log, FILE.kbprog, the rules, and FILE.wa, the word acceptor, are stored, and out has one",
                     "line, `yes`. At a limit FILE.kblog and FILE.kbprog, the rules so far, are stored, and out has one line:",
-                    "`undecided rules U V`, `undecided length U V` or `undecided states acceptor`. One worker completes.",
+                    "`undecided rules U V`, `undecided length U V` or `undecided states acceptor`. Several workers make another log, and",
+                    "choose their overlaps better: one may come to a limit where two don't.",
                     "Standard input is not read. `kb kbverify FILE` checks the log.",
                     "Example: kb kbcertify examples/free-abelian-2"
                 ),

@@ -6,7 +6,7 @@ ghost use Rattle.kb_commands.specs.Proofs.{IsRead};
 ghost use Rattle.kb_commands.specs.declared.proofs.name.Name.TheVariants as names;
 
 use super::name::Name;
-use crate::arguments::text_given;
+use crate::arguments::{NumberOption, option_given, text_given};
 use crate::limits::limits_given;
 use clap::ArgMatches;
 use kb_cmd_proofs::{Kbcertify, Kbverify, ProofsTask};
@@ -46,11 +46,15 @@ fn kbcertify_given(alloc: Global, matches: &ArgMatches<'_>) -> Result<Option<Pro
     let Some(file) = text_given(matches, "file") else {
         return Ok(None);
     };
+    let Some(workers) = option_given(matches, NumberOption::Workers) else {
+        return Ok(None);
+    };
     let Some(limits) = limits_given(matches) else {
         return Ok(None);
     };
     Ok(Some(ProofsTask::Kbcertify(Kbcertify {
         file: OwnedText::from_str(alloc, file)?,
+        workers,
         limits,
     })))
 }
