@@ -24,10 +24,13 @@
 -- or leaves a relation apart, languages are not the same, or automata not the group's own.
 --
 -- Status 2 means that a limit was reached. A completion that halts leaves a log whose lines are
--- justified one by one, which is stored, or written by `selftest`. `autgroup` may also need one
--- more word difference than may be kept. Or a construction counts more states than the limit: of
--- the commands on automata, of `gpaxioms` and of `gpminkb` status 2 comes exactly there, of
--- completions and of `autgroup` only there.
+-- justified one by one, which is stored, or written by `selftest`; whether it halts may depend on
+-- its course. `autgroup` may also need one more word difference than may be kept. Or a construction
+-- counts more states than the limit: of the commands on automata, of `gpaxioms` and of `gpminkb`
+-- status 2 comes exactly there, of `autgroup` only there. Of `kbprog`, `kbcertify`, `ball` and
+-- `selftest`, whose completion came to the reduced complete system, it comes exactly where this is
+-- counted above the limit, and status 0 exactly where it isn't: the file settles which. The first
+-- three then store the log, `selftest` writes none. `kbcos` counts no states.
 use Rattle.std.specs.Prelude.{ℕ, List}
 use Rattle.kb_io.specs.Outside.{Outside, IsUnchanged}
 use Rattle.kb_task.specs.declared.status.Status.{Status}

@@ -2,6 +2,7 @@
 use Rattle.std.proofs.Common.{◌≡◌, ◌≢◌, ◌⊎◌, inl, inr, ℕ, List, sym, subst}
 use Rattle.std.specs.List.{AllPairs, Contains}
 use Rattle.kb_word.specs.Presentations.{PresentationParts}
+use Rattle.kb_system.specs.Evidence.{Limits}
 use Rattle.kb_task.specs.Stores.{Text, names_of}
 use Rattle.kb_task.specs.declared.status.Limit.{Limit}
 use Rattle.kb_evidence.specs.FileLaws.{both_differ, contained_cases, rules_beside_acceptor}
@@ -13,14 +14,14 @@ use Rattle.kb_cmd_completion.specs.Given.{KbprogGiven}
 use Rattle.kb_cmd_completion.specs.Kbprog.{kbprog_may_store}
 
 -- the files of a completed presentation have different names
-pub completed_differ : (file : List ℕ) (parts : PresentationParts) (texts : List Text) → AreCompleted file parts texts
+pub completed_differ : (limits : Limits) (file : List ℕ) (parts : PresentationParts) (texts : List Text) → AreCompleted limits file parts texts
     → AllPairs (λ (one other : List ℕ). one ≢ other) (names_of texts)
-completed_differ file parts texts completed =
+completed_differ limits file parts texts completed =
     subst (λ (t : List Text). AllPairs (λ (one other : List ℕ). one ≢ other) (names_of t)) (sym completed.are)
     (both_differ (rules_file file) (acceptor_file file) (rules_beside_acceptor file))
 
 -- the command may store the files of a completed presentation
-pub completed_may : (given : KbprogGiven) (parts : PresentationParts) (texts : List Text) → AreCompleted given.file parts texts → (name : List ℕ)
+pub completed_may : (given : KbprogGiven) (parts : PresentationParts) (texts : List Text) → AreCompleted given.limits given.file parts texts → (name : List ℕ)
     → Contains (names_of texts) name → kbprog_may_store given name
 completed_may given parts texts completed name here =
     elim (contained_cases (rules_file given.file) (acceptor_file given.file) name (subst (λ t. Contains (names_of t) name) completed.are here)) [

@@ -16,7 +16,7 @@ use Rattle.kb_task.specs.declared.status.Status.{Status}
 use Rattle.kb_task.specs.declared.status.Status.TheVariants.{Yes, Undecided}
 use Rattle.kb_task.proofs.EffectLemmas.{writes-printed, front-printed}
 use Rattle.kb_task.proofs.RunLemmas.{run-prints}
-use Rattle.kb_system.specs.Completed.{IsCompletion}
+use Rattle.kb_system.specs.Ended.{IsCompletionWithin}
 use Rattle.kb_system.specs.Evidence.{IsHalted, IsTooLarge}
 use Rattle.kb_system.specs.declared.ending.Halted.{Halted}
 use Rattle.kb_freeabelian.specs.FreeAbelian.{free_abelian}
@@ -45,10 +45,12 @@ module _ (given : SelfTestGiven) (report : Report) where
   reported status bytes is text reports =
       subst (λ s. Reports given s report.text.items) (sym is) (subst (λ b. Reports given status b) (sym text) reports)
 
-  pub report-completed : (rank : ℕ) (rules : List Pair) (acceptor : Automaton) → given.rank ≡ rank → IsCompletion (free_abelian rank) rules acceptor
+  pub report-completed : (rank : ℕ) (rules : List Pair) (acceptor : Automaton) → given.rank ≡ rank
+      → IsCompletionWithin given.limits (free_abelian rank) rules acceptor
       → IsCompletedReport rank (length rules) (length acceptor.table.rows) report → IsReport given report
   report-completed rank rules acceptor same completion is =
-      let own : IsCompletion (free_abelian given.rank) rules acceptor = subst (λ n. IsCompletion (free_abelian n) rules acceptor) (sym same) completion in
+      let own : IsCompletionWithin given.limits (free_abelian given.rank) rules acceptor =
+      subst (λ n. IsCompletionWithin given.limits (free_abelian n) rules acceptor) (sym same) completion in
       let own_is : IsCompletedReport given.rank (length rules) (length acceptor.table.rows) report =
       subst (λ n. IsCompletedReport n (length rules) (length acceptor.table.rows) report) (sym same) is in
       reported Yes _ own_is.status own_is.text (completed own)

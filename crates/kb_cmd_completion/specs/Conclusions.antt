@@ -13,7 +13,7 @@ use Rattle.kb_cmd_completion.specs.declared.conclusion.Conclusion.TheVariants.{C
 -- the files of the completed presentation, and the normal forms by its reduced complete system; or what shows a limit
 abbrev pub ConcludesAs : KbprogGiven → PresentationParts → Conclusion → Type 0
 ConcludesAs given parts (Completed files normal_forms) =
-    AreCompleted given.file parts (texts_of files.items)
+    AreCompleted given.limits given.file parts (texts_of files.items)
     × (parts_of normal_forms.reader.presentation ≡ parts)
     × IsReducedComplete (below parts) (relations parts) normal_forms.index.rules
 ConcludesAs given parts (Limit evidence) =

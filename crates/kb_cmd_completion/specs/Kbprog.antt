@@ -9,18 +9,19 @@ use Rattle.kb_task.specs.Loads.{EndsAtLoad}
 use Rattle.kb_task.specs.Presentations.{HoldsPresentation, IsPresentationFault}
 use Rattle.kb_task.specs.Promises.{Promise}
 use Rattle.kb_task.specs.Refusals.{IsRefusedFor}
-use Rattle.kb_task.specs.Statuses.{AnswersYesOrLimit, IsYes}
+use Rattle.kb_task.specs.Statuses.{AnswersYesOrLimit}
 use Rattle.kb_task.specs.declared.status.Status.{Status}
 use Rattle.kb_system.specs.Completed.{IsLeastIn}
 use Rattle.kb_evidence.specs.Files.{rules_file, acceptor_file, log_file}
 use Rattle.kb_answering.specs.Answers.{Own, Shows, AnswersMean}
+use Rattle.kb_evidence.specs.Settled.{IsYesOrStates}
 use Rattle.kb_evidence.specs.Shown.{ShowsLimit}
 use Rattle.kb_cmd_completion.specs.Files.{AreCompleted}
 use Rattle.kb_cmd_completion.specs.Given.{KbprogGiven}
 
 -- the files of the completed presentation belong to it
 abbrev pub kbprog_own : KbprogGiven → Own
-kbprog_own given = AreCompleted given.file
+kbprog_own given = AreCompleted given.limits given.file
 
 -- what shows that the completion reached a limit
 abbrev pub kbprog_shows : KbprogGiven → Shows
@@ -48,8 +49,8 @@ pub record IsKbprogUnrefused (given : KbprogGiven) (before : Outside) : Type 0 w
       → ¬ IsFirstRefused parts (IsLeastIn parts) before.input.left number fault
   pub short : length before.input.left ≤ most_input
 
--- Which limit is reached may depend on the course of the completion. Another on the same file is the same but for
--- its workers, its limits and its batches.
+-- Whether a limit of the log is reached, and which, may depend on the course of the completion. Another on the same file
+-- is the same but for its workers, its limits and its batches.
 abbrev pub kbprog_promise : KbprogGiven → Promise KbprogGiven
 kbprog_promise given = record {
   means = KbprogMeans given;
@@ -59,6 +60,6 @@ kbprog_promise given = record {
   refuses = λ before. IsRefusedFor (IsPresentationFault before.shelf.holds given.file) given.file;
   is_unrefused = IsKbprogUnrefused given;
   answers = AnswersYesOrLimit;
-  settles = IsYes;
+  settles = IsYesOrStates;
   differs_in_options = λ other. given.file ≡ other.file;
 }

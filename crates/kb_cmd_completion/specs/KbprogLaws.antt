@@ -3,18 +3,21 @@ use Rattle.std.proofs.Common.{◌≡◌, ◌∙◌, inl, inr, ℕ, List, refl, s
 use Rattle.kb_io.specs.Outside.{Outside}
 use Rattle.kb_word.specs.Presentations.{PresentationParts}
 use Rattle.kb_task.specs.Presentations.{HoldsPresentation, IsPresentationFault}
-use Rattle.kb_task.specs.PromiseLaws.{one_yes, yes-conclusive}
+use Rattle.kb_task.specs.PromiseLaws.{yes-conclusive}
 use Rattle.kb_task.specs.Promises.{IsLawful}
 use Rattle.kb_task.specs.Runs.{HasSameEffect, ReadsSame}
 use Rattle.kb_task.specs.Statuses.{AnswersYesOrLimit, IsFaultless, IsYes}
 use Rattle.kb_task.specs.Stores.{Text}
 use Rattle.kb_task.specs.declared.status.Refusal.TheVariants.{File}
 use Rattle.kb_task.specs.declared.status.Status.{Status}
-use Rattle.kb_task.specs.declared.status.Status.TheVariants.{Refused}
+use Rattle.kb_task.specs.declared.status.Status.TheVariants.{Yes, Refused, Undecided}
 use Rattle.kb_task.proofs.LoadEnds.{memory_at_load, load_inconclusive, one_presentation_held}
 use Rattle.kb_task.proofs.RefusalLemmas.{ReadsOne, ends_there, reads_it, exact_of_one, refused_of_one}
 use Rattle.kb_answering.specs.Answers.{AnswersMean}
 use Rattle.kb_answering.specs.AnswerLaws.{answers-complete, answers-refuse_none, answers-same}
+use Rattle.kb_evidence.specs.Settled.{IsYesOrStates, CompletesAs, within_limits}
+use Rattle.kb_evidence.specs.SettledLaws.{one_end, states-completes, states-conclusive}
+use Rattle.kb_system.specs.Evidence.{Limits}
 use Rattle.kb_system.specs.OneCompletion.{one_rules, one_acceptor}
 use Rattle.kb_cmd_completion.specs.Files.{completed_texts, AreCompleted}
 use Rattle.kb_cmd_completion.specs.Given.{KbprogGiven}
@@ -23,12 +26,13 @@ use Rattle.kb_cmd_completion.specs.Kbprog.{KbprogMeans, kbprog_may_store, kbprog
 -- ---- what is unique
 
 -- a presentation is completed by one pair of files
-one_completed : {file other_file : List ℕ} → file ≡ other_file → (parts : PresentationParts)
-    (texts others : List Text) → AreCompleted file parts texts
-    → AreCompleted other_file parts others → texts ≡ others
+one_completed : {limits other_limits : Limits} {file other_file : List ℕ} → file ≡ other_file
+    → (parts : PresentationParts) (texts others : List Text)
+    → AreCompleted limits file parts texts → AreCompleted other_limits other_file parts others
+    → texts ≡ others
 one_completed {other_file = other_file} same parts texts others one other =
-    let rules = one_rules parts one.completion other.completion in
-    let acceptor = one_acceptor parts one.completion other.completion in
+    let rules = one_rules parts one.completion.completion other.completion.completion in
+    let acceptor = one_acceptor parts one.completion.completion other.completion.completion in
     let Texts : List ℕ → Type 0 =
     λ name. texts ≡ completed_texts name parts one.rules one.acceptor in
     subst Texts same one.are
@@ -59,6 +63,39 @@ reads given before after status (inl means) = ends_there means.0
 reads given before after status (inr means) =
     reads_it (means.0, means.1)
     (answers-refuse_none (kbprog_own given) (kbprog_shows given) means.0 before after status means.2)
+
+-- ---- settled
+
+-- a status that the file settles is that of a completion that came to its end
+completes : (given : KbprogGiven) (parts : PresentationParts) (before after : Outside)
+    (status : Status) → IsYesOrStates status
+    → AnswersMean (kbprog_own given) (kbprog_shows given) parts before after status
+    → CompletesAs given.limits parts status
+completes given parts before after Yes settled means = within_limits means.0.1.completion
+completes given parts before after (Undecided limit) settled means =
+    states-completes means.are_shown settled
+completes given parts before after _ settled means = absurd settled
+
+settled : (given : KbprogGiven) (before after other_before other_after : Outside)
+    (status other : Status)
+    → KbprogMeans given before after status → KbprogMeans given other_before other_after other
+    → ReadsSame (kbprog_promise given).reads before other_before
+    → IsYesOrStates status → IsYesOrStates other → status ≡ other
+settled given before after other_before other_after status other (inl means) others same one also =
+    absurd (load_inconclusive (IsPresentationFault before.shelf.holds given.file)
+    given.file status means.0 (states-conclusive status one))
+settled given before after other_before other_after status other (inr means) (inl others) same
+    one also =
+    absurd (load_inconclusive (IsPresentationFault other_before.shelf.holds given.file)
+    given.file other others.0 (states-conclusive other also))
+settled given before after other_before other_after status other (inr means) (inr others) same
+    one also =
+    let parts : means.0 ≡ others.0 =
+    one_presentation_held (same given.file refl) means.1 others.1 in
+    let Completes : PresentationParts → Type 0 = λ p. CompletesAs given.limits p status in
+    one_end
+    (subst Completes parts (completes given means.0 before after status one means.2))
+    (completes given others.0 other_before other_after other also others.2)
 
 -- ---- one function
 
@@ -101,8 +138,7 @@ kbprog_lawful given = record {
   exact = λ have before after status name fault means refuses faultless.
       exact_of_one name fault (have.presentation before.shelf.holds given.file) status
       (reads given before after status means) refuses faultless;
-  settled = λ before after other_before other_after status other means others same one also.
-      one_yes status other one also;
-  conclusive = yes-conclusive;
+  settled = settled given;
+  conclusive = states-conclusive;
   one_function = one_function given;
 }

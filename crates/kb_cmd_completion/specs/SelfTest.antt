@@ -8,17 +8,18 @@ use Rattle.kb_fsa.specs.Language.{Automaton}
 use Rattle.kb_task.specs.Effects.{Writes, WritesFront}
 use Rattle.kb_task.specs.Limits.{undecided_line, undecided_words_line}
 use Rattle.kb_task.specs.Promises.{Promise}
-use Rattle.kb_task.specs.Statuses.{AnswersYesOrLimit, IsYes}
+use Rattle.kb_task.specs.Statuses.{AnswersYesOrLimit}
 use Rattle.kb_task.specs.declared.status.Construction.TheVariants.{Acceptor}
 use Rattle.kb_task.specs.declared.status.Limit.TheVariants.{States}
 use Rattle.kb_task.specs.declared.status.Status.{Status}
 use Rattle.kb_task.specs.declared.status.Status.TheVariants.{Yes, Undecided, Memory, Fault}
 use Rattle.kb_task.specs.declared.status.Which.TheVariants.{Output}
-use Rattle.kb_system.specs.Completed.{IsCompletion}
+use Rattle.kb_system.specs.Ended.{IsCompletionWithin}
 use Rattle.kb_system.specs.Evidence.{IsHalted, IsTooLarge}
 use Rattle.kb_system.specs.declared.ending.Halted.{Halted}
 use Rattle.kb_system.specs.declared.ending.Reached.{Reached}
 use Rattle.kb_evidence.specs.Files.{log_text, limit_of}
+use Rattle.kb_evidence.specs.Settled.{IsYesOrStates}
 use Rattle.kb_freeabelian.specs.FreeAbelian.{free_abelian}
 use Rattle.kb_cmd_completion.specs.Given.{SelfTestGiven}
 use Rattle.kb_cmd_completion.specs.declared.selftest.Report.{Report}
@@ -33,7 +34,7 @@ summary_line rank rules states =
 -- what is written about the free abelian group of the rank, by how its completion ended
 pub data Reports (given : SelfTestGiven) : Status → List ℕ → Type 0 where
   completed : {rules : List Pair} {acceptor : Automaton}
-      → IsCompletion (free_abelian given.rank) rules acceptor
+      → IsCompletionWithin given.limits (free_abelian given.rank) rules acceptor
       → Reports given Yes (summary_line given.rank (length rules) (length acceptor.table.rows))
   halted : {lines : List Line} {waiting : Line} {rules : List Pair} {reached : Reached}
       → IsHalted given.limits (free_abelian given.rank) lines waiting rules reached
@@ -93,6 +94,6 @@ selftest_promise given = record {
   refuses = λ before name fault. ⊥;
   is_unrefused = λ before. Unit {0};
   answers = AnswersYesOrLimit;
-  settles = IsYes;
+  settles = IsYesOrStates;
   differs_in_options = λ other. given.rank ≡ other.rank;
 }

@@ -3,12 +3,13 @@ use Rattle.std.proofs.Common.{◌≡◌, ◌∙◌, ℕ, List, ◌++◌, length,
 use Rattle.kb_io.specs.Outside.{Outside}
 use Rattle.kb_word.specs.Words.{Pair}
 use Rattle.kb_fsa.specs.Language.{Automaton}
-use Rattle.kb_task.specs.PromiseLaws.{one_yes, yes-conclusive}
 use Rattle.kb_task.specs.Promises.{IsLawful}
 use Rattle.kb_task.specs.Runs.{HasSameEffect}
 use Rattle.kb_task.specs.Statuses.{AnswersYesOrLimit, IsFaultless, IsYes}
 use Rattle.kb_task.specs.declared.status.Status.{Status}
 use Rattle.kb_task.specs.declared.status.Status.TheVariants.{Yes, Refused, Undecided, No, Memory, Fault, Usage}
+use Rattle.kb_evidence.specs.Settled.{IsYesOrStates, CompletesAs, within_limits, too_many_states}
+use Rattle.kb_evidence.specs.SettledLaws.{log-no_states, one_end, states-conclusive}
 use Rattle.kb_system.specs.Completed.{IsCompletion}
 use Rattle.kb_system.specs.OneCompletion.{one_acceptor, one_rules}
 use Rattle.kb_freeabelian.specs.FreeAbelian.{free_abelian}
@@ -26,6 +27,26 @@ answers given before after (No cert) means unrefused faultless = means
 answers given before after (Fault which) means unrefused faultless = cc
 answers given before after (Usage kind) means unrefused faultless = means
 
+-- ---- settled
+
+-- a status that is settled is that of a completion that came to its end
+reports-complete : (given : SelfTestGiven) (status : Status) (bytes : List ℕ)
+    → IsYesOrStates status → Reports given status bytes
+    → CompletesAs given.limits (free_abelian given.rank) status
+reports-complete given status bytes settled (completed completion) = within_limits completion
+reports-complete given status bytes settled (halted {reached = reached} halts) =
+    absurd (log-no_states reached settled)
+reports-complete given status bytes settled (too_large large) = too_many_states large
+
+completes : (given : SelfTestGiven) (before after : Outside) (status : Status)
+    → IsYesOrStates status → SelfTestMeans given before after status
+    → CompletesAs given.limits (free_abelian given.rank) status
+completes given before after Yes settled means =
+    reports-complete given Yes means.0 settled means.1
+completes given before after (Undecided limit) settled means =
+    reports-complete given (Undecided limit) means.0 settled means.1
+completes given before after _ settled means = absurd settled
+
 -- ---- one line
 
 -- the completion that a yes counted
@@ -38,7 +59,7 @@ record Counts (rank : ℕ) (bytes : List ℕ) : Type 0 where
 counts : (given : SelfTestGiven) (status : Status) (bytes : List ℕ) → IsYes status
     → Reports given status bytes → Counts given.rank bytes
 counts given status bytes is_yes (completed {rules = rules} {acceptor = acceptor} completion) =
-    record { rules = rules; acceptor = acceptor; completion = completion; line = refl }
+    record { rules = rules; acceptor = acceptor; completion = completion.completion; line = refl }
 counts given status bytes is_yes (halted halts) = absurd is_yes
 counts given status bytes is_yes (too_large large) = absurd is_yes
 
@@ -92,9 +113,10 @@ selftest_lawful given = record {
   memory = tt;
   refused = λ before after name fault means at_load. means;
   exact = λ have before after status name fault means never faultless. absurd never;
-  settled = λ before after other_before other_after status other means others same is_yes also.
-      one_yes status other is_yes also;
-  conclusive = yes-conclusive;
+  settled = λ before after other_before other_after status other means others same one also.
+      one_end (completes given before after status one means)
+      (completes given other_before other_after other also others);
+  conclusive = states-conclusive;
   one_function = λ other_given before after other_before other_after status other means others
       is_yes also rank same input.
       same_effect given given.rank before after other_before other_after

@@ -2,8 +2,7 @@
 
 ghost use Rattle.std.specs.Prelude.{IfOk};
 ghost use Rattle.kb_word.specs.Presentations.{parts_of};
-ghost use Rattle.kb_system.specs.Completed.{IsCompletion};
-ghost use Rattle.kb_system.specs.Ended.{EndsAs};
+ghost use Rattle.kb_system.specs.Ended.{EndsAs, IsCompletionWithin};
 ghost use Rattle.kb_cmd_completion.specs.Conclusions.{ConcludesAs};
 
 use crate::files::completed_files;
@@ -67,7 +66,8 @@ fn completed(
     rules: &Rules,
     acceptor: &Fsa,
 ) -> Result<Conclusion, Memory>
-    requires { IsCompletion (parts_of presentation) rules.now.rules acceptor.now }
+    requires { IsCompletionWithin task.now.limits (parts_of presentation) rules.now.rules
+        acceptor.now }
     ensures { IfOk result (ConcludesAs task.now (parts_of presentation)) }
 {
     let files = completed_files(alloc, &presentation, &task.file, rules, acceptor)?;

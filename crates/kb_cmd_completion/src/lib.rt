@@ -6,8 +6,9 @@
 //! `kb_answering`);
 //! `logread` says what a log that was stored holds (`Logread`); `selftest` completes a free abelian
 //! group and counts its rules and its acceptor's states (`SelfTest`). By the laws of
-//! `Task` a yes is one function of the command and its files: which limit is reached may depend on
-//! the course.
+//! `Task` a yes is one function of the command and its files. Whether a limit of the log is reached may
+//! depend on the course; where none is, the files settle whether the word acceptor is too large
+//! (`IsYesOrStates` of `kb_evidence`).
 //!
 //! - `kbprog`, `logread` and `selftest` are the commands, and `task` has the enum of all three.
 //! - `files` makes the files of a completed presentation, and `conclusion` those or what shows a limit, by how a

@@ -12,7 +12,8 @@ use Rattle.kb_word.specs.declared.presentation.Presentation.{Presentation}
 use Rattle.kb_word.specs.declared.word_order.WordOrder.TheVariants.{ShortLex}
 use Rattle.kb_fsa.specs.Language.{Automaton}
 use Rattle.kb_reduced.specs.Reduced.{IsCompleteSystem}
-use Rattle.kb_system.specs.Completed.{IsCompletion, IsLeastIn, below, relations}
+use Rattle.kb_system.specs.Completed.{IsLeastIn, below, relations}
+use Rattle.kb_system.specs.Ended.{IsCompletionWithin}
 use Rattle.kb_task.specs.Loads.{OnlyLoads}
 use Rattle.kb_task.specs.Presentations.{HoldsPresentation}
 use Rattle.kb_task.specs.Runs.{FaultIsCounted, IsRun}
@@ -53,9 +54,12 @@ run-nothing given parts shelf input output =
 answers-before : (given : BallGiven) (parts : PresentationParts) (shelf loaded : ShelfState) (input : SourceState) (output : SinkState)
     → OnlyLoads shelf loaded → (after : Outside) (status : Status) → BallAnswers given parts (outside loaded input output) after status
     → BallAnswers given parts (outside shelf input output) after status
-answers-before given parts shelf loaded input output loads after status (inl prints) =
-    inl (prints-later (BallIsPrinted parts given.radius) (outside shelf input output) (outside loaded input output) after status
-    (unchanged-loads shelf loaded input output loads) prints)
+answers-before given parts shelf loaded input output loads after status (inl (completed, prints)) =
+    inl (
+      completed,
+      prints-later (BallIsPrinted parts given.radius) (outside shelf input output) (outside loaded input output) after status
+          (unchanged-loads shelf loaded input output loads) prints,
+    )
 answers-before given parts shelf loaded input output loads after status (inr limit) =
     inr (answers-later no_files (ball_shows given) parts shelf loaded input output (unchanged-loads shelf loaded input output loads) after status limit)
 
@@ -71,7 +75,7 @@ run-held given parts shelf loaded input output loads after status holds shortlex
 
 -- the ball was printed
 pub run-printed : (given : BallGiven) (presentation : Presentation) (parts : PresentationParts) → parts_of presentation ≡ parts
-    → (rules : List Pair) (acceptor : Automaton) → IsCompletion parts rules acceptor
+    → (rules : List Pair) (acceptor : Automaton) → IsCompletionWithin given.limits parts rules acceptor
     → IsCompleteSystem (below parts) (relations parts) rules → ((w m : List ℕ) → NormalForm rules w m → IsLeastIn parts w m)
     → parts.order ≡ ShortLex
     → (shelf : ShelfState) (input : SourceState) (before after : SinkState) (status : Status)
@@ -80,7 +84,8 @@ pub run-printed : (given : BallGiven) (presentation : Presentation) (parts : Pre
     → IsRun (BallAnswers given parts) (ball_may_store given) (outside shelf input before) (outside shelf input after) status
 run-printed given presentation parts same rules acceptor completion complete normal_least shortlex shelf input before after status prints goes_on fault =
     run-prints shelf input before after status goes_on fault (λ told. inl (
-    only_prints (BallIsPrinted parts given.radius) shelf input before after status (is_ball (prints told.output))
+      (rules, acceptor, completion),
+      only_prints (BallIsPrinted parts given.radius) shelf input before after status (is_ball (prints told.output)),
     ))
   where
     is_ball : WordsArePrinted presentation.names acceptor 0 given.radius before.written after.written status
@@ -88,7 +93,7 @@ run-printed given presentation parts same rules acceptor completion complete nor
     is_ball words =
         let P : PresentationParts → Type 0 = λ p. IsPresentation (length p.names) p.order p.names p.inverses p.equations in
         let W : PresentationParts → Type 0 = λ p. WordsArePrinted p.names acceptor 0 given.radius before.written after.written status in
-        ball_printed parts (subst P same (parts_present presentation)) rules acceptor completion given.radius complete normal_least shortlex
+        ball_printed parts (subst P same (parts_present presentation)) rules acceptor completion.completion given.radius complete normal_least shortlex
         before.written after.written status (subst W same words)
 
 -- a limit was shown

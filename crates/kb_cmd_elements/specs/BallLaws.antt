@@ -5,7 +5,7 @@ use Rattle.kb_io.specs.Outside.{Outside}
 use Rattle.kb_word.specs.Presentations.{PresentationParts}
 use Rattle.kb_task.specs.OneReason.{HoldsShortlex}
 use Rattle.kb_task.specs.Presentations.{HoldsPresentation, IsShortlexFault}
-use Rattle.kb_task.specs.PromiseLaws.{one_yes, yes-conclusive}
+use Rattle.kb_task.specs.PromiseLaws.{yes-conclusive}
 use Rattle.kb_task.specs.Promises.{IsLawful}
 use Rattle.kb_task.specs.Refusals.{RefusesNone}
 use Rattle.kb_task.specs.Runs.{HasSameEffect, ReadsSame}
@@ -16,12 +16,14 @@ use Rattle.kb_task.specs.declared.status.Status.{Status}
 use Rattle.kb_task.specs.declared.status.Status.TheVariants.{Yes, Refused, Undecided, No, Memory, Fault, Usage}
 use Rattle.kb_task.proofs.LoadEnds.{memory_at_load, load_inconclusive, one_presentation_held}
 use Rattle.kb_task.proofs.RefusalLemmas.{ReadsOne, ends_there, reads_it, exact_of_one, refused_of_one}
+use Rattle.kb_evidence.specs.Settled.{IsYesOrStates, CompletesAs, within_limits}
+use Rattle.kb_evidence.specs.SettledLaws.{one_end, states-completes, states-conclusive}
 use Rattle.kb_answering.specs.Answers.{AnswersMean}
 use Rattle.kb_answering.specs.AnswerLaws.{answers-refuse_none, one_least}
 use Rattle.kb_listing.specs.Asked.{lines_of_words}
 use Rattle.kb_listing.specs.AskedLaws.{AreAmong, one_ascending}
 use Rattle.kb_listing.specs.Printing.{OnlyPrints}
-use Rattle.kb_cmd_elements.specs.Ball.{BallAnswers, BallMeans, ball_may_store, ball_promise, ball_shows, no_files}
+use Rattle.kb_cmd_elements.specs.Ball.{IsCompletedWithin, BallAnswers, BallMeans, ball_may_store, ball_promise, ball_shows, no_files}
 use Rattle.kb_cmd_elements.specs.Balls.{IsBall, BallIsPrinted, printed, failed, no_memory}
 use Rattle.kb_cmd_elements.specs.Given.{BallGiven}
 
@@ -85,26 +87,47 @@ module _ (given : BallGiven) (parts : PresentationParts) (before after : Outside
 
   ball_answers : (status : Status) → IsFaultless status → BallAnswers given parts before after status
       → AnswersYesOrLimit status
-  ball_answers status faultless (inl prints) =
+  ball_answers status faultless (inl done) =
       printed_answers parts given.radius before.output.written after.output.written status faultless
-      prints.so
+      done.1.so
   ball_answers status faultless (inr limit) = limit_answers status faultless limit
 
   -- no file is refused
   ball_refuses_none : (status : Status) → BallAnswers given parts before after status
       → RefusesNone status
-  ball_refuses_none status (inl prints) =
+  ball_refuses_none status (inl done) =
       printed_refuses_none parts given.radius before.output.written after.output.written status
-      prints.so
+      done.1.so
   ball_refuses_none status (inr limit) =
       answers-refuse_none no_files (ball_shows given) parts before after status limit
 
   -- a yes printed the ball
   yes_prints : (status : Status) → IsYes status → BallAnswers given parts before after status
       → OnlyPrints (BallIsPrinted parts given.radius) before after status
-  yes_prints status is_yes (inl prints) = prints
+  yes_prints status is_yes (inl done) = done.1
   yes_prints Yes is_yes (inr limit) = absurd limit.0.1
   yes_prints _ is_yes (inr limit) = absurd is_yes
+
+  -- a status that the file settles is that of a completion that came to its end
+  print_completes : (status : Status) → IsYesOrStates status
+      → IsCompletedWithin given.limits parts
+      → BallIsPrinted parts given.radius before.output.written after.output.written status
+      → CompletesAs given.limits parts status
+  print_completes status settled completed (printed ball is) = within_limits completed.2
+  print_completes status settled completed (failed front) = absurd settled
+  print_completes status settled completed (no_memory front) = absurd settled
+
+  limit_completes : (status : Status) → IsYesOrStates status
+      → AnswersMean no_files (ball_shows given) parts before after status
+      → CompletesAs given.limits parts status
+  limit_completes Yes settled means = absurd means.0.1
+  limit_completes (Undecided limit) settled means = states-completes means.are_shown settled
+  limit_completes _ settled means = absurd settled
+
+  completes : (status : Status) → IsYesOrStates status → BallAnswers given parts before after status
+      → CompletesAs given.limits parts status
+  completes status settled (inl done) = print_completes status settled done.0 done.1.so
+  completes status settled (inr limit) = limit_completes status settled limit
 
 -- ---- complete
 
@@ -129,6 +152,27 @@ reads given before after status (inl means) = ends_there means.0
 reads given before after status (inr means) =
     reads_it (means.0, (means.1, means.2))
     (ball_refuses_none given means.0 before after status means.3)
+
+-- ---- settled
+
+settled : (given : BallGiven) (before after other_before other_after : Outside)
+    (status other : Status)
+    → BallMeans given before after status → BallMeans given other_before other_after other
+    → ReadsSame (ball_promise given).reads before other_before
+    → IsYesOrStates status → IsYesOrStates other → status ≡ other
+settled given before after other_before other_after status other (inl means) others same one also =
+    absurd (load_inconclusive (IsShortlexFault before.shelf.holds given.file) given.file status
+    means.0 (states-conclusive status one))
+settled given before after other_before other_after status other (inr means) (inl others) same
+    one also =
+    absurd (load_inconclusive (IsShortlexFault other_before.shelf.holds given.file) given.file other
+    others.0 (states-conclusive other also))
+settled given before after other_before other_after status other (inr means) (inr others) same
+    one also =
+    let parts : means.0 ≡ others.0 = one_presentation_held (same given.file refl) means.1 others.1 in
+    let Completes : PresentationParts → Type 0 = λ p. CompletesAs given.limits p status in
+    one_end (subst Completes parts (completes given means.0 before after status one means.3))
+    (completes given others.0 other_before other_after other also others.3)
 
 -- ---- one function
 
@@ -180,9 +224,8 @@ ball_lawful given = record {
   exact = λ have before after status name fault means refuses faultless.
       exact_of_one name fault (have.shortlex before.shelf.holds given.file) status
       (reads given before after status means) refuses faultless;
-  settled = λ before after other_before other_after status other means others same one also.
-      one_yes status other one also;
-  conclusive = yes-conclusive;
+  settled = settled given;
+  conclusive = states-conclusive;
   one_function = λ other_given before after other_before other_after status other means others
       is_yes also alike same input.
       one_function given other_given before after other_before other_after status other means others

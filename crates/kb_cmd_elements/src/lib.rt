@@ -4,7 +4,8 @@
 //! the least words of at most R letters, each on a line, in the shortlex order (`Ball`): each element that some word
 //! of at most R letters stands for has one line, its least word, and there is no other line (`IsBall` of
 //! `specs/Balls.antt`). Where a limit is reached it stores what shows that, as `kbprog` does. By the laws of `Task` a
-//! yes is one function of the command and its file: which limit is reached may depend on the course.
+//! yes is one function of the command and its file. Whether a limit of the log is reached may depend on the course;
+//! where none is, the file settles whether the word acceptor is too large (`IsYesOrStates` of `kb_evidence`).
 //!
 //! `kbcos` stores the rules of the presentation that marks the right cosets of a subgroup, and answers each word line
 //! with the shortlex least word of its coset (`CosetsMean` of `specs/CosetAnswers.antt`). Two words have one answer

@@ -6,7 +6,7 @@ use Rattle.kb_word.specs.Words.{Pair}
 use Rattle.kb_word.specs.Presentations.{PresentationParts}
 use Rattle.kb_fsa.specs.Language.{Automaton}
 use Rattle.kb_machine.specs.declared.line.Line.{Line}
-use Rattle.kb_system.specs.Completed.{IsCompletion}
+use Rattle.kb_system.specs.Ended.{IsCompletionWithin}
 use Rattle.kb_logged.specs.Logged.{IsCertificate}
 use Rattle.kb_task.specs.Statuses.{IsFaultless}
 use Rattle.kb_task.specs.Stores.{Text, names_of, texts_of}
@@ -78,14 +78,14 @@ module _ {given : KbcertifyGiven} {parts : PresentationParts} where
 module _ (given : KbcertifyGiven) (parts : PresentationParts) where
   -- the files of a completed presentation
   pub found-completed : (own : List ℕ) → own ≡ given.file → (lines : List Line) (rules : List Pair) (acceptor : Automaton)
-      → IsCertificate parts lines → IsCompletion parts rules acceptor → (texts : List Text) (last : Text) (line : List ℕ)
+      → IsCertificate parts lines → IsCompletionWithin given.limits parts rules acceptor → (texts : List Text) (last : Text) (line : List ℕ)
       → texts ≡ certified_texts own parts lines rules last → last ≡ acceptor_text own parts acceptor → line ≡ yes_line
       → FindsCertified given parts Yes texts line
   found-completed own same lines rules acceptor certificate completion texts last line are last_is is =
       let whole : texts ≡ certified_texts own parts lines rules (acceptor_text own parts acceptor) =
       are ∙ ap (certified_texts own parts lines rules) last_is in
       let Texts : List ℕ → Type 0 = λ name. texts ≡ certified_texts name parts lines rules (acceptor_text name parts acceptor) in
-      let all : AreCertified given.file parts texts = record {
+      let all : AreCertified given.limits given.file parts texts = record {
         lines = lines;
         rules = rules;
         acceptor = acceptor;

@@ -5,7 +5,8 @@ use Rattle.kb_word.specs.Presentations.{PresentationParts}
 use Rattle.kb_fsa.specs.Language.{Automaton}
 use Rattle.kb_fsaprint.specs.Printed.{text_of_automaton}
 use Rattle.kb_machine.specs.declared.line.Line.{Line}
-use Rattle.kb_system.specs.Completed.{IsCompletion}
+use Rattle.kb_system.specs.Ended.{IsCompletionWithin}
+use Rattle.kb_system.specs.Evidence.{Limits}
 use Rattle.kb_logged.specs.Logged.{IsCertificate}
 use Rattle.kb_task.specs.Stores.{Text}
 use Rattle.kb_evidence.specs.Files.{acceptor_file, evidence_texts, log_text}
@@ -20,13 +21,13 @@ abbrev pub certified_texts : List ℕ → PresentationParts → List Line → Li
 certified_texts file parts lines rules last =
     evidence_texts file parts (log_text parts.names lines None) rules true ++ last ∷ []
 
--- These are the files of the completed presentation: its log, whose lines certify the congruence, its reduced complete
--- system and its word acceptor.
-pub record AreCertified (file : List ℕ) (parts : PresentationParts)
+-- These are the files of the presentation, which was completed within the limits: its log, whose lines certify the
+-- congruence, its reduced complete system and its word acceptor.
+pub record AreCertified (limits : Limits) (file : List ℕ) (parts : PresentationParts)
     (texts : List Text) : Type 0 where
   pub lines : List Line
   pub rules : List Pair
   pub acceptor : Automaton
   pub certificate : IsCertificate parts lines
-  pub completion : IsCompletion parts rules acceptor
+  pub completion : IsCompletionWithin limits parts rules acceptor
   pub are : texts ≡ certified_texts file parts lines rules (acceptor_text file parts acceptor)

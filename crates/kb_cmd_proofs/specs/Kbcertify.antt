@@ -7,12 +7,13 @@ use Rattle.kb_task.specs.Loads.{EndsAtLoad}
 use Rattle.kb_task.specs.Presentations.{HoldsPresentation, IsPresentationFault}
 use Rattle.kb_task.specs.Promises.{Promise}
 use Rattle.kb_task.specs.Refusals.{IsRefusedFor}
-use Rattle.kb_task.specs.Statuses.{AnswersYesOrLimit, IsYes}
+use Rattle.kb_task.specs.Statuses.{AnswersYesOrLimit}
 use Rattle.kb_task.specs.Stores.{Text, texts_of}
 use Rattle.kb_task.specs.declared.status.Limit.{Limit}
 use Rattle.kb_task.specs.declared.status.Status.{Status}
 use Rattle.kb_task.specs.declared.status.Status.TheVariants.{Yes, Undecided}
 use Rattle.kb_evidence.specs.Files.{rules_file, acceptor_file, log_file}
+use Rattle.kb_evidence.specs.Settled.{IsYesOrStates}
 use Rattle.kb_evidence.specs.Shown.{ShowsLimit}
 use Rattle.kb_cmd_proofs.specs.Certified.{AreCertified}
 use Rattle.kb_cmd_proofs.specs.Given.{KbcertifyGiven}
@@ -24,10 +25,10 @@ abbrev pub yes_line : List ℕ
 yes_line = codes "yes\n"
 
 -- What is found of a presentation: the status, the files that are stored, and the line that is written. It was
--- completed, and its log certifies that; or a limit was reached, as log and rules show.
+-- completed within the limits, and its log certifies that; or one was reached, as log and rules show.
 pub data FindsCertified (given : KbcertifyGiven) (parts : PresentationParts) : Status → List Text
     → List ℕ → Type 0 where
-  certified : {texts : List Text} → AreCertified given.file parts texts
+  certified : {texts : List Text} → AreCertified given.limits given.file parts texts
       → FindsCertified given parts Yes texts yes_line
   limited : {limit : Limit} {texts : List Text} {line : List ℕ}
       → ShowsLimit given.limits given.file parts limit texts line
@@ -62,9 +63,9 @@ abbrev pub IsKbcertifyUnrefused : KbcertifyGiven → Outside → Type 0
 IsKbcertifyUnrefused given before =
     IsUnrefused (IsPresentationFault before.shelf.holds given.file)
 
--- Whether a limit is reached may depend on the course of the completion. Another on the same file is the same but for
--- its workers and its limits: they change no byte of the rules and of the word acceptor that a yes stores. Which log
--- certifies these is left open.
+-- Whether a limit of the log is reached may depend on the course of the completion. Another on the same file is the same
+-- but for its workers and its limits: they change no byte of the rules and of the word acceptor that a yes stores. Which
+-- log certifies these is left open.
 abbrev pub kbcertify_promise : KbcertifyGiven → Promise KbcertifyGiven
 kbcertify_promise given = record {
   means = KbcertifyMeans given;
@@ -74,6 +75,6 @@ kbcertify_promise given = record {
   refuses = λ before. IsRefusedFor (IsPresentationFault before.shelf.holds given.file) given.file;
   is_unrefused = IsKbcertifyUnrefused given;
   answers = AnswersYesOrLimit;
-  settles = IsYes;
+  settles = IsYesOrStates;
   differs_in_options = λ other. given.file ≡ other.file;
 }

@@ -8,9 +8,10 @@ use Rattle.kb_fsa.specs.Language.{Automaton}
 use Rattle.kb_fsaprint.specs.Printed.{text_of_automaton}
 use Rattle.kb_presprint.specs.Printed.{text_of_presentation}
 use Rattle.kb_system.specs.Completed.{IsCompletion}
+use Rattle.kb_system.specs.Evidence.{Limits}
 use Rattle.kb_system.specs.OneCompletion.{one_acceptor, one_rules}
 use Rattle.kb_task.specs.Presentations.{HoldsPresentation, IsPresentationFault}
-use Rattle.kb_task.specs.PromiseLaws.{one_yes, yes-conclusive}
+use Rattle.kb_task.specs.PromiseLaws.{yes-conclusive}
 use Rattle.kb_task.specs.Promises.{IsLawful}
 use Rattle.kb_task.specs.Refusals.{RefusesNone}
 use Rattle.kb_task.specs.Runs.{HasSameEffect, LeavesSame, ReadsSame}
@@ -23,6 +24,8 @@ use Rattle.kb_task.proofs.LoadEnds.{memory_at_load, load_inconclusive, one_prese
 use Rattle.kb_task.proofs.RefusalLemmas.{ReadsOne, ends_there, reads_it, exact_of_one, refused_of_one}
 use Rattle.kb_evidence.specs.FileLaws.{second_contained}
 use Rattle.kb_evidence.specs.Files.{acceptor_file, log_file, log_text, rules_file}
+use Rattle.kb_evidence.specs.Settled.{IsYesOrStates, CompletesAs, within_limits}
+use Rattle.kb_evidence.specs.SettledLaws.{one_end, states-completes, states-conclusive}
 use Rattle.kb_cmd_proofs.specs.Certified.{AreCertified, acceptor_text}
 use Rattle.kb_cmd_proofs.specs.Given.{KbcertifyGiven}
 use Rattle.kb_cmd_proofs.specs.Kbcertify.{FindsCertified, certified, limited, IsKbcertifyUnrefused, KbcertifyMeans, kbcertify_promise, kbcertify_settled_stores, yes_line}
@@ -82,6 +85,46 @@ certify_reads given before after status (inl means) = ends_there means.0
 certify_reads given before after status (inr means) =
     reads_it (means.0, means.1) (shown_refuses_none means.2)
 
+-- ---- settled
+
+-- a status that the file settles is that of a completion that came to its end
+module _ {given : KbcertifyGiven} {parts : PresentationParts} where
+  found_completes : {status : Status} {texts : List Text} {line : List ℕ}
+      → FindsCertified given parts status texts line → IsYesOrStates status
+      → CompletesAs given.limits parts status
+  found_completes (certified are) settled = within_limits are.completion
+  found_completes (limited shows) settled = states-completes shows settled
+
+  shown_completes : {before after : Outside} {status : Status}
+      → ShowMeans (FindsCertified given parts) before after status → IsYesOrStates status
+      → CompletesAs given.limits parts status
+  shown_completes (shown finds holds unread written) settled = found_completes finds settled
+  shown_completes (output_failed finds holds unread front) settled = absurd settled
+  shown_completes (store_failed finds stops) settled = absurd settled
+  shown_completes (no_memory_stored finds first) settled = absurd settled
+  shown_completes (no_memory unchanged) settled = absurd settled
+
+certify_settled : (given : KbcertifyGiven) (before after other_before other_after : Outside)
+    (status other : Status)
+    → KbcertifyMeans given before after status
+    → KbcertifyMeans given other_before other_after other
+    → ReadsSame (kbcertify_promise given).reads before other_before
+    → IsYesOrStates status → IsYesOrStates other → status ≡ other
+certify_settled given before after other_before other_after status other (inl means) others same
+    one also =
+    absurd (load_inconclusive (IsPresentationFault before.shelf.holds given.file)
+    given.file status means.0 (states-conclusive status one))
+certify_settled given before after other_before other_after status other (inr means) (inl others)
+    same one also =
+    absurd (load_inconclusive (IsPresentationFault other_before.shelf.holds given.file)
+    given.file other others.0 (states-conclusive other also))
+certify_settled given before after other_before other_after status other (inr means) (inr others)
+    same one also =
+    let parts : means.0 ≡ others.0 =
+    one_presentation_held (same given.file refl) means.1 others.1 in
+    let Completes : PresentationParts → Type 0 = λ p. CompletesAs given.limits p status in
+    one_end (subst Completes parts (shown_completes means.2 one)) (shown_completes others.2 also)
+
 -- ---- one function
 
 -- what a yes stored under the names that the presentation settles, and what it wrote
@@ -95,8 +138,8 @@ record StoresSettled (file : List ℕ) (parts : PresentationParts) (before after
       ≡ Some (text_of_automaton parts.names acceptor)
   written : after.output.written ≡ before.output.written ++ yes_line
 
-stores_settled : (file : List ℕ) (parts : PresentationParts) (before after : Outside)
-    (texts : List Text) → AreCertified file parts texts
+stores_settled : {limits : Limits} (file : List ℕ) (parts : PresentationParts)
+    (before after : Outside) (texts : List Text) → AreCertified limits file parts texts
     → HoldsTexts texts before.shelf after.shelf
     → after.output.written ≡ before.output.written ++ yes_line
     → StoresSettled file parts before after
@@ -112,7 +155,7 @@ stores_settled file parts before after texts are holds written =
     record {
       rules = are.rules;
       acceptor = are.acceptor;
-      completion = are.completion;
+      completion = are.completion.completion;
       rules_held = held.stored rules
           (Contains-append_left (log ∷ rules ∷ []) (acceptor ∷ []) rules (second_contained log rules));
       acceptor_held = held.stored acceptor (Contains-push (log ∷ rules ∷ []) acceptor);
@@ -206,8 +249,7 @@ kbcertify_lawful given = record {
   exact = λ have before after status name fault means refuses faultless.
       exact_of_one name fault (have.presentation before.shelf.holds given.file) status
       (certify_reads given before after status means) refuses faultless;
-  settled = λ before after other_before other_after status other means others same one also.
-      one_yes status other one also;
-  conclusive = yes-conclusive;
+  settled = certify_settled given;
+  conclusive = states-conclusive;
   one_function = certify_one_function given;
 }

@@ -2,8 +2,8 @@
 
 ghost use Rattle.std.specs.Prelude.{◌≡◌, IfOk};
 ghost use Rattle.kb_word.specs.Presentations.{parts_of};
-ghost use Rattle.kb_system.specs.Completed.{IsCompletion, IsWordAcceptor};
-ghost use Rattle.kb_system.specs.Ended.{ShowsHalt};
+ghost use Rattle.kb_system.specs.Completed.{IsWordAcceptor};
+ghost use Rattle.kb_system.specs.Ended.{IsCompletionWithin, ShowsHalt};
 ghost use Rattle.kb_system.specs.Evidence.{IsTooLarge};
 ghost use Rattle.kb_logged.specs.Logged.{EndsLogged, IsCertificate};
 ghost use Rattle.kb_task.specs.Stores.{text_of, texts_of};
@@ -59,7 +59,8 @@ fn completed(
     acceptor: &Fsa,
 ) -> Result<Finding, Memory>
     requires certificate { IsCertificate (parts_of presentation.now) lines.items }
-    requires completion { IsCompletion (parts_of presentation.now) rules.now.rules acceptor.now }
+    requires completion { IsCompletionWithin task.now.limits (parts_of presentation.now)
+        rules.now.rules acceptor.now }
     ensures { IfOk result (IsFound task.now (parts_of presentation.now)) }
 {
     let automaton = automaton_file(alloc, presentation, &task.file, acceptor)?;

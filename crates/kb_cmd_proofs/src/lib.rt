@@ -6,7 +6,8 @@
 //! are equal in what is presented; a no names the first line for which there is a reason, and the first reason. By
 //! the laws of `Task` the two files settle the answer. `kbcertify` completes a presentation and stores its rules and
 //! its word acceptor with the log that certifies them, or what shows that a limit was reached (`Kbcertify`). The
-//! presentation settles the rules and the word acceptor that a yes stores, and not which log.
+//! presentation settles the rules and the word acceptor that a yes stores, and not which log; and, where no limit of
+//! the log is reached, whether the word acceptor is too large (`IsYesOrStates` of `kb_evidence`).
 //!
 //! - `kbverify` and `kbcertify` are the commands, and `task` has the enum of all commands.
 //! - `certificate` makes the files of a completion whose log is kept, and `finding` stores and writes what is found.

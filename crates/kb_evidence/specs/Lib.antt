@@ -1,3 +1,5 @@
 pub mod Files
 pub mod FileLaws
 pub mod Shown
+pub mod Settled
+pub mod SettledLaws

@@ -12,6 +12,8 @@
 //!   of the completion (`kb_system`), and stands in the promises of the commands.
 //! - `ShowsLimit` of `specs/Shown.antt` says which files and which line show a limit of a completion, and
 //!   `proofs/ShownLemmas.antt` how these are named.
+//! - `IsYesOrStates` of `specs/Settled.antt` says which statuses of a command that completes the file settles, and
+//!   `specs/SettledLaws.antt` that there is one of them.
 //! - [`evidence_files`] makes a log and rules into files, [`limit_reached`] is what the limit of a log is called, and
 //!   [`both`] makes a list of two files.
 //!

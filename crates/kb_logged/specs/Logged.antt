@@ -6,8 +6,8 @@ use Rattle.kb_word.specs.Presentations.{PresentationParts}
 use Rattle.kb_machine.specs.Justified.{IsJustified}
 use Rattle.kb_machine.specs.Lines.{rules_of}
 use Rattle.kb_machine.specs.declared.line.Line.{Line}
-use Rattle.kb_system.specs.Completed.{IsCompletion, below, relations}
-use Rattle.kb_system.specs.Ended.{ShowsHalt}
+use Rattle.kb_system.specs.Completed.{below, relations}
+use Rattle.kb_system.specs.Ended.{IsCompletionWithin, ShowsHalt}
 use Rattle.kb_system.specs.Evidence.{Limits, IsTooLarge}
 use Rattle.kb_logged.specs.declared.ending.LoggedEnding.{LoggedEnding}
 use Rattle.kb_logged.specs.declared.ending.LoggedEnding.TheVariants.{Completed, Halted, TooLarge}
@@ -19,11 +19,11 @@ pub record IsCertificate (parts : PresentationParts) (lines : List Line) : Type 
   pub confluent : IsConfluent (rules_of lines)
   pub same : SameCongruence (relations parts) (rules_of lines)
 
--- the presentation was completed, as its log certifies; or a limit was reached, as the log shows
+-- the presentation was completed within the limits, as its log certifies; or one was reached, as the log shows
 abbrev pub EndsLogged : Limits → PresentationParts → LoggedEnding → Type 0
 EndsLogged limits parts (Completed lines rules acceptor) =
     (rules.order ≡ parts.order) × IsCertificate parts lines.items
-    × IsCompletion parts rules.rules acceptor
+    × IsCompletionWithin limits parts rules.rules acceptor
 EndsLogged limits parts (Halted halted) = ShowsHalt limits parts halted
 EndsLogged limits parts (TooLarge lines rules) =
     (rules.order ≡ parts.order) × IsTooLarge limits parts lines.items rules.rules

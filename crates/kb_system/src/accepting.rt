@@ -78,6 +78,8 @@ pub fn word_acceptor(
     requires { IsReducedSystem (parts_of presentation.now) rules.now.rules }
     ensures found { IfOk result
         (λ found. IfSome found (IsWordAcceptor (parts_of presentation.now))) }
+    ensures few { IfOk result
+        (λ found. IfSome found (λ acceptor. ¬ CountedPrefixes rules.now.rules most_states)) }
     ensures none { result ≡ Ok None → CountedPrefixes rules.now.rules most_states }
 {
     reduced_complete_systems_are_complete();

@@ -2,11 +2,13 @@
 //!
 //! The public contract is that of [`complete_presentation`]: `EndsAs` of `specs/Ended.antt` says
 //! what each [`Ending`] is. A completed presentation has its reduced complete system and the
-//! canonical automaton of its least words (`specs/Completed.antt`). At a limit there is evidence
+//! canonical automaton of its least words (`specs/Completed.antt`), which is made of no more states
+//! than there may be (`IsCompletionWithin`). At a limit there is evidence
 //! (`specs/Evidence.antt`): the log, which is justified line by line and with the line that waits;
 //! the live rules, which cover it; and why the limit is reached.
 //!
-//! A presentation has one completion (`specs/OneCompletion.antt`).
+//! A presentation has one completion, and is never both completed within limits and too large for them
+//! (`specs/OneCompletion.antt`).
 //!
 //! [`word_acceptor`] makes the word acceptor of the reduced complete system, in three steps: the left sides have no
 //! other letters than the relations, the automaton of the irreducible words accepts exactly the least ones, and the

@@ -21,5 +21,5 @@ returns c =
     let Reduced : List Pair → Type 0 = λ r. IsReducedComplete (below parts) (relations parts) r in (
       record { rules = rules; acceptor = acceptor; completion = c.requires; are = are },
       ap parts_of c.in_ok-reader.ensures,
-      subst Reduced (sym c.in_ok-index.ensures.rules) c.requires.reduced,
+      subst Reduced (sym c.in_ok-index.ensures.rules) c.requires.completion.reduced,
     )

@@ -20,7 +20,7 @@ store_and_answer-requires-clause-differ g c κs within =
     let given : KbprogGiven = c.args.task.now in
     let parts : PresentationParts = c.requires.0 in
     let says = subst (λ (it : Conclusion). ConcludesAs given parts it) c.in-Completed.is c.requires.1 in
-    completed_differ given.file parts (texts_of c.in-Completed.files.items) says.0
+    completed_differ given.limits given.file parts (texts_of c.in-Completed.files.items) says.0
 
 pub store_and_answer-requires-clause-may : goal.store_and_answer-requires-clause-may
 store_and_answer-requires-clause-may g c κs within =
@@ -34,7 +34,7 @@ store_and_answer-requires-clause-own g c κs within =
     let given : KbprogGiven = c.args.task.now in
     let parts : PresentationParts = c.requires.0 in
     let says = subst (λ (it : Conclusion). ConcludesAs given parts it) c.in-Completed.is c.requires.1 in
-    let P : PresentationParts → Type 0 = λ p. AreCompleted given.file p (texts_of c.in-Completed.files.items) in
+    let P : PresentationParts → Type 0 = λ p. AreCompleted given.limits given.file p (texts_of c.in-Completed.files.items) in
     subst P (sym says.1) says.0
 
 pub store_and_answer-requires-clause-least : goal.store_and_answer-requires-clause-least

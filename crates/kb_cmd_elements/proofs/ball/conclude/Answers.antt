@@ -16,7 +16,7 @@ pub list_words-requires : goal.list_words-requires
 list_words-requires g c =
     let parts : PresentationParts = c.requires.0 in
     let says = subst (λ (it : Outcome). ComesTo c.args.task.now parts it) c.in-Completed.is c.requires.1 in
-    (_, says.2.acceptor.alphabet)
+    (_, says.2.completion.acceptor.alphabet)
 
 pub show_limit-requires-clause-differ : goal.show_limit-requires-clause-differ
 show_limit-requires-clause-differ g c =
@@ -44,8 +44,8 @@ returns-in-Completed g c = λ parts input shortlex comes.
     let radius : c.task.inside.radius ≡ given.radius = ap (λ (it : BallGiven). it.radius) c.task.view_is in
     let law = c.reduced_complete_systems_are_complete.ensures in
     run-printed given c.in-Completed.presentation parts says.1 says.0 c.in-Completed.acceptor says.2
-    (law.complete parts.order (relations parts) says.0 says.2.reduced)
-    (λ w m normal. law.least parts.order (relations parts) says.0 w m says.2.reduced normal) shortlex shelf input before after
+    (law.complete parts.order (relations parts) says.0 says.2.completion.reduced)
+    (λ w m normal. law.least parts.order (relations parts) says.0 w m says.2.completion.reduced normal) shortlex shelf input before after
     c.list_words.result
     (λ told. subst (λ r. WordsArePrinted c.in-Completed.presentation.names c.in-Completed.acceptor 0 r before.written after.written c.list_words.result) radius
     (c.list_words.ensures.printed told))

@@ -6,7 +6,7 @@ use Rattle.kb_cmd_proofs.proofs.CertifyLemmas.{found-completed}
 use Rattle.kb_cmd_proofs.proofs.certificate.completed.Goals as goal
 
 pub automaton_file-requires : goal.automaton_file-requires
-automaton_file-requires c = c.requires.completion.acceptor
+automaton_file-requires c = c.requires.completion.completion.acceptor
 
 pub returns : goal.returns
 returns c =
