@@ -1,6 +1,6 @@
 //! Files that are stored, and word lines that are answered.
 
-ghost use Rattle.std.specs.Prelude.{◌≢◌, ℕ, List};
+ghost use Rattle.std.specs.Prelude.{◌≡◌, ◌≢◌, ℕ, List};
 ghost use Rattle.std.specs.List.{AllPairs, Contains};
 ghost use Rattle.kb_io.specs.Outside.{outside};
 ghost use Rattle.kb_io.specs.States.{ShelfState};
@@ -19,8 +19,8 @@ use std::alloc::Global;
 use std::sync::Wait;
 use std::thread::Threads;
 
-/// Stores the files that belong to a presentation, and answers the word lines with its least words, in batches. Of the
-/// command nothing is read: it says what the run means.
+/// Stores the files that belong to a presentation, and answers the word lines with its least words, in batches of as many
+/// lines as the command takes together. Of the command nothing is read: it says that, and what the run means.
 pub fn store_and_answer<
     C: Concludes,
     A: Answerer + Sync,
@@ -51,6 +51,7 @@ where
     requires own { C.own command.now (A.parts answerer.now) (texts_of files.items) }
     requires least { (w m : List ℕ) → A.answers answerer.now w m
         → IsLeastIn (A.parts answerer.now) w m }
+    requires batch { batches.now.size ≡ C.batch command.now }
     ensures { IsRun (AnswersMean (C.own command.now) (C.shows command.now)
         (A.parts answerer.now)) (C.may_store command.now)
         (outside (F.state shelf.old) (I.state input.old) (O.state out.old))

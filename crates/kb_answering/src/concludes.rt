@@ -15,4 +15,7 @@ pub trait Concludes {
 
     /// The command may store a file of this name.
     ghost may_store: { Self → List ℕ → Type 0 };
+
+    /// How many word lines the command takes before it answers them together: one, if it says nothing else.
+    ghost batch: { Self → ℕ } = { λ _. 1 };
 }

@@ -71,6 +71,8 @@ impl Concludes for Kbprog {
     ghost shows = { kbprog_shows };
 
     ghost may_store = { kbprog_may_store };
+
+    ghost batch = { λ task. task.batch };
 }
 
 impl Kbprog {

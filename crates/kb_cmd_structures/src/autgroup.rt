@@ -75,6 +75,8 @@ impl Concludes for Autgroup {
     ghost shows = { autgroup_shows };
 
     ghost may_store = { AutgroupMayStore };
+
+    ghost batch = { λ task. task.batch };
 }
 
 impl Autgroup {

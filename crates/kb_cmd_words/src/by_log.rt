@@ -18,6 +18,7 @@ ghost use Rattle.kb_cmd_words.specs.LogLines.{Decides};
 use crate::joining::relation_apart;
 use crate::laws::lines_that_decide_give_least_words;
 use crate::objection::{Objection, print_objection};
+use crate::word_reduce::WordReduce;
 use kb_bylog::index_of;
 use kb_confluence::{Verdict, check};
 use kb_evidence::log_file;
@@ -28,28 +29,30 @@ use kb_proof::{Log, Verified, verify};
 use kb_reduce::NormalForms;
 use kb_rules::Reducer;
 use kb_task::{Status, load_derivations, load_presentation, status_of};
-use kb_word::{Memory, OwnedText, Presentation};
+use kb_word::{Memory, Presentation};
 use kb_wordreader::WordReader;
 use std::alloc::Global;
 use std::sync::Wait;
 use std::thread::Threads;
 
-/// Loads the presentation and its log, and answers the word lines by the log's lines, in batches.
+/// Loads the presentation and its log, and answers the word lines by the log's lines, in batches of as many lines as were
+/// asked for.
 pub(crate) fn run_by_log<T: Threads + Wait + Sync, G: Gate, F: Shelf, I: Source, O: Sink>(
     rt: &T,
     alloc: Global,
-    file: OwnedText,
-    workers: u32,
+    task: WordReduce,
     batches: &Batches<'_, G>,
     shelf: &mut F,
     input: &mut I,
     out: &mut O,
 ) -> Status
-    requires { (1 ≤ workers) × (workers ≤ 64) }
-    ensures { IsRun (ByLogMeans file) StoresNothing
+    requires { batches.now.size ≡ task.batch }
+    ensures { IsRun (ByLogMeans task.file) StoresNothing
         (outside (F.state shelf.old) (I.state input.old) (O.state out.old))
         (outside (F.state shelf.new) (I.state input.new) (O.state out.new)) result }
 {
+    let workers = task.workers;
+    let file = task.file;
     let Ok(name) = log_file(alloc, &file) else {
         return Status::Memory;
     };

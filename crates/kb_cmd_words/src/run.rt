@@ -24,7 +24,7 @@ use kb_lines::{Batches, answer_in_batches};
 use kb_reduce::NormalForms;
 use kb_rules::{Reducer, Rules};
 use kb_task::{Cert, Status, Task, load_presentation, print_line, status_of};
-use kb_word::{Memory, Names, OwnedText, Presentation, Word, print_word};
+use kb_word::{Memory, Names, Presentation, Word, print_word};
 use kb_wordreader::WordReader;
 use std::alloc::Global;
 use std::sync::Wait;
@@ -61,34 +61,32 @@ impl WordReduce {
     {
         let _ = err;
         let by_log = self.by_log;
-        let workers = self.workers;
-        let batches = Batches::of(self.batch, workers, gate);
-        let file = self.file;
+        let batches = Batches::of(self.batch, self.workers, gate);
         if by_log {
-            run_by_log(rt, alloc, file, workers, &batches, shelf, input, out)
+            run_by_log(rt, alloc, self, &batches, shelf, input, out)
         } else {
-            run_by_relations(rt, alloc, file, workers, &batches, shelf, input, out)
+            run_by_relations(rt, alloc, self, &batches, shelf, input, out)
         }
     }
 }
 
-/// Loads the presentation, and answers the word lines by its relations.
+/// Loads the presentation, and answers the word lines by its relations, in batches of as many lines as were asked for.
 fn run_by_relations<T: Threads + Wait + Sync, G: Gate, F: Shelf, I: Source, O: Sink>(
     rt: &T,
     alloc: Global,
-    file: OwnedText,
-    workers: u32,
+    task: WordReduce,
     batches: &Batches<'_, G>,
     shelf: &mut F,
     input: &mut I,
     out: &mut O,
 ) -> Status
-    requires { (1 ≤ workers) × (workers ≤ 64) }
-    ensures { IsRun (ByRelationsMean file) StoresNothing
+    requires { batches.now.size ≡ task.batch }
+    ensures { IsRun (ByRelationsMean task.file) StoresNothing
         (outside (F.state shelf.old) (I.state input.old) (O.state out.old))
         (outside (F.state shelf.new) (I.state input.new) (O.state out.new)) result }
 {
-    match load_presentation(alloc, file, shelf) {
+    let workers = task.workers;
+    match load_presentation(alloc, task.file, shelf) {
         Ok(presentation) => answer_by(rt, alloc, presentation, workers, batches, input, out),
         Err(status) => status,
     }
