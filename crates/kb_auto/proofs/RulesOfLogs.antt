@@ -2,12 +2,14 @@
 use Rattle.std.proofs.Common.{◌≡◌, List, true, false, sym, ap, ◌∙◌, subst}
 use Rattle.kb_word.specs.Words.{Pair}
 use Rattle.kb_word.specs.Congruence.{SameCongruence}
+use Rattle.kb_word.specs.Overlap.{IsConfluent}
 use Rattle.kb_word.specs.Presentations.{parts_of}
 use Rattle.kb_word.specs.Relations.{relations_of}
 use Rattle.kb_word.specs.declared.presentation.Presentation.{Presentation}
 use Rattle.kb_word.specs.declared.word_order.WordOrder.{WordOrder}
 use Rattle.kb_machine.specs.Course.{IsSound}
 use Rattle.kb_machine.specs.Justified.{IsJustified}
+use Rattle.kb_machine.specs.Lines.{rules_of}
 use Rattle.kb_machine.specs.States.{Problem, State, below as below_in, live_rules}
 use Rattle.kb_machine.specs.declared.line.Line.{Line}
 use Rattle.kb_system.specs.Completed.{IsReducedSystem, below, relations}
@@ -38,6 +40,11 @@ module _ (limits : Limits) (presentation : Presentation) (problem : Problem) (st
         let C : List Pair → Type 0 = λ r. SameCongruence (relations (parts_of presentation)) r in
         live log_is_justified (subst L (sym are_lines) (subst R (sym are_rules) are_live)) (subst C (sym are_rules) congruence)
 
-    -- the reduced complete system
-    pub log_of_complete : IsReducedSystem (parts_of presentation) rules → AreRulesOfLog (parts_of presentation) lines rules true
-    log_of_complete reduced = complete log_is_justified reduced
+    -- the reduced complete system, where the rules of all lines are complete
+    pub log_of_complete : IsConfluent (rules_of state.lines) → SameCongruence problem.relations (rules_of state.lines)
+        → IsReducedSystem (parts_of presentation) rules → AreRulesOfLog (parts_of presentation) lines rules true
+    log_of_complete confluent congruence reduced =
+        let C : List Line → Type 0 = λ l. IsConfluent (rules_of l) in
+        let S : List Line → Type 0 = λ l. SameCongruence (relations (parts_of presentation)) (rules_of l) in
+        let P : Problem → Type 0 = λ p. SameCongruence p.relations (rules_of state.lines) in
+        complete log_is_justified (subst C (sym are_lines) confluent) (subst S (sym are_lines) (subst P same congruence)) reduced

@@ -3,6 +3,7 @@
 -- chapter 13.
 use Rattle.std.specs.Prelude.{◌≡◌, ◌≢◌, ℕ, Bool, true, false, List, ◌++◌, length, None}
 use Rattle.kb_word.specs.Congruence.{SameCongruence}
+use Rattle.kb_word.specs.Overlap.{IsConfluent}
 use Rattle.kb_word.specs.Words.{Pair}
 use Rattle.kb_word.specs.Presentations.{PresentationParts, parts_of}
 use Rattle.kb_word.specs.declared.presentation.Presentation.{Presentation}
@@ -12,6 +13,7 @@ use Rattle.kb_kept.specs.Listed.{Lists, rule_equalities}
 use Rattle.kb_kept.specs.declared.equality.Equality.{Equality}
 use Rattle.kb_kept.specs.declared.listing.Listing.{Listing}
 use Rattle.kb_machine.specs.Justified.{IsJustified}
+use Rattle.kb_machine.specs.Lines.{rules_of}
 use Rattle.kb_machine.specs.declared.line.Line.{Line}
 use Rattle.kb_round.specs.Rounds.{IsCounted, IsOwnStructure, RefutesBy}
 use Rattle.kb_round.specs.declared.answers.Construction.{Construction}
@@ -31,14 +33,16 @@ tried_by limits most presentation rules = record {
   states = limits.states;
 }
 
--- The log is justified, and the rules are its live ones or, where they are said to be confluent, the reduced complete
--- system; they generate the congruence of the relations.
+-- The log is justified, and the rules are its live ones, which generate the congruence of the relations. Or, where they
+-- are said to be confluent, they are the reduced complete system, and the rules of all lines of the log are confluent
+-- and generate that congruence.
 pub data AreRulesOfLog (parts : PresentationParts) (lines : List Line) (rules : List Pair) : Bool
     → Type 0 where
   live : IsJustified (below parts) (relations parts) lines → AreLiveRules lines rules
       → SameCongruence (relations parts) rules
       → AreRulesOfLog parts lines rules false
-  complete : IsJustified (below parts) (relations parts) lines → IsReducedSystem parts rules
+  complete : IsJustified (below parts) (relations parts) lines → IsConfluent (rules_of lines)
+      → SameCongruence (relations parts) (rules_of lines) → IsReducedSystem parts rules
       → AreRulesOfLog parts lines rules true
 
 -- The automata of these differences were tried, and aren't known to be the group's own: there is a certificate against

@@ -37,7 +37,7 @@ returns-in-NoRoom g c =
     let reduced = is_reduced_system limits presentation course rules c.requires.problem c.requires.completed in (
       order_given limits presentation course.problem course.state lines rules.rules c.requires.problem rules.order c.requires.completed.order,
       log_of_complete limits presentation course.problem course.state lines rules.rules c.requires.problem c.book_is_sound.ensures
-          c.into_log-lines.ensures.lines reduced,
+          c.into_log-lines.ensures.lines c.requires.completed.confluent c.requires.completed.same reduced,
       rw c.in-NoRoom.is at c.in_ok-structure.ensures,
     )
 
@@ -51,7 +51,7 @@ returns-in-Counted g c =
     let reduced = is_reduced_system limits presentation course rules c.requires.problem c.requires.completed in (
       order_given limits presentation course.problem course.state lines rules.rules c.requires.problem rules.order c.requires.completed.order,
       log_of_complete limits presentation course.problem course.state lines rules.rules c.requires.problem c.book_is_sound.ensures
-          c.into_log-lines.ensures.lines reduced,
+          c.into_log-lines.ensures.lines c.requires.completed.confluent c.requires.completed.same reduced,
       rw c.in-Counted.is at c.in_ok-structure.ensures,
     )
 
