@@ -31,11 +31,11 @@ use Rattle.kb_task.proofs.StoredLogs.{names_apart}
 use Rattle.kb_evidence.specs.Files.{acceptor_file, log_file, multiplier_file}
 use Rattle.kb_cmd_structures.specs.ByLog.{ByLogMeans, at_logged, log_refuted, log_read, EndsAtLogged, at_logged_group, at_log, at_logged_automata, FindsByLog, own_by_log, refuted_by_log, too_many_by_log, unresolved_by_log, FindsUnjustified, unjustified, HoldLogged, IsLogFaultBeside, IsUnresolvedFault}
 use Rattle.kb_cmd_structures.specs.Given.{CheckGiven}
-use Rattle.kb_cmd_structures.specs.Gpaxioms.{GpaxiomsSettles, checked_by, reads_acceptor, reads_group, reads_multiplier}
+use Rattle.kb_cmd_structures.specs.Gpaxioms.{checked_by, reads_acceptor, reads_group, reads_multiplier}
 use Rattle.kb_cmd_structures.specs.GpaxiomsPromise.{IsByLogUnrefused, ReadsBy}
 use Rattle.kb_cmd_structures.specs.LoadedLaws.{automata_inconclusive, held_over, one_checked}
 use Rattle.kb_cmd_structures.specs.Shown.{Found, ShowMeans, shown, output_failed, store_failed, no_memory_stored, no_memory}
-use Rattle.kb_cmd_structures.specs.ShownLaws.{Answered, WroteYes, automata_answer, conclusive, one_answer, wrote_yes}
+use Rattle.kb_cmd_structures.specs.ShownLaws.{Answered, answered_own, answered_no, answered_count, WroteYes, automata_answer, one_answer, wrote_yes}
 
 -- ---- what is found
 
@@ -51,15 +51,15 @@ module _ {given : CheckGiven} {presentation : Presentation} {log : Log} {accepts
   found_answers (too_many_by_log first) unrefused = tt
   found_answers (unresolved_by_log {fault = fault} is) unrefused = absurd (unrefused fault is)
 
-  -- yes and no say what they say of what is checked
+  -- each answer says what it says of what is checked
   found_says : {status : Status} {texts : List Text} {line : List ℕ}
       → FindsByLog given presentation log accepts multipliers status texts line
-      → GpaxiomsSettles status
+      → IsConclusive status
       → Answered (checked_by given presentation accepts multipliers) status
-  found_says (own_by_log passes is_own agree) settles = (passes, is_own)
-  found_says (refuted_by_log first) settles = first
-  found_says (too_many_by_log first) settles = absurd settles
-  found_says (unresolved_by_log is) settles = absurd settles
+  found_says (own_by_log passes is_own agree) answers = answered_own passes is_own
+  found_says (refuted_by_log first) answers = answered_no first
+  found_says (too_many_by_log first) answers = answered_count first
+  found_says (unresolved_by_log is) answers = absurd answers
 
   -- a yes stores nothing, and writes that alone
   found_yes : {status : Status} {texts : List Text} {line : List ℕ}
@@ -133,14 +133,14 @@ ends_inconclusive files file status
     (at_logged_automata {presentation = presentation} held justified ends) =
     automata_inconclusive files file presentation status ends
 
--- what a yes or a no was found as
+-- what an answer was found as
 record Shows (found : Found) (status : Status) : Type 0 where
   texts : List Text
   line : List ℕ
   finds : found status texts line
 
 shows : {found : Found} {before after : Outside} {status : Status}
-    → ShowMeans found before after status → GpaxiomsSettles status → Shows found status
+    → ShowMeans found before after status → IsConclusive status → Shows found status
 shows (shown {status = status} {texts = texts} {line = line} finds holds unread written) settles =
     record { texts = texts; line = line; finds = finds }
 shows (output_failed finds holds unread front) settles = absurd settles
@@ -213,19 +213,17 @@ pub by_log_settled : (given : CheckGiven)
     → ByLogMeans given before after status
     → ByLogMeans given other_before other_after other
     → ReadsSame (ReadsBy true given) before other_before
-    → GpaxiomsSettles status → GpaxiomsSettles other → status ≡ other
+    → IsConclusive status → IsConclusive other → status ≡ other
 by_log_settled given before after other_before other_after status other (at_logged ends unchanged)
     others same settles also =
     absurd (ends_inconclusive before.shelf.holds given.file status ends
-    (conclusive status settles))
+    settles)
 by_log_settled given before after other_before other_after status other (log_refuted held means)
     (at_logged ends unchanged) same settles also =
-    absurd (ends_inconclusive other_before.shelf.holds given.file other ends
-    (conclusive other also))
+    absurd (ends_inconclusive other_before.shelf.holds given.file other ends also)
 by_log_settled given before after other_before other_after status other
     (log_read held log_is justified means) (at_logged ends unchanged) same settles also =
-    absurd (ends_inconclusive other_before.shelf.holds given.file other ends
-    (conclusive other also))
+    absurd (ends_inconclusive other_before.shelf.holds given.file other ends also)
 by_log_settled given before after other_before other_after status other (log_refuted held means)
     (log_refuted again others) same settles also =
     both_refuted held again (same given.file (inr (reads_group refl)))

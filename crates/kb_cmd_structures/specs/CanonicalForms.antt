@@ -1,10 +1,11 @@
 -- Canonical forms of automata.
 use Rattle.std.specs.Prelude.{◌≡◌, List, [], ◌∷◌}
 use Rattle.kb_fsa.specs.Canonical.{IsCanonical}
-use Rattle.kb_fsa.specs.Language.{Automaton, SameLanguage}
+use Rattle.kb_fsa.specs.Language.{Automaton, IsAutomaton, SameLanguage}
 
 -- the second is the canonical automaton of the first one's language, over the same alphabet
 pub record IsCanonicalForm (automaton form : Automaton) : Type 0 where
+  pub form_is : IsAutomaton form
   pub canonical : IsCanonical form.table
   pub language : SameLanguage automaton form
   pub alphabet : form.alphabet ≡ automaton.alphabet

@@ -29,7 +29,7 @@ neither_less u v not_less not_greater = elim (shortlex_total u v) [
 ]
 
 -- of two numbers of which neither is less, both are one
-neither_lower : (x y : ℕ) → ¬ (x < y) → ¬ (y < x) → x ≡ y
+pub neither_lower : (x y : ℕ) → ¬ (x < y) → ¬ (y < x) → x ≡ y
 neither_lower x y not_lower not_higher = elim (cases_order x y) [
   | inl same ↦ same
   | inr (inl lower) ↦ absurd (not_lower lower)
@@ -130,7 +130,7 @@ module _ {Certificate : ℕ → List ℕ → List ℕ → List ℕ → Type 0} {
 -- ---- the kinds in their order
 
 -- the place of a certificate's kind in the order in which they are looked for
-abbrev place : Cert → ℕ
+abbrev pub place : Cert → ℕ
 place (N1 u) = 0
 place (N2 x u v) = 1
 place (N4 x u) = 2
@@ -145,7 +145,7 @@ module _ (checked : Checked) where
   own = own_structure checked
 
   -- there is no certificate of the kinds up to this place, but for the last kind
-  abbrev Passed : ℕ → Type 0
+  abbrev pub Passed : ℕ → Type 0
   Passed zero = PassesPrefixes checked
   Passed (suc zero) = PassesPairs checked
   Passed (suc (suc zero)) = PassesImages checked
@@ -163,7 +163,7 @@ module _ (checked : Checked) where
   passed_down (suc (suc (suc (suc (suc zero))))) passed = passed.earlier
   passed_down (suc (suc (suc (suc (suc (suc k)))))) passed = passed
 
-  passed_below : (top k : ℕ) → k ≤ top → Passed top → Passed k
+  pub passed_below : (top k : ℕ) → k ≤ top → Passed top → Passed k
   passed_below zero k below passed = subst Passed (let is : zero ≡ k = omega (arith, below) in is) passed
   passed_below (suc top) k below passed = elim (cases_order k (suc top)) [
     | inl is ↦ subst Passed (sym is) passed
@@ -172,7 +172,7 @@ module _ (checked : Checked) where
   ]
 
   -- before the first certificate all kinds were passed
-  passed_before : (cert : Cert) (k : ℕ) → IsFirstOfAll checked cert → k < place cert → Passed k
+  pub passed_before : (cert : Cert) (k : ℕ) → IsFirstOfAll checked cert → k < place cert → Passed k
   passed_before cert k (of_automata (n1 least)) below = absurd (omega (arith, below))
   passed_before cert k (of_automata (n2 passes first)) below =
       passed_below 0 k (omega (arith, below)) passes
@@ -190,7 +190,7 @@ module _ (checked : Checked) where
       passed_below 6 k (omega (arith, below)) passes
 
   -- and its own kind is not, unless that is the last one
-  not_passed : (cert : Cert) → IsFirstOfAll checked cert → place cert < 7 → ¬ Passed (place cert)
+  pub not_passed : (cert : Cert) → IsFirstOfAll checked cert → place cert < 7 → ¬ Passed (place cert)
   not_passed cert (of_automata (n1 least)) early passed =
       passed.prefixes ShortLex checked.relations _ (least ShortLex checked.relations).holds
   not_passed cert (of_automata (n2 passes first)) early passed =

@@ -91,8 +91,10 @@ pub record IsGpaxiomsUnrefused (given : CheckGiven) (before : Outside) : Type 0 
       → HoldsGroup before.shelf.holds given.file presentation → 0 < x → x ≤ presentation.n
       → IsUnrefused (IsMultiplierFault before.shelf.holds given.file presentation x)
 
--- the answers that the files settle: yes, and no with its certificate
+-- the answers that the files settle: yes, no with its certificate, and a count of states above the limit; not that a
+-- completion halted
 abbrev pub GpaxiomsSettles : Status → Type 0
 GpaxiomsSettles Yes = Unit {0}
 GpaxiomsSettles (No cert) = Unit {0}
+GpaxiomsSettles (Undecided (States which)) = Unit {0}
 GpaxiomsSettles _ = ⊥

@@ -4,25 +4,33 @@ use Rattle.std.specs.Prelude.{Bool, true, false}
 use Rattle.kb_io.specs.Outside.{Outside}
 use Rattle.kb_word.specs.declared.presentation.Presentation.{Presentation}
 use Rattle.kb_fsa.specs.Language.{Automaton}
+use Rattle.kb_system.specs.declared.ending.Reached.{Reached}
+use Rattle.kb_system.specs.declared.ending.Reached.TheVariants.{Lines, Letters}
 use Rattle.kb_task.specs.OneReason.{HaveOneReason}
 use Rattle.kb_task.specs.Promises.{IsLawful}
 use Rattle.kb_task.specs.Refusals.{IsLoadFault, IsRefusalOrMemory}
 use Rattle.kb_task.specs.Runs.{HasSameEffect, ReadsSame}
-use Rattle.kb_task.specs.Statuses.{IsAnswer, IsFaultless, IsYes}
+use Rattle.kb_task.specs.Statuses.{IsAnswer, IsConclusive, IsFaultless, IsYes}
 use Rattle.kb_task.specs.Stores.{Text}
 use Rattle.kb_task.specs.declared.status.FileFault.{FileFault}
 use Rattle.kb_task.specs.declared.status.Refusal.TheVariants.{File}
 use Rattle.kb_task.specs.declared.status.Status.{Status}
-use Rattle.kb_task.specs.declared.status.Status.TheVariants.{Refused}
+use Rattle.kb_task.specs.declared.status.Status.TheVariants.{Refused, Undecided}
+use Rattle.kb_evidence.specs.Files.{limit_of}
 use Rattle.kb_answering.specs.AnswerLaws.{texts_same}
 use Rattle.kb_cmd_structures.specs.ByLogLaws.{SaidYes, by_log_complete, by_log_said, by_log_settled, said_yes}
 use Rattle.kb_cmd_structures.specs.ByLogRefusals.{by_log_exact, by_log_refused}
 use Rattle.kb_cmd_structures.specs.Given.{CheckGiven, GpaxiomsGiven}
 use Rattle.kb_cmd_structures.specs.Gpaxioms.{Finds, own, refuted, too_many, unsettled, GpaxiomsSettles, checked_by}
-use Rattle.kb_cmd_structures.specs.GpaxiomsPromise.{IsUnrefusedBy, MayStoreBy, MeansBy, ReadsBy, RefusesBy, gpaxioms_promise}
+use Rattle.kb_cmd_structures.specs.GpaxiomsPromise.{IsUnrefusedBy, MayStoreBy, MeansBy, ReadsBy, RefusesBy, SettlesBy, gpaxioms_promise}
 use Rattle.kb_cmd_structures.specs.RefusalLaws.{structure_exact, structure_refused}
 use Rattle.kb_cmd_structures.specs.Shown.{StructureMeans}
-use Rattle.kb_cmd_structures.specs.ShownLaws.{Answered, AreAnswers, complete, conclusive, loaded_yes, settled}
+use Rattle.kb_cmd_structures.specs.ShownLaws.{Answered, answered_own, answered_no, answered_count, AreAnswers, AreSettled, complete, conclusive, loaded_yes, one_answer, settled}
+
+-- that a completion halted isn't settled
+halt_unsettled : (reached : Reached) → ¬ GpaxiomsSettles (Undecided (limit_of reached))
+halt_unsettled Lines settles = settles
+halt_unsettled Letters settles = settles
 
 module _ {given : CheckGiven} {presentation : Presentation} {accepts : Automaton}
     {multipliers : List Automaton} where
@@ -34,14 +42,15 @@ module _ {given : CheckGiven} {presentation : Presentation} {accepts : Automaton
   found_answers (too_many first) = tt
   found_answers (unsettled is) = tt
 
-  -- yes and no say what they say of what is checked
+  -- the answers that the files settle say what they say of what is checked
   pub found_says : {status : Status} {texts : List Text} {line : List ℕ}
       → Finds given presentation accepts multipliers status texts line → GpaxiomsSettles status
       → Answered (checked_by given presentation accepts multipliers) status
-  found_says (own passes is_own) settles = (passes, is_own)
-  found_says (refuted first) settles = first
-  found_says (too_many first) settles = absurd settles
-  found_says (unsettled is) settles = absurd settles
+  found_says (own passes is_own) settles = answered_own passes is_own
+  found_says (refuted first) settles = answered_no first
+  found_says (too_many first) settles = answered_count first
+  found_says (unsettled {halted = halted} is) settles =
+      absurd (halt_unsettled halted.reached settles)
 
   -- a yes stores nothing, and writes that alone
   found_yes : {status : Status} {texts : List Text} {line : List ℕ}
@@ -52,10 +61,15 @@ module _ {given : CheckGiven} {presentation : Presentation} {accepts : Automaton
   found_yes (too_many first) is_yes = absurd is_yes
   found_yes (unsettled is) is_yes = absurd is_yes
 
-are_answers : (given : CheckGiven) → AreAnswers given (Finds given)
+are_answers : (given : CheckGiven) → AreAnswers (Finds given)
 are_answers given = record {
   answers = λ presentation acceptor multipliers status texts line finds. found_answers finds;
+}
+
+are_settled : (given : CheckGiven) → AreSettled given (Finds given) Answered
+are_settled given = record {
   say = λ presentation acceptor multipliers status texts line finds settles. found_says finds settles;
+  one = one_answer;
 }
 
 completion_said : (given : CheckGiven) (before after : Outside) (status : Status)
@@ -73,7 +87,7 @@ all_answer : (by_log : Bool) (check : CheckGiven) (before after : Outside) (stat
 all_answer true check before after status means unrefused faultless =
     by_log_complete check before after status means unrefused faultless
 all_answer false check before after status means unrefused faultless =
-    complete (are_answers check) before after status means unrefused faultless
+    complete (are_answers check) check before after status means unrefused faultless
 
 all_refused : (by_log : Bool) (check : CheckGiven) (before after : Outside) (name : List ℕ)
     (fault : FileFault)
@@ -82,7 +96,7 @@ all_refused : (by_log : Bool) (check : CheckGiven) (before after : Outside) (nam
 all_refused true check before after name fault means at_load =
     by_log_refused check before after name fault means at_load
 all_refused false check before after name fault means at_load =
-    structure_refused (are_answers check) before after name fault means at_load
+    structure_refused (are_answers check) check before after name fault means at_load
 
 all_exact : (by_log : Bool) (check : CheckGiven) → HaveOneReason → (before after : Outside)
     (status : Status) (name : List ℕ) (fault : FileFault)
@@ -91,21 +105,25 @@ all_exact : (by_log : Bool) (check : CheckGiven) → HaveOneReason → (before a
 all_exact true check have before after status name fault means refuses faultless =
     by_log_exact check have before after status name fault means refuses faultless
 all_exact false check have before after status name fault means refuses faultless =
-    structure_exact (are_answers check) have before after status name fault means refuses faultless
+    structure_exact (are_answers check) check have before after status name fault means refuses faultless
 
 all_settled : (by_log : Bool) (check : CheckGiven)
     (before after other_before other_after : Outside) (status other : Status)
     → MeansBy by_log check before after status → MeansBy by_log check other_before other_after other
     → ReadsSame (ReadsBy by_log check) before other_before
-    → GpaxiomsSettles status → GpaxiomsSettles other → status ≡ other
+    → SettlesBy by_log status → SettlesBy by_log other → status ≡ other
 all_settled true check before after other_before other_after status other means others same settles
     also =
     by_log_settled check before after other_before other_after status other means others same
     settles also
 all_settled false check before after other_before other_after status other means others same
     settles also =
-    settled check (Finds check) (are_answers check) before after other_before other_after status
-    other means others same settles also
+    settled (are_settled check) before after other_before other_after status other means others
+    same settles also
+
+all_conclusive : (by_log : Bool) (status : Status) → SettlesBy by_log status → IsConclusive status
+all_conclusive true status settles = settles
+all_conclusive false status settles = conclusive status settles
 
 -- what a yes wrote, whatever decides
 said : (by_log : Bool) (check : CheckGiven) (before after : Outside) (status : Status)
@@ -142,7 +160,7 @@ gpaxioms_lawful given = record {
   refused = all_refused given.by_log given.check;
   exact = all_exact given.by_log given.check;
   settled = all_settled given.by_log given.check;
-  conclusive = conclusive;
+  conclusive = all_conclusive given.by_log;
   one_function = λ other_given before after other_before other_after status other means others
       is_yes also file same input.
       one_function given other_given before after other_before other_after status other means

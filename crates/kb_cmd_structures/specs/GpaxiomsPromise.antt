@@ -8,7 +8,7 @@ use Rattle.kb_proof.specs.declared.log.Log.{Log}
 use Rattle.kb_bylog.specs.LogLines.{IsJustifiedBy}
 use Rattle.kb_task.specs.Automata.{IsUnrefused}
 use Rattle.kb_task.specs.Promises.{Promise}
-use Rattle.kb_task.specs.Statuses.{IsAnswer}
+use Rattle.kb_task.specs.Statuses.{IsAnswer, IsConclusive}
 use Rattle.kb_task.specs.declared.status.FileFault.{FileFault}
 use Rattle.kb_task.specs.declared.status.Status.{Status}
 use Rattle.kb_evidence.specs.Files.{log_file}
@@ -56,8 +56,13 @@ abbrev pub IsUnrefusedBy : Bool → CheckGiven → Outside → Type 0
 IsUnrefusedBy true check before = IsByLogUnrefused check before
 IsUnrefusedBy false check before = IsGpaxiomsUnrefused check before
 
--- Whether it comes to a limit may depend on the course of the completion. Another on the same file is the same but for
--- its workers, its limits, and what decides: a yes means the same of both.
+-- by the log no completion runs, and the files settle each answer
+abbrev pub SettlesBy : Bool → Status → Type 0
+SettlesBy true = IsConclusive
+SettlesBy false = GpaxiomsSettles
+
+-- Whether a completion halts may depend on its course. Another on the same file is the same but for its workers, its
+-- limits, and what decides: a yes means the same of both.
 abbrev pub gpaxioms_promise : GpaxiomsGiven → Promise GpaxiomsGiven
 gpaxioms_promise given = record {
   means = MeansBy given.by_log given.check;
@@ -67,6 +72,6 @@ gpaxioms_promise given = record {
   refuses = RefusesBy given.by_log given.check;
   is_unrefused = IsUnrefusedBy given.by_log given.check;
   answers = IsAnswer;
-  settles = GpaxiomsSettles;
+  settles = SettlesBy given.by_log;
   differs_in_options = λ other. given.check.file ≡ other.check.file;
 }

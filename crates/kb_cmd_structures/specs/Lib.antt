@@ -3,6 +3,7 @@ pub mod Loaded
 pub mod LoadedLaws
 pub mod Lines
 pub mod FirstCertificates
+pub mod FirstCounts
 pub mod Made
 pub mod Tried
 pub mod Autgroup

@@ -250,7 +250,7 @@ files_refused files file name fault (at_automata {presentation = presentation} h
 
 -- ---- runs
 
-module _ {given : CheckGiven} {found : FoundOf} (are : AreAnswers given found) where
+module _ {found : FoundOf} (are : AreAnswers found) (given : CheckGiven) where
   -- a file that is refused is the first that has a fault
   pub structure_refused : (before after : Outside) (name : List ℕ) (fault : FileFault)
       → StructureMeans found given.file before after (Refused (File name fault))

@@ -5,8 +5,10 @@ use Rattle.kb_word.specs.Presentations.{parts_of}
 use Rattle.kb_word.specs.declared.presentation.Presentation.{Presentation}
 use Rattle.kb_fsa.specs.Language.{Automaton}
 use Rattle.kb_structure.specs.Structure.{AreOverGenerators, IsAutomaticStructure}
+use Rattle.kb_structure.specs.declared.cert.Cert.{Cert}
 use Rattle.kb_axioms.specs.Answered.{IsFirstOfAll}
-use Rattle.kb_axioms.specs.Checked.{Checked, PassesRelations, own_structure}
+use Rattle.kb_axioms.specs.Checked.{Checked, IsFirstCount, PassesRelations, own_structure}
+use Rattle.kb_axioms.specs.declared.answers.Construction.{Construction as Counted}
 use Rattle.kb_task.specs.Presentations.{IsGroupFault}
 use Rattle.kb_task.specs.PromiseLaws.{yes-conclusive}
 use Rattle.kb_task.specs.Runs.{HasSameEffect, ReadsSame}
@@ -14,13 +16,15 @@ use Rattle.kb_task.specs.Statuses.{IsAnswer, IsConclusive, IsFaultless, IsYes}
 use Rattle.kb_task.specs.Stores.{Text, HoldsTexts}
 use Rattle.kb_task.specs.declared.status.Cert.TheVariants.{Structure}
 use Rattle.kb_task.specs.declared.status.Status.{Status}
-use Rattle.kb_task.specs.declared.status.Status.TheVariants.{Yes, No, Memory}
+use Rattle.kb_task.specs.declared.status.Limit.TheVariants.{States}
+use Rattle.kb_task.specs.declared.status.Status.TheVariants.{Yes, No, Undecided, Memory}
 use Rattle.kb_task.proofs.LoadEnds.{memory_at_load, one_presentation_held}
 use Rattle.kb_evidence.specs.Files.{acceptor_file, multiplier_file}
 use Rattle.kb_answering.specs.AnswerLaws.{texts_same}
 use Rattle.kb_cmd_structures.specs.FirstCertificates.{one_certificate, own_has_none}
+use Rattle.kb_cmd_structures.specs.FirstCounts.{certified_not_counted, one_count, passed_not_counted}
 use Rattle.kb_cmd_structures.specs.Given.{CheckGiven}
-use Rattle.kb_cmd_structures.specs.Gpaxioms.{GpaxiomsReads, reads_group, reads_acceptor, reads_multiplier, GpaxiomsSettles, IsGpaxiomsUnrefused, checked_by}
+use Rattle.kb_cmd_structures.specs.Gpaxioms.{GpaxiomsReads, reads_group, reads_acceptor, reads_multiplier, GpaxiomsSettles, IsGpaxiomsUnrefused, checked_by, construction_of}
 use Rattle.kb_cmd_structures.specs.Loaded.{EndsAtAutomata, EndsAtFile, HoldsGroup, HoldStructure, IsAcceptorFault, IsMultiplierFault, at_group, at_automata, at_acceptor, at_multiplier}
 use Rattle.kb_cmd_structures.specs.LoadedLaws.{files_inconclusive, held_over, one_checked}
 use Rattle.kb_cmd_structures.specs.Shown.{Found, FoundOf, ShowMeans, shown, output_failed, store_failed, no_memory_stored, no_memory, StructureMeans, at_file, loaded}
@@ -28,23 +32,32 @@ use Rattle.kb_cmd_structures.specs.Shown.{Found, FoundOf, ShowMeans, shown, outp
 pub conclusive : (status : Status) → GpaxiomsSettles status → IsConclusive status
 conclusive Yes settles = tt
 conclusive (No cert) settles = tt
+conclusive (Undecided (States which)) settles = tt
 conclusive _ settles = absurd settles
 
--- what yes and no say of what is checked
-abbrev pub Answered : Checked → Status → Type 0
-Answered checked Yes = PassesRelations checked × IsAutomaticStructure (own_structure checked)
-Answered checked (No (Structure cert)) = IsFirstOfAll checked cert
-Answered checked _ = ⊥
+-- what yes, no and a count of states say of what is checked
+pub data Answered (checked : Checked) : Status → Type 0 where
+  answered_own : PassesRelations checked → IsAutomaticStructure (own_structure checked)
+      → Answered checked Yes
+  answered_no : {cert : Cert} → IsFirstOfAll checked cert → Answered checked (No (Structure cert))
+  answered_count : {which : Counted} → IsFirstCount checked which
+      → Answered checked (Undecided (States (construction_of which)))
 
--- What is found of automata is an answer; yes and no say what they say of what is checked.
-pub record AreAnswers (given : CheckGiven) (found : FoundOf) : Type 0 where
+-- What is found of automata is an answer.
+pub record AreAnswers (found : FoundOf) : Type 0 where
   pub answers : (presentation : Presentation) (acceptor : Automaton) (multipliers : List Automaton)
       (status : Status) (texts : List Text) (line : List ℕ)
       → found presentation acceptor multipliers status texts line → IsAnswer status
+
+-- What the answers that the files settle say of what is checked, is said by one of them.
+pub record AreSettled (given : CheckGiven) (found : FoundOf) (Says : Checked → Status → Type 0)
+    : Type 0 where
   pub say : (presentation : Presentation) (acceptor : Automaton) (multipliers : List Automaton)
       (status : Status) (texts : List Text) (line : List ℕ)
       → found presentation acceptor multipliers status texts line → GpaxiomsSettles status
-      → Answered (checked_by given presentation acceptor multipliers) status
+      → Says (checked_by given presentation acceptor multipliers) status
+  pub one : (checked : Checked) → AreOverGenerators (own_structure checked)
+      → (status other : Status) → Says checked status → Says checked other → status ≡ other
 
 -- ---- complete
 
@@ -75,7 +88,7 @@ file_answers given before status (at_automata {presentation = presentation} held
     faultless =
     automata_answer given before presentation status unrefused held ends faultless
 
-module _ {given : CheckGiven} {found : FoundOf} (are : AreAnswers given found) where
+module _ {found : FoundOf} (are : AreAnswers found) (given : CheckGiven) where
   module _ {presentation : Presentation} {accepts : Automaton} {multipliers : List Automaton} where
     loaded_answers : {before after : Outside} {status : Status}
         → ShowMeans (found presentation accepts multipliers) before after status
@@ -86,17 +99,6 @@ module _ {given : CheckGiven} {found : FoundOf} (are : AreAnswers given found) w
     loaded_answers (store_failed finds stops) faultless = cc
     loaded_answers (no_memory_stored finds first) faultless = tt
     loaded_answers (no_memory unchanged) faultless = tt
-
-    loaded_says : {before after : Outside} {status : Status}
-        → ShowMeans (found presentation accepts multipliers) before after status
-        → GpaxiomsSettles status
-        → Answered (checked_by given presentation accepts multipliers) status
-    loaded_says (shown {status = status} {texts = texts} {line = line} finds holds unread written)
-        settles = are.say presentation accepts multipliers status texts line finds settles
-    loaded_says (output_failed finds holds unread front) settles = absurd settles
-    loaded_says (store_failed finds stops) settles = absurd settles
-    loaded_says (no_memory_stored finds first) settles = absurd settles
-    loaded_says (no_memory unchanged) settles = absurd settles
 
   pub complete : (before after : Outside) (status : Status)
       → StructureMeans found given.file before after status → IsGpaxiomsUnrefused given before
@@ -111,41 +113,65 @@ module _ {given : CheckGiven} {found : FoundOf} (are : AreAnswers given found) w
 -- of what is checked there is one answer
 pub one_answer : (checked : Checked) → AreOverGenerators (own_structure checked)
     → (status other : Status) → Answered checked status → Answered checked other → status ≡ other
-one_answer checked over Yes Yes one also = refl
-one_answer checked over Yes (No (Structure cert)) one also =
-    absurd (own_has_none checked one.0 one.1 cert also)
-one_answer checked over (No (Structure cert)) Yes one also =
-    absurd (own_has_none checked also.0 also.1 cert one)
-one_answer checked over (No (Structure cert)) (No (Structure other)) one also =
-    ap (λ c. No (Structure c)) (one_certificate checked over cert other one also)
-one_answer checked over Yes _ one also = absurd also
-one_answer checked over (No (Structure cert)) _ one also = absurd also
-one_answer checked over _ _ one also = absurd one
+one_answer checked over status other (answered_own passes own) (answered_own also also_own) = refl
+one_answer checked over status other (answered_own passes own) (answered_no {cert = cert} first) =
+    absurd (own_has_none checked passes own cert first)
+one_answer checked over status other (answered_own passes own) (answered_count {which = which} first) =
+    absurd (passed_not_counted checked passes which first)
+one_answer checked over status other (answered_no {cert = cert} first) (answered_own passes own) =
+    absurd (own_has_none checked passes own cert first)
+one_answer checked over status other (answered_no {cert = cert} first)
+    (answered_no {cert = second} also) =
+    ap (λ c. No (Structure c)) (one_certificate checked over cert second first also)
+one_answer checked over status other (answered_no {cert = cert} first)
+    (answered_count {which = which} also) =
+    absurd (certified_not_counted checked cert which first also)
+one_answer checked over status other (answered_count {which = which} first) (answered_own passes own) =
+    absurd (passed_not_counted checked passes which first)
+one_answer checked over status other (answered_count {which = which} first)
+    (answered_no {cert = cert} also) =
+    absurd (certified_not_counted checked cert which also first)
+one_answer checked over status other (answered_count {which = which} first)
+    (answered_count {which = second} also) =
+    ap (λ w. Undecided (States (construction_of w))) (one_count checked which second first also)
 
-pub settled : (given : CheckGiven) (found : FoundOf) → AreAnswers given found
-    → (before after other_before other_after : Outside) (status other : Status)
-    → StructureMeans found given.file before after status
-    → StructureMeans found given.file other_before other_after other
-    → ReadsSame (GpaxiomsReads given) before other_before
-    → GpaxiomsSettles status → GpaxiomsSettles other → status ≡ other
-settled given found are before after other_before other_after status other
-    (at_file ends unchanged) others same settles also =
-    absurd (files_inconclusive before.shelf.holds given.file status ends
-    (conclusive status settles))
-settled given found are before after other_before other_after status other (loaded held means)
-    (at_file ends unchanged) same settles also =
-    absurd (files_inconclusive other_before.shelf.holds given.file other ends
-    (conclusive other also))
-settled given found are before after other_before other_after status other (loaded held means)
-    (loaded {presentation = presentation} {acceptor = accepts} {multipliers = multipliers} again
-    others) same settles also =
-    let most = given.limits.states in
-    let checked = one_checked held again (same given.file (reads_group refl))
-    (same (acceptor_file given.file) (reads_acceptor refl))
-    (λ x. same (multiplier_file given.file x) (reads_multiplier x refl)) most in
-    let Says : Checked → Type 0 = λ c. Answered c status in
-    one_answer (checked_by given presentation accepts multipliers) (held_over most again) status
-    other (subst Says checked (loaded_says are means settles)) (loaded_says are others also)
+module _ {given : CheckGiven} {found : FoundOf} {Says : Checked → Status → Type 0}
+    (are : AreSettled given found Says) where
+  module _ {presentation : Presentation} {accepts : Automaton} {multipliers : List Automaton} where
+    loaded_says : {before after : Outside} {status : Status}
+        → ShowMeans (found presentation accepts multipliers) before after status
+        → GpaxiomsSettles status
+        → Says (checked_by given presentation accepts multipliers) status
+    loaded_says (shown {status = status} {texts = texts} {line = line} finds holds unread written)
+        settles = are.say presentation accepts multipliers status texts line finds settles
+    loaded_says (output_failed finds holds unread front) settles = absurd settles
+    loaded_says (store_failed finds stops) settles = absurd settles
+    loaded_says (no_memory_stored finds first) settles = absurd settles
+    loaded_says (no_memory unchanged) settles = absurd settles
+
+  pub settled : (before after other_before other_after : Outside) (status other : Status)
+      → StructureMeans found given.file before after status
+      → StructureMeans found given.file other_before other_after other
+      → ReadsSame (GpaxiomsReads given) before other_before
+      → GpaxiomsSettles status → GpaxiomsSettles other → status ≡ other
+  settled before after other_before other_after status other (at_file ends unchanged) others same
+      settles also =
+      absurd (files_inconclusive before.shelf.holds given.file status ends
+      (conclusive status settles))
+  settled before after other_before other_after status other (loaded held means)
+      (at_file ends unchanged) same settles also =
+      absurd (files_inconclusive other_before.shelf.holds given.file other ends
+      (conclusive other also))
+  settled before after other_before other_after status other (loaded held means)
+      (loaded {presentation = presentation} {acceptor = accepts} {multipliers = multipliers} again
+      others) same settles also =
+      let most = given.limits.states in
+      let checked = one_checked held again (same given.file (reads_group refl))
+      (same (acceptor_file given.file) (reads_acceptor refl))
+      (λ x. same (multiplier_file given.file x) (reads_multiplier x refl)) most in
+      let SaysSo : Checked → Type 0 = λ c. Says c status in
+      are.one (checked_by given presentation accepts multipliers) (held_over most again) status
+      other (subst SaysSo checked (loaded_says means settles)) (loaded_says others also)
 
 -- ---- one function
 

@@ -20,10 +20,11 @@
 //!
 //! It is given automata besides, in files beside that of the presentation (`specs/Loaded.antt`). A yes means that
 //! they are the group's own structure (`IsAutomaticStructure` of `kb_structure`), a no that they aren't, with the
-//! first certificate, whose line `specs/Lines.antt` has. By the laws of `Task` the files settle both: there is one
-//! first certificate, and none against automata that are the group's own (`specs/FirstCertificates.antt`). At a limit
-//! of the completion its log and its rules are stored: there is no certificate but perhaps of the last kind, and the
-//! rules don't settle that.
+//! first certificate, whose line `specs/Lines.antt` has. At a limit of states no certificate comes before the count
+//! that is named. By the laws of `Task` the files settle all three: there is one first certificate, and none against
+//! automata that are the group's own (`specs/FirstCertificates.antt`), and so it is with counts, of which none comes
+//! beside a certificate (`specs/FirstCounts.antt`). At a limit of the completion its log and its rules are stored:
+//! there is no certificate but perhaps of the last kind, and the rules don't settle that.
 //!
 //! With `--log` nothing is completed and no file is stored: the lines of the log beside the group's file decide, once
 //! it is justified (`specs/ByLog.antt`). A log that isn't is a no, with its first line that doesn't follow; one whose

@@ -64,7 +64,10 @@ fn canonical_forms(alloc: Global, automata: &[Fsa]) -> Result<Vec<Fsa>, Memory>
 {
     let mut forms = Vec::with_capacity(alloc, automata.len())?;
     for automaton in automata {
-        forms.push(canonical(alloc, automaton)?)?;
+        let form = canonical(alloc, automaton)?;
+        // That it is an automaton is known to whoever looks at its table.
+        let _ = form.table();
+        forms.push(form)?;
     }
     Ok(forms)
 }

@@ -13,11 +13,12 @@ loop-automaton-preserved c =
     let automata : List Automaton = c.args.automata.now in
     let many = c.loop-automaton.automaton-index in
     let automaton : Automaton = c.automaton-item.result in
-    let form : Automaton = c.in_ok-canonical.field-0 in
+    let form : Automaton = c.in_ok-form.form in
     let is : IsCanonicalForm automaton form = record {
-      canonical = c.in_ok-canonical.ensures.canonical;
-      language = c.in_ok-canonical.ensures.language;
-      alphabet = c.in_ok-canonical.ensures.alphabet;
+      form_is = c.table.ensures.automaton;
+      canonical = c.in_ok-form.ensures.canonical;
+      language = c.in_ok-form.ensures.language;
+      alphabet = c.in_ok-form.ensures.alphabet;
     } in
     let Forms : List Automaton → Type 0 = λ l. AreCanonicalForms (take (many + 1) automata) l in
     subst Forms (sym c.in_ok-push.ensures.items)
