@@ -12,7 +12,8 @@
 //!
 //! - `command` is the list of the families of commands, each of which is a crate; `program_line` is the program's
 //!   command line, made of the families' parts, and `arguments` reads it.
-//! - `program` is [`run`], and [`report`] writes the message to err that a status has, of which no clause speaks.
+//! - `program` is [`run`], and `messages` has [`report`], which writes the message to err that a status has. No clause
+//!   speaks of it.
 //!
 //! Below are the families of commands, `kb_commands`, which says what the command line has of them, and `kb_task`, what
 //! they have in common.
@@ -21,9 +22,9 @@
 mod arguments;
 mod command;
 mod laws;
+mod messages;
 mod program;
 mod program_line;
-mod report;
 
 pub use arguments::{UsageError, read_arguments};
 pub use clap::error::ErrorKind;
@@ -34,5 +35,5 @@ pub use laws::{
     no_line_is_faulty, one_answer_by_the_files, status_0_is_one_function,
     where_nothing_is_refused_there_is_an_answer,
 };
+pub use messages::report;
 pub use program::run;
-pub use report::report;

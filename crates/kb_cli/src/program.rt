@@ -6,7 +6,7 @@ ghost use Rattle.kb_task.specs.Runs.{IsRun};
 ghost use Rattle.kb_cli.specs.Headline.{Headline, MayStore};
 
 use crate::arguments::{UsageError, read_arguments};
-use crate::report::{report, tell};
+use crate::messages::{report, tell};
 use kb_io::{Gate, Shelf, Sink, Source};
 use kb_task::{Status, Task};
 use std::alloc::Global;

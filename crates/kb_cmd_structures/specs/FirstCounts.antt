@@ -86,7 +86,8 @@ module _ (checked : Checked) where
             at.holds.earlier.few first.index counted.relation later counted.is_relation
             counted.counted
       ]
-  not_beside cert which _ _ same = absurd (omega (arith, same))
+  not_beside cert which _ (images passes first) same = absurd (omega (arith, same))
+  not_beside cert which _ (relation passes first) same = absurd (omega (arith, same))
 
   -- there is no first count where there is a first certificate
   pub certified_not_counted : (cert : Cert) (which : Counted) → IsFirstOfAll checked cert

@@ -127,7 +127,7 @@ module _ (checked : Checked) where
   one_system_answer over status other (answered_left_sides one many)
       (answered_left_sides second many_too) = refl
   one_system_answer over status other (answered_left_sides one many)
-      (answered_rules second few many_rules) =
+      (answered_rules second few many_pairs) =
       absurd (few (left_sides_kept one second many))
   one_system_answer over status other (answered_rules one few many)
       (answered_system second few_too fewer) =
