@@ -1,19 +1,19 @@
 //! A dialogue: lines of the input that come only when those before them are answered.
 
-ghost use Rattle.std.specs.Prelude.{[], false};
+ghost use Rattle.std.specs.Prelude.{◌≤◌, [], false};
 
 use kb_casefile::Case;
 use kb_io::{Failed, MemSink, MemSource, Sink, Source};
 use std::alloc::{AllocError, Global};
-use std::sync::Wait;
 use std::sync::atomic::{AtomicU64, Ordering};
+use std::sync::{Arc, Wait};
 
 /// The input of a case. In a dialogue it gives one line at most in a read, and notes which line is asked for before its
 /// turn: before the lines in front of it, by whole batches, are answered. Each line has an answer of one line.
 ///
 /// Contracts know none of its bytes, nor of those of [`Answers`].
 #[derive(Drop)]
-pub(crate) struct Questions<'a> {
+pub(crate) struct Questions {
     source: MemSource,
     /// So many lines are a batch; `None` where there is no dialogue.
     batch: Option<u64>,
@@ -21,17 +21,17 @@ pub(crate) struct Questions<'a> {
     text: Vec<u8>,
     read: usize,
     /// How many lines were written on out.
-    answered: &'a AtomicU64,
+    answered: Arc<AtomicU64>,
     early: Option<u64>,
 }
 
-impl<'a> Questions<'a> {
+impl Questions {
     /// The input of a case that is run, by the number of lines that are written on out.
     pub(crate) fn of(
         alloc: Global,
         case: &Case,
-        answered: &'a AtomicU64,
-    ) -> Result<Questions<'a>, AllocError> {
+        answered: Arc<AtomicU64>,
+    ) -> Result<Questions, AllocError> {
         let input = Vec::from_slice(alloc, case.input.as_slice())?;
         let piece = case.devices.piece.max(1);
         Ok(Questions {
@@ -49,21 +49,24 @@ impl<'a> Questions<'a> {
         self.early
     }
 
-    /// Notes that a read begins, where it is one of a line whose turn it isn't.
-    fn note_read(&mut self, batch: u64) {
+    /// The first line that was asked for before its turn, where a read begins.
+    fn early_at_read(&self, batch: u64) -> Option<u64> {
         let read = self.text.get(..self.read).unwrap_or(&[]);
         if !matches!(read.last(), None | Some(b'\n')) {
-            return;
+            return self.early;
         }
         let lines = lines_in(read);
         let answered = self.answered.load(Ordering::SeqCst);
         if answered < lines.saturating_sub(lines % batch.max(1)) && self.early.is_none() {
-            self.early = Some(lines.saturating_add(1));
+            return Some(lines.saturating_add(1));
         }
+        self.early
     }
 
     /// How many bytes are left of a line, with its newline: at least 1, also at the end.
-    fn left_of_line(&self) -> usize {
+    fn left_of_line(&self) -> usize
+        ensures { 1 ≤ result }
+    {
         let left = self.text.get(self.read..).unwrap_or(&[]);
         match left.iter().position(|byte| *byte == b'\n') {
             Some(place) => place.saturating_add(1),
@@ -72,7 +75,7 @@ impl<'a> Questions<'a> {
     }
 }
 
-impl<'a> Source for Questions<'a> {
+impl Source for Questions {
     ghost use Rattle.std.specs.Prelude.{[], false};
 
     ghost state = { λ it. record { told = false; left = []; faults = it.source.calls.faults } };
@@ -81,7 +84,7 @@ impl<'a> Source for Questions<'a> {
         let Some(batch) = self.batch else {
             return self.source.read(buf);
         };
-        self.note_read(batch);
+        self.early = self.early_at_read(batch);
         let most = self.left_of_line().min(buf.len());
         let taken = self.source.read(&mut buf[..most])?;
         self.read = self.read.saturating_add(taken);
@@ -91,14 +94,14 @@ impl<'a> Source for Questions<'a> {
 
 /// The out of a case that is run, which counts the lines that are written on it.
 #[derive(Drop)]
-pub(crate) struct Answers<'a, R> {
+pub(crate) struct Answers<R> {
     sink: MemSink<R>,
-    answered: &'a AtomicU64,
+    answered: Arc<AtomicU64>,
 }
 
-impl<'a, R: Wait> Answers<'a, R> {
+impl<R: Wait> Answers<R> {
     /// What is written on this sink, with its lines counted.
-    pub(crate) fn of(sink: MemSink<R>, answered: &'a AtomicU64) -> Answers<'a, R> {
+    pub(crate) fn of(sink: MemSink<R>, answered: Arc<AtomicU64>) -> Answers<R> {
         Answers { sink, answered }
     }
 
@@ -108,7 +111,7 @@ impl<'a, R: Wait> Answers<'a, R> {
     }
 }
 
-impl<'a, R: Wait> Sink for Answers<'a, R> {
+impl<R: Wait> Sink for Answers<R> {
     ghost use Rattle.std.specs.Prelude.{[], false};
 
     ghost state = { λ it. record { told = false; written = []; faults = it.sink.calls.faults } };

@@ -7,8 +7,8 @@ use kb_casefile::{Case, Named, Wanted, find};
 use kb_cli::{Status, run};
 use kb_io::{MemShelf, MemSink, Shelf, Sink, Source};
 use std::alloc::{AllocError, Global};
-use std::sync::Wait;
 use std::sync::atomic::AtomicU64;
+use std::sync::{Arc, Wait};
 use std::thread::Threads;
 
 /// Something that came of a run otherwise than wanted.
@@ -219,10 +219,10 @@ pub(crate) fn differences<R: Threads + Wait + Sync>(
 ) -> Result<Vec<Difference>, AllocError> {
     let mut shelf = shelf_of(alloc, case)?;
     let piece = case.devices.piece.max(1);
-    let answered = AtomicU64::new(0);
-    let mut input = Questions::of(alloc, case, &answered)?;
+    let answered = Arc::new(alloc, AtomicU64::new(0))?;
+    let mut input = Questions::of(alloc, case, Arc::try_clone(&answered)?)?;
     let out = MemSink::new(alloc, rt, piece, case.devices.writes.clone()?);
-    let mut out = Answers::of(out, &answered);
+    let mut out = Answers::of(out, answered);
     let mut err = MemSink::new(alloc, rt, piece, case.devices.messages.clone()?);
     let words = case.words.as_slice();
     let meeting = Meeting::of(case.wanted.workers.unwrap_or(1));
