@@ -1,0 +1,11 @@
+pub mod Suffixes
+pub mod Words
+pub mod Longest
+pub mod Among
+pub mod Edges
+pub mod Walking
+pub mod Growing
+pub mod FailureLists
+pub mod Rows
+pub mod Connecting
+pub mod Grown

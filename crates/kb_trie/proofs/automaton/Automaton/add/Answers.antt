@@ -1,0 +1,56 @@
+use Rattle.std.proofs.Common.{◌≡◌, ℕ, List, ◌∷◌, [], ◌++◌, Bool, if◌then◌else◌, length, sym, ap, ◌∙◌, subst, arith}
+use Rattle.std.proofs.lemmas.List.{length_push}
+use Rattle.kb_trie.specs.declared.edge.Edge.{Edge}
+use Rattle.kb_trie.specs.Edges.{IsTree, words_of}
+use Rattle.kb_trie.specs.Tries.{HasSteps}
+use Rattle.kb_trie.proofs.Edges.{no_edge_is}
+use Rattle.kb_trie.proofs.Words.{tree_grow, words_more}
+use Rattle.kb_trie.proofs.automaton.Automaton.add.Goals as goal
+
+pub connect-requires-clause-walked : goal.connect-requires-clause-walked
+connect-requires-clause-walked c =
+    let is = c.requires.automaton in (
+      words_of c.args.self.now.edges.keys,
+      is.states.are,
+      c.make_room.ensures.steps _ is.steps,
+      c.step-after.ensures,
+      c.requires.state,
+      c.in_ok-find_children.ensures,
+    )
+
+pub returns-clause-automaton : goal.returns-clause-automaton
+returns-clause-automaton c =
+    let is = c.requires.automaton in
+    let old : List Edge = c.args.self.now.edges.keys in
+    let words : List (List ℕ) = words_of c.args.self.now.edges.keys in
+    let edge : Edge = record { parent = c.args.state; letter = c.args.letter } in
+    let keys : c.insert.new.self.keys ≡ old ++ edge ∷ [] =
+    c.in_ok-insert.ensures.keys ∙ ap (λ (b : Bool). if b then old else old ++ edge ∷ []) (no_edge_is old words is.states.spell edge c.requires.none) in
+    let has : HasSteps words c.make_room.new.self = c.make_room.ensures.steps words is.steps in
+    let S : List (List ℕ) → Type 0 = λ ws. HasSteps ws c.connect.new.self in
+    record {
+      states =
+          subst IsTree (sym keys)
+          (tree_grow old edge is.states c.requires.state c.requires.none (omega (arith, c.in_ok-make_room.ensures.room.few, has.count)));
+      steps =
+          subst S (sym (ap words_of keys ∙ words_more old edge))
+          (c.connect.ensures words is.states.are has c.requires.none c.requires.state c.step-after.ensures c.in_ok-find_children.ensures);
+    }
+
+pub returns-clause-words : goal.returns-clause-words
+returns-clause-words c =
+    let old : List Edge = c.args.self.now.edges.keys in
+    let edge : Edge = record { parent = c.args.state; letter = c.args.letter } in
+    let keys : c.insert.new.self.keys ≡ old ++ edge ∷ [] =
+    c.in_ok-insert.ensures.keys
+    ∙ ap (λ (b : Bool). if b then old else old ++ edge ∷ []) (no_edge_is old (words_of old) c.requires.automaton.states.spell edge c.requires.none) in
+    ap words_of keys ∙ words_more old edge
+
+pub returns-clause-state : goal.returns-clause-state
+returns-clause-state c =
+    let old : List Edge = c.args.self.now.edges.keys in
+    let edge : Edge = record { parent = c.args.state; letter = c.args.letter } in
+    let keys : c.insert.new.self.keys ≡ old ++ edge ∷ [] =
+    c.in_ok-insert.ensures.keys
+    ∙ ap (λ (b : Bool). if b then old else old ++ edge ∷ []) (no_edge_is old (words_of old) c.requires.automaton.states.spell edge c.requires.none) in
+    c.len.ensures.len ∙ ap length keys ∙ length_push old edge ∙ sym c.requires.automaton.states.spell.count

@@ -1,0 +1,6 @@
+pub mod States
+pub mod Edges
+pub mod Steps
+pub mod FailureTrees
+pub mod Walks
+pub mod Tries

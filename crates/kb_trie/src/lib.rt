@@ -1,0 +1,58 @@
+//! The automaton of a changing set of words, kept up to date when a word comes.
+//!
+//! [`Trie`] has a state for each word that was inserted and for each beginning of one: state 0 for the empty word, and the
+//! others in the order in which they were made. No word need be free of the others: one may be a factor of another, or begin it.
+//! The automaton reads a text letter by letter, and its state is always that of the longest suffix of what was read that is a
+//! state's word (Aho and Corasick, Efficient string matching, 1975). A state that is added changes the automaton where the
+//! new word is such a suffix and nowhere else (Meyer, Incremental string matching, 1985), so that the work of an insertion
+//! grows with what it changes, and not with the number of states.
+//!
+//! # The public contract
+//!
+//! A caller knows of a trie the words of its states (`States` of specs/States.antt). `Trie::count` tells how many there are, and
+//! what is true of them (`AreWords`): state 0 has the empty word, every other state the word of an earlier one with a letter
+//! more, and no two have one word.
+//!
+//! - `Trie::child` is the state of a state's word with a letter more, if there is one, `Trie::step` the state of the longest
+//!   suffix of it that is a state's word (`IsStep` of specs/Steps.antt), `Trie::link` that of the longest proper suffix of a
+//!   state's word (`IsLink`), and `Trie::depth` the length of its word.
+//! - `Trie::add` adds the state of a state's word with a letter more, and `Trie::insert` those of a word and its beginnings. Want
+//!   of memory is the one free answer. It leaves the trie as it was, but that `insert` may have made some of its states.
+//!
+//! # How it works
+//!
+//! - `edge`: an edge for each state but state 0, by the state that it leads from and its letter. `child` finds a child by the
+//!   edge's hash, and steps along failure links where there is no table.
+//! - `failure_tree`: the failure links. The states that have one link stand in a list, latest first, of which each knows the next and
+//!   the previous one, so that a state moves to another list in a few writes.
+//! - `table`: the steps by the letters of a short alphabet, a row for each state, so that a step is one look. It takes four
+//!   bytes for each entry and 16 MiB at most; where it would take more it goes, and steps are taken by children and links.
+//! - `walk`: a walk down the failure tree from a state, level by level, which stops at states that have a child by the letter. It
+//!   changes nothing: it lists the states that it reached and left, and the children that it noted where it stopped.
+//! - `steps`: links, table and the lengths of the words together. Let a state with the word x get a child by the letter a. The step
+//!   by a leads to the new state from exactly those states whose words end with x such that none between them and x has a
+//!   child by a: those that the walk reached. The link of exactly the children that it noted becomes the new state. The
+//!   link of the new state is the step that x had before, and its row is that of its link.
+//! - `automaton` adds the edge and has all these together; `trie` hides them from callers. Memory is taken first, so that after want
+//!   of it nothing has changed.
+//!
+//! # The proofs
+//!
+//! `proofs/Suffixes.antt` and `proofs/Longest.antt` have suffixes, steps and links, `proofs/Words.antt` and `proofs/Edges.antt` the words
+//! of the states, `proofs/FailureLists.antt` the lists of the failure tree, `proofs/Walking.antt` the walk, `proofs/Growing.antt` and
+//! `proofs/Connecting.antt` what a new state changes, `proofs/Rows.antt` the table, and `proofs/Grown.antt` the states of a word.
+//!
+//! Below is `kb_word`, with words.
+#![tactic(auto)]
+
+mod automaton;
+mod child;
+mod edge;
+mod failure_tree;
+mod room;
+mod steps;
+mod table;
+mod trie;
+mod walk;
+
+pub use trie::Trie;

@@ -1,0 +1,103 @@
+//! The trie, whose automaton is kept up to date.
+
+ghost use Rattle.std.specs.Prelude.{◌≡◌, ◌<◌, ◌^◌, [], ◌∷◌, ◌++◌, IfOk, IfNone, IfSome, OnErr, OnOk, length};
+ghost use Rattle.kb_trie.specs.States.{AreWords, Grows, HasWord, IsChild, IsNoChild, word};
+ghost use Rattle.kb_trie.specs.Steps.{IsLink, IsStep};
+
+use crate::automaton::Automaton;
+use kb_word::{Memory, Word};
+use std::alloc::Global;
+use std::marker::Model;
+
+/// The automaton of a set of words. A state stands for a word that begins one of them, state 0 for the empty word.
+#[derive(Drop)]
+pub struct Trie {
+    automaton: Automaton,
+}
+
+impl Model for Trie {
+    ghost use Rattle.kb_trie.specs.States.{States};
+
+    ghost Value = { States };
+
+    ghost use Rattle.kb_trie.specs.Tries.{IsAutomaton, states_of};
+
+    ghost view = { λ trie. states_of trie.automaton };
+
+    ghost invariant = { λ trie. IsAutomaton trie.automaton };
+}
+
+impl Trie {
+    /// The trie of the empty word alone. Most letters are at most this one: a step by one of those is one look into a table,
+    /// as long as that isn't too large.
+    pub fn new(alloc: Global, letters: u16) -> Result<Trie, Memory>
+        ensures { IfOk result (λ trie. trie.words ≡ [] ∷ []) }
+    {
+        let automaton = Automaton::root(alloc, letters)?;
+        Ok(Trie { automaton })
+    }
+
+    /// How many states there are. They are numbered from 0 on.
+    pub fn count(&self) -> usize
+        ensures count { result ≡ length self.now.words }
+        ensures words { AreWords self.now.words }
+        ensures few { result < 2 ^ 32 }
+    {
+        self.automaton.count()
+    }
+
+    /// The state of a state's word with the letter more.
+    pub fn child(&self, state: u32, letter: u16) -> Option<u32>
+        requires { state < length self.now.words }
+        ensures some { IfSome result (IsChild self.now.words state letter) }
+        ensures none { IfNone result (IsNoChild self.now.words state letter) }
+    {
+        self.automaton.child(state, letter)
+    }
+
+    /// The state after a letter more: that of the longest suffix, of the state's word with the letter more, that is a
+    /// state's word.
+    pub fn step(&self, state: u32, letter: u16) -> u32
+        requires { state < length self.now.words }
+        ensures { IsStep self.now.words state letter result }
+    {
+        self.automaton.step(state, letter)
+    }
+
+    /// The failure link of a state: the state of the longest proper suffix of its word that is a state's word, or state 0.
+    pub fn link(&self, state: u32) -> u32
+        requires { state < length self.now.words }
+        ensures { IsLink self.now.words state result }
+    {
+        self.automaton.link(state)
+    }
+
+    /// The length of a state's word.
+    pub fn depth(&self, state: u32) -> u32
+        requires { state < length self.now.words }
+        ensures { result ≡ length (word self.now.words state) }
+    {
+        self.automaton.depth(state)
+    }
+
+    /// Adds the state of a state's word with a letter more, which has no state yet.
+    pub fn add(&mut self, state: u32, letter: u16) -> Result<u32, Memory>
+        requires state { state < length self.old.words }
+        requires none { IsNoChild self.old.words state letter }
+        ensures words { OnOk result (self.new.words
+            ≡ self.old.words ++ (word self.old.words state ++ letter ∷ []) ∷ []) }
+        ensures state { IfOk result (λ next. next ≡ length self.old.words) }
+        ensures err { OnErr result (self.new ≡ self.old) }
+    {
+        self.automaton.add(state, letter)
+    }
+
+    /// The state of a word, which is made where it isn't there, with those of the word's first letters. After want of memory
+    /// some of these may have been made.
+    pub fn insert(&mut self, w: &Word) -> Result<u32, Memory>
+        ensures word { IfOk result (HasWord self.new.words w.now) }
+        ensures grows { Grows w.now self.old self.new }
+    {
+        self.automaton.insert(w)
+    }
+}

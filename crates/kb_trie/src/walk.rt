@@ -1,0 +1,180 @@
+//! Walks down the failure tree.
+
+ghost use Rattle.std.specs.Prelude.{◌≡◌, ℕ, ◌+◌, ◌<◌, ◌≤◌, ◌++◌, ◌∷◌, [], cond, IfSome, IfNone, OnOk, length, get_or};
+ghost use Rattle.kb_trie.specs.States.{IsChild, IsNoChild, word};
+ghost use Rattle.kb_trie.specs.Edges.{IsTree, words_of};
+ghost use Rattle.kb_trie.specs.Steps.{AreLinks};
+ghost use Rattle.kb_trie.specs.FailureTrees.{IsFailureTree};
+ghost use Rattle.kb_trie.specs.Walks.{AreDeep, Gains, IsChildWalk, IsWalk, IsWalking, Notes};
+
+use crate::child::child;
+use crate::edge::Edge;
+use crate::failure_tree::FailureTree;
+use indexmap::IndexSet;
+use kb_word::Memory;
+use std::alloc::Global;
+
+/// At which states a walk stops, and what it notes there: at those that have a child by the letter, the child.
+#[derive(Clone, Copy, Debug)]
+pub enum Stop {
+    Child(u16),
+}
+
+/// The states that a walk reached and left, and what it noted at those at which it stopped.
+#[derive(Debug, Drop)]
+pub struct Walk {
+    pub free: Vec<u32>,
+    pub stopped: Vec<u32>,
+}
+
+impl Walk {
+    /// No states.
+    pub fn none(alloc: Global) -> Walk {
+        Walk {
+            free: Vec::new(alloc),
+            stopped: Vec::new(alloc),
+        }
+    }
+
+    /// Walks down from a state that has no child by a letter, down to states that have one.
+    pub fn find_children(
+        &mut self,
+        edges: &IndexSet<Edge>,
+        tree: &FailureTree,
+        state: u32,
+        letter: u16,
+    ) -> Result<(), Memory>
+        requires states { IsTree edges.now.keys }
+        requires links { AreLinks (words_of edges.now.keys) tree.now.links.items }
+        requires tree { IsFailureTree tree.now }
+        requires count { tree.now.count ≡ length (words_of edges.now.keys) }
+        requires state { state < tree.now.count }
+        requires none { IsNoChild (words_of edges.now.keys) state letter }
+        ensures { OnOk result (IsChildWalk (words_of edges.now.keys) tree.now.links.items state letter
+            self.new.free.items self.new.stopped.items) }
+    {
+        self.go(edges, tree, state, Stop::Child(letter))?;
+        self.stopped.sort_unstable();
+        Ok(())
+    }
+
+    /// Walks down from a state, at which it doesn't stop. What was held before is gone; where memory runs out it holds
+    /// anything.
+    fn go(
+        &mut self,
+        edges: &IndexSet<Edge>,
+        tree: &FailureTree,
+        root: u32,
+        stop: Stop,
+    ) -> Result<(), Memory>
+        requires states { IsTree edges.now.keys }
+        requires links { AreLinks (words_of edges.now.keys) tree.now.links.items }
+        requires tree { IsFailureTree tree.now }
+        requires count { tree.now.count ≡ length (words_of edges.now.keys) }
+        requires root { root < tree.now.count }
+        requires free { (noted : ℕ) → ¬ Notes (words_of edges.now.keys) stop root noted }
+        ensures { OnOk result (IsWalk (words_of edges.now.keys) tree.now.links.items
+            (Notes (words_of edges.now.keys) stop) root self.new.free.items self.new.stopped.items) }
+    {
+        self.free.clear();
+        self.stopped.clear();
+        self.free.push(root)?;
+        let mut start = 0;
+        // At each level the words are longer, and no word is as long as there are states.
+        for level in 0..tree.count {
+            let end = self.free.len();
+            if start == end {
+                return Ok(());
+            }
+            self.go_down(edges, tree, root, start, end, stop)?;
+            start = end;
+        }
+        Ok(())
+    }
+
+    /// Looks at the children, in the failure tree, of the states at the places from the first one up to the last.
+    fn go_down(
+        &mut self,
+        edges: &IndexSet<Edge>,
+        tree: &FailureTree,
+        root: u32,
+        start: usize,
+        end: usize,
+        stop: Stop,
+    ) -> Result<(), Memory>
+        requires states { IsTree edges.now.keys }
+        requires links { AreLinks (words_of edges.now.keys) tree.now.links.items }
+        requires tree { IsFailureTree tree.now }
+        requires count { tree.now.count ≡ length (words_of edges.now.keys) }
+        requires start { start ≤ end }
+        requires end { end ≡ length self.old.free.items }
+        requires walking { IsWalking (words_of edges.now.keys) tree.now.links.items
+            (Notes (words_of edges.now.keys) stop) root start self.old.free.items
+            self.old.stopped.items }
+        ensures longer { OnOk result (end ≤ length self.new.free.items) }
+        ensures walking { OnOk result (IsWalking (words_of edges.now.keys) tree.now.links.items
+            (Notes (words_of edges.now.keys) stop) root end self.new.free.items
+            self.new.stopped.items) }
+        ensures deeper { (level : ℕ)
+            → AreDeep (words_of edges.now.keys) level start self.old.free.items
+            → OnOk result (AreDeep (words_of edges.now.keys) (level + 1) end self.new.free.items) }
+    {
+        for place in start..end {
+            let at = self.free[place];
+            self.look(edges, tree, at, stop)?;
+        }
+        Ok(())
+    }
+
+    /// Looks at the children of a state in the failure tree.
+    fn look(
+        &mut self,
+        edges: &IndexSet<Edge>,
+        tree: &FailureTree,
+        at: u32,
+        stop: Stop,
+    ) -> Result<(), Memory>
+        requires states { IsTree edges.now.keys }
+        requires tree { IsFailureTree tree.now }
+        requires count { tree.now.count ≡ length (words_of edges.now.keys) }
+        requires at { at < tree.now.count }
+        ensures { OnOk result (Gains tree.now.count tree.now.links.items
+            (Notes (words_of edges.now.keys) stop) at 0 self.old.free.items self.old.stopped.items
+            self.new.free.items self.new.stopped.items) }
+    {
+        let mut state = tree.firsts[at as usize];
+        while state > 0 {
+            self.add(state, noted(edges, state, stop))?;
+            state = tree.nexts[state as usize];
+        }
+        Ok(())
+    }
+
+    /// Adds a state at which nothing is noted, or what is noted.
+    fn add(&mut self, state: u32, noted: Option<u32>) -> Result<(), Memory>
+        ensures free { OnOk result (IfNone noted
+            ((self.new.free.items ≡ self.old.free.items ++ state ∷ [])
+            × (self.new.stopped.items ≡ self.old.stopped.items))) }
+        ensures stopped { OnOk result (IfSome noted (λ number.
+            (self.new.free.items ≡ self.old.free.items)
+            × (self.new.stopped.items ≡ self.old.stopped.items ++ number ∷ []))) }
+    {
+        match noted {
+            None => self.free.push(state)?,
+            Some(number) => self.stopped.push(number)?,
+        }
+        Ok(())
+    }
+}
+
+/// What a walk notes at a state, if it stops there.
+fn noted(edges: &IndexSet<Edge>, state: u32, stop: Stop) -> Option<u32>
+    requires states { IsTree edges.now.keys }
+    requires state { state < length (words_of edges.now.keys) }
+    ensures some { IfSome result (Notes (words_of edges.now.keys) stop state) }
+    ensures none { IfNone result ((noted : ℕ) → ¬ Notes (words_of edges.now.keys) stop state noted) }
+{
+    match stop {
+        Stop::Child(letter) => child(edges, state, letter),
+    }
+}
