@@ -1,16 +1,16 @@
 -- States that are added for a word.
-use Rattle.std.proofs.Common.{◌≡◌, ℕ, ◌+◌, ◌<◌, List, [], ◌∷◌, ◌++◌, length, take, drop, get_or, sym, ap, ◌∙◌, subst, arith, append_assoc}
-use Rattle.std.proofs.lemmas.List.{append-nil, take-append-drop, take_more, get_or_push, length_push}
+use Rattle.std.proofs.Common.{◌≡◌, ℕ, ◌+◌, ◌<◌, List, [], ◌∷◌, ◌++◌, length, take, drop, replicate, get_or, sym, ap, ◌∙◌, subst, arith, append_assoc, length-append}
+use Rattle.std.proofs.lemmas.List.{replicate-append-replicate, append-nil, take-append-drop, take_more, get_or_push, length_push}
 use Rattle.std.proofs.lemmas.List.Elements.{All-nil, All-cons, All-append, All-weaker}
 use Rattle.kb_trie.specs.States.{BeginsWith, Grows, HasWord, States}
 
-pub grows_none : (w : List ℕ) (before after : States) → after.words ≡ before.words → Grows w before after
-grows_none w before after same =
-    record { more = []; words = same ∙ sym (append-nil before.words); each = All-nil (BeginsWith w) }
+pub grows_none : (w : List ℕ) (before after : States) → after.words ≡ before.words → after.numbers ≡ before.numbers → Grows w before after
+grows_none w before after same numbers =
+    record { more = []; words = same ∙ sym (append-nil before.words); each = All-nil (BeginsWith w); numbers = numbers ∙ sym (append-nil before.numbers) }
 
-pub grows_one : (w : List ℕ) (before after : States) → after.words ≡ before.words ++ w ∷ [] → Grows w before after
-grows_one w before after same =
-    record { more = w ∷ []; words = same; each = All-cons (BeginsWith w) w [] (record { rest = []; whole = sym (append-nil w) }) (All-nil (BeginsWith w)) }
+pub grows_one : (w : List ℕ) (before after : States) → after.words ≡ before.words ++ w ∷ [] → after.numbers ≡ before.numbers ++ 0 ∷ [] → Grows w before after
+grows_one w before after same numbers =
+    record { more = w ∷ []; words = same; each = All-cons (BeginsWith w) w [] (record { rest = []; whole = sym (append-nil w) }) (All-nil (BeginsWith w)); numbers = numbers }
 
 begins_within : (w u v : List ℕ) → BeginsWith w u → BeginsWith u v → BeginsWith w v
 begins_within w u v outer inner =
@@ -29,6 +29,11 @@ grows_more w u one two three begins first second =
       each =
           All-append (BeginsWith w) first.more second.more first.each
           (All-weaker (BeginsWith u) (BeginsWith w) (λ v inner. begins_within w u v begins inner) second.more second.each);
+      numbers =
+          second.numbers ∙ ap (λ (ns : List ℕ). ns ++ replicate (length second.more) 0) first.numbers
+          ∙ append_assoc one.numbers (replicate (length first.more) 0) (replicate (length second.more) 0)
+          ∙ ap (λ (ns : List ℕ). one.numbers ++ ns) (replicate-append-replicate (length first.more) (length second.more) 0)
+          ∙ ap (λ (n : ℕ). one.numbers ++ replicate n 0) (sym (length-append first.more second.more));
     }
 
 pub begins_take : (w : List ℕ) (i : ℕ) → BeginsWith w (take i w)

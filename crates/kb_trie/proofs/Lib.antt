@@ -9,3 +9,5 @@ pub mod FailureLists
 pub mod Rows
 pub mod Connecting
 pub mod Grown
+pub mod Ending
+pub mod Numbers

@@ -1,9 +1,10 @@
 -- The states of a trie, and their words.
-use Rattle.std.specs.Prelude.{◌≡◌, ℕ, ◌<◌, List, [], ◌∷◌, ◌++◌, All, length, get_or}
+use Rattle.std.specs.Prelude.{◌≡◌, ℕ, ◌<◌, List, [], ◌∷◌, ◌++◌, All, length, get_or, replicate}
 
--- what callers know of a trie: the words of its states, in their order
+-- what callers know of a trie: the words of its states, in their order, and the number that each keeps, or 0
 pub record States : Type 0 where
   pub words : List (List ℕ)
+  pub numbers : List ℕ
 
 -- the word of a state
 abbrev pub word : List (List ℕ) → ℕ → List ℕ
@@ -48,3 +49,4 @@ pub record Grows (w : List ℕ) (before after : States) : Type 0 where
   pub more : List (List ℕ)
   pub words : after.words ≡ before.words ++ more
   pub each : All (BeginsWith w) more
+  pub numbers : after.numbers ≡ before.numbers ++ replicate (length more) 0

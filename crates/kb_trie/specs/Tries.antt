@@ -1,11 +1,12 @@
 -- The trie as a whole.
-use Rattle.std.specs.Prelude.{◌≡◌, ℕ, ◌+◌, ◌*◌, ◌<◌, ◌≤◌, List, length, get_or}
+use Rattle.std.specs.Prelude.{◌≡◌, ℕ, ◌+◌, ◌*◌, ◌<◌, ◌≤◌, List, length, get_or, take}
 use Rattle.kb_trie.specs.declared.automaton.Automaton.{Automaton}
 use Rattle.kb_trie.specs.declared.steps.Steps.{Steps}
 use Rattle.kb_trie.specs.States.{States, word}
 use Rattle.kb_trie.specs.Edges.{IsTree, words_of}
 use Rattle.kb_trie.specs.Steps.{AreLinks, AreSteps}
 use Rattle.kb_trie.specs.FailureTrees.{IsFailureTree}
+use Rattle.kb_trie.specs.Ends.{HasEnds}
 
 -- the lengths of the states' words
 pub record AreDepths (words : List (List ℕ)) (depths : List ℕ) : Type 0 where
@@ -35,10 +36,16 @@ pub record HasRoom (steps : Steps) : Type 0 where
 abbrev pub words_in : Automaton → List (List ℕ)
 words_in automaton = words_of automaton.edges.keys
 
+-- the numbers that its states keep
+abbrev pub numbers_in : Automaton → List ℕ
+numbers_in automaton = take (length (words_in automaton)) automaton.ends.numbers.items
+
 -- what callers know of an automaton
 abbrev pub states_of : Automaton → States
-states_of automaton = record { words = words_in automaton }
+states_of automaton =
+    record { words = words_in automaton; numbers = numbers_in automaton }
 
 pub record IsAutomaton (automaton : Automaton) : Type 0 where
   pub states : IsTree automaton.edges.keys
   pub steps : HasSteps (words_in automaton) automaton.steps
+  pub ends : HasEnds (words_in automaton) automaton.ends

@@ -1,8 +1,8 @@
 -- Walks down the failure tree.
-use Rattle.std.specs.Prelude.{◌≡◌, ℕ, ◌<◌, ◌≤◌, ◌⊎◌, List, length, get_or}
+use Rattle.std.specs.Prelude.{◌≡◌, ℕ, ◌<◌, ◌≤◌, ◌⊎◌, List, length, get_or, set}
 use Rattle.kb_word.specs.Words.{EndsWith}
 use Rattle.kb_trie.specs.declared.walk.Stop.{Stop}
-use Rattle.kb_trie.specs.declared.walk.Stop.TheVariants.{Child}
+use Rattle.kb_trie.specs.declared.walk.Stop.TheVariants.{Child, Numbered}
 use Rattle.kb_trie.specs.States.{IsChild, word}
 
 -- the number is one of the list's
@@ -11,9 +11,16 @@ pub record IsAmong (numbers : List ℕ) (number : ℕ) : Type 0 where
   pub within : place < length numbers
   pub is : get_or numbers place 0 ≡ number
 
--- a walk stops at the state and notes a number: its child by the letter
-abbrev pub Notes : List (List ℕ) → Stop → ℕ → ℕ → Type 0
-Notes words (Child letter) state noted = IsChild words state letter noted
+-- the state keeps a number, and is what is noted
+pub record IsNumbered (numbers : List ℕ) (state noted : ℕ) : Type 0 where
+  pub keeps : 0 < get_or numbers state 0
+  pub is : noted ≡ state
+
+-- a walk stops at the state and notes a number: its child by the letter, or itself where it keeps a number and is another
+-- state than this one
+abbrev pub Notes : List (List ℕ) → List ℕ → Stop → ℕ → ℕ → Type 0
+Notes words numbers (Child letter) state noted = IsChild words state letter noted
+Notes words numbers (Numbered except) state noted = IsNumbered (set numbers except 0) state noted
 
 -- the state's word ends with the root's, and at no state between them, nor at either, a walk stops
 pub record IsFree (words : List (List ℕ)) (notes : ℕ → ℕ → Type 0) (root state : ℕ) : Type 0 where

@@ -1,12 +1,14 @@
 //! The automaton: its edges and steps, and how a state is added.
 
-ghost use Rattle.std.specs.Prelude.{◌≡◌, ℕ, ◌<◌, ◌≤◌, ◌+◌, ◌^◌, [], ◌∷◌, ◌++◌, IfOk, OnOk, OnErr, IfSome, IfNone, length, get_or};
+ghost use Rattle.std.specs.Prelude.{◌≡◌, ℕ, ◌<◌, ◌≤◌, ◌+◌, ◌^◌, [], ◌∷◌, ◌++◌, IfOk, OnOk, OnErr, IfSome, IfNone, length, get_or, set};
 ghost use Rattle.kb_trie.specs.States.{Grows, HasWord, IsChild, IsNoChild, word};
 ghost use Rattle.kb_trie.specs.Steps.{IsLink, IsStep};
-ghost use Rattle.kb_trie.specs.Tries.{IsAutomaton, states_of, words_in};
+ghost use Rattle.kb_trie.specs.Ends.{IsEnd};
+ghost use Rattle.kb_trie.specs.Tries.{IsAutomaton, numbers_in, states_of, words_in};
 
 use crate::child::child;
 use crate::edge::Edge;
+use crate::ends::Ends;
 use crate::steps::Steps;
 use crate::walk::Walk;
 use indexmap::IndexSet;
@@ -18,6 +20,7 @@ use std::alloc::Global;
 pub struct Automaton {
     pub edges: IndexSet<Edge>,
     pub steps: Steps,
+    pub ends: Ends,
     /// What the last walk found.
     pub walk: Walk,
 }
@@ -26,12 +29,15 @@ impl Automaton {
     /// The automaton of the empty word alone, with a table for letters up to this one.
     pub fn root(alloc: Global, letters: u16) -> Result<Automaton, Memory>
         ensures words { IfOk result (λ automaton. words_in automaton ≡ [] ∷ []) }
+        ensures numbers { IfOk result (λ automaton. numbers_in automaton ≡ 0 ∷ []) }
         ensures automaton { IfOk result IsAutomaton }
     {
         let steps = Steps::root(alloc, letters)?;
+        let ends = Ends::root(alloc)?;
         Ok(Automaton {
             edges: IndexSet::new(alloc),
             steps,
+            ends,
             walk: Walk::none(alloc),
         })
     }
@@ -39,7 +45,8 @@ impl Automaton {
     /// How many states there are.
     pub fn count(&self) -> usize
         requires { IsAutomaton self.now }
-        ensures { result ≡ length (words_in self.now) }
+        ensures count { result ≡ length (words_in self.now) }
+        ensures numbers { length (numbers_in self.now) ≡ length (words_in self.now) }
     {
         self.edges.len() + 1
     }
@@ -81,6 +88,71 @@ impl Automaton {
         self.steps.depths[state as usize]
     }
 
+    /// The number that a state keeps, or 0.
+    pub fn number_at(&self, state: u32) -> u32
+        requires automaton { IsAutomaton self.now }
+        requires state { state < length (words_in self.now) }
+        ensures { result ≡ get_or (numbers_in self.now) state 0 }
+    {
+        self.ends.numbers[state as usize]
+    }
+
+    /// The end of a state.
+    pub fn end_at(&self, state: u32) -> u32
+        requires automaton { IsAutomaton self.now }
+        requires state { state < length (words_in self.now) }
+        ensures { IsEnd (words_in self.now) (numbers_in self.now) state result }
+    {
+        self.ends.ends[state as usize]
+    }
+
+    /// Lets a state keep a number that keeps none.
+    pub fn set(&mut self, state: u32, number: u32) -> Result<(), Memory>
+        requires automaton { IsAutomaton self.old }
+        requires state { state < length (words_in self.old) }
+        requires none { get_or (numbers_in self.old) state 0 ≡ 0 }
+        requires some { 0 < number }
+        ensures automaton { IsAutomaton self.new }
+        ensures words { words_in self.new ≡ words_in self.old }
+        ensures ok { OnOk result (numbers_in self.new ≡ set (numbers_in self.old) state number) }
+        ensures err { OnErr result (numbers_in self.new ≡ numbers_in self.old) }
+    {
+        self.walk
+            .find_free(&self.edges, &self.steps.tree, &self.ends.numbers, state)?;
+        self.ends.change(state, number, &self.walk.free, state);
+        Ok(())
+    }
+
+    /// Takes the number from a state, if it keeps one.
+    pub fn clear(&mut self, state: u32) -> Result<(), Memory>
+        requires automaton { IsAutomaton self.old }
+        requires state { state < length (words_in self.old) }
+        ensures automaton { IsAutomaton self.new }
+        ensures words { words_in self.new ≡ words_in self.old }
+        ensures ok { OnOk result (numbers_in self.new ≡ set (numbers_in self.old) state 0) }
+        ensures err { OnErr result (numbers_in self.new ≡ numbers_in self.old) }
+    {
+        let link = self.steps.tree.links[state as usize];
+        let end = self.ends.ends[link as usize];
+        self.walk
+            .find_free(&self.edges, &self.steps.tree, &self.ends.numbers, state)?;
+        self.ends.change(state, 0, &self.walk.free, end);
+        Ok(())
+    }
+
+    /// Gives a state that keeps a number another one.
+    pub fn renumber(&mut self, state: u32, number: u32)
+        requires automaton { IsAutomaton self.old }
+        requires state { state < length (words_in self.old) }
+        requires old { 0 < get_or (numbers_in self.old) state 0 }
+        requires some { 0 < number }
+        ensures automaton { IsAutomaton self.new }
+        ensures words { words_in self.new ≡ words_in self.old }
+        ensures numbers { numbers_in self.new ≡ set (numbers_in self.old) state number }
+    {
+        self.ends.numbers[state as usize] = number;
+    }
+
     /// Adds the state of a state's word with a letter more.
     pub fn add(&mut self, state: u32, letter: u16) -> Result<u32, Memory>
         requires automaton { IsAutomaton self.old }
@@ -90,16 +162,24 @@ impl Automaton {
         ensures words { OnOk result (words_in self.new
             ≡ words_in self.old ++ (word (words_in self.old) state ++ letter ∷ []) ∷ []) }
         ensures state { IfOk result (λ next. next ≡ length (words_in self.old)) }
-        ensures err { OnErr result (words_in self.new ≡ words_in self.old) }
+        ensures numbers { OnOk result (numbers_in self.new ≡ numbers_in self.old ++ 0 ∷ []) }
+        ensures err { OnErr result (states_of self.new ≡ states_of self.old) }
     {
         let after = self.step(state, letter);
         self.steps.make_room()?;
-        self.walk
-            .find_children(&self.edges, &self.steps.tree, state, letter)?;
+        self.ends.make_room(self.steps.tree.count + 1)?;
+        self.walk.find_children(
+            &self.edges,
+            &self.steps.tree,
+            &self.ends.numbers,
+            state,
+            letter,
+        )?;
         self.edges.insert(Edge {
             parent: state,
             letter,
         })?;
+        self.ends.add(self.steps.tree.count, after);
         self.steps.connect(&self.walk, state, letter, after);
         Ok(self.edges.len() as u32)
     }

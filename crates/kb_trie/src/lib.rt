@@ -1,4 +1,4 @@
-//! The automaton of a changing set of words, kept up to date when a word comes.
+//! The automaton of a changing set of words, kept up to date when a word comes or goes.
 //!
 //! [`Trie`] has a state for each word that was inserted and for each beginning of one: state 0 for the empty word, and the
 //! others in the order in which they were made. No word need be free of the others: one may be a factor of another, or begin it.
@@ -9,15 +9,19 @@
 //!
 //! # The public contract
 //!
-//! A caller knows of a trie the words of its states (`States` of specs/States.antt). `Trie::count` tells how many there are, and
-//! what is true of them (`AreWords`): state 0 has the empty word, every other state the word of an earlier one with a letter
-//! more, and no two have one word.
+//! A caller knows of a trie the words of its states, and for each the number that it keeps, or 0 (`States` of
+//! specs/States.antt). `Trie::count` tells how many states there are, and what is true of their words (`AreWords`): state 0 has the
+//! empty word, every other state the word of an earlier one with a letter more, and no two have one word.
 //!
 //! - `Trie::child` is the state of a state's word with a letter more, if there is one, `Trie::step` the state of the longest
 //!   suffix of it that is a state's word (`IsStep` of specs/Steps.antt), `Trie::link` that of the longest proper suffix of a
 //!   state's word (`IsLink`), and `Trie::depth` the length of its word.
 //! - `Trie::add` adds the state of a state's word with a letter more, and `Trie::insert` those of a word and its beginnings. Want
-//!   of memory is the one free answer. It leaves the trie as it was, but that `insert` may have made some of its states.
+//!   of memory is the one free answer. It leaves the trie as it was, but that `insert` may have made some of its states. A state that comes keeps no number.
+//! - `Trie::set` lets a state keep a number, `Trie::renumber` another one in its place, and `Trie::clear` none: so a word goes, but its
+//!   state stays. `Trie::number_at` is the number of a state, and `Trie::end_at` its end (`IsEnd` of specs/Ends.antt): the
+//!   state of the longest suffix of its word, the word itself among them, that keeps a number. Here too want of memory is the one
+//!   free answer, and leaves all as it was.
 //!
 //! # How it works
 //!
@@ -27,12 +31,14 @@
 //!   the previous one, so that a state moves to another list in a few writes.
 //! - `table`: the steps by the letters of a short alphabet, a row for each state, so that a step is one look. It takes four
 //!   bytes for each entry and 16 MiB at most; where it would take more it goes, and steps are taken by children and links.
-//! - `walk`: a walk down the failure tree from a state, level by level, which stops at states that have a child by the letter. It
-//!   changes nothing: it lists the states that it reached and left, and the children that it noted where it stopped.
+//! - `walk`: a walk down the failure tree from a state, level by level, which stops at states that have a child by the letter, or at other
+//!   states that keep a number. It changes nothing: it lists the states that it reached and left, and what it noted where it stopped.
 //! - `steps`: links, table and the lengths of the words together. Let a state with the word x get a child by the letter a. The step
 //!   by a leads to the new state from exactly those states whose words end with x such that none between them and x has a
 //!   child by a: those that the walk reached. The link of exactly the children that it noted becomes the new state. The
 //!   link of the new state is the step that x had before, and its row is that of its link.
+//! - `ends`: the numbers and the ends. A number that comes to a state or goes from it changes the ends of exactly those states that
+//!   the walk reached: they become the state itself, or the end of its link. The end of a new state is that of its link.
 //! - `automaton` adds the edge and has all these together; `trie` hides them from callers. Memory is taken first, so that after want
 //!   of it nothing has changed.
 //!
@@ -40,7 +46,8 @@
 //!
 //! `proofs/Suffixes.antt` and `proofs/Longest.antt` have suffixes, steps and links, `proofs/Words.antt` and `proofs/Edges.antt` the words
 //! of the states, `proofs/FailureLists.antt` the lists of the failure tree, `proofs/Walking.antt` the walk, `proofs/Growing.antt` and
-//! `proofs/Connecting.antt` what a new state changes, `proofs/Rows.antt` the table, and `proofs/Grown.antt` the states of a word.
+//! `proofs/Connecting.antt` what a new state changes, `proofs/Rows.antt` the table, `proofs/Ending.antt` and
+//! `proofs/Numbers.antt` ends and numbers, and `proofs/Grown.antt` the states of a word.
 //!
 //! Below is `kb_word`, with words.
 #![tactic(auto)]
@@ -48,6 +55,7 @@
 mod automaton;
 mod child;
 mod edge;
+mod ends;
 mod failure_tree;
 mod room;
 mod steps;

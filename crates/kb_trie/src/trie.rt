@@ -1,8 +1,9 @@
 //! The trie, whose automaton is kept up to date.
 
-ghost use Rattle.std.specs.Prelude.{◌≡◌, ◌<◌, ◌^◌, [], ◌∷◌, ◌++◌, IfOk, IfNone, IfSome, OnErr, OnOk, length};
+ghost use Rattle.std.specs.Prelude.{◌≡◌, ◌<◌, ◌^◌, [], ◌∷◌, ◌++◌, IfOk, IfNone, IfSome, OnErr, OnOk, length, get_or, set};
 ghost use Rattle.kb_trie.specs.States.{AreWords, Grows, HasWord, IsChild, IsNoChild, word};
 ghost use Rattle.kb_trie.specs.Steps.{IsLink, IsStep};
+ghost use Rattle.kb_trie.specs.Ends.{IsEnd};
 
 use crate::automaton::Automaton;
 use kb_word::{Memory, Word};
@@ -31,7 +32,8 @@ impl Trie {
     /// The trie of the empty word alone. Most letters are at most this one: a step by one of those is one look into a table,
     /// as long as that isn't too large.
     pub fn new(alloc: Global, letters: u16) -> Result<Trie, Memory>
-        ensures { IfOk result (λ trie. trie.words ≡ [] ∷ []) }
+        ensures words { IfOk result (λ trie. trie.words ≡ [] ∷ []) }
+        ensures numbers { IfOk result (λ trie. trie.numbers ≡ 0 ∷ []) }
     {
         let automaton = Automaton::root(alloc, letters)?;
         Ok(Trie { automaton })
@@ -41,6 +43,7 @@ impl Trie {
     pub fn count(&self) -> usize
         ensures count { result ≡ length self.now.words }
         ensures words { AreWords self.now.words }
+        ensures numbers { length self.now.numbers ≡ length self.now.words }
         ensures few { result < 2 ^ 32 }
     {
         self.automaton.count()
@@ -80,12 +83,63 @@ impl Trie {
         self.automaton.depth(state)
     }
 
+    /// The number that a state keeps, or 0.
+    pub fn number_at(&self, state: u32) -> u32
+        requires { state < length self.now.words }
+        ensures { result ≡ get_or self.now.numbers state 0 }
+    {
+        self.automaton.number_at(state)
+    }
+
+    /// The end of a state: the state of the longest suffix of its word, the word itself among them, that keeps a number, or
+    /// state 0 where there is none.
+    pub fn end_at(&self, state: u32) -> u32
+        requires { state < length self.now.words }
+        ensures { IsEnd self.now.words self.now.numbers state result }
+    {
+        self.automaton.end_at(state)
+    }
+
+    /// Lets a state keep a number that keeps none.
+    pub fn set(&mut self, state: u32, number: u32) -> Result<(), Memory>
+        requires state { state < length self.old.words }
+        requires none { get_or self.old.numbers state 0 ≡ 0 }
+        requires some { 0 < number }
+        ensures words { self.new.words ≡ self.old.words }
+        ensures ok { OnOk result (self.new.numbers ≡ set self.old.numbers state number) }
+        ensures err { OnErr result (self.new.numbers ≡ self.old.numbers) }
+    {
+        self.automaton.set(state, number)
+    }
+
+    /// Takes the number from a state, if it keeps one.
+    pub fn clear(&mut self, state: u32) -> Result<(), Memory>
+        requires { state < length self.old.words }
+        ensures words { self.new.words ≡ self.old.words }
+        ensures ok { OnOk result (self.new.numbers ≡ set self.old.numbers state 0) }
+        ensures err { OnErr result (self.new.numbers ≡ self.old.numbers) }
+    {
+        self.automaton.clear(state)
+    }
+
+    /// Gives a state that keeps a number another one.
+    pub fn renumber(&mut self, state: u32, number: u32)
+        requires state { state < length self.old.words }
+        requires old { 0 < get_or self.old.numbers state 0 }
+        requires some { 0 < number }
+        ensures words { self.new.words ≡ self.old.words }
+        ensures numbers { self.new.numbers ≡ set self.old.numbers state number }
+    {
+        self.automaton.renumber(state, number);
+    }
+
     /// Adds the state of a state's word with a letter more, which has no state yet.
     pub fn add(&mut self, state: u32, letter: u16) -> Result<u32, Memory>
         requires state { state < length self.old.words }
         requires none { IsNoChild self.old.words state letter }
         ensures words { OnOk result (self.new.words
             ≡ self.old.words ++ (word self.old.words state ++ letter ∷ []) ∷ []) }
+        ensures numbers { OnOk result (self.new.numbers ≡ self.old.numbers ++ 0 ∷ []) }
         ensures state { IfOk result (λ next. next ≡ length self.old.words) }
         ensures err { OnErr result (self.new ≡ self.old) }
     {

@@ -1,11 +1,11 @@
 //! Walks down the failure tree.
 
-ghost use Rattle.std.specs.Prelude.{◌≡◌, ℕ, ◌+◌, ◌<◌, ◌≤◌, ◌++◌, ◌∷◌, [], cond, IfSome, IfNone, OnOk, length, get_or};
+ghost use Rattle.std.specs.Prelude.{◌≡◌, ℕ, ◌+◌, ◌<◌, ◌≤◌, ◌++◌, ◌∷◌, [], cond, IfSome, IfNone, OnOk, length, get_or, set};
 ghost use Rattle.kb_trie.specs.States.{IsChild, IsNoChild, word};
 ghost use Rattle.kb_trie.specs.Edges.{IsTree, words_of};
 ghost use Rattle.kb_trie.specs.Steps.{AreLinks};
 ghost use Rattle.kb_trie.specs.FailureTrees.{IsFailureTree};
-ghost use Rattle.kb_trie.specs.Walks.{AreDeep, Gains, IsChildWalk, IsWalk, IsWalking, Notes};
+ghost use Rattle.kb_trie.specs.Walks.{AreDeep, Gains, IsChildWalk, IsNumbered, IsWalk, IsWalking, Notes};
 
 use crate::child::child;
 use crate::edge::Edge;
@@ -14,10 +14,12 @@ use indexmap::IndexSet;
 use kb_word::Memory;
 use std::alloc::Global;
 
-/// At which states a walk stops, and what it notes there: at those that have a child by the letter, the child.
+/// At which states a walk stops, and what it notes there: at those that have a child by the letter, the child, or at those that
+/// keep a number and are not this state, themselves.
 #[derive(Clone, Copy, Debug)]
 pub enum Stop {
     Child(u16),
+    Numbered(u32),
 }
 
 /// The states that a walk reached and left, and what it noted at those at which it stopped.
@@ -41,10 +43,12 @@ impl Walk {
         &mut self,
         edges: &IndexSet<Edge>,
         tree: &FailureTree,
+        numbers: &[u32],
         state: u32,
         letter: u16,
     ) -> Result<(), Memory>
         requires states { IsTree edges.now.keys }
+        requires numbers { length (words_of edges.now.keys) ≤ length numbers.now }
         requires links { AreLinks (words_of edges.now.keys) tree.now.links.items }
         requires tree { IsFailureTree tree.now }
         requires count { tree.now.count ≡ length (words_of edges.now.keys) }
@@ -53,9 +57,29 @@ impl Walk {
         ensures { OnOk result (IsChildWalk (words_of edges.now.keys) tree.now.links.items state letter
             self.new.free.items self.new.stopped.items) }
     {
-        self.go(edges, tree, state, Stop::Child(letter))?;
+        self.go(edges, tree, numbers, state, Stop::Child(letter))?;
         self.stopped.sort_unstable();
         Ok(())
+    }
+
+    /// Walks down from a state, down to other states that keep a number.
+    pub fn find_free(
+        &mut self,
+        edges: &IndexSet<Edge>,
+        tree: &FailureTree,
+        numbers: &[u32],
+        state: u32,
+    ) -> Result<(), Memory>
+        requires states { IsTree edges.now.keys }
+        requires numbers { length (words_of edges.now.keys) ≤ length numbers.now }
+        requires links { AreLinks (words_of edges.now.keys) tree.now.links.items }
+        requires tree { IsFailureTree tree.now }
+        requires count { tree.now.count ≡ length (words_of edges.now.keys) }
+        requires state { state < tree.now.count }
+        ensures { OnOk result (IsWalk (words_of edges.now.keys) tree.now.links.items
+            (IsNumbered (set numbers.now state 0)) state self.new.free.items self.new.stopped.items) }
+    {
+        self.go(edges, tree, numbers, state, Stop::Numbered(state))
     }
 
     /// Walks down from a state, at which it doesn't stop. What was held before is gone; where memory runs out it holds
@@ -64,17 +88,19 @@ impl Walk {
         &mut self,
         edges: &IndexSet<Edge>,
         tree: &FailureTree,
+        numbers: &[u32],
         root: u32,
         stop: Stop,
     ) -> Result<(), Memory>
         requires states { IsTree edges.now.keys }
+        requires numbers { length (words_of edges.now.keys) ≤ length numbers.now }
         requires links { AreLinks (words_of edges.now.keys) tree.now.links.items }
         requires tree { IsFailureTree tree.now }
         requires count { tree.now.count ≡ length (words_of edges.now.keys) }
         requires root { root < tree.now.count }
-        requires free { (noted : ℕ) → ¬ Notes (words_of edges.now.keys) stop root noted }
+        requires free { (noted : ℕ) → ¬ Notes (words_of edges.now.keys) numbers.now stop root noted }
         ensures { OnOk result (IsWalk (words_of edges.now.keys) tree.now.links.items
-            (Notes (words_of edges.now.keys) stop) root self.new.free.items self.new.stopped.items) }
+            (Notes (words_of edges.now.keys) numbers.now stop) root self.new.free.items self.new.stopped.items) }
     {
         self.free.clear();
         self.stopped.clear();
@@ -86,7 +112,7 @@ impl Walk {
             if start == end {
                 return Ok(());
             }
-            self.go_down(edges, tree, root, start, end, stop)?;
+            self.go_down(edges, tree, numbers, root, start, end, stop)?;
             start = end;
         }
         Ok(())
@@ -97,23 +123,25 @@ impl Walk {
         &mut self,
         edges: &IndexSet<Edge>,
         tree: &FailureTree,
+        numbers: &[u32],
         root: u32,
         start: usize,
         end: usize,
         stop: Stop,
     ) -> Result<(), Memory>
         requires states { IsTree edges.now.keys }
+        requires numbers { length (words_of edges.now.keys) ≤ length numbers.now }
         requires links { AreLinks (words_of edges.now.keys) tree.now.links.items }
         requires tree { IsFailureTree tree.now }
         requires count { tree.now.count ≡ length (words_of edges.now.keys) }
         requires start { start ≤ end }
         requires end { end ≡ length self.old.free.items }
         requires walking { IsWalking (words_of edges.now.keys) tree.now.links.items
-            (Notes (words_of edges.now.keys) stop) root start self.old.free.items
+            (Notes (words_of edges.now.keys) numbers.now stop) root start self.old.free.items
             self.old.stopped.items }
         ensures longer { OnOk result (end ≤ length self.new.free.items) }
         ensures walking { OnOk result (IsWalking (words_of edges.now.keys) tree.now.links.items
-            (Notes (words_of edges.now.keys) stop) root end self.new.free.items
+            (Notes (words_of edges.now.keys) numbers.now stop) root end self.new.free.items
             self.new.stopped.items) }
         ensures deeper { (level : ℕ)
             → AreDeep (words_of edges.now.keys) level start self.old.free.items
@@ -121,7 +149,7 @@ impl Walk {
     {
         for place in start..end {
             let at = self.free[place];
-            self.look(edges, tree, at, stop)?;
+            self.look(edges, tree, numbers, at, stop)?;
         }
         Ok(())
     }
@@ -131,20 +159,22 @@ impl Walk {
         &mut self,
         edges: &IndexSet<Edge>,
         tree: &FailureTree,
+        numbers: &[u32],
         at: u32,
         stop: Stop,
     ) -> Result<(), Memory>
         requires states { IsTree edges.now.keys }
+        requires numbers { length (words_of edges.now.keys) ≤ length numbers.now }
         requires tree { IsFailureTree tree.now }
         requires count { tree.now.count ≡ length (words_of edges.now.keys) }
         requires at { at < tree.now.count }
         ensures { OnOk result (Gains tree.now.count tree.now.links.items
-            (Notes (words_of edges.now.keys) stop) at 0 self.old.free.items self.old.stopped.items
+            (Notes (words_of edges.now.keys) numbers.now stop) at 0 self.old.free.items self.old.stopped.items
             self.new.free.items self.new.stopped.items) }
     {
         let mut state = tree.firsts[at as usize];
         while state > 0 {
-            self.add(state, noted(edges, state, stop))?;
+            self.add(state, noted(edges, numbers, state, stop))?;
             state = tree.nexts[state as usize];
         }
         Ok(())
@@ -168,13 +198,27 @@ impl Walk {
 }
 
 /// What a walk notes at a state, if it stops there.
-fn noted(edges: &IndexSet<Edge>, state: u32, stop: Stop) -> Option<u32>
+fn noted(edges: &IndexSet<Edge>, numbers: &[u32], state: u32, stop: Stop) -> Option<u32>
     requires states { IsTree edges.now.keys }
+    requires numbers { length (words_of edges.now.keys) ≤ length numbers.now }
     requires state { state < length (words_of edges.now.keys) }
-    ensures some { IfSome result (Notes (words_of edges.now.keys) stop state) }
-    ensures none { IfNone result ((noted : ℕ) → ¬ Notes (words_of edges.now.keys) stop state noted) }
+    ensures some { IfSome result (Notes (words_of edges.now.keys) numbers.now stop state) }
+    ensures none { IfNone result ((noted : ℕ) → ¬ Notes (words_of edges.now.keys) numbers.now stop state noted) }
 {
     match stop {
         Stop::Child(letter) => child(edges, state, letter),
+        Stop::Numbered(except) => numbered(numbers, state, except),
     }
+}
+
+/// The state, if it keeps a number and is another one than this.
+fn numbered(numbers: &[u32], state: u32, except: u32) -> Option<u32>
+    requires state { state < length numbers.now }
+    ensures some { IfSome result (IsNumbered (set numbers.now except 0) state) }
+    ensures none { IfNone result ((noted : ℕ) → ¬ IsNumbered (set numbers.now except 0) state noted) }
+{
+    if state == except || numbers[state as usize] == 0 {
+        return None;
+    }
+    Some(state)
 }

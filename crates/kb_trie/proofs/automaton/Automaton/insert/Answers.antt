@@ -10,7 +10,7 @@ loop-letter-init c =
     record {
       automaton = c.requires;
       word = record { within = c.requires.states.are.some; is = c.requires.states.are.root };
-      grows = grows_none _ _ _ refl;
+      grows = grows_none _ _ _ refl refl;
     }
 
 pub loop-letter-preserved : goal.loop-letter-preserved

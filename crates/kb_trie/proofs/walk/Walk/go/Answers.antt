@@ -14,6 +14,6 @@ loop-level-preserved c =
 
 pub returns : goal.returns
 returns c =
-    walk_ends (words_of c.args.edges.now.keys) c.requires.states.are c.args.tree.now.links.items (Notes (words_of c.args.edges.now.keys) c.args.stop) c.args.root
+    walk_ends (words_of c.args.edges.now.keys) c.requires.states.are c.args.tree.now.links.items (Notes (words_of c.args.edges.now.keys) c.args.numbers.now c.args.stop) c.args.root
     c.loop-level.level c.loop-level.start c.loop-level.self.free.items c.loop-level.self.stopped.items (omega (arith, c.requires.count))
     c.loop-level.invariant.start c.loop-level.invariant.deep c.loop-level.invariant.walking

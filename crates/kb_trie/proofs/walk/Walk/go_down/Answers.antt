@@ -19,7 +19,7 @@ pub loop-place-preserved : goal.loop-place-preserved
 loop-place-preserved c =
     let words : List (List ℕ) = words_of c.args.edges.now.keys in
     let links : List ℕ = c.args.tree.now.links.items in
-    let notes : ℕ → ℕ → Type 0 = Notes (words_of c.args.edges.now.keys) c.args.stop in
+    let notes : ℕ → ℕ → Type 0 = Notes (words_of c.args.edges.now.keys) c.args.numbers.now c.args.stop in
     let first : List ℕ = c.args.self.now.free.items in
     let free : List ℕ = c.loop-place.self.free.items in
     let stopped : List ℕ = c.loop-place.self.stopped.items in
@@ -51,6 +51,6 @@ loop-place-preserved c =
 pub returns-clause-walking : goal.returns-clause-walking
 returns-clause-walking c =
     let done : c.loop-place.place ≡ c.args.end = omega (arith, c.requires.start) in
-    let W : ℕ → Type 0 = λ n. IsWalking (words_of c.args.edges.now.keys) c.args.tree.now.links.items (Notes (words_of c.args.edges.now.keys) c.args.stop) c.args.root n
+    let W : ℕ → Type 0 = λ n. IsWalking (words_of c.args.edges.now.keys) c.args.tree.now.links.items (Notes (words_of c.args.edges.now.keys) c.args.numbers.now c.args.stop) c.args.root n
     c.loop-place.self.free.items c.loop-place.self.stopped.items in
     subst W done c.loop-place.invariant.walking

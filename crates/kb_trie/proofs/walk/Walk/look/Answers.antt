@@ -31,7 +31,7 @@ loop-state-preserved c =
       ];
       linked = last.linked;
       gains =
-          gains_add tree.count links (Notes (words_of c.args.edges.now.keys) c.args.stop) at state next c.noted.result c.args.self.now.free.items
+          gains_add tree.count links (Notes (words_of c.args.edges.now.keys) c.args.numbers.now c.args.stop) at state next c.noted.result c.args.self.now.free.items
           c.args.self.now.stopped.items c.loop-state.self.free.items c.loop-state.self.stopped.items c.add.new.self.free.items
           c.add.new.self.stopped.items (record { some = some; within = within; linked = linked }) c.noted.ensures.some c.noted.ensures.none last
           c.loop-state.invariant.gains c.in_ok-add.ensures.free c.in_ok-add.ensures.stopped;

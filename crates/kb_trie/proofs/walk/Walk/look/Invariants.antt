@@ -7,7 +7,7 @@ abbrev pub invariant-loop-state : goal.invariant-loop-state
 invariant-loop-state l = record {
   within : l.state < l.tree.count;
   linked : 0 < l.state → get_or l.tree.links.items l.state 0 ≡ l.at;
-  gains : Gains l.tree.count l.tree.links.items (Notes (words_of l.edges.keys) l.stop) l.at l.state
+  gains : Gains l.tree.count l.tree.links.items (Notes (words_of l.edges.keys) l.numbers l.stop) l.at l.state
       l.fn.self.free.items l.fn.self.stopped.items l.self.free.items l.self.stopped.items;
 }
 

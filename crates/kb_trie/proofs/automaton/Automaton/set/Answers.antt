@@ -1,0 +1,47 @@
+use Rattle.std.proofs.Common.{◌≡◌, ℕ, ◌<◌, List, length, get_or, take, refl, sym, ap, ◌∙◌, subst, arith}
+use Rattle.std.proofs.lemmas.List.{get_or-take}
+use Rattle.kb_trie.specs.Edges.{words_of}
+use Rattle.kb_trie.proofs.Ending.{Numbers, ends_changed, ends_set, numbers_none, numbers_walk}
+use Rattle.kb_trie.proofs.Numbers.{take_set}
+use Rattle.kb_trie.proofs.automaton.Automaton.set.Goals as goal
+
+pub change-requires-clause-states : goal.change-requires-clause-states
+change-requires-clause-states c =
+    let free : List ℕ = c.find_free.new.self.free.items in
+    let P : List ℕ → Type 0 = λ list. (i : ℕ) → i < length list → get_or list i 0 < length c.args.self.now.ends.ends.items in
+    let each : P free = λ i within.
+    let is = c.in_ok-find_free.ensures.free_each (get_or free i 0) (record { place = i; within = within; is = refl }) in
+    omega (arith, is.within, c.requires.automaton.ends.end_room) in
+    subst P (sym c.deref-2.ensures.value) each
+
+pub returns-clause-automaton : goal.returns-clause-automaton
+returns-clause-automaton c =
+    let is = c.requires.automaton in
+    let words : List (List ℕ) = words_of c.args.self.now.edges.keys in
+    let links : List ℕ = c.args.self.now.steps.tree.links.items in
+    let numbers : List ℕ = c.args.self.now.ends.numbers.items in
+    let ends : List ℕ = c.args.self.now.ends.ends.items in
+    let root : ℕ = c.args.state in
+    let free : List ℕ = c.find_free.new.self.free.items in
+    let stopped : List ℕ = c.find_free.new.self.stopped.items in
+    let none : get_or numbers root 0 ≡ 0 = sym (get_or-take (length words) numbers root 0 c.requires.state) ∙ c.requires.none in
+    let has : Numbers words links numbers root free stopped =
+    numbers_none words links numbers root free stopped none
+    (numbers_walk words links numbers c.deref.result.now root free stopped is.states.are is.steps.links c.requires.state is.ends.number_room
+    c.deref.ensures.value c.in_ok-find_free.ensures) in
+    record {
+      states = is.states;
+      steps = is.steps;
+      ends =
+          ends_changed words root c.args.number root free c.deref-2.result.now c.args.self.now.ends c.change.new.self is.ends
+          c.deref-2.ensures.value c.change.ensures.numbers c.change.ensures.count c.change.ensures.moved c.change.ensures.others
+          (λ moved others state within case.
+          ends_set words links numbers ends c.change.new.self.ends.items root c.args.number free stopped has c.requires.some is.ends.each moved
+          others state within case);
+    }
+
+pub returns-clause-ok : goal.returns-clause-ok
+returns-clause-ok c =
+    let words : List (List ℕ) = words_of c.args.self.now.edges.keys in
+    ap (λ (ns : List ℕ). take (length words) ns) c.change.ensures.numbers
+    ∙ take_set (length words) c.args.self.now.ends.numbers.items c.args.state c.args.number c.requires.state
