@@ -377,3 +377,16 @@ numbers_none words links numbers root free stopped none has =
     let same : set numbers root 0 ≡ numbers = ap (λ (n : ℕ). set numbers root n) (sym none) ∙ set-get_or numbers root 0 in
     let N : List ℕ → Type 0 = λ ns. Numbers words links ns root free stopped in
     subst N same has
+
+-- the same numbers and ends
+pub ends_copied : (words : List (List ℕ)) (ends ends' : Ends) → ends'.numbers.items ≡ ends.numbers.items → ends'.ends.items ≡ ends.ends.items
+    → HasEnds words ends → HasEnds words ends'
+ends_copied words ends ends' numbers same has =
+    record {
+      number_room = omega (arith, has.number_room, ap length numbers);
+      end_room = omega (arith, has.end_room, ap length same);
+      each = λ state within.
+          let P : List ℕ → Type 0 = λ ns. IsEnd words ns state (get_or ends'.ends.items state 0) in
+          let Q : List ℕ → Type 0 = λ es. IsEnd words ends.numbers.items state (get_or es state 0) in
+          subst P (sym numbers) (subst Q (sym same) (has.each state within));
+    }

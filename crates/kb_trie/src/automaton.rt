@@ -42,6 +42,24 @@ impl Automaton {
         })
     }
 
+    /// The same automaton.
+    pub fn copy(&self, alloc: Global) -> Result<Automaton, Memory>
+        requires { IsAutomaton self.now }
+        ensures automaton { IfOk result IsAutomaton }
+        ensures states { IfOk result (λ automaton. states_of automaton ≡ states_of self.now) }
+    {
+        // The set is cloned by its own allocator, and there is only this one.
+        let edges = self.edges.clone()?;
+        let steps = self.steps.copy(alloc)?;
+        let ends = self.ends.copy(alloc)?;
+        Ok(Automaton {
+            edges,
+            steps,
+            ends,
+            walk: Walk::none(alloc),
+        })
+    }
+
     /// How many states there are.
     pub fn count(&self) -> usize
         requires { IsAutomaton self.now }

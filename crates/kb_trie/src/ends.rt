@@ -28,6 +28,16 @@ impl Ends {
         Ok(Ends { numbers, ends })
     }
 
+    /// The same numbers and ends.
+    pub fn copy(&self, alloc: Global) -> Result<Ends, Memory>
+        ensures numbers { IfOk result (λ ends. ends.numbers.items ≡ self.now.numbers.items) }
+        ensures ends { IfOk result (λ ends. ends.ends.items ≡ self.now.ends.items) }
+    {
+        let numbers = Vec::from_slice(alloc, &self.numbers)?;
+        let ends = Vec::from_slice(alloc, &self.ends)?;
+        Ok(Ends { numbers, ends })
+    }
+
     /// Makes room for so many states.
     pub fn make_room(&mut self, states: usize) -> Result<(), Memory>
         ensures ends { (words : List (List ℕ)) → HasEnds words self.old → HasEnds words self.new }

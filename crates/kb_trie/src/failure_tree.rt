@@ -46,6 +46,27 @@ impl FailureTree {
         })
     }
 
+    /// The same tree.
+    pub fn copy(&self, alloc: Global) -> Result<FailureTree, Memory>
+        ensures count { IfOk result (λ tree. tree.count ≡ self.now.count) }
+        ensures links { IfOk result (λ tree. tree.links.items ≡ self.now.links.items) }
+        ensures firsts { IfOk result (λ tree. tree.firsts.items ≡ self.now.firsts.items) }
+        ensures nexts { IfOk result (λ tree. tree.nexts.items ≡ self.now.nexts.items) }
+        ensures previous { IfOk result (λ tree. tree.previous.items ≡ self.now.previous.items) }
+    {
+        let links = Vec::from_slice(alloc, &self.links)?;
+        let firsts = Vec::from_slice(alloc, &self.firsts)?;
+        let nexts = Vec::from_slice(alloc, &self.nexts)?;
+        let previous = Vec::from_slice(alloc, &self.previous)?;
+        Ok(FailureTree {
+            count: self.count,
+            links,
+            firsts,
+            nexts,
+            previous,
+        })
+    }
+
     /// Makes room for one state more.
     pub fn make_room(&mut self) -> Result<(), Memory>
         requires count { self.old.count < 4294967295 }

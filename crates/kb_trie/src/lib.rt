@@ -22,6 +22,7 @@
 //!   state stays. `Trie::number_at` is the number of a state, and `Trie::end_at` its end (`IsEnd` of specs/Ends.antt): the
 //!   state of the longest suffix of its word, the word itself among them, that keeps a number. Here too want of memory is the one
 //!   free answer, and leaves all as it was.
+//! - `Trie::copy` is the same trie.
 //!
 //! # How it works
 //!

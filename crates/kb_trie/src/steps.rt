@@ -41,6 +41,21 @@ impl Steps {
         })
     }
 
+    /// The same steps.
+    pub fn copy(&self, alloc: Global) -> Result<Steps, Memory>
+        ensures { (words : List (List ℕ)) → HasSteps words self.now
+            → IfOk result (HasSteps words) }
+    {
+        let tree = self.tree.copy(alloc)?;
+        let table = self.table.copy(alloc)?;
+        let depths = Vec::from_slice(alloc, &self.depths)?;
+        Ok(Steps {
+            tree,
+            table,
+            depths,
+        })
+    }
+
     /// The state after a letter more: one look where the letter is below the width of the table, else by children and links.
     pub fn step(&self, edges: &IndexSet<Edge>, state: u32, letter: u16) -> u32
         requires states { IsTree edges.now.keys }

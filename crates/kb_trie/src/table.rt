@@ -31,6 +31,18 @@ impl Table {
         Ok(Table { width, rows })
     }
 
+    /// The same table.
+    pub fn copy(&self, alloc: Global) -> Result<Table, Memory>
+        ensures width { IfOk result (λ table. table.width ≡ self.now.width) }
+        ensures rows { IfOk result (λ table. table.rows.items ≡ self.now.rows.items) }
+    {
+        let rows = Vec::from_slice(alloc, &self.rows)?;
+        Ok(Table {
+            width: self.width,
+            rows,
+        })
+    }
+
     /// The state after a letter more, if the letter is below the width.
     pub fn after(&self, state: u32, letter: u16) -> Option<u32>
         requires { (words : List (List ℕ)) × (state < length words)

@@ -39,6 +39,14 @@ impl Trie {
         Ok(Trie { automaton })
     }
 
+    /// The same trie.
+    pub fn copy(&self, alloc: Global) -> Result<Trie, Memory>
+        ensures { IfOk result (λ trie. trie ≡ self.now) }
+    {
+        let automaton = self.automaton.copy(alloc)?;
+        Ok(Trie { automaton })
+    }
+
     /// How many states there are. They are numbered from 0 on.
     pub fn count(&self) -> usize
         ensures count { result ≡ length self.now.words }
