@@ -16,8 +16,9 @@
 //! - `Trie::child` is the state of a state's word with a letter more, if there is one, `Trie::step` the state of the longest
 //!   suffix of it that is a state's word (`IsStep` of specs/Steps.antt), `Trie::link` that of the longest proper suffix of a
 //!   state's word (`IsLink`), and `Trie::depth` the length of its word.
-//! - `Trie::add` adds the state of a state's word with a letter more, and `Trie::insert` those of a word and its beginnings. Want
-//!   of memory is the one free answer. It leaves the trie as it was, but that `insert` may have made some of its states. A state that comes keeps no number.
+//! - `Trie::add` adds the state of a state's word with a letter more, and `Trie::insert` those of a word and its beginnings. A state
+//!   that comes keeps no number. Want of memory is the one free answer. It leaves the trie as it was, but that `insert` may have
+//!   made some of its states.
 //! - `Trie::set` lets a state keep a number, `Trie::renumber` another one in its place, and `Trie::clear` none: so a word goes, but its
 //!   state stays. `Trie::number_at` is the number of a state, and `Trie::end_at` its end (`IsEnd` of specs/Ends.antt): the
 //!   state of the longest suffix of its word, the word itself among them, that keeps a number. Here too want of memory is the one

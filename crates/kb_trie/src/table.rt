@@ -73,6 +73,8 @@ impl Table {
             Some(entries) if entries <= MOST_ENTRIES => make_room(&mut self.rows, entries),
             _ => {
                 self.width = 0;
+                self.rows.clear();
+                self.rows.shrink_to_fit();
                 Ok(())
             }
         }
