@@ -18,11 +18,11 @@ use crate::answers::{Checked, Decision};
 use crate::rounds::decide;
 use kb_axioms::{Automata, automata_that_pass_are_the_groups_own, check_automata};
 use kb_book::Limits;
+use kb_draw::Crew;
 use kb_fsa::Fsa;
 use kb_io::Gate;
 use kb_share::Watch;
 use kb_structure::Cert;
-use kb_threads::Workers;
 use kb_word::{Memory, Presentation};
 use std::alloc::Global;
 use std::sync::Wait;
@@ -38,7 +38,7 @@ pub fn gpaxioms<G: Gate, W: Watch, T: Threads + Wait + Sync>(
     acceptor: &Fsa,
     multipliers: &[Fsa],
     limits: &Limits,
-    workers: &Workers<'_, G>,
+    crew: &Crew<'_, G>,
     watch: &mut W,
 ) -> Result<Checked, Memory>
     requires group { EachInverts presentation.now.n presentation.now.inv }
@@ -48,7 +48,7 @@ pub fn gpaxioms<G: Gate, W: Watch, T: Threads + Wait + Sync>(
     ensures { IfOk result (CheckedSays (limits_of limits.now) presentation.now acceptor.now
         multipliers.now) }
 {
-    let (states, count) = (limits.states, workers.count());
+    let states = limits.states;
     match check_alone(
         rt,
         alloc,
@@ -56,35 +56,34 @@ pub fn gpaxioms<G: Gate, W: Watch, T: Threads + Wait + Sync>(
         acceptor,
         multipliers,
         states,
-        count,
+        crew,
     )? {
         Automata::No(cert) => Ok(Checked::No(cert)),
         Automata::TooManyStates { which } => Ok(Checked::TooManyStates { which }),
         Automata::Pass => {
-            let decision = decide(rt, alloc, presentation, multipliers, limits, workers, watch)?;
+            let decision = decide(rt, alloc, presentation, multipliers, limits, crew, watch)?;
             Ok(checked(decision))
         }
     }
 }
 
 /// What the automata show by themselves, whatever the rules of the group are.
-fn check_alone<T: Threads + Wait + Sync>(
+fn check_alone<G: Gate, T: Threads + Wait + Sync>(
     rt: &T,
     alloc: Global,
     presentation: &Presentation,
     acceptor: &Fsa,
     multipliers: &[Fsa],
     limit: u32,
-    workers: u32,
+    crew: &Crew<'_, G>,
 ) -> Result<Automata, Memory>
     requires acceptor { acceptor.now.alphabet ≡ Plain presentation.now.n }
     requires multipliers { AreMultipliers presentation.now.n multipliers.now }
-    requires workers { (1 ≤ workers) × (workers ≤ 64) }
     ensures { IfOk result
         (AutomataSay (checked_in presentation.now acceptor.now multipliers.now limit)) }
 {
     let relations = presentation.relations(alloc)?;
-    check_automata(rt, alloc, acceptor, multipliers, &relations, limit, workers)
+    check_automata(rt, alloc, acceptor, multipliers, &relations, limit, crew)
 }
 
 /// What is answered of automata that pass by themselves, where a completion decides the rest.

@@ -7,10 +7,10 @@ ghost use Rattle.kb_auto.specs.Trials.{IsTwofold};
 
 use kb_book::Book;
 use kb_complete::{Grown, grow};
+use kb_draw::Crew;
 use kb_index::HasAutomaton;
 use kb_io::Gate;
 use kb_share::{Finder, Watch, book_is_sound};
-use kb_threads::Workers;
 use kb_word::Memory;
 use std::alloc::Global;
 use std::sync::Wait;
@@ -27,7 +27,7 @@ pub(crate) fn grow_twofold<
     alloc: Global,
     mut book: Book<R>,
     finder: &mut Finder,
-    workers: &Workers<'_, G>,
+    crew: &Crew<'_, G>,
     watch: &mut W,
 ) -> Result<Grown<R>, Memory>
     requires { Knows finder.old book.course.state }
@@ -37,7 +37,7 @@ pub(crate) fn grow_twofold<
 {
     let given = book.lines().len();
     'growing: loop {
-        match grow(rt, alloc, book, finder, workers, watch)? {
+        match grow(rt, alloc, book, finder, crew, watch)? {
             Grown::More(next) => book = next,
             Grown::Confluent(rules, ended) => return Ok(Grown::Confluent(rules, ended)),
             Grown::Halted(ended) => return Ok(Grown::Halted(ended)),

@@ -19,7 +19,9 @@ use crate::live::live_rules_are_of_the_group;
 use crate::trying::{Trial, try_rules, watched_round};
 use kb_book::{Book, Limits};
 use kb_diff::Differences;
+use kb_draw::Crew;
 use kb_index::Index;
+use kb_io::Gate;
 use kb_kept::{Listing, list_differences, rule_equalities};
 use kb_reduced::{reduced_complete_systems_are_complete, reduced_left_sides_keep_the_letters};
 use kb_round::{Round, Structure, WatchRounds};
@@ -42,19 +44,18 @@ enum LastRound {
 
 /// What the reduced complete system of the group answers: rounds by it keep more differences each, until the automata
 /// are the group's own or a limit is reached.
-pub(crate) fn answer_by_complete<R: Reducer, W: WatchRounds, T: Threads + Wait + Sync>(
+pub(crate) fn answer_by_complete<R: Reducer, W: WatchRounds, G: Gate, T: Threads + Wait + Sync>(
     rt: &T,
     alloc: Global,
     presentation: &Presentation,
     rules: Rules,
     book: Book<R>,
     limits: &Limits,
-    workers: u32,
+    crew: &Crew<'_, G>,
     watch: &mut W,
 ) -> Result<Autgroup, Memory>
     requires group { EachInverts presentation.now.n presentation.now.inv }
     requires shortlex { presentation.now.order ≡ ShortLex }
-    requires workers { (1 ≤ workers) × (workers ≤ 64) }
     requires problem { book.course.problem
         ≡ problem_of (limits_of limits.now) (parts_of presentation.now) }
     requires completed { IsCompleted book.course rules }
@@ -73,7 +74,7 @@ pub(crate) fn answer_by_complete<R: Reducer, W: WatchRounds, T: Threads + Wait +
         &rules,
         limits,
         None,
-        workers,
+        crew,
         watch,
     )? {
         Trial::Own(structure) => Ok(Autgroup::Own(structure)),
@@ -95,18 +96,17 @@ pub(crate) fn answer_by_complete<R: Reducer, W: WatchRounds, T: Threads + Wait +
 
 /// What a completion answers that halted: a last round is made by its live rules, by as many of their differences as
 /// there is room for.
-pub(crate) fn answer_at_halt<R: Reducer, W: WatchRounds, T: Threads + Wait + Sync>(
+pub(crate) fn answer_at_halt<R: Reducer, W: WatchRounds, G: Gate, T: Threads + Wait + Sync>(
     rt: &T,
     alloc: Global,
     presentation: &Presentation,
     book: Book<R>,
     limits: &Limits,
-    workers: u32,
+    crew: &Crew<'_, G>,
     watch: &mut W,
 ) -> Result<Autgroup, Memory>
     requires group { EachInverts presentation.now.n presentation.now.inv }
     requires shortlex { presentation.now.order ≡ ShortLex }
-    requires workers { (1 ≤ workers) × (workers ≤ 64) }
     requires problem { book.course.problem
         ≡ problem_of (limits_of limits.now) (parts_of presentation.now) }
     requires halted { IsHalted book.course }
@@ -116,7 +116,7 @@ pub(crate) fn answer_at_halt<R: Reducer, W: WatchRounds, T: Threads + Wait + Syn
 {
     live_rules_are_of_the_group(presentation, &book);
     let halt = halted(alloc, book)?;
-    match last_round(rt, alloc, presentation, &halt.rules, limits, workers, watch)? {
+    match last_round(rt, alloc, presentation, &halt.rules, limits, crew, watch)? {
         LastRound::Own(structure) => Ok(Autgroup::Own(structure)),
         LastRound::Failed(listing) => Ok(Autgroup::Halted {
             halted: halt,
@@ -126,13 +126,13 @@ pub(crate) fn answer_at_halt<R: Reducer, W: WatchRounds, T: Threads + Wait + Syn
 }
 
 /// Makes a round by as many differences of the rules as there is room for.
-fn last_round<W: WatchRounds, T: Threads + Wait + Sync>(
+fn last_round<W: WatchRounds, G: Gate, T: Threads + Wait + Sync>(
     rt: &T,
     alloc: Global,
     presentation: &Presentation,
     rules: &Rules,
     limits: &Limits,
-    workers: u32,
+    crew: &Crew<'_, G>,
     watch: &mut W,
 ) -> Result<LastRound, Memory>
     requires group { EachInverts presentation.now.n presentation.now.inv }
@@ -140,7 +140,6 @@ fn last_round<W: WatchRounds, T: Threads + Wait + Sync>(
     requires letters { AreRulesOver presentation.now.n rules.now.rules }
     requires sides { AreEqualSides (relations_of presentation.now.inv presentation.now.eqs)
         rules.now.rules }
-    requires workers { (1 ≤ workers) × (workers ≤ 64) }
     ensures { IfOk result (LastRoundSays (tried_by (limits_of limits.now) limits.now.diffs
         presentation.now rules.now.rules)) }
 {
@@ -152,20 +151,20 @@ fn last_round<W: WatchRounds, T: Threads + Wait + Sync>(
         rules,
         &differences,
         limits,
-        workers,
+        crew,
         watch,
     )
 }
 
 /// Makes a round by these differences of the rules.
-fn round_by<W: WatchRounds, T: Threads + Wait + Sync>(
+fn round_by<W: WatchRounds, G: Gate, T: Threads + Wait + Sync>(
     rt: &T,
     alloc: Global,
     presentation: &Presentation,
     rules: &Rules,
     differences: &Differences<Index>,
     limits: &Limits,
-    workers: u32,
+    crew: &Crew<'_, G>,
     watch: &mut W,
 ) -> Result<LastRound, Memory>
     requires group { EachInverts presentation.now.n presentation.now.inv }
@@ -173,7 +172,6 @@ fn round_by<W: WatchRounds, T: Threads + Wait + Sync>(
     requires letters { AreRulesOver presentation.now.n rules.now.rules }
     requires sides { AreEqualSides (relations_of presentation.now.inv presentation.now.eqs)
         rules.now.rules }
-    requires workers { (1 ≤ workers) × (workers ≤ 64) }
     requires kept { KeepsDifferences (tried_by (limits_of limits.now) limits.now.diffs
         presentation.now rules.now.rules) differences.now }
     ensures { IfOk result (LastRoundSays (tried_by (limits_of limits.now) limits.now.diffs
@@ -187,7 +185,7 @@ fn round_by<W: WatchRounds, T: Threads + Wait + Sync>(
         rules,
         differences,
         states,
-        workers,
+        crew,
         watch,
     )? {
         Round::Own(structure) => Ok(LastRound::Own(structure)),

@@ -10,11 +10,11 @@ use crate::answers::Decision;
 use crate::asking::{decide_at_halt, decide_by_complete, live_rules_show};
 use kb_book::{Book, Limits};
 use kb_complete::{Grown, grow};
+use kb_draw::Crew;
 use kb_fsa::Fsa;
 use kb_index::{HasAutomaton, Index};
 use kb_io::Gate;
 use kb_share::{Finder, Watch, book_is_sound};
-use kb_threads::Workers;
 use kb_word::{Memory, Presentation};
 use std::alloc::Global;
 use std::sync::Wait;
@@ -28,7 +28,7 @@ pub(crate) fn decide<G: Gate, W: Watch, T: Threads + Wait + Sync>(
     presentation: &Presentation,
     multipliers: &[Fsa],
     limits: &Limits,
-    workers: &Workers<'_, G>,
+    crew: &Crew<'_, G>,
     watch: &mut W,
 ) -> Result<Decision, Memory>
     requires group { EachInverts presentation.now.n presentation.now.inv }
@@ -45,7 +45,7 @@ pub(crate) fn decide<G: Gate, W: Watch, T: Threads + Wait + Sync>(
         limits,
         book,
         &mut finder,
-        workers,
+        crew,
         watch,
     )
 }
@@ -59,7 +59,7 @@ fn decide_by_rounds<R: HasAutomaton + Send + Sync, G: Gate, W: Watch, T: Threads
     limits: &Limits,
     mut book: Book<R>,
     finder: &mut Finder,
-    workers: &Workers<'_, G>,
+    crew: &Crew<'_, G>,
     watch: &mut W,
 ) -> Result<Decision, Memory>
     requires group { EachInverts presentation.now.n presentation.now.inv }
@@ -68,7 +68,7 @@ fn decide_by_rounds<R: HasAutomaton + Send + Sync, G: Gate, W: Watch, T: Threads
     ensures { IfOk result (Decides (limits_of limits.now) presentation.now multipliers.now) }
 {
     'rounds: loop {
-        match grow(rt, alloc, book, finder, workers, watch)? {
+        match grow(rt, alloc, book, finder, crew, watch)? {
             Grown::More(next) => book = next,
             Grown::Confluent(rules, _book) => {
                 return decide_by_complete(alloc, presentation, multipliers, &rules);

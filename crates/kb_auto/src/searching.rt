@@ -16,13 +16,13 @@ use crate::outcomes::{answer_at_halt, answer_by_complete};
 use crate::trying::{Trial, try_rules};
 use kb_book::{Book, Limits};
 use kb_complete::Grown;
+use kb_draw::Crew;
 use kb_index::{HasAutomaton, Index};
 use kb_io::Gate;
 use kb_kept::Listing;
 use kb_round::{Structure, WatchRounds};
 use kb_rules::{Reducer, Rules};
 use kb_share::{Finder, Watch, book_is_sound, live_rules};
-use kb_threads::Workers;
 use kb_word::{Memory, Presentation};
 use std::alloc::Global;
 use std::sync::Wait;
@@ -45,7 +45,7 @@ pub fn autgroup<G: Gate, W: Watch + WatchRounds, T: Threads + Wait + Sync>(
     alloc: Global,
     presentation: &Presentation,
     limits: &Limits,
-    workers: &Workers<'_, G>,
+    crew: &Crew<'_, G>,
     watch: &mut W,
 ) -> Result<Autgroup, Memory>
     requires group { EachInverts presentation.now.n presentation.now.inv }
@@ -62,7 +62,7 @@ pub fn autgroup<G: Gate, W: Watch + WatchRounds, T: Threads + Wait + Sync>(
         limits,
         book,
         &mut finder,
-        workers,
+        crew,
         watch,
     )
 }
@@ -81,7 +81,7 @@ fn search_by_growths<
     limits: &Limits,
     mut book: Book<R>,
     finder: &mut Finder,
-    workers: &Workers<'_, G>,
+    crew: &Crew<'_, G>,
     watch: &mut W,
 ) -> Result<Autgroup, Memory>
     requires group { EachInverts presentation.now.n presentation.now.inv }
@@ -90,10 +90,9 @@ fn search_by_growths<
     ensures { IfOk result
         (AutgroupSays (limits_of limits.now) limits.now.diffs presentation.now) }
 {
-    let count = workers.count();
     let mut budget: u32 = 1;
     'growths: loop {
-        match grow_twofold(rt, alloc, book, finder, workers, watch)? {
+        match grow_twofold(rt, alloc, book, finder, crew, watch)? {
             Grown::More(next) => book = next,
             Grown::Confluent(rules, end) => {
                 return answer_by_complete(
@@ -103,16 +102,16 @@ fn search_by_growths<
                     rules,
                     end,
                     limits,
-                    count,
+                    crew,
                     watch,
                 );
             }
             Grown::Halted(end) => {
-                return answer_at_halt(rt, alloc, presentation, end, limits, count, watch);
+                return answer_at_halt(rt, alloc, presentation, end, limits, crew, watch);
             }
         }
         book_is_sound(&book);
-        match try_live_rules(rt, alloc, presentation, limits, &book, budget, count, watch)? {
+        match try_live_rules(rt, alloc, presentation, limits, &book, budget, crew, watch)? {
             LiveTrial::Own(structure) => return Ok(Autgroup::Own(structure)),
             LiveTrial::NoRoom(rules, listing) => {
                 let (lines, _) = book.into_log();
@@ -130,14 +129,14 @@ fn search_by_growths<
 }
 
 /// Tries the live rules of a book in which nothing is pending.
-fn try_live_rules<R: Reducer, W: WatchRounds, T: Threads + Wait + Sync>(
+fn try_live_rules<R: Reducer, W: WatchRounds, G: Gate, T: Threads + Wait + Sync>(
     rt: &T,
     alloc: Global,
     presentation: &Presentation,
     limits: &Limits,
     book: &Book<R>,
     budget: u32,
-    workers: u32,
+    crew: &Crew<'_, G>,
     watch: &mut W,
 ) -> Result<LiveTrial, Memory>
     requires group { EachInverts presentation.now.n presentation.now.inv }
@@ -145,7 +144,6 @@ fn try_live_rules<R: Reducer, W: WatchRounds, T: Threads + Wait + Sync>(
     requires problem { book.now.course.problem
         ≡ problem_of (limits_of limits.now) (parts_of presentation.now) }
     requires settled { book.now.course.state.pending ≡ [] }
-    requires workers { (1 ≤ workers) × (workers ≤ 64) }
     ensures { IfOk result (LiveTrialSays (limits_of limits.now) limits.now.diffs
         presentation.now book.now.course.state.lines) }
 {
@@ -159,7 +157,7 @@ fn try_live_rules<R: Reducer, W: WatchRounds, T: Threads + Wait + Sync>(
         &rules,
         limits,
         Some(budget),
-        workers,
+        crew,
         watch,
     )? {
         Trial::Own(structure) => Ok(LiveTrial::Own(structure)),

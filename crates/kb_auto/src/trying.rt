@@ -13,7 +13,9 @@ ghost use Rattle.kb_auto.specs.Trials.{Gathers, GathersRules, TrialSays};
 use crate::gathering::{Gathered, Gathering};
 use kb_book::Limits;
 use kb_diff::Differences;
+use kb_draw::Crew;
 use kb_index::Index;
+use kb_io::Gate;
 use kb_kept::Listing;
 use kb_reduced::reduced_complete_systems_are_complete;
 use kb_reducedrounds::{
@@ -42,14 +44,14 @@ pub(crate) enum Trial {
 
 /// Makes rounds by rules of the group, each by the differences of the rules and of the failed rounds before. Where
 /// there is a budget, only so many failed rounds are gone by.
-pub(crate) fn try_rules<W: WatchRounds, T: Threads + Wait + Sync>(
+pub(crate) fn try_rules<W: WatchRounds, G: Gate, T: Threads + Wait + Sync>(
     rt: &T,
     alloc: Global,
     presentation: &Presentation,
     rules: &Rules,
     limits: &Limits,
     budget: Option<u32>,
-    workers: u32,
+    crew: &Crew<'_, G>,
     watch: &mut W,
 ) -> Result<Trial, Memory>
     requires group { EachInverts presentation.now.n presentation.now.inv }
@@ -57,7 +59,6 @@ pub(crate) fn try_rules<W: WatchRounds, T: Threads + Wait + Sync>(
     requires letters { AreRulesOver presentation.now.n rules.now.rules }
     requires sides { AreEqualSides (relations_of presentation.now.inv presentation.now.eqs)
         rules.now.rules }
-    requires workers { (1 ≤ workers) × (workers ≤ 64) }
     ensures { IfOk result (TrialSays (tried_by (limits_of limits.now) limits.now.diffs
         presentation.now rules.now.rules) budget) }
 {
@@ -75,13 +76,13 @@ pub(crate) fn try_rules<W: WatchRounds, T: Threads + Wait + Sync>(
         answer.is_full(),
         limits,
         budget,
-        workers,
+        crew,
         watch,
     )
 }
 
 /// Makes rounds by the differences of the rules, unless there is no room for one of them.
-fn try_gathered<W: WatchRounds, T: Threads + Wait + Sync>(
+fn try_gathered<W: WatchRounds, G: Gate, T: Threads + Wait + Sync>(
     rt: &T,
     alloc: Global,
     presentation: &Presentation,
@@ -90,7 +91,7 @@ fn try_gathered<W: WatchRounds, T: Threads + Wait + Sync>(
     is_full: bool,
     limits: &Limits,
     budget: Option<u32>,
-    workers: u32,
+    crew: &Crew<'_, G>,
     watch: &mut W,
 ) -> Result<Trial, Memory>
     requires group { EachInverts presentation.now.n presentation.now.inv }
@@ -98,7 +99,6 @@ fn try_gathered<W: WatchRounds, T: Threads + Wait + Sync>(
     requires letters { AreRulesOver presentation.now.n rules.now.rules }
     requires sides { AreEqualSides (relations_of presentation.now.inv presentation.now.eqs)
         rules.now.rules }
-    requires workers { (1 ≤ workers) × (workers ≤ 64) }
     requires gathered { GathersRules (tried_by (limits_of limits.now) limits.now.diffs
         presentation.now rules.now.rules) is_full gathered.old }
     ensures { IfOk result (TrialSays (tried_by (limits_of limits.now) limits.now.diffs
@@ -116,13 +116,13 @@ fn try_gathered<W: WatchRounds, T: Threads + Wait + Sync>(
         gathered,
         limits,
         budget,
-        workers,
+        crew,
         watch,
     )
 }
 
 /// Makes rounds by the differences that are kept so far, and by those of failed rounds.
-fn try_rounds<W: WatchRounds, T: Threads + Wait + Sync>(
+fn try_rounds<W: WatchRounds, G: Gate, T: Threads + Wait + Sync>(
     rt: &T,
     alloc: Global,
     presentation: &Presentation,
@@ -130,7 +130,7 @@ fn try_rounds<W: WatchRounds, T: Threads + Wait + Sync>(
     gathered: &mut Gathered,
     limits: &Limits,
     budget: Option<u32>,
-    workers: u32,
+    crew: &Crew<'_, G>,
     watch: &mut W,
 ) -> Result<Trial, Memory>
     requires group { EachInverts presentation.now.n presentation.now.inv }
@@ -138,7 +138,6 @@ fn try_rounds<W: WatchRounds, T: Threads + Wait + Sync>(
     requires letters { AreRulesOver presentation.now.n rules.now.rules }
     requires sides { AreEqualSides (relations_of presentation.now.inv presentation.now.eqs)
         rules.now.rules }
-    requires workers { (1 ≤ workers) × (workers ≤ 64) }
     requires gathered { Gathers (tried_by (limits_of limits.now) limits.now.diffs
         presentation.now rules.now.rules) gathered.old }
     ensures { IfOk result (TrialSays (tried_by (limits_of limits.now) limits.now.diffs
@@ -155,7 +154,7 @@ fn try_rounds<W: WatchRounds, T: Threads + Wait + Sync>(
             rules,
             &gathered.differences,
             limits.states,
-            workers,
+            crew,
             watch,
         )? {
             Round::Own(structure) => return Ok(Trial::Own(structure)),
@@ -192,14 +191,14 @@ fn is_used_up(budget: Option<u32>, rounds: usize) -> bool
 }
 
 /// Makes a round by differences of the rules, and lets somebody watch.
-pub(crate) fn watched_round<W: WatchRounds, T: Threads + Wait + Sync>(
+pub(crate) fn watched_round<W: WatchRounds, G: Gate, T: Threads + Wait + Sync>(
     rt: &T,
     alloc: Global,
     presentation: &Presentation,
     rules: &Rules,
     differences: &Differences<Index>,
     states: u32,
-    workers: u32,
+    crew: &Crew<'_, G>,
     watch: &mut W,
 ) -> Result<Round, Memory>
     requires group { EachInverts presentation.now.n presentation.now.inv }
@@ -207,10 +206,9 @@ pub(crate) fn watched_round<W: WatchRounds, T: Threads + Wait + Sync>(
     requires same { differences.now.group ≡ group_of presentation.now rules.now.rules }
     requires sides { AreEqualSides (relations_of presentation.now.inv presentation.now.eqs)
         rules.now.rules }
-    requires workers { (1 ≤ workers) × (workers ≤ 64) }
     ensures { IfOk result (RoundSays presentation.now rules.now.rules differences.now.words states) }
 {
-    let (made, figures) = round(rt, alloc, presentation, differences, states, workers)?;
+    let (made, figures) = round(rt, alloc, presentation, differences, states, crew)?;
     watch.round_made(rules.len(), &figures);
     Ok(made)
 }

@@ -11,7 +11,9 @@ use kb_certificates::{
     Images, check_images, image_not_least, missing_extension, pair_outside_acceptor,
     prefix_not_accepted, two_images,
 };
+use kb_draw::Crew;
 use kb_fsa::Fsa;
+use kb_io::Gate;
 use kb_relations::{Acting, broken_relation};
 use kb_structure::Cert;
 use kb_word::{Letter, Memory, Word};
@@ -22,30 +24,29 @@ use std::thread::Threads;
 /// The first certificate of the kinds N1, N2 and N4 to N8 against a word acceptor and multipliers, if there is one.
 /// Several workers are a thread each, and share the generators, and then the relations; how many there are changes
 /// nothing of the answer.
-pub fn check_automata<T: Threads + Wait + Sync>(
+pub fn check_automata<G: Gate, T: Threads + Wait + Sync>(
     rt: &T,
     alloc: Global,
     acceptor: &Fsa,
     multipliers: &[Fsa],
     relations: &[(Word, Word)],
     limit: u32,
-    workers: u32,
+    crew: &Crew<'_, G>,
 ) -> Result<Automata, Memory>
     requires fit { FitTogether acceptor.now multipliers.now }
     requires over { AreOver acceptor.now relations.now }
-    requires workers { (1 ≤ workers) × (workers ≤ 64) }
     ensures { IfOk result
         (AutomataSay (checked_of acceptor.now multipliers.now relations.now limit)) }
 {
     if let Some(u) = prefix_not_accepted(alloc, acceptor)? {
         return Ok(Automata::No(Cert::N1 { u }));
     }
-    if let Some(pair) = pair_outside_acceptor(rt, alloc, acceptor, multipliers, workers)? {
+    if let Some(pair) = pair_outside_acceptor(rt, alloc, acceptor, multipliers, crew)? {
         return Ok(Automata::No(n2(pair)));
     }
-    match check_images(rt, alloc, acceptor, multipliers, limit, workers)? {
+    match check_images(rt, alloc, acceptor, multipliers, limit, crew)? {
         Images::Given => {
-            look_further(rt, alloc, acceptor, multipliers, relations, limit, workers)
+            look_further(rt, alloc, acceptor, multipliers, relations, limit, crew)
         }
         Images::Lacking { x, word } => Ok(Automata::No(Cert::N4 { x, u: word })),
         Images::TooManyStates { x } => Ok(Automata::TooManyStates {
@@ -55,32 +56,31 @@ pub fn check_automata<T: Threads + Wait + Sync>(
 }
 
 /// The first certificate of the kinds N5 to N8, where there is none of the others.
-fn look_further<T: Threads + Wait + Sync>(
+fn look_further<G: Gate, T: Threads + Wait + Sync>(
     rt: &T,
     alloc: Global,
     acceptor: &Fsa,
     multipliers: &[Fsa],
     relations: &[(Word, Word)],
     limit: u32,
-    workers: u32,
+    crew: &Crew<'_, G>,
 ) -> Result<Automata, Memory>
     requires fit { FitTogether acceptor.now multipliers.now }
     requires over { AreOver acceptor.now relations.now }
-    requires workers { (1 ≤ workers) × (workers ≤ 64) }
     requires passes { PassesImages (checked_of acceptor.now multipliers.now relations.now limit) }
     ensures { IfOk result
         (AutomataSay (checked_of acceptor.now multipliers.now relations.now limit)) }
 {
-    if let Some(words) = two_images(rt, alloc, acceptor, multipliers, workers)? {
+    if let Some(words) = two_images(rt, alloc, acceptor, multipliers, crew)? {
         return Ok(Automata::No(n5(words)));
     }
-    if let Some(word) = missing_extension(rt, alloc, acceptor, multipliers, workers)? {
+    if let Some(word) = missing_extension(rt, alloc, acceptor, multipliers, crew)? {
         return Ok(Automata::No(n6(word)));
     }
-    if let Some(pair) = image_not_least(rt, alloc, acceptor, multipliers, workers)? {
+    if let Some(pair) = image_not_least(rt, alloc, acceptor, multipliers, crew)? {
         return Ok(Automata::No(n7(pair)));
     }
-    let acting = broken_relation(rt, alloc, acceptor, multipliers, relations, limit, workers)?;
+    let acting = broken_relation(rt, alloc, acceptor, multipliers, relations, limit, crew)?;
     Ok(acted(acting))
 }
 

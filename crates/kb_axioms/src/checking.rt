@@ -19,7 +19,9 @@ ghost use Rattle.kb_axioms.specs.declared.answers.Truth.TheVariants.{True};
 use crate::answers::{Automata, Axioms, Truth};
 use crate::automata::check_automata;
 use crate::truth::check_truth;
+use kb_draw::Crew;
 use kb_fsa::Fsa;
+use kb_io::Gate;
 use kb_rules::Reducer;
 use kb_structure::Cert;
 use kb_word::{Memory, Presentation};
@@ -30,7 +32,7 @@ use std::thread::Threads;
 /// Whether a word acceptor and multipliers are the automatic structure of the group that is presented, as far as
 /// rules of the group show. Where `confluent` holds the rules settle it, unless a count is above the limit. Several
 /// workers are a thread each.
-pub fn check<R: Reducer, T: Threads + Wait + Sync>(
+pub fn check<R: Reducer, G: Gate, T: Threads + Wait + Sync>(
     rt: &T,
     alloc: Global,
     presentation: &Presentation,
@@ -39,7 +41,7 @@ pub fn check<R: Reducer, T: Threads + Wait + Sync>(
     reducer: &R,
     confluent: bool,
     limit: u32,
-    workers: u32,
+    crew: &Crew<'_, G>,
 ) -> Result<Axioms, Memory>
     requires group { EachInverts presentation.now.n presentation.now.inv }
     requires shortlex { presentation.now.order ≡ ShortLex }
@@ -47,7 +49,6 @@ pub fn check<R: Reducer, T: Threads + Wait + Sync>(
     requires multipliers { AreMultipliers presentation.now.n multipliers.now }
     requires confluent { IsTrue confluent → AreConfluentRulesOf presentation.now
         (R.rules reducer.now) }
-    requires workers { (1 ≤ workers) × (workers ≤ 64) }
     ensures says { IfOk result (AxiomsSay presentation.now (R.rules reducer.now) confluent
         acceptor.now multipliers.now limit) }
     ensures own { result ≡ Ok Yes
@@ -57,7 +58,7 @@ pub fn check<R: Reducer, T: Threads + Wait + Sync>(
         (checked_in presentation.now acceptor.now multipliers.now limit)) }
 {
     let relations = presentation.relations(alloc)?;
-    match check_automata(rt, alloc, acceptor, multipliers, &relations, limit, workers)? {
+    match check_automata(rt, alloc, acceptor, multipliers, &relations, limit, crew)? {
         Automata::Pass => {
             let truth = check_truth(alloc, presentation, multipliers, reducer, confluent)?;
             Ok(answer_of(truth))

@@ -16,8 +16,8 @@
 //! It has two parts. [`check_automata`] looks for certificates of all kinds but N3, which need no rules of the group,
 //! in the order N1, N2, N4 to N8; within a kind, in the order of the generators or relations, and of words.
 //! `AutomataSay` of `specs/Checked.antt` says what each answer means. The order of words is the shortlex order. What is
-//! asked of the multipliers, and then of the relations, is shared by 1 to 64 workers, each a thread where there are
-//! several; their number changes nothing of the answer.
+//! asked of the multipliers, and then of the relations, is shared by the workers of a
+//! crew; their number changes nothing of the answer.
 //!
 //! [`check_truth`] looks at the label words of the multipliers' states by rules of the group (`kb_labels`): they have
 //! one normal form each, or there is a first state where they don't. Where they have, and both sides of each rule are

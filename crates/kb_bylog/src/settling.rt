@@ -6,7 +6,9 @@ ghost use Rattle.kb_word.specs.Presentations.{parts_of};
 ghost use Rattle.kb_bylog.specs.LogLines.{AreJoined, Settles, relations};
 
 use kb_confluence::{Verdict, check};
+use kb_draw::Crew;
 use kb_index::Index;
+use kb_io::Gate;
 use kb_rules::Reducer;
 use kb_word::{Memory, Presentation, Word};
 use std::alloc::Global;
@@ -15,21 +17,20 @@ use std::thread::Threads;
 
 /// Whether no relation and no overlap of the rules is apart by them. Several workers are a thread each; their number
 /// changes nothing of the answer.
-pub fn settles<T: Threads + Wait + Sync>(
+pub fn settles<G: Gate, T: Threads + Wait + Sync>(
     rt: &T,
     alloc: Global,
     presentation: &Presentation,
     index: &Index,
-    workers: u32,
+    crew: &Crew<'_, G>,
 ) -> Result<bool, Memory>
     requires few { length index.now.rules ≤ 2 ^ 31 }
-    requires workers { (1 ≤ workers) × (workers ≤ 64) }
     ensures { IfOk result (λ settles. IsTrue settles
         ↔ Settles index.now.rules (relations (parts_of presentation.now))) }
 {
     let joined = are_relations_joined(alloc, presentation, index)?;
     if joined {
-        is_confluent(rt, alloc, index, workers)
+        is_confluent(rt, alloc, index, crew)
     } else {
         Ok(false)
     }
@@ -71,17 +72,16 @@ fn is_joined(alloc: Global, pair: &(Word, Word), index: &Index) -> Result<bool, 
 }
 
 /// Whether the rules are confluent.
-fn is_confluent<T: Threads + Wait + Sync>(
+fn is_confluent<G: Gate, T: Threads + Wait + Sync>(
     rt: &T,
     alloc: Global,
     index: &Index,
-    workers: u32,
+    crew: &Crew<'_, G>,
 ) -> Result<bool, Memory>
     requires few { length index.now.rules ≤ 2 ^ 31 }
-    requires workers { (1 ≤ workers) × (workers ≤ 64) }
     ensures { IfOk result (λ confluent. IsTrue confluent ↔ IsConfluent index.now.rules) }
 {
-    match check(rt, alloc, index.list(), index, workers) {
+    match check(rt, alloc, index.list(), index, crew) {
         Ok(Verdict::Yes) => Ok(true),
         Ok(Verdict::No { .. }) => Ok(false),
         Err(Memory) => Err(Memory),

@@ -10,7 +10,9 @@ ghost use Rattle.kb_certificates.specs.Followers.{own_pair};
 use crate::automata::Automata;
 use crate::cascade::Follower;
 use crate::least::least_word;
+use kb_draw::Crew;
 use kb_fsa::{Fsa, PairSymbols};
+use kb_io::Gate;
 use kb_search::{Search, first_found};
 use kb_word::{Letter, Memory, Word};
 use std::alloc::Global;
@@ -104,15 +106,14 @@ impl<'a> Search for Extensions<'a> {
 
 /// The first generator x with a word that is accepted with x after it, where the multiplier of x doesn't lead there
 /// from the word; and the least such word.
-pub fn missing_extension<T: Threads + Wait + Sync>(
+pub fn missing_extension<G: Gate, T: Threads + Wait + Sync>(
     rt: &T,
     alloc: Global,
     acceptor: &Fsa,
     multipliers: &[Fsa],
-    workers: u32,
+    crew: &Crew<'_, G>,
 ) -> Result<Option<(Letter, Word)>, Memory>
     requires fit { FitTogether acceptor.now multipliers.now }
-    requires workers { (1 ≤ workers) × (workers ≤ 64) }
     ensures found { IfOk result (λ found. IfSome found (λ certificate.
         OfAutomata acceptor.now multipliers.now (λ structure.
         IsFirstWord (MissingExtension structure) certificate.0 certificate.1))) }
@@ -124,5 +125,5 @@ pub fn missing_extension<T: Threads + Wait + Sync>(
         acceptor,
         multipliers,
     };
-    first_found(rt, alloc, &Extensions { automata }, workers)
+    first_found(rt, alloc, &Extensions { automata }, crew)
 }

@@ -13,7 +13,9 @@ use crate::automata::Automata;
 use crate::cascade::Follower;
 use crate::comparison::Comparison;
 use crate::least::least_led_pair;
+use kb_draw::Crew;
 use kb_fsa::{Fsa, PairSymbols};
+use kb_io::Gate;
 use kb_search::{Search, first_found};
 use kb_word::{Letter, Memory, Word};
 use std::alloc::Global;
@@ -128,15 +130,14 @@ impl<'a> Search for GreaterImages<'a> {
 
 /// The first generator x whose multiplier relates a word to one that is greater, in the shortlex order, than the word
 /// with x after it; with the least first word, and the least second word beside it.
-pub fn image_not_least<T: Threads + Wait + Sync>(
+pub fn image_not_least<G: Gate, T: Threads + Wait + Sync>(
     rt: &T,
     alloc: Global,
     acceptor: &Fsa,
     multipliers: &[Fsa],
-    workers: u32,
+    crew: &Crew<'_, G>,
 ) -> Result<Option<(Letter, Word, Word)>, Memory>
     requires fit { FitTogether acceptor.now multipliers.now }
-    requires workers { (1 ≤ workers) × (workers ≤ 64) }
     ensures found { IfOk result (λ found. IfSome found (λ certificate. (relations : List Sides)
         → IsFirstPair
         (ImageNotLeast (structure_of ShortLex relations acceptor.now multipliers.now))
@@ -148,5 +149,5 @@ pub fn image_not_least<T: Threads + Wait + Sync>(
         acceptor,
         multipliers,
     };
-    first_found(rt, alloc, &GreaterImages { automata }, workers)
+    first_found(rt, alloc, &GreaterImages { automata }, crew)
 }

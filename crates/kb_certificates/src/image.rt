@@ -9,8 +9,10 @@ ghost use Rattle.kb_certificates.specs.Followers.{other_state};
 use crate::automata::Automata;
 use crate::cascade::Follower;
 use crate::least::least_word;
+use kb_draw::Crew;
 use kb_fsa::Fsa;
 use kb_fsadet::{Det, exists};
+use kb_io::Gate;
 use kb_search::{Search, first_found};
 use kb_word::{Letter, Memory, Word};
 use std::alloc::Global;
@@ -104,23 +106,22 @@ impl<'a> Search for WithoutImage<'a> {
 
 /// Whether each accepted word has an image under each generator. The first words of each generator's multiplier are
 /// counted before its words without an image are looked for.
-pub fn check_images<T: Threads + Wait + Sync>(
+pub fn check_images<G: Gate, T: Threads + Wait + Sync>(
     rt: &T,
     alloc: Global,
     acceptor: &Fsa,
     multipliers: &[Fsa],
     limit: u32,
-    workers: u32,
+    crew: &Crew<'_, G>,
 ) -> Result<Images, Memory>
     requires fit { FitTogether acceptor.now multipliers.now }
-    requires workers { (1 ≤ workers) × (workers ≤ 64) }
     ensures { IfOk result (ImagesSay acceptor.now multipliers.now limit) }
 {
     let automata = Automata {
         acceptor,
         multipliers,
     };
-    match first_found(rt, alloc, &WithoutImage { automata, limit }, workers)? {
+    match first_found(rt, alloc, &WithoutImage { automata, limit }, crew)? {
         Some(images) => Ok(images),
         None => Ok(Images::Given),
     }

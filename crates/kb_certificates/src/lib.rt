@@ -16,8 +16,8 @@
 //! Each returns the first certificate of its kind: that of the least generator that has one, with the least first
 //! word, the least second word beside it, and so on, in the shortlex order; and `None` exactly where there is none.
 //! What the certificates say doesn't depend on the relations, nor on the order of words but for N7, which is of the
-//! shortlex order. All but the first go over the generators, which 1 to 64 workers share, each a thread where there
-//! are several: their number changes nothing of the answer. Want of memory is the one error. For N4 the projection of
+//! shortlex order. All but the first go over the generators, which the workers of a
+//! crew share: their number changes nothing of the answer. Want of memory is the one error. For N4 the projection of
 //! each generator's multiplier is made before that generator's certificate is looked for: the answer is
 //! [`Images::TooManyStates`] exactly where that has more sets of states than the limit, and neither has an earlier
 //! generator's nor has one a certificate; and [`Images::Given`] says that each accepted word has images.

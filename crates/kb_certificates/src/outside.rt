@@ -11,7 +11,9 @@ use crate::automata::Automata;
 use crate::cascade::Follower;
 use crate::least::least_led_pair;
 use crate::word_states::WordStates;
+use kb_draw::Crew;
 use kb_fsa::{Fsa, PairSymbols};
+use kb_io::Gate;
 use kb_search::{Search, first_found};
 use kb_word::{Letter, Memory, Word};
 use std::alloc::Global;
@@ -118,15 +120,14 @@ impl<'a> Search for PairsOutside<'a> {
 
 /// The first generator whose multiplier relates a word to one, and not both are accepted; with the least first word,
 /// and the least second word beside it.
-pub fn pair_outside_acceptor<T: Threads + Wait + Sync>(
+pub fn pair_outside_acceptor<G: Gate, T: Threads + Wait + Sync>(
     rt: &T,
     alloc: Global,
     acceptor: &Fsa,
     multipliers: &[Fsa],
-    workers: u32,
+    crew: &Crew<'_, G>,
 ) -> Result<Option<(Letter, Word, Word)>, Memory>
     requires fit { FitTogether acceptor.now multipliers.now }
-    requires workers { (1 ≤ workers) × (workers ≤ 64) }
     ensures found { IfOk result (λ found. IfSome found (λ certificate.
         OfAutomata acceptor.now multipliers.now (λ structure.
         IsFirstPair (PairOutsideAcceptor structure) certificate.0 certificate.1 certificate.2))) }
@@ -138,5 +139,5 @@ pub fn pair_outside_acceptor<T: Threads + Wait + Sync>(
         acceptor,
         multipliers,
     };
-    first_found(rt, alloc, &PairsOutside { automata }, workers)
+    first_found(rt, alloc, &PairsOutside { automata }, crew)
 }

@@ -10,7 +10,9 @@ ghost use Rattle.kb_certificates.specs.First.{HasNoTriple, HasTwo, IsFirstTriple
 use crate::automata::Automata;
 use crate::later_pairs::least_later_first;
 use crate::other::least_other;
+use kb_draw::Crew;
 use kb_fsa::Fsa;
+use kb_io::Gate;
 use kb_leastpair::least_second;
 use kb_search::{Search, first_found};
 use kb_word::{Letter, Memory, Word};
@@ -62,15 +64,14 @@ impl<'a> Search for WordsWithTwo<'a> {
 }
 
 /// The first generator whose multiplier relates a word to two; with the least such word, its least image, and the next.
-pub fn two_images<T: Threads + Wait + Sync>(
+pub fn two_images<G: Gate, T: Threads + Wait + Sync>(
     rt: &T,
     alloc: Global,
     acceptor: &Fsa,
     multipliers: &[Fsa],
-    workers: u32,
+    crew: &Crew<'_, G>,
 ) -> Result<Option<(Letter, Word, Word, Word)>, Memory>
     requires fit { FitTogether acceptor.now multipliers.now }
-    requires workers { (1 ≤ workers) × (workers ≤ 64) }
     ensures found { IfOk result (λ found. IfSome found (λ certificate.
         OfAutomata acceptor.now multipliers.now (λ structure.
         IsFirstTriple (TwoImages structure) certificate.0 certificate.1 certificate.2
@@ -83,7 +84,7 @@ pub fn two_images<T: Threads + Wait + Sync>(
         acceptor,
         multipliers,
     };
-    first_found(rt, alloc, &WordsWithTwo { automata }, workers)
+    first_found(rt, alloc, &WordsWithTwo { automata }, crew)
 }
 
 /// The least first word beside which two second words are accepted, the least of these, and the next.

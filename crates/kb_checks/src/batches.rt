@@ -7,6 +7,7 @@ ghost use Rattle.kb_structure.specs.StructureOf.{FitTogether};
 
 use crate::meeting::Meeting;
 use kb_axioms::{Automata, check_automata, fit_together};
+use kb_draw::Crew;
 use kb_fsa::Fsa;
 use kb_fsafile::read;
 use kb_products::{automata_without_certificates_can_be_followed, by_multipliers};
@@ -40,7 +41,8 @@ pub(crate) fn rules_answer<R: Reducer + Sync, T: Threads + Wait + Sync>(
 ) -> Result<bool, Memory> {
     let alone = [reducer.nf(alloc, &first)?, reducer.nf(alloc, &second)?];
     let meeting = Meeting::new();
-    let together = batch_rules(rt, alloc, reducer, &[first, second], 2, &meeting)?;
+    let crew = Crew::new(2, &meeting);
+    let together = batch_rules(rt, alloc, reducer, &[first, second], &crew)?;
     Ok(!meeting.was_missed() && together.as_slice() == alone.as_slice())
 }
 
@@ -95,13 +97,14 @@ fn lead_alike<T: Threads + Wait + Sync>(
     requires second { IsOver (generators acceptor.now.alphabet) second }
 {
     automata_without_certificates_can_be_followed();
-    match check_automata(rt, alloc, acceptor, multipliers, &[], 100, 1)? {
+    let meeting = Meeting::new();
+    let crew = Crew::new(2, &meeting);
+    match check_automata(rt, alloc, acceptor, multipliers, &[], 100, &crew.first())? {
         Automata::Pass => {
             let one = by_multipliers(alloc, acceptor, multipliers, &first)?;
             let other = by_multipliers(alloc, acceptor, multipliers, &second)?;
             let words = [first, second];
-            let meeting = Meeting::new();
-            let ends = batch_multipliers(rt, alloc, acceptor, multipliers, &words, 2, &meeting)?;
+            let ends = batch_multipliers(rt, alloc, acceptor, multipliers, &words, &crew)?;
             let is_generator = one.letters() == [Letter::new(1)].as_slice();
             let alike = ends.as_slice() == [one, other].as_slice();
             Ok(alike && is_generator && !meeting.was_missed())

@@ -5,6 +5,7 @@ use crate::books::published;
 use kb_axioms::is_group;
 use kb_book::Limits;
 use kb_complete::{Outcome, complete};
+use kb_draw::Crew;
 use kb_index::Index;
 use kb_io::OpenGate;
 use kb_layout::print;
@@ -12,7 +13,6 @@ use kb_presfile::read;
 use kb_record::{parse, parse_expr};
 use kb_rules::{Reducer, Rule, Rules, Scan};
 use kb_share::Version;
-use kb_threads::Workers;
 use kb_word::{Letter, Memory, OwnedText, Word};
 use std::alloc::Global;
 use std::sync::Wait;
@@ -81,8 +81,8 @@ pub(crate) fn completed<T: Threads + Wait + Sync>(
         return Ok(None);
     };
     let limits = Limits::new(1000, 100, 100, 100);
-    let workers = Workers::of(2, &OpenGate);
-    match complete::<Scan, OpenGate, T>(rt, alloc, &presentation, &limits, &workers)? {
+    let crew = Crew::new(2, &OpenGate);
+    match complete::<Scan, OpenGate, T>(rt, alloc, &presentation, &limits, &crew)? {
         Outcome::Confluent(rules, _) => Ok(Some(rules)),
         Outcome::Halted(_) => Ok(None),
     }

@@ -1,7 +1,6 @@
 //! Tests of what no clause says and no run of the program shows, in one crate, so that no other crate is proved twice.
 //!
 //! - `workers`: a pass by workers who sift and enter side by side, and what it enters.
-//! - `confluence`: the test for confluence by workers side by side.
 //! - `calls`: calls that no command makes. That a call succeeds where there is memory is stated by no contract, since
 //!   want of memory is an answer that is free.
 //! - `outside`: the adapter over real files.
@@ -18,8 +17,6 @@ mod batches;
 mod books;
 #[cfg(test)]
 mod calls;
-#[cfg(test)]
-mod confluence;
 #[cfg(test)]
 mod meeting;
 #[cfg(test)]

@@ -4,6 +4,7 @@ ghost use Rattle.std.specs.Prelude.{◌≤◌};
 
 use crate::books::published;
 use crate::meeting::Meeting;
+use kb_draw::Crew;
 use kb_io::{Gate, OpenGate};
 use kb_machine::Event;
 use kb_share::Found;
@@ -42,7 +43,7 @@ fn events_of<G: Gate, T: thread::Threads + Wait + Sync>(
     requires { (1 ≤ workers) × (workers ≤ 64) }
 {
     let book = published(alloc, relations(alloc)?.as_str())?;
-    match Threads::new(workers, gate).pass(rt, alloc, book)? {
+    match Threads::of(Crew::new(workers, gate)).pass(rt, alloc, book)? {
         Passed::Confluent(_) => Ok(Vec::new(alloc)),
         Passed::Entered(after) => Ok(Vec::from_slice(alloc, after.journal())?),
     }

@@ -12,13 +12,13 @@ ghost use Rattle.kb_cmd_completion.specs.Kbprog.{kbprog_may_store, kbprog_own, k
 use crate::conclusion::{Conclusion, conclusion_of};
 use kb_answering::{Concludes, figures_of, show_limit, store_and_answer};
 use kb_book::Limits;
+use kb_draw::Crew;
 use kb_io::{Gate, Shelf, Sink, Source};
 use kb_lines::Batches;
 use kb_progress::{Progress, Stored};
 use kb_reduced::reduced_complete_systems_are_complete;
 use kb_system::complete_presentation;
 use kb_task::{Status, Task, load_presentation};
-use kb_threads::Workers;
 use kb_word::{Memory, OwnedText, Presentation};
 use std::alloc::Global;
 use std::marker::Model;
@@ -133,8 +133,8 @@ fn complete<T: Threads + Wait + Sync, G: Gate, E: Sink>(
     ensures { IfOk result (ConcludesAs task.now (parts_of presentation)) }
 {
     let limits = &task.limits;
-    let workers = Workers::of(task.workers, gate);
-    let ending = complete_presentation(rt, alloc, &presentation, limits, &workers, progress)?;
+    let crew = Crew::new(task.workers, gate);
+    let ending = complete_presentation(rt, alloc, &presentation, limits, &crew, progress)?;
     progress.ended(figures_of(&ending, limits, Stored::System));
     Ok(conclusion_of(alloc, task, presentation, ending)?)
 }
@@ -164,7 +164,7 @@ fn conclude<T: Threads + Wait + Sync, G: Gate, F: Shelf, I: Source, O: Sink, E: 
             normal_forms,
         } => {
             reduced_complete_systems_are_complete();
-            let batches = Batches::of(task.batch, task.workers, gate);
+            let batches = Batches::of(task.batch, Crew::new(task.workers, gate));
             store_and_answer(
                 rt,
                 alloc,

@@ -10,6 +10,7 @@ ghost use Rattle.kb_cmd_completion.specs.SelfTest.{IsCompletedReport, IsHaltedRe
 use crate::printing::{append, append_number};
 use kb_answering::limit_of_log;
 use kb_book::Limits;
+use kb_draw::Crew;
 use kb_evidence::limit_reached;
 use kb_freeabelian::selftest_presentation;
 use kb_io::{Gate, Shelf, Sink, Source};
@@ -19,7 +20,6 @@ use kb_system::{Ending, Halted, complete_presentation};
 use kb_task::{
     Construction, Limit, Status, Task, print_line, undecided_line, undecided_words_line,
 };
-use kb_threads::Workers;
 use kb_word::{Memory, Presentation};
 use std::alloc::Global;
 use std::marker::Model;
@@ -87,9 +87,9 @@ impl SelfTest {
     {
         let _ = shelf;
         let _ = input;
-        let workers = Workers::of(self.workers, gate);
+        let crew = Crew::new(self.workers, gate);
         let mut progress = Progress::on(err, None);
-        match completion_report(rt, alloc, &workers, self.rank, &self.limits, &mut progress) {
+        match completion_report(rt, alloc, &crew, self.rank, &self.limits, &mut progress) {
             Ok(Report { text, status }) => {
                 progress.finish();
                 print_line(&text, status, out)
@@ -112,7 +112,7 @@ pub(crate) struct Report {
 fn completion_report<T: Threads + Wait + Sync, G: Gate, E: Sink>(
     rt: &T,
     alloc: Global,
-    workers: &Workers<'_, G>,
+    crew: &Crew<'_, G>,
     rank: u16,
     limits: &Limits,
     progress: &mut Progress<'_, E>,
@@ -122,7 +122,7 @@ fn completion_report<T: Threads + Wait + Sync, G: Gate, E: Sink>(
         → IfOk result (IsReport given) }
 {
     let presentation = selftest_presentation(alloc, rank)?;
-    let ending = complete_presentation(rt, alloc, &presentation, limits, workers, progress)?;
+    let ending = complete_presentation(rt, alloc, &presentation, limits, crew, progress)?;
     progress.ended(figures_of(&ending, limits));
     report_on(alloc, rank, &presentation, ending)
 }

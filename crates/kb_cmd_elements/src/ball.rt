@@ -13,13 +13,13 @@ ghost use Rattle.kb_cmd_elements.specs.Outcomes.{ComesTo};
 use crate::outcome::{Outcome, outcome_of};
 use kb_answering::{Concludes, figures_of, show_limit};
 use kb_book::Limits;
+use kb_draw::Crew;
 use kb_io::{Gate, Shelf, Sink, Source};
 use kb_listing::list_words;
 use kb_progress::{Progress, Stored};
 use kb_reduced::reduced_complete_systems_are_complete;
 use kb_system::complete_presentation;
 use kb_task::{Status, Task, load_shortlex};
-use kb_threads::Workers;
 use kb_word::{Memory, OwnedText, Presentation};
 use std::alloc::Global;
 use std::marker::Model;
@@ -123,8 +123,8 @@ fn complete<T: Threads + Wait + Sync, G: Gate, E: Sink>(
     ensures { IfOk result (ComesTo task.now (parts_of presentation)) }
 {
     let limits = &task.limits;
-    let workers = Workers::of(task.workers, gate);
-    let ending = complete_presentation(rt, alloc, &presentation, limits, &workers, progress)?;
+    let crew = Crew::new(task.workers, gate);
+    let ending = complete_presentation(rt, alloc, &presentation, limits, &crew, progress)?;
     progress.ended(figures_of(&ending, limits, Stored::Nothing));
     Ok(outcome_of(alloc, task, presentation, ending)?)
 }

@@ -20,6 +20,7 @@ use kb_book::{Book, Limits};
 use kb_complete::{Outcome, complete_watched};
 use kb_coset::marked;
 use kb_cosetwords::CosetWords;
+use kb_draw::Crew;
 use kb_evidence::{Evidence, halted as evidence_of, rules_file};
 use kb_index::Index;
 use kb_io::{Gate, Sink};
@@ -28,7 +29,6 @@ use kb_progress::{Evidence as Shown, Progress, Summary};
 use kb_rules::{Reducer, Rules};
 use kb_system::halted;
 use kb_task::TextFile;
-use kb_threads::Workers;
 use kb_word::{Memory, OwnedText, Presentation, Word};
 use kb_wordreader::WordReader;
 use std::alloc::Global;
@@ -74,10 +74,10 @@ pub(crate) fn complete_cosets<T: Threads + Wait + Sync, G: Gate, E: Sink>(
 {
     let name = subgroup_file(alloc, &task.file)?;
     let marking = marked(alloc, &presentation, generators.as_slice())?;
-    let workers = Workers::of(task.workers, gate);
+    let crew = Crew::new(task.workers, gate);
     let limits = &task.limits;
     match complete_watched::<Index, G, Progress<'_, E>, T>(
-        rt, alloc, &marking, limits, &workers, progress,
+        rt, alloc, &marking, limits, &crew, progress,
     )? {
         Outcome::Confluent(rules, _book) => {
             progress.ended(Summary::Cosets { rules: rules.len() });

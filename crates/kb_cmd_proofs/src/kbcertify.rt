@@ -9,12 +9,12 @@ ghost use Rattle.kb_cmd_proofs.specs.Kbcertify.{IsFound};
 use crate::certificate::finding_of;
 use crate::finding::{Finding, show};
 use kb_book::Limits;
+use kb_draw::Crew;
 use kb_io::{Gate, Shelf, Sink, Source};
 use kb_logged::{LoggedEnding, complete_with_log};
 use kb_progress::{Evidence, Limit, Progress, Stored, Summary};
 use kb_system::Reached;
 use kb_task::{Status, Task, load_presentation};
-use kb_threads::Workers;
 use kb_word::{Memory, OwnedText, Presentation};
 use std::alloc::Global;
 use std::marker::Model;
@@ -105,8 +105,8 @@ fn find<T: Threads + Wait + Sync, G: Gate, E: Sink>(
     ensures { IfOk result (IsFound task.now (parts_of presentation)) }
 {
     let limits = &task.limits;
-    let workers = Workers::of(task.workers, gate);
-    let ending = complete_with_log(rt, alloc, &presentation, limits, &workers, progress)?;
+    let crew = Crew::new(task.workers, gate);
+    let ending = complete_with_log(rt, alloc, &presentation, limits, &crew, progress)?;
     progress.ended(figures_of(&ending, limits));
     Ok(finding_of(alloc, task, &presentation, ending)?)
 }

@@ -17,11 +17,11 @@ use crate::figures::figures_of_search;
 use kb_answering::{Concludes, show_limit, store_and_answer};
 use kb_auto::autgroup;
 use kb_book::Limits;
+use kb_draw::Crew;
 use kb_io::{Gate, Shelf, Sink, Source};
 use kb_lines::Batches;
 use kb_progress::Progress;
 use kb_task::{Status, Task, load_group};
-use kb_threads::Workers;
 use kb_word::{Memory, OwnedText, Presentation};
 use std::alloc::Global;
 use std::marker::Model;
@@ -138,9 +138,9 @@ fn find<T: Threads + Wait + Sync, G: Gate, E: Sink>(
     requires shortlex { presentation.order ≡ ShortLex }
     ensures { IfOk result (ConcludesAs task.now (parts_of presentation)) }
 {
-    let workers = Workers::of(task.workers, gate);
+    let crew = Crew::new(task.workers, gate);
     let limits = &task.limits;
-    let answer = autgroup(rt, alloc, &presentation, limits, &workers, progress)?;
+    let answer = autgroup(rt, alloc, &presentation, limits, &crew, progress)?;
     progress.ended(figures_of_search(&answer, limits));
     Ok(conclusion_of(alloc, task, presentation, answer)?)
 }
@@ -166,7 +166,7 @@ fn conclude<T: Threads + Wait + Sync, G: Gate, F: Shelf, I: Source, O: Sink, E: 
 {
     match conclusion {
         Conclusion::Made { files, least_words } => {
-            let batches = Batches::of(task.batch, task.workers, gate);
+            let batches = Batches::of(task.batch, Crew::new(task.workers, gate));
             store_and_answer(
                 rt,
                 alloc,

@@ -9,9 +9,9 @@ use crate::finding::{Finding, finding_of};
 use crate::loading::Loaded;
 use kb_auto::gpaxioms as check;
 use kb_book::Limits;
+use kb_draw::Crew;
 use kb_io::{Gate, Sink};
 use kb_progress::Progress;
-use kb_threads::Workers;
 use kb_word::{Memory, OwnedText};
 use std::alloc::Global;
 use std::marker::Model;
@@ -64,7 +64,7 @@ pub(crate) fn find<T: Threads + Wait + Sync, G: Gate, E: Sink>(
         multipliers,
     } = loaded;
     let limits = &task.limits;
-    let workers = Workers::of(task.workers, gate);
+    let crew = Crew::new(task.workers, gate);
     let checked = check(
         rt,
         alloc,
@@ -72,7 +72,7 @@ pub(crate) fn find<T: Threads + Wait + Sync, G: Gate, E: Sink>(
         acceptor,
         multipliers,
         limits,
-        &workers,
+        &crew,
         progress,
     )?;
     progress.ended(figures_of_check(&checked, limits));

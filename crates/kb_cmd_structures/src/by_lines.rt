@@ -14,6 +14,8 @@ use kb_bylog::{
     index_of, lines_that_settle_generate_the_congruence, settles,
     the_lines_of_a_justified_log_follow,
 };
+use kb_draw::Crew;
+use kb_io::Gate;
 use kb_proof::Log;
 use kb_word::{Memory, Presentation};
 use std::alloc::Global;
@@ -21,9 +23,10 @@ use std::sync::Wait;
 use std::thread::Threads;
 
 /// Finds whether the automata are the group's own by the lines of its log, and makes what is written of that.
-pub(crate) fn find_by_lines<T: Threads + Wait + Sync>(
+pub(crate) fn find_by_lines<G: Gate, T: Threads + Wait + Sync>(
     rt: &T,
     alloc: Global,
+    gate: &G,
     task: &AutomataCheck,
     loaded: &Loaded,
     log: &Log,
@@ -33,14 +36,15 @@ pub(crate) fn find_by_lines<T: Threads + Wait + Sync>(
     ensures { IfOk result (IsFoundByLog task.now loaded.now.presentation log.now
         loaded.now.acceptor loaded.now.multipliers.items) }
 {
-    let axioms = check_by_lines(rt, alloc, task, loaded, log)?;
+    let axioms = check_by_lines(rt, alloc, gate, task, loaded, log)?;
     finding_by_lines(alloc, task, &loaded.presentation, axioms)
 }
 
 /// What the lines of the log answer of the automata.
-fn check_by_lines<T: Threads + Wait + Sync>(
+fn check_by_lines<G: Gate, T: Threads + Wait + Sync>(
     rt: &T,
     alloc: Global,
+    gate: &G,
     task: &AutomataCheck,
     loaded: &Loaded,
     log: &Log,
@@ -58,7 +62,8 @@ fn check_by_lines<T: Threads + Wait + Sync>(
         multipliers,
     } = loaded;
     let index = index_of(alloc, presentation, log)?;
-    let settled = settles(rt, alloc, presentation, &index, task.workers)?;
+    let crew = Crew::new(task.workers, gate);
+    let settled = settles(rt, alloc, presentation, &index, &crew)?;
     check(
         rt,
         alloc,
@@ -68,7 +73,7 @@ fn check_by_lines<T: Threads + Wait + Sync>(
         &index,
         settled,
         task.limits.states,
-        task.workers,
+        &crew,
     )
 }
 

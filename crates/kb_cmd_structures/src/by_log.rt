@@ -16,7 +16,7 @@ use crate::automata_check::AutomataCheck;
 use crate::by_lines::find_by_lines;
 use crate::finding::{Finding, show};
 use crate::logged::{Logged, load_logged};
-use kb_io::{Shelf, Sink};
+use kb_io::{Gate, Shelf, Sink};
 use kb_progress::Progress;
 use kb_proof::Why;
 use kb_task::{Cert, Status, unjustified_line};
@@ -26,9 +26,10 @@ use std::sync::Wait;
 use std::thread::Threads;
 
 /// Loads the files, and shows what is found by the lines of the log. Nothing is stored.
-pub(crate) fn run_by_log<T: Threads + Wait + Sync, F: Shelf, O: Sink, E: Sink>(
+pub(crate) fn run_by_log<T: Threads + Wait + Sync, G: Gate, F: Shelf, O: Sink, E: Sink>(
     rt: &T,
     alloc: Global,
+    gate: &G,
     task: &AutomataCheck,
     shelf: &mut F,
     out: &mut O,
@@ -42,7 +43,7 @@ pub(crate) fn run_by_log<T: Threads + Wait + Sync, F: Shelf, O: Sink, E: Sink>(
     match load_logged(alloc, &task.file, shelf) {
         Ok(logged) => {
             let mut progress = Progress::on(err, Some(&task.file));
-            match find(rt, alloc, task, &logged) {
+            match find(rt, alloc, gate, task, &logged) {
                 Ok(finding) => show(alloc, finding, &mut progress, shelf, out),
                 Err(Memory) => Status::Memory,
             }
@@ -52,9 +53,10 @@ pub(crate) fn run_by_log<T: Threads + Wait + Sync, F: Shelf, O: Sink, E: Sink>(
 }
 
 /// What is found of what was loaded.
-fn find<T: Threads + Wait + Sync>(
+fn find<T: Threads + Wait + Sync, G: Gate>(
     rt: &T,
     alloc: Global,
+    gate: &G,
     task: &AutomataCheck,
     logged: &Logged,
 ) -> Result<Finding, Memory>
@@ -62,7 +64,7 @@ fn find<T: Threads + Wait + Sync>(
     ensures { IfOk result (IsFoundIn task.now logged.now) }
 {
     match logged {
-        Logged::Justified { loaded, log } => find_by_lines(rt, alloc, task, loaded, log),
+        Logged::Justified { loaded, log } => find_by_lines(rt, alloc, gate, task, loaded, log),
         Logged::Unjustified { line, why } => unjustified(alloc, *line, *why),
     }
 }

@@ -68,7 +68,7 @@ impl Gpaxioms {
     {
         let _ = input;
         if self.by_log {
-            run_by_log(rt, alloc, &self.check, shelf, out, err)
+            run_by_log(rt, alloc, gate, &self.check, shelf, out, err)
         } else {
             run_by_completion(rt, alloc, gate, &self.check, shelf, out, err)
         }

@@ -51,7 +51,6 @@ pub(crate) fn run_by_log<T: Threads + Wait + Sync, G: Gate, F: Shelf, I: Source,
         (outside (F.state shelf.old) (I.state input.old) (O.state out.old))
         (outside (F.state shelf.new) (I.state input.new) (O.state out.new)) result }
 {
-    let workers = task.workers;
     let file = task.file;
     let Ok(name) = log_file(alloc, &file) else {
         return Status::Memory;
@@ -61,7 +60,7 @@ pub(crate) fn run_by_log<T: Threads + Wait + Sync, G: Gate, F: Shelf, I: Source,
         Err(status) => return status,
     };
     match load_derivations(alloc, name, &presentation, shelf) {
-        Ok(log) => check_log(rt, alloc, presentation, &log, workers, batches, input, out),
+        Ok(log) => check_log(rt, alloc, presentation, &log, batches, input, out),
         Err(status) => status,
     }
 }
@@ -72,12 +71,10 @@ fn check_log<T: Threads + Wait + Sync, G: Gate, I: Source, O: Sink>(
     alloc: Global,
     presentation: Presentation,
     log: &Log,
-    workers: u32,
     batches: &Batches<'_, G>,
     input: &mut I,
     out: &mut O,
 ) -> Status
-    requires workers { (1 ≤ workers) × (workers ≤ 64) }
     requires few { length log.now.lines.items ≤ most_file }
     ensures { (shelf : ShelfState) → IsRun (LogMeans (parts_of presentation) log.now) StoresNothing
         (outside shelf (I.state input.old) (O.state out.old))
@@ -90,7 +87,6 @@ fn check_log<T: Threads + Wait + Sync, G: Gate, I: Source, O: Sink>(
             presentation,
             log,
             answer,
-            workers,
             batches,
             input,
             out,
@@ -106,12 +102,10 @@ fn go_on<T: Threads + Wait + Sync, G: Gate, I: Source, O: Sink>(
     presentation: Presentation,
     log: &Log,
     answer: Verified,
-    workers: u32,
     batches: &Batches<'_, G>,
     input: &mut I,
     out: &mut O,
 ) -> Status
-    requires workers { (1 ≤ workers) × (workers ≤ 64) }
     requires few { length log.now.lines.items ≤ most_file }
     requires says { VerifiedSays (Below presentation.order) (relations (parts_of presentation))
         log.now answer }
@@ -125,7 +119,6 @@ fn go_on<T: Threads + Wait + Sync, G: Gate, I: Source, O: Sink>(
             alloc,
             presentation,
             log,
-            workers,
             batches,
             input,
             out,
@@ -143,12 +136,10 @@ fn check_relations<T: Threads + Wait + Sync, G: Gate, I: Source, O: Sink>(
     alloc: Global,
     presentation: Presentation,
     log: &Log,
-    workers: u32,
     batches: &Batches<'_, G>,
     input: &mut I,
     out: &mut O,
 ) -> Status
-    requires workers { (1 ≤ workers) × (workers ≤ 64) }
     requires few { length log.now.lines.items ≤ most_file }
     requires justified { IsJustifiedBy (parts_of presentation) log.now }
     ensures { (shelf : ShelfState) → IsRun (LogMeans (parts_of presentation) log.now) StoresNothing
@@ -162,7 +153,6 @@ fn check_relations<T: Threads + Wait + Sync, G: Gate, I: Source, O: Sink>(
             presentation,
             log,
             index,
-            workers,
             batches,
             input,
             out,
@@ -178,12 +168,10 @@ fn check_joined<T: Threads + Wait + Sync, G: Gate, I: Source, O: Sink>(
     presentation: Presentation,
     log: &Log,
     index: Index,
-    workers: u32,
     batches: &Batches<'_, G>,
     input: &mut I,
     out: &mut O,
 ) -> Status
-    requires workers { (1 ≤ workers) × (workers ≤ 64) }
     requires justified { IsJustifiedBy (parts_of presentation) log.now }
     requires lines { index.rules ≡ lines_of log.now }
     requires few { length index.rules ≤ 2 ^ 31 }
@@ -198,7 +186,6 @@ fn check_joined<T: Threads + Wait + Sync, G: Gate, I: Source, O: Sink>(
             presentation,
             log,
             index,
-            workers,
             batches,
             input,
             out,
@@ -215,12 +202,10 @@ fn check_confluence<T: Threads + Wait + Sync, G: Gate, I: Source, O: Sink>(
     presentation: Presentation,
     log: &Log,
     index: Index,
-    workers: u32,
     batches: &Batches<'_, G>,
     input: &mut I,
     out: &mut O,
 ) -> Status
-    requires workers { (1 ≤ workers) × (workers ≤ 64) }
     requires justified { IsJustifiedBy (parts_of presentation) log.now }
     requires joined { AreJoined (lines_of log.now) (relations (parts_of presentation)) }
     requires lines { index.rules ≡ lines_of log.now }
@@ -229,7 +214,7 @@ fn check_confluence<T: Threads + Wait + Sync, G: Gate, I: Source, O: Sink>(
         (outside shelf (I.state input.old) (O.state out.old))
         (outside shelf (I.state input.new) (O.state out.new)) result }
 {
-    match check(rt, alloc, index.list(), &index, workers) {
+    match check(rt, alloc, index.list(), &index, batches.crew()) {
         Ok(Verdict::Yes) => answer_all(rt, alloc, presentation, index, batches, input, out),
         Ok(Verdict::No { u, v, .. }) => {
             print_objection(alloc, &presentation, Objection::NotConfluent { u, v }, out)

@@ -18,6 +18,7 @@ use crate::word_reduce::WordReduce;
 use kb_confluence::{
     Verdict, check, least_by_the_same_congruence, normal_forms_by_confluent_rules_are_least,
 };
+use kb_draw::Crew;
 use kb_index::Index;
 use kb_io::{Gate, Shelf, Sink, Source};
 use kb_lines::{Batches, answer_in_batches};
@@ -61,7 +62,7 @@ impl WordReduce {
     {
         let _ = err;
         let by_log = self.by_log;
-        let batches = Batches::of(self.batch, self.workers, gate);
+        let batches = Batches::of(self.batch, Crew::new(self.workers, gate));
         if by_log {
             run_by_log(rt, alloc, self, &batches, shelf, input, out)
         } else {
@@ -85,9 +86,8 @@ fn run_by_relations<T: Threads + Wait + Sync, G: Gate, F: Shelf, I: Source, O: S
         (outside (F.state shelf.old) (I.state input.old) (O.state out.old))
         (outside (F.state shelf.new) (I.state input.new) (O.state out.new)) result }
 {
-    let workers = task.workers;
     match load_presentation(alloc, task.file, shelf) {
-        Ok(presentation) => answer_by(rt, alloc, presentation, workers, batches, input, out),
+        Ok(presentation) => answer_by(rt, alloc, presentation, batches, input, out),
         Err(status) => status,
     }
 }
@@ -97,12 +97,10 @@ fn answer_by<T: Threads + Wait + Sync, G: Gate, I: Source, O: Sink>(
     rt: &T,
     alloc: Global,
     presentation: Presentation,
-    workers: u32,
     batches: &Batches<'_, G>,
     input: &mut I,
     out: &mut O,
 ) -> Status
-    requires workers { (1 ≤ workers) × (workers ≤ 64) }
     requires few { length presentation.eqs ≤ most_equations }
     ensures { (shelf : ShelfState) → IsRun (AnswersMean (parts_of presentation)) StoresNothing
         (outside shelf (I.state input.old) (O.state out.old))
@@ -117,7 +115,7 @@ fn answer_by<T: Threads + Wait + Sync, G: Gate, I: Source, O: Sink>(
         Err(Memory) => return Status::Memory,
     };
     rules_are_few(&presentation, &rules);
-    match check(rt, alloc, &rules, &index, workers) {
+    match check(rt, alloc, &rules, &index, batches.crew()) {
         Ok(Verdict::Yes) => {
             answer_all(rt, alloc, presentation, &rules, index, batches, input, out)
         }

@@ -9,10 +9,10 @@ ghost use Rattle.kb_complete.specs.Completing.{AreReduced, CompleteSays};
 use crate::answers::{Grown, Outcome};
 use crate::growing::grow;
 use kb_book::{Book, Limits};
+use kb_draw::Crew;
 use kb_index::HasAutomaton;
 use kb_io::Gate;
 use kb_share::{Finder, Silent, Watch, book_is_sound};
-use kb_threads::Workers;
 use kb_word::{Memory, Presentation};
 use std::alloc::Global;
 use std::sync::Wait;
@@ -24,12 +24,12 @@ pub fn complete<R: HasAutomaton + Send + Sync, G: Gate, T: Threads + Wait + Sync
     alloc: Global,
     presentation: &Presentation,
     limits: &Limits,
-    workers: &Workers<'_, G>,
+    crew: &Crew<'_, G>,
 ) -> Result<Outcome<R>, Memory>
     ensures { IfOk result (CompleteSays
         (problem_of (parts_of presentation.now) limits.now.rules limits.now.len)) }
 {
-    complete_watched(rt, alloc, presentation, limits, workers, &mut Silent)
+    complete_watched(rt, alloc, presentation, limits, crew, &mut Silent)
 }
 
 /// Completes a presentation within limits, and lets somebody watch.
@@ -38,7 +38,7 @@ pub fn complete_watched<R: HasAutomaton + Send + Sync, G: Gate, W: Watch, T: Thr
     alloc: Global,
     presentation: &Presentation,
     limits: &Limits,
-    workers: &Workers<'_, G>,
+    crew: &Crew<'_, G>,
     watch: &mut W,
 ) -> Result<Outcome<R>, Memory>
     ensures { IfOk result (CompleteSays
@@ -46,7 +46,7 @@ pub fn complete_watched<R: HasAutomaton + Send + Sync, G: Gate, W: Watch, T: Thr
 {
     let book = Book::new(alloc, presentation, limits)?;
     let mut finder = Finder::new(alloc);
-    grow_all(rt, alloc, book, &mut finder, workers, watch)
+    grow_all(rt, alloc, book, &mut finder, crew, watch)
 }
 
 /// Grows the book until the completion is at its end.
@@ -55,7 +55,7 @@ fn grow_all<R: HasAutomaton + Send + Sync, G: Gate, W: Watch, T: Threads + Wait 
     alloc: Global,
     mut book: Book<R>,
     finder: &mut Finder,
-    workers: &Workers<'_, G>,
+    crew: &Crew<'_, G>,
     watch: &mut W,
 ) -> Result<Outcome<R>, Memory>
     requires reduced { AreReduced book.course }
@@ -63,7 +63,7 @@ fn grow_all<R: HasAutomaton + Send + Sync, G: Gate, W: Watch, T: Threads + Wait 
     ensures { IfOk result (CompleteSays book.course.problem) }
 {
     'growing: loop {
-        match grow(rt, alloc, book, finder, workers, watch)? {
+        match grow(rt, alloc, book, finder, crew, watch)? {
             Grown::More(next) => book = next,
             Grown::Confluent(rules, book) => return Ok(Outcome::Confluent(rules, book)),
             Grown::Halted(book) => return Ok(Outcome::Halted(book)),

@@ -10,11 +10,12 @@ use crate::answers::Grown;
 use crate::ending::{completed, end};
 use crate::publishing::{Standing, settle_and_publish};
 use kb_book::Book;
+use kb_draw::Crew;
 use kb_index::HasAutomaton;
 use kb_io::Gate;
 use kb_rules::Reducer;
 use kb_share::{Finder, Watch};
-use kb_threads::{Passed, Workers};
+use kb_threads::{Passed, make_pass};
 use kb_word::Memory;
 use std::alloc::Global;
 use std::sync::Wait;
@@ -37,7 +38,7 @@ pub fn grow<R: HasAutomaton + Send + Sync, G: Gate, W: Watch, T: Threads + Wait 
     alloc: Global,
     book: Book<R>,
     finder: &mut Finder,
-    workers: &Workers<'_, G>,
+    crew: &Crew<'_, G>,
     watch: &mut W,
 ) -> Result<Grown<R>, Memory>
     requires { Knows finder.old book.course.state }
@@ -47,7 +48,7 @@ pub fn grow<R: HasAutomaton + Send + Sync, G: Gate, W: Watch, T: Threads + Wait 
     let given = book.lines().len();
     match advance(alloc, book, given, finder, watch)? {
         Round::Over(grown) => Ok(grown),
-        Round::Open(settled) => Ok(look_for_more(rt, alloc, settled, finder, workers, watch)?),
+        Round::Open(settled) => Ok(look_for_more(rt, alloc, settled, finder, crew, watch)?),
     }
 }
 
@@ -57,7 +58,7 @@ fn look_for_more<R: HasAutomaton + Send + Sync, G: Gate, W: Watch, T: Threads + 
     alloc: Global,
     book: Book<R>,
     finder: &mut Finder,
-    workers: &Workers<'_, G>,
+    crew: &Crew<'_, G>,
     watch: &mut W,
 ) -> Result<Grown<R>, Memory>
     requires settled { IsSettled book.course }
@@ -66,7 +67,7 @@ fn look_for_more<R: HasAutomaton + Send + Sync, G: Gate, W: Watch, T: Threads + 
     ensures known { IfOk result (KnowsGrown finder.new) }
 {
     let given = book.lines().len();
-    match workers.pass(rt, alloc, book)? {
+    match make_pass(rt, alloc, book, crew)? {
         Passed::Confluent(same) => {
             // No line comes any more: the finder's memory goes to the reduced system.
             *finder = Finder::new(alloc);

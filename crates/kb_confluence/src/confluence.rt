@@ -8,7 +8,8 @@ ghost use Rattle.kb_confluence.specs.Answers.{IsVerdict, GivesCounterexample};
 use crate::prime_rows::PrimeRows;
 use crate::rows::Rows;
 use crate::shares::{all_joined, earliest};
-use kb_draw::share_out;
+use kb_draw::{Crew, share_out};
+use kb_io::{Gate, Point};
 use kb_overlap::composite_overlaps_need_no_look;
 use kb_rules::{Reducer, Rule, Rules};
 use kb_word::{Memory, Word};
@@ -40,88 +41,87 @@ pub enum Verdict {
 }
 
 /// Whether the rules are confluent, by the normal forms of critical pairs: those of the prime overlaps, and where one of
-/// them is apart, those of all overlaps in their order. Several workers are a thread each, where there are more than a
-/// few rules; how many there are changes nothing of the verdict.
-pub fn check<R: Reducer + Sync, T: Threads + Wait + Sync>(
+/// them is apart, those of all overlaps in their order. Where there are few rules the first of the workers looks at them
+/// alone; how many workers there are changes nothing of the verdict.
+pub fn check<R: Reducer + Sync, G: Gate, T: Threads + Wait + Sync>(
     rt: &T,
     alloc: Global,
     rules: &Rules,
     reducer: &R,
-    workers: u32,
+    crew: &Crew<'_, G>,
 ) -> Result<Verdict, Memory>
     requires reducer { R.rules reducer.now ≡ rules.now.rules }
     requires size { length rules.now.rules ≤ 2 ^ 31 }
-    requires workers { (1 ≤ workers) × (workers ≤ 64) }
     ensures verdict { IfOk result (IsVerdict rules.now.rules) }
     ensures confluent { IfOk result
         (λ verdict. (verdict ≡ Verdict.Yes) ↔ IsConfluent rules.now.rules) }
     ensures counterexample { IfOk result (GivesCounterexample rules.now.rules) }
 {
-    verdict_on(rt, alloc, rules, reducer, workers)
+    verdict_on(rt, alloc, rules, reducer, crew)
 }
 
 /// The verdict on these rules.
-fn verdict_on<R: Reducer + Sync, T: Threads + Wait + Sync>(
+fn verdict_on<R: Reducer + Sync, G: Gate, T: Threads + Wait + Sync>(
     rt: &T,
     alloc: Global,
     rules: &Rules,
     reducer: &R,
-    workers: u32,
+    crew: &Crew<'_, G>,
 ) -> Result<Verdict, Memory>
     requires reducer { R.rules reducer.now ≡ rules.now.rules }
     requires size { length rules.now.rules ≤ 2 ^ 31 }
-    requires workers { (1 ≤ workers) × (workers ≤ 64) }
     ensures { IfOk result (IsVerdict rules.now.rules) }
 {
     // A use of the list brings its invariant, that the rules decrease.
     let list = rules.as_slice();
-    if primes_are_joined(rt, alloc, rules, reducer, workers)? {
+    if primes_are_joined(rt, alloc, rules, reducer, crew)? {
         composite_overlaps_need_no_look();
         return Ok(Verdict::Yes);
     }
-    check_rules(rt, alloc, list, reducer, workers)
+    // A pair that is apart is known: from here on it is looked for the first one.
+    crew.gate().at(1, Point::Enter);
+    check_rules(rt, alloc, list, reducer, crew)
 }
 
 /// Whether each prime overlap of these rules is joined.
-fn primes_are_joined<R: Reducer + Sync, T: Threads + Wait + Sync>(
+fn primes_are_joined<R: Reducer + Sync, G: Gate, T: Threads + Wait + Sync>(
     rt: &T,
     alloc: Global,
     rules: &Rules,
     reducer: &R,
-    workers: u32,
+    crew: &Crew<'_, G>,
 ) -> Result<bool, Memory>
     requires reducer { R.rules reducer.now ≡ rules.now.rules }
     requires size { length rules.now.rules ≤ 2 ^ 31 }
-    requires workers { (1 ≤ workers) × (workers ≤ 64) }
     ensures { IfOk result (λ joined. IsTrue joined → PrimesAreJoined rules.now.rules) }
 {
     let rows = PrimeRows::of(alloc, rules, reducer)?;
-    let shares = share_out(rt, alloc, &rows, workers_for(rules.len(), workers))?;
+    let shares = share_out(rt, alloc, &rows, &crew_for(rules.len(), crew))?;
     Ok(all_joined(&shares))
 }
 
 /// The verdict by all overlaps of these rules.
-fn check_rules<R: Reducer + Sync, T: Threads + Wait + Sync>(
+fn check_rules<R: Reducer + Sync, G: Gate, T: Threads + Wait + Sync>(
     rt: &T,
     alloc: Global,
     rules: &[Rule],
     reducer: &R,
-    workers: u32,
+    crew: &Crew<'_, G>,
 ) -> Result<Verdict, Memory>
     requires reducer { R.rules reducer.now ≡ rules.now }
     requires size { length rules.now ≤ 2 ^ 31 }
-    requires workers { (1 ≤ workers) × (workers ≤ 64) }
     ensures { IfOk result (IsVerdict rules.now) }
 {
     let rows = Rows::of(alloc, rules, reducer)?;
-    let shares = share_out(rt, alloc, &rows, workers_for(rules.len(), workers))?;
+    let shares = share_out(rt, alloc, &rows, &crew_for(rules.len(), crew))?;
     Ok(earliest(shares))
 }
 
-/// How many workers share so many rules: one where they are few.
-fn workers_for(rules: usize, workers: u32) -> u32
-    requires { (1 ≤ workers) × (workers ≤ 64) }
-    ensures { (1 ≤ result) × (result ≤ 64) }
-{
-    if rules < FEW_RULES { 1 } else { workers }
+/// The workers who share so many rules: one where they are few.
+fn crew_for<'g, G: Gate>(rules: usize, crew: &Crew<'g, G>) -> Crew<'g, G> {
+    if rules < FEW_RULES {
+        crew.first()
+    } else {
+        crew.copy()
+    }
 }

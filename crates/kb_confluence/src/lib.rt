@@ -1,7 +1,7 @@
 //! Confluence of rules: the test, and what it is good for.
 //!
 //! The public contract: `check` answers `Yes` exactly where the critical pair of each overlap is joined, and
-//! otherwise names the first overlap whose pair is apart, with its two normal forms; 1 to 64 workers share the test,
+//! otherwise names the first overlap whose pair is apart, with its two normal forms; the workers of a crew share the test,
 //! and come to the same verdict whatever their number. By the law `normal_forms_by_confluent_rules_are_least` each
 //! word's normal form is then the least word that is congruent to it; `least_by_the_same_congruence` carries that
 //! over to any other list of pairs that generates the same congruence, such as a presentation's relations.
@@ -29,7 +29,7 @@
 //! That a word has one normal form where the critical pairs are joined is proved in `kb_overlap`, and
 //! `proofs/LeastWords.antt` has what follows.
 //!
-//! Below are `kb_word`, `kb_rules`, `kb_overlap` and `kb_draw`.
+//! Below are `kb_word`, `kb_io`, for the gate, `kb_draw`, `kb_rules` and `kb_overlap`.
 #![tactic(auto)]
 
 mod confluence;

@@ -12,10 +12,11 @@
 //! first one up to the end was drawn.
 //!
 //! [`Work`] is work in parts, numbered from 0 on, which workers take into shares of their own, and
-//! [`share_out`] does it by 1 to 64 workers: there is a share for each worker, each share is sound,
+//! [`share_out`] does it by the workers of a [`Crew`], 1 to 64: there is a share for each worker, each share is sound,
 //! and each part is done in one of the shares. What that says of a share is what the work means by
 //! `sound` and `done`; what is done in a share stays done in it. One worker does the parts in their
-//! order, with no thread; several are a thread each, and draw the parts from one counter.
+//! order, with no thread; several are a thread each, and draw the parts from one counter. Before each draw a worker
+//! comes to the crew's gate, at which a test may hold it.
 //!
 //! # How it is made
 //!
@@ -30,13 +31,15 @@
 //!
 //! The seats may draw numbers past the end, one each at most. So the counter never comes to the end of its 64 bits.
 //!
-//! Below is `kb_word`, for want of memory.
+//! Below are `kb_word`, for want of memory, and `kb_io`, for the gate.
 #![tactic(auto)]
 
 mod counter;
+mod crew;
 mod draw;
 mod work;
 
 pub use counter::Bounds;
+pub use crew::Crew;
 pub use draw::{Draw, Seat};
 pub use work::{Work, share_out};

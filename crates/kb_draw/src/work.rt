@@ -5,7 +5,9 @@ ghost use Rattle.kb_draw.specs.Seats.{IsNewSeatOf};
 ghost use Rattle.kb_draw.specs.Sharing.{IsShared};
 ghost use Rattle.kb_draw.specs.Workers.{AreSeated, IsDrawnOf, AreTaken};
 
+use crate::crew::Crew;
 use crate::draw::{Draw, Seat};
+use kb_io::{Gate, Point};
 use kb_word::Memory;
 use std::alloc::Global;
 use std::sync::Wait;
@@ -58,27 +60,25 @@ struct Drawn<S> {
     share: S,
 }
 
-/// Does all parts of a work, by so many workers, each a thread where there are several. Each part is done in one of
-/// the shares.
-pub fn share_out<W: Work + Sync, T: Threads + Wait + Sync>(
+/// Does all parts of a work, by the workers of a crew. Each part is done in one of the shares.
+pub fn share_out<W: Work + Sync, G: Gate, T: Threads + Wait + Sync>(
     rt: &T,
     alloc: Global,
     work: &W,
-    workers: u32,
+    crew: &Crew<'_, G>,
 ) -> Result<Vec<W::Share>, Memory>
 where
     W::Share: Send,
-    requires parts { W.parts work.now ≤ 2 ^ 62 }
-    requires workers { (1 ≤ workers) × (workers ≤ 64) }
-    ensures count { IfOk result (λ shares. length shares.items ≡ workers) }
+    requires { W.parts work.now ≤ 2 ^ 62 }
+    ensures count { IfOk result (λ shares. length shares.items ≡ crew.now.count) }
     ensures sound { IfOk result (λ shares. All (W.sound work.now) shares.items) }
     ensures done { IfOk result
         (λ shares. IsShared (W.parts work.now) (W.done work.now) shares.items) }
 {
-    if workers == 1 {
+    if crew.count() == 1 {
         do_all(alloc, work)
     } else {
-        draw_all(rt, alloc, work, workers)
+        draw_all(rt, alloc, work, crew)
     }
 }
 
@@ -99,33 +99,33 @@ fn do_all<W: Work>(alloc: Global, work: &W) -> Result<Vec<W::Share>, Memory>
 }
 
 /// Does all parts of a work by threads, which draw them.
-fn draw_all<W: Work + Sync, T: Threads + Wait + Sync>(
+fn draw_all<W: Work + Sync, G: Gate, T: Threads + Wait + Sync>(
     rt: &T,
     alloc: Global,
     work: &W,
-    workers: u32,
+    crew: &Crew<'_, G>,
 ) -> Result<Vec<W::Share>, Memory>
 where
     W::Share: Send,
-    requires parts { W.parts work.now ≤ 2 ^ 62 }
-    requires workers { (1 ≤ workers) × (workers ≤ 64) }
-    ensures count { IfOk result (λ shares. length shares.items ≡ workers) }
+    requires { W.parts work.now ≤ 2 ^ 62 }
+    ensures count { IfOk result (λ shares. length shares.items ≡ crew.now.count) }
     ensures sound { IfOk result (λ shares. All (W.sound work.now) shares.items) }
     ensures done { IfOk result
         (λ shares. IsShared (W.parts work.now) (W.done work.now) shares.items) }
 {
-    let (draw, seats) = Draw::new(alloc, 0, work.parts(), workers)?;
-    let crew = seated(alloc, seats)?;
+    let (draw, seats) = Draw::new(alloc, 0, work.parts(), crew.count())?;
+    let workers = seated(alloc, seats)?;
+    let gate = crew.gate();
     let drawn = thread::map_vec(
         rt,
-        crew,
+        workers,
         &|worker: Worker| -> Result<Drawn<W::Share>, Memory>
             requires seat { IsNewSeatOf draw worker.seat }
             requires end { draw.bounds.end ≡ W.parts work.now }
             ensures { IfOk result
                 (IsDrawnOf draw (W.parts work.entry.now) (W.sound work.entry.now)
                 (W.done work.entry.now)) }
-        { draw_to_end(rt, alloc, work, &draw, worker) },
+        { draw_to_end(rt, alloc, work, gate, &draw, worker) },
     )?;
     let (seats, shares) = taken(alloc, drawn)?;
     draw.close(seats);
@@ -145,11 +145,12 @@ fn seated(alloc: Global, mut seats: Vec<Seat>) -> Result<Vec<Worker>, Memory>
     Ok(made)
 }
 
-/// Draws parts until the seat is dry, and takes each into the share.
-fn draw_to_end<W: Work, T: Wait>(
+/// Draws parts until the seat is dry, and takes each into the share. The worker comes to the gate before each draw.
+fn draw_to_end<W: Work, G: Gate, T: Wait>(
     rt: &T,
     alloc: Global,
     work: &W,
+    gate: &G,
     draw: &Draw,
     worker: Worker,
 ) -> Result<Drawn<W::Share>, Memory>
@@ -161,6 +162,7 @@ fn draw_to_end<W: Work, T: Wait>(
     let Worker { number, mut seat } = worker;
     let mut share = work.begin(alloc, number)?;
     for _ in rt.forever() {
+        gate.at(number, Point::Draw);
         let Some(part) = draw.next(&mut seat) else {
             return Ok(Drawn { seat, share });
         };

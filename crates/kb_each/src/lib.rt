@@ -3,9 +3,8 @@
 //! # The public contract
 //!
 //! A [`Making`] has places, numbered from 0 on, for each of which something can be made alone. What that has to be is
-//! the making's own `is`. [`make_all`] makes exactly one for each place, by 1 to 64 workers, and returns them in the
-//! order of the places; want of memory is the one error. Each worker comes to a gate (`Gate` of `kb_io`) before it
-//! draws a place.
+//! the making's own `is`. [`make_all`] makes exactly one for each place, by the workers of a crew, and returns them in the
+//! order of the places; want of memory is the one error.
 //!
 //! The contract speaks of each place alone, and of no worker. So the answer can't depend on how many workers there are,
 //! nor on which of them made what: where `is` leaves one thing for each place, the list is one and the same.

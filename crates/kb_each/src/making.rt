@@ -5,8 +5,8 @@ ghost use Rattle.kb_each.specs.Made.{AreMadeInOrder};
 
 use crate::share::{Placed, Share};
 use crate::slots::in_order;
-use kb_draw::{Work, share_out};
-use kb_io::{Gate, Point};
+use kb_draw::{Crew, Work, share_out};
+use kb_io::Gate;
 use kb_word::Memory;
 use std::alloc::Global;
 use std::sync::Wait;
@@ -35,14 +35,13 @@ pub trait Making {
 
 /// The places of a making, as work.
 #[derive(Drop)]
-struct Places<'a, M: Making, G: Gate> {
+struct Places<'a, M: Making> {
     alloc: Global,
     making: &'a M,
-    gate: &'a G,
 }
 
-/// A part is a place. A worker comes to the gate before it draws one.
-impl<'a, M: Making, G: Gate> Work for Places<'a, M, G> {
+/// A part is a place.
+impl<'a, M: Making> Work for Places<'a, M> {
     ghost use Rattle.kb_each.specs.Shares.{HasMade, IsSound};
 
     type Share = Share<M::Made>;
@@ -58,10 +57,8 @@ impl<'a, M: Making, G: Gate> Work for Places<'a, M, G> {
         self.making.places()
     }
 
-    fn begin(&self, alloc: Global, worker: u32) -> Result<Share<M::Made>, Memory> {
-        self.gate.at(worker, Point::Draw);
+    fn begin(&self, alloc: Global, _worker: u32) -> Result<Share<M::Made>, Memory> {
         Ok(Share {
-            worker,
             made: Vec::new(alloc),
         })
     }
@@ -69,31 +66,23 @@ impl<'a, M: Making, G: Gate> Work for Places<'a, M, G> {
     fn take(&self, place: u64, share: &mut Share<M::Made>) -> Result<(), Memory> {
         let made = self.making.make(self.alloc, place)?;
         share.made.push(Placed { place, made })?;
-        self.gate.at(share.worker, Point::Draw);
         Ok(())
     }
 }
 
-/// Makes one for each place, in the order of the places, by so many workers, each a thread where there are several.
+/// Makes one for each place, in the order of the places, by the workers of a crew.
 pub fn make_all<M: Making + Sync, G: Gate, T: Threads + Wait + Sync>(
     rt: &T,
     alloc: Global,
     making: &M,
-    workers: u32,
-    gate: &G,
+    crew: &Crew<'_, G>,
 ) -> Result<Vec<M::Made>, Memory>
 where
     M::Made: Send,
-    requires places { M.places making.now ≤ 2 ^ 62 }
-    requires workers { (1 ≤ workers) × (workers ≤ 64) }
+    requires { M.places making.now ≤ 2 ^ 62 }
     ensures { IfOk result (λ list.
         AreMadeInOrder (M.places making.now) (M.is making.now) list.items) }
 {
-    let places = Places {
-        alloc,
-        making,
-        gate,
-    };
-    let shares = share_out(rt, alloc, &places, workers)?;
+    let shares = share_out(rt, alloc, &Places { alloc, making }, crew)?;
     in_order(alloc, making.places(), shares)
 }

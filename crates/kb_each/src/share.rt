@@ -10,6 +10,5 @@ pub struct Placed<M> {
 /// A worker's share of the places: what it made, each with its place.
 #[derive(Drop)]
 pub struct Share<M> {
-    pub worker: u32,
     pub made: Vec<Placed<M>>,
 }

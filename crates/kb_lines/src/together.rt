@@ -104,13 +104,7 @@ where
     ensures { IfOk result (λ answers. AreBlockAnswers (A.parts answerer.now)
         (A.answers answerer.now) blocks.now answers.items) }
 {
-    make_all(
-        rt,
-        alloc,
-        &Blocks { answerer, blocks },
-        batches.workers,
-        batches.gate,
-    )
+    make_all(rt, alloc, &Blocks { answerer, blocks }, batches.crew())
 }
 
 /// The answer to the lines that end in these bytes. One workspace and one text serve for all of them.

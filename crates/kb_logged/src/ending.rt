@@ -8,6 +8,7 @@ ghost use Rattle.kb_logged.specs.Logged.{EndsLogged};
 
 use kb_book::{Book, Limits};
 use kb_complete::{Outcome, complete_watched};
+use kb_draw::Crew;
 use kb_fsa::Fsa;
 use kb_index::Index;
 use kb_io::Gate;
@@ -15,7 +16,6 @@ use kb_machine::Line;
 use kb_rules::{Reducer, Rules};
 use kb_share::{Watch, book_is_sound};
 use kb_system::{Halted, halted, word_acceptor};
-use kb_threads::Workers;
 use kb_word::{Memory, Presentation};
 use std::alloc::Global;
 use std::sync::Wait;
@@ -39,18 +39,18 @@ pub enum LoggedEnding {
     },
 }
 
-/// Completes a presentation within limits, by so many workers, makes its word acceptor, and keeps the log.
+/// Completes a presentation within limits, by the workers, makes its word acceptor, and keeps the log.
 pub fn complete_with_log<G: Gate, W: Watch, T: Threads + Wait + Sync>(
     rt: &T,
     alloc: Global,
     presentation: &Presentation,
     limits: &Limits,
-    workers: &Workers<'_, G>,
+    crew: &Crew<'_, G>,
     watch: &mut W,
 ) -> Result<LoggedEnding, Memory>
     ensures { IfOk result (EndsLogged (limits_of limits.now) (parts_of presentation.now)) }
 {
-    match complete_watched::<Index, G, W, T>(rt, alloc, presentation, limits, workers, watch)? {
+    match complete_watched::<Index, G, W, T>(rt, alloc, presentation, limits, crew, watch)? {
         Outcome::Confluent(rules, book) => completed(alloc, presentation, limits, rules, book),
         Outcome::Halted(book) => Ok(LoggedEnding::Halted(halted(alloc, book)?)),
     }

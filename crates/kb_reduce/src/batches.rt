@@ -7,6 +7,7 @@ ghost use Rattle.kb_fsa.specs.Language.{Accepts, generators};
 ghost use Rattle.kb_relations.specs.Images.{CanBeFollowed};
 ghost use Rattle.kb_reduce.specs.Batches.{AreAnswersOf, LeadsTo};
 
+use kb_draw::Crew;
 use kb_each::{Making, make_all};
 use kb_fsa::Fsa;
 use kb_io::Gate;
@@ -45,22 +46,19 @@ impl<'a, R: Reducer> Making for ByRules<'a, R> {
     }
 }
 
-/// The normal forms of words, in their order, by so many workers, each a thread where there are several. A worker
-/// comes to the gate before it draws a word.
+/// The normal forms of words, in their order, by the workers of a crew.
 pub fn batch_rules<R: Reducer + Sync, G: Gate, T: Threads + Wait + Sync>(
     rt: &T,
     alloc: Global,
     reducer: &R,
     words: &[Word],
-    workers: u32,
-    gate: &G,
+    crew: &Crew<'_, G>,
 ) -> Result<Vec<Word>, Memory>
     requires words { length words.now ≤ 2 ^ 31 }
-    requires workers { (1 ≤ workers) × (workers ≤ 64) }
     ensures { IfOk result (λ answers.
         AreAnswersOf (NormalForm (R.rules reducer.now)) words.now answers.items) }
 {
-    make_all(rt, alloc, &ByRules { reducer, words }, workers, gate)
+    make_all(rt, alloc, &ByRules { reducer, words }, crew)
 }
 
 /// Words that are followed from the empty word. Contracts see them with their automata.
@@ -111,22 +109,20 @@ impl<'a> Making for ByMultipliers<'a> {
     }
 }
 
-/// For each of the words, in their order, the word to which following its letters leads from the empty word, by so many
-/// workers, each a thread where there are several. A worker comes to the gate before it draws a word.
+/// For each of the words, in their order, the word to which following its letters leads from the empty word, by the
+/// workers of a crew.
 pub fn batch_multipliers<G: Gate, T: Threads + Wait + Sync>(
     rt: &T,
     alloc: Global,
     acceptor: &Fsa,
     multipliers: &[Fsa],
     words: &[Word],
-    workers: u32,
-    gate: &G,
+    crew: &Crew<'_, G>,
 ) -> Result<Vec<Word>, Memory>
     requires automata { CanBeFollowed acceptor.now multipliers.now }
     requires empty_word { Accepts acceptor.now [] }
     requires over { All (IsOver (generators acceptor.now.alphabet)) words.now }
     requires words { length words.now ≤ 2 ^ 31 }
-    requires workers { (1 ≤ workers) × (workers ≤ 64) }
     ensures { IfOk result (λ answers. AreAnswersOf
         (LeadsTo acceptor.now multipliers.now) words.now answers.items) }
 {
@@ -135,5 +131,5 @@ pub fn batch_multipliers<G: Gate, T: Threads + Wait + Sync>(
         multipliers,
         words,
     };
-    make_all(rt, alloc, &batch, workers, gate)
+    make_all(rt, alloc, &batch, crew)
 }

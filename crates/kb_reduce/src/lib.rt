@@ -7,7 +7,7 @@
 //! - [`LeastWords`] answers it with the least word of its class, by the presented group's own word acceptor and
 //!   multipliers (`specs/Leading.antt`).
 //!
-//! Words that are given together are reduced by 1 to 64 workers, and each has the very answer that it has alone, in
+//! Words that are given together are reduced by the workers of a crew, and each has the very answer that it has alone, in
 //! the order of the words (`specs/Batches.antt`): [`batch_rules`] makes their normal forms, and [`batch_multipliers`]
 //! follows them by multipliers.
 //!

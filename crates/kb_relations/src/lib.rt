@@ -12,7 +12,7 @@
 //! - [`broken_relation`] says that both sides of each relation act alike; or it names the first relation whose sides
 //!   don't, with the least word from which they lead to different words, and these two; or it names the first relation
 //!   for which more states than the limit are counted, where no earlier one is broken (`IsActing` of
-//!   `specs/Acts.antt`). The relations are shared by 1 to 64 workers, each a thread where there are several; their
+//!   `specs/Acts.antt`). The relations are shared by the workers of a crew; their
 //!   number changes nothing of the answer.
 //!
 //! For each relation the composites along both sides are counted, and then their comparison, before its certificate is

@@ -12,8 +12,10 @@ use crate::acting::Acting;
 use crate::following::follow;
 use crate::sides::least_led_apart;
 use crate::stop::Stop;
+use kb_draw::Crew;
 use kb_explore::Det;
 use kb_fsa::Fsa;
+use kb_io::Gate;
 use kb_search::{Search, first_found};
 use kb_word::{Memory, Word};
 use std::alloc::Global;
@@ -65,18 +67,17 @@ impl<'a> Search for Relations<'a> {
 /// The first relation whose sides don't act alike, with the least word from which they lead to different words. The
 /// composites along both sides of a relation, and their comparison, are counted in full before. Several workers are a
 /// thread each, and share the relations; how many there are changes nothing of the answer.
-pub fn broken_relation<T: Threads + Wait + Sync>(
+pub fn broken_relation<G: Gate, T: Threads + Wait + Sync>(
     rt: &T,
     alloc: Global,
     acceptor: &Fsa,
     multipliers: &[Fsa],
     relations: &[(Word, Word)],
     limit: u32,
-    workers: u32,
+    crew: &Crew<'_, G>,
 ) -> Result<Acting, Memory>
     requires automata { CanBeFollowed acceptor.now multipliers.now }
     requires relations { AreOver acceptor.now relations.now }
-    requires workers { (1 ≤ workers) × (workers ≤ 64) }
     ensures { IfOk result (IsActing relations.now acceptor.now multipliers.now limit) }
 {
     let search = Relations {
@@ -85,7 +86,7 @@ pub fn broken_relation<T: Threads + Wait + Sync>(
         relations,
         limit,
     };
-    match first_found(rt, alloc, &search, workers)? {
+    match first_found(rt, alloc, &search, crew)? {
         None => Ok(Acting::Alike),
         Some(Stop::TooManyStates { index }) => Ok(Acting::TooManyStates {
             relation: index + 1,

@@ -13,11 +13,12 @@ ghost use Rattle.kb_round.specs.Rounds.{IsAcceptorOf};
 
 use kb_diff::{Differences, Machine};
 use kb_diffwa::{AllMultipliers, acceptor, multipliers};
+use kb_draw::Crew;
 use kb_each::{Making, make_all};
 use kb_explore::Det;
 use kb_fsa::Fsa;
 use kb_fsamin::{canonical, reduced_by_labels};
-use kb_io::OpenGate;
+use kb_io::Gate;
 use kb_labelled::Labelled;
 use kb_rules::Reducer;
 use kb_word::Memory;
@@ -46,20 +47,19 @@ pub(crate) fn canonical_acceptor<R: Reducer>(
     }
 }
 
-/// The canonical multipliers of the differences over their acceptor, made canonical by so many workers; none where they
+/// The canonical multipliers of the differences over their acceptor, made canonical by the workers; none where they
 /// count more states than the limit.
-pub(crate) fn canonical_multipliers<R: Reducer, T: Threads + Wait + Sync>(
+pub(crate) fn canonical_multipliers<R: Reducer, G: Gate, T: Threads + Wait + Sync>(
     rt: &T,
     alloc: Global,
     differences: &Differences<R>,
     machine: &Machine,
     acceptor: &Fsa,
     limit: u32,
-    workers: u32,
+    crew: &Crew<'_, G>,
 ) -> Result<Option<Vec<Fsa>>, Memory>
     requires steps { AreSteps differences.now.group differences.now.words (step_in machine.now) }
     requires alphabet { acceptor.now.alphabet ≡ Plain differences.now.group.n }
-    requires workers { (1 ≤ workers) × (workers ≤ 64) }
     ensures multiply { IfOk result (λ found. IfSome found (λ multipliers. AreMultipliers
         differences.now.group differences.now.words acceptor.now differences.now.group.n
         multipliers.items)) }
@@ -69,43 +69,41 @@ pub(crate) fn canonical_multipliers<R: Reducer, T: Threads + Wait + Sync>(
         → CountedPlaces differences.now.group differences.now.words acceptor.now.table limit }
 {
     match multipliers(alloc, differences, machine, acceptor, limit) {
-        Ok(explored) => Ok(Some(canonical_forms(rt, alloc, explored, workers)?)),
+        Ok(explored) => Ok(Some(canonical_forms(rt, alloc, explored, crew)?)),
         Err(Det::TooManyStates { .. }) => Ok(None),
         Err(Det::Memory) => Err(Memory),
     }
 }
 
-/// The canonical multipliers, by so many workers. What was explored is made small once for all of them, and is let go
+/// The canonical multipliers, by the workers. What was explored is made small once for all of them, and is let go
 /// before the first of them is made canonical.
-fn canonical_forms<T: Threads + Wait + Sync>(
+fn canonical_forms<G: Gate, T: Threads + Wait + Sync>(
     rt: &T,
     alloc: Global,
     explored: AllMultipliers,
-    workers: u32,
+    crew: &Crew<'_, G>,
 ) -> Result<Vec<Fsa>, Memory>
-    requires { (1 ≤ workers) × (workers ≤ 64) }
     ensures { IfOk result (λ forms. AreCanonicalForms explored.labelled explored.targets.items
         (length explored.targets.items) forms.items) }
 {
     let AllMultipliers { labelled, targets } = explored;
     let reduced = reduced_by_labels(alloc, &labelled)?;
     drop(labelled);
-    canonical_each(rt, alloc, &reduced, targets.as_slice(), workers)
+    canonical_each(rt, alloc, &reduced, targets.as_slice(), crew)
 }
 
 /// For each of the labels in order, the canonical automaton of the texts that have it.
-fn canonical_each<T: Threads + Wait + Sync>(
+fn canonical_each<G: Gate, T: Threads + Wait + Sync>(
     rt: &T,
     alloc: Global,
     labelled: &Labelled,
     labels: &[u32],
-    workers: u32,
+    crew: &Crew<'_, G>,
 ) -> Result<Vec<Fsa>, Memory>
-    requires { (1 ≤ workers) × (workers ≤ 64) }
     ensures { IfOk result (λ forms.
         AreCanonicalForms labelled.now labels.now (length labels.now) forms.items) }
 {
-    make_all(rt, alloc, &Forms { labelled, labels }, workers, &OpenGate)
+    make_all(rt, alloc, &Forms { labelled, labels }, crew)
 }
 
 /// The canonical automata of the texts that have the labels.

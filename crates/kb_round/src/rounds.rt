@@ -12,6 +12,8 @@ use crate::making::{canonical_acceptor, canonical_multipliers, largest};
 use crate::showing::{axiom_of, equality_of};
 use kb_axioms::{Automata, check_automata};
 use kb_diff::Differences;
+use kb_draw::Crew;
+use kb_io::Gate;
 use kb_rules::Reducer;
 use kb_word::{Memory, Presentation};
 use std::alloc::Global;
@@ -21,13 +23,13 @@ use std::thread::Threads;
 /// Makes the automata of word differences, and checks whether they are the group's own automatic structure. Several
 /// workers are a thread each: they make the multipliers canonical, and check the axioms. How large the automata were is
 /// told beside the answer, and counts for nothing.
-pub fn round<R: Reducer, T: Threads + Wait + Sync>(
+pub fn round<R: Reducer, G: Gate, T: Threads + Wait + Sync>(
     rt: &T,
     alloc: Global,
     presentation: &Presentation,
     differences: &Differences<R>,
     limit: u32,
-    workers: u32,
+    crew: &Crew<'_, G>,
 ) -> Result<(Round, Figures), Memory>
     requires group { EachInverts presentation.now.n presentation.now.inv }
     requires shortlex { presentation.now.order ≡ ShortLex }
@@ -35,7 +37,6 @@ pub fn round<R: Reducer, T: Threads + Wait + Sync>(
         ≡ group_of presentation.now differences.now.group.rules }
     requires sides { AreEqualSides (relations_of presentation.now.inv presentation.now.eqs)
         differences.now.group.rules }
-    requires workers { (1 ≤ workers) × (workers ≤ 64) }
     ensures { IfOk result (λ answer. RoundSays presentation.now differences.now.group.rules
         differences.now.words limit answer.0) }
 {
@@ -52,7 +53,7 @@ pub fn round<R: Reducer, T: Threads + Wait + Sync>(
         &machine,
         &acceptor,
         limit,
-        workers,
+        crew,
     )?
     else {
         return Ok((Round::TooManyStates(Construction::Multipliers), figures));
@@ -71,7 +72,7 @@ pub fn round<R: Reducer, T: Threads + Wait + Sync>(
         differences,
         structure,
         limit,
-        workers,
+        crew,
     )?;
     figures.broken = broken;
     Ok((round, figures))
@@ -90,14 +91,14 @@ fn no_figures(differences: usize) -> Figures
 }
 
 /// What the check finds of the automata of word differences, and which axiom they break.
-fn checked<R: Reducer, T: Threads + Wait + Sync>(
+fn checked<R: Reducer, G: Gate, T: Threads + Wait + Sync>(
     rt: &T,
     alloc: Global,
     presentation: &Presentation,
     differences: &Differences<R>,
     structure: Structure,
     limit: u32,
-    workers: u32,
+    crew: &Crew<'_, G>,
 ) -> Result<(Round, Option<Axiom>), Memory>
     requires group { EachInverts presentation.now.n presentation.now.inv }
     requires shortlex { presentation.now.order ≡ ShortLex }
@@ -105,7 +106,6 @@ fn checked<R: Reducer, T: Threads + Wait + Sync>(
         differences.now.group.rules }
     requires made { AreMadeOf (group_of presentation.now differences.now.group.rules)
         differences.now.words structure.acceptor structure.multipliers.items }
-    requires workers { (1 ≤ workers) × (workers ≤ 64) }
     ensures { IfOk result (λ answer. RoundSays presentation.now differences.now.group.rules
         differences.now.words limit answer.0) }
 {
@@ -119,7 +119,7 @@ fn checked<R: Reducer, T: Threads + Wait + Sync>(
         &structure.multipliers,
         &relations,
         limit,
-        workers,
+        crew,
     )? {
         Automata::Pass => Ok((Round::Own(structure), None)),
         Automata::No(cert) => {

@@ -5,7 +5,8 @@ ghost use Rattle.kb_search.specs.Earliest.{IsEarlier, IsEarliestOf};
 ghost use Rattle.kb_search.specs.First.{AllLack, IsFirstFound};
 
 use crate::share::Share;
-use kb_draw::{Work, share_out};
+use kb_draw::{Crew, Work, share_out};
+use kb_io::Gate;
 use kb_word::Memory;
 use std::alloc::Global;
 use std::sync::Wait;
@@ -82,23 +83,22 @@ impl<'a, S: Search> Work for Places<'a, S> {
     }
 }
 
-/// What the first place has that has something, by so many workers, each a thread where there are several.
-pub fn first_found<S: Search + Sync, T: Threads + Wait + Sync>(
+/// What the first place has that has something, by the workers of a crew.
+pub fn first_found<S: Search + Sync, G: Gate, T: Threads + Wait + Sync>(
     rt: &T,
     alloc: Global,
     search: &S,
-    workers: u32,
+    crew: &Crew<'_, G>,
 ) -> Result<Option<S::Found>, Memory>
 where
     S::Found: Send,
-    requires places { S.places search.now ≤ 2 ^ 62 }
-    requires workers { (1 ≤ workers) × (workers ≤ 64) }
+    requires { S.places search.now ≤ 2 ^ 62 }
     ensures found { IfOk result (λ found. IfSome found
         (IsFirstFound (S.places search.now) (S.has search.now) (S.lacks search.now))) }
     ensures none { IfOk result (λ found. IfNone found
         (AllLack (S.places search.now) (S.lacks search.now))) }
 {
-    let shares = share_out(rt, alloc, &Places { alloc, search }, workers)?;
+    let shares = share_out(rt, alloc, &Places { alloc, search }, crew)?;
     Ok(earliest(search.places(), shares).found)
 }
 

@@ -4,7 +4,7 @@
 //!
 //! A [`Search`] goes through places, numbered from 0 on, each of which can be looked at alone: it has something, or
 //! it lacks what is searched. What that means is the search's own `has` and `lacks`. [`first_found`] answers what the
-//! first place has that has something, and `None` where all places lack it, by 1 to 64 workers: the answer is the
+//! first place has that has something, and `None` where all places lack it, by the workers of a crew: the answer is the
 //! same whatever their number, and whichever place is looked at first. Want of memory is the one error.
 //!
 //! # How it goes
@@ -18,7 +18,7 @@
 //! In `specs/`, `First` has what is answered and `Earliest` what a share has; `proofs/Finding.antt` puts the shares
 //! together.
 //!
-//! Below are `kb_word`, for want of memory, and `kb_draw`.
+//! Below are `kb_word`, for want of memory, `kb_io`, for the gate, and `kb_draw`.
 #![tactic(auto)]
 
 mod first;

@@ -9,13 +9,13 @@ use crate::accepting::completed;
 use crate::halting::halted;
 use kb_book::Limits;
 use kb_complete::{Outcome, complete_watched};
+use kb_draw::Crew;
 use kb_fsa::Fsa;
 use kb_index::Index;
 use kb_io::Gate;
 use kb_machine::Line;
 use kb_rules::Rules;
 use kb_share::Watch;
-use kb_threads::Workers;
 use kb_word::{Memory, Presentation};
 use std::alloc::Global;
 use std::sync::Wait;
@@ -54,18 +54,18 @@ pub enum Ending {
     TooLarge { lines: Vec<Line>, rules: Rules },
 }
 
-/// Completes a presentation within limits, by so many workers, and makes its word acceptor.
+/// Completes a presentation within limits, by the workers, and makes its word acceptor.
 pub fn complete_presentation<G: Gate, W: Watch, T: Threads + Wait + Sync>(
     rt: &T,
     alloc: Global,
     presentation: &Presentation,
     limits: &Limits,
-    workers: &Workers<'_, G>,
+    crew: &Crew<'_, G>,
     watch: &mut W,
 ) -> Result<Ending, Memory>
     ensures { IfOk result (EndsAs (limits_of limits.now) (parts_of presentation.now)) }
 {
-    match complete_watched::<Index, G, W, T>(rt, alloc, presentation, limits, workers, watch)? {
+    match complete_watched::<Index, G, W, T>(rt, alloc, presentation, limits, crew, watch)? {
         Outcome::Confluent(rules, book) => completed(alloc, presentation, limits, rules, book),
         Outcome::Halted(book) => Ok(Ending::Halted(halted(alloc, book)?)),
     }

@@ -1,4 +1,3 @@
-pub mod Crews
 pub mod Shared
 pub mod Passes
 pub mod Sweeps

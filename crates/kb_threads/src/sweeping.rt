@@ -5,7 +5,7 @@ ghost use Rattle.kb_share.specs.Versions.{VersionParts};
 ghost use Rattle.kb_threads.specs.Sweeps.{AreFoundIn, RowsAreJoined};
 
 use crate::kept::Kept;
-use kb_draw::{Work, share_out};
+use kb_draw::{Crew, Work, share_out};
 use kb_index::HasAutomaton;
 use kb_io::{Gate, Point};
 use kb_share::{Apart, Sieve, SieveSpace, Version};
@@ -53,7 +53,6 @@ impl<'b, R: HasAutomaton, G: Gate> Work for Rows<'b, R, G> {
     }
 
     fn begin(&self, alloc: Global, worker: u32) -> Result<Sifted, Memory> {
-        self.gate.at(worker, Point::Draw);
         Ok(Sifted {
             worker,
             space: SieveSpace::new(alloc),
@@ -67,29 +66,27 @@ impl<'b, R: HasAutomaton, G: Gate> Work for Rows<'b, R, G> {
         self.sieve
             .sift_row(row as usize, &mut share.space, &mut share.found)?;
         share.kept.keep_all(&share.found)?;
-        self.gate.at(share.worker, Point::Draw);
         Ok(())
     }
 }
 
-/// So many workers sift the prime overlaps of a version, and each keeps some of those that are apart. None where no
+/// Workers sift the prime overlaps of a version, and each keeps some of those that are apart. None where no
 /// prime overlap is apart.
 pub(crate) fn sweep<R: HasAutomaton + Sync, G: Gate, T: Threads + Wait + Sync>(
     rt: &T,
     alloc: Global,
-    gate: &G,
     version: Version<'_, R>,
-    workers: u32,
+    crew: &Crew<'_, G>,
 ) -> Result<Option<Vec<Vec<Apart>>>, Memory>
-    requires { (1 ≤ workers) × (workers ≤ 64) }
     ensures none { IfOk result (λ kept. IfNone kept (RowsAreJoined version.entry.rules)) }
     ensures found { IfOk result (λ kept. IfSome kept
         (λ lists. All (λ list. AreFoundIn version.entry list.items) lists.items)) }
 {
     let rows = version.numbers().len() as u64;
     let sieve = Sieve::of(alloc, version)?;
+    let gate = crew.gate();
     let rows = Rows { sieve, rows, gate };
-    let shares = share_out(rt, alloc, &rows, workers)?;
+    let shares = share_out(rt, alloc, &rows, crew)?;
     if nothing_kept(&shares) {
         return Ok(None);
     }

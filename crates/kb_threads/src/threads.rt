@@ -1,6 +1,6 @@
 //! The pool of workers that are threads.
 
-ghost use Rattle.std.specs.Prelude.{◌≡◌, ◌≤◌, All, IfOk};
+ghost use Rattle.std.specs.Prelude.{◌≡◌, All, IfOk};
 ghost use Rattle.kb_share.specs.Later.{OnlyEnters};
 ghost use Rattle.kb_share.specs.Versions.{IsPublished};
 ghost use Rattle.kb_threads.specs.Passes.{PassSays};
@@ -10,6 +10,7 @@ use crate::entering::enter_shared;
 use crate::passed::Passed;
 use crate::sweeping::sweep;
 use kb_book::Book;
+use kb_draw::Crew;
 use kb_index::HasAutomaton;
 use kb_io::Gate;
 use kb_rules::Reducer;
@@ -21,37 +22,18 @@ use std::sync::Wait;
 use std::sync::ledger::Blank;
 use std::thread;
 
-/// Workers, of whom the caller's thread is one and the others are threads of their own.
+/// Workers that are threads.
 #[derive(Drop)]
 pub struct Threads<'g, G: Gate> {
-    workers: u32,
-    gate: &'g G,
-    ghost count: { (1 ≤ workers) × (workers ≤ 64) },
+    crew: Crew<'g, G>,
 }
 
 impl<'g, G: Gate> Threads<'g, G> {
-    /// So many workers, who pass this gate.
-    pub fn new(workers: u32, gate: &'g G) -> Threads<'g, G>
-        requires { (1 ≤ workers) × (workers ≤ 64) }
-        ensures { result.workers ≡ workers }
+    /// The workers of this crew.
+    pub fn of(crew: Crew<'g, G>) -> Threads<'g, G>
+        ensures { result.crew ≡ crew }
     {
-        Threads { workers, gate }
-    }
-
-    /// How many workers there are.
-    pub fn count(&self) -> u32
-        ensures number { result ≡ self.now.workers }
-        ensures bounds { (1 ≤ result) × (result ≤ 64) }
-    {
-        self.workers
-    }
-
-    /// The first of the workers alone.
-    pub(crate) fn first(&self) -> Threads<'g, G> {
-        Threads {
-            workers: 1,
-            gate: self.gate,
-        }
+        Threads { crew }
     }
 
     /// Makes a pass over a book whose last version has its live lines. Of the prime overlaps of these lines that are
@@ -66,7 +48,7 @@ impl<'g, G: Gate> Threads<'g, G> {
         requires { IsPublished book.course.state }
         ensures { IfOk result (PassSays book.course) }
     {
-        match sweep(rt, alloc, self.gate, Version::of(&book), self.workers)? {
+        match sweep(rt, alloc, Version::of(&book), &self.crew)? {
             None => {
                 prime_overlaps_decide(&book);
                 Ok(Passed::Confluent(book))
@@ -89,8 +71,9 @@ impl<'g, G: Gate> Threads<'g, G> {
         requires { All (λ list. AreOverlaps book.course list.items) kept.items }
         ensures { IfOk result (λ after. OnlyEnters book.course after.course) }
     {
-        let blank = Blank::new(self.workers as u64);
-        let workers = self.workers as u8;
-        enter_shared::<Brand, R, G, T>(rt, alloc, self.gate, blank, book, kept, workers)
+        let workers = self.crew.count();
+        let blank = Blank::new(workers as u64);
+        let gate = self.crew.gate();
+        enter_shared::<Brand, R, G, T>(rt, alloc, gate, blank, book, kept, workers as u8)
     }
 }

@@ -1,6 +1,6 @@
 use Rattle.kb_share.proofs.Entries.{enters_only}
 use Rattle.kb_share.proofs.NoneApart.{same_by_none}
-use Rattle.kb_threads.proofs.workers.pass_by_one.Goals as goal
+use Rattle.kb_threads.proofs.passes.pass_by_one.Goals as goal
 
 pub returns-then-branch-eq0 : goal.returns-then-branch-eq0
 returns-then-branch-eq0 g c =
