@@ -6,7 +6,7 @@ use Rattle.kb_fsa.specs.declared.alphabet.Alphabet.TheVariants.{Pair}
 use Rattle.kb_fsa.specs.Language.{Automaton, generators}
 use Rattle.kb_structure.specs.StructureOf.{FitTogether, multiplier_of}
 use Rattle.kb_word.specs.declared.memory.Memory.{Memory}
-use Rattle.kb_search.specs.First.{AllLack}
+use Rattle.kb_draw.specs.First.{AllLack}
 use Rattle.kb_certificates.specs.First.{IsFirstPair, IsFirstTriple, IsFirstWord, NoPairUpTo, NoTripleUpTo, NoneUpTo}
 use Rattle.kb_certificates.specs.Places.{HasWord, LacksWord, HasPair, LacksPair, HasTriple, LacksTriple}
 

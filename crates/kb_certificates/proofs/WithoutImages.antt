@@ -14,7 +14,7 @@ use Rattle.kb_structure.specs.Structure.{Structure, Accepts, Multiplies}
 use Rattle.kb_structure.specs.StructureOf.{FitTogether, OfAutomata, multiplier_of, structure_of}
 use Rattle.kb_structure.specs.Certificates.{WordWithoutImage}
 use Rattle.kb_structure.proofs.OfAutomata.{accepts_word, multiplied_pair, pair_multiplied}
-use Rattle.kb_search.specs.First.{AllLack}
+use Rattle.kb_draw.specs.First.{AllLack}
 use Rattle.kb_certificates.specs.Cascade.{AcceptsLed, IsLeastLed, followed}
 use Rattle.kb_certificates.specs.declared.image.Images.TheVariants.{Lacking, TooManyStates}
 use Rattle.kb_certificates.specs.First.{IsFirstWord, NoneCountedUpTo}

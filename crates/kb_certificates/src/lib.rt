@@ -38,7 +38,7 @@
 //! least of them, and `kb_leastpair` the least image of that word. Then a machine follows the multiplier along pairs,
 //! and tells whose second word is another: the next image is the least of these beside the word.
 //!
-//! A generator's multiplier is asked without regard to the others, so each kind but N1 is a search of `kb_search`,
+//! A generator's multiplier is asked without regard to the others, so each kind but N1 is a search of `kb_draw`,
 //! whose places are the generators (`automata`); a multiplier that has a certificate brings its least one.
 //!
 //! # Where things are
@@ -58,7 +58,7 @@
 //! `FirstWords` that the automaton accepts the first words.
 //!
 //! Below are `kb_structure`, with the certificates, `kb_explore`, which explores the product, `kb_branching`, which
-//! explores the machine that guesses, `kb_fsadet`, `kb_fsaleast`, `kb_leastpair` and `kb_search`.
+//! explores the machine that guesses, `kb_fsadet`, `kb_fsaleast`, `kb_leastpair` and `kb_draw`.
 #![tactic(auto)]
 
 mod agreement;

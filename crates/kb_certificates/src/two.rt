@@ -10,11 +10,10 @@ ghost use Rattle.kb_certificates.specs.First.{HasNoTriple, HasTwo, IsFirstTriple
 use crate::automata::Automata;
 use crate::later_pairs::least_later_first;
 use crate::other::least_other;
-use kb_draw::Crew;
+use kb_draw::{Crew, Search, first_found};
 use kb_fsa::Fsa;
 use kb_io::Gate;
 use kb_leastpair::least_second;
-use kb_search::{Search, first_found};
 use kb_word::{Letter, Memory, Word};
 use std::alloc::Global;
 use std::sync::Wait;

@@ -3,3 +3,8 @@ pub mod Counter
 pub mod Seats
 pub mod Sharing
 pub mod Workers
+pub mod First
+pub mod Earliest
+pub mod Made
+pub mod Shares
+pub mod Slots

@@ -1,7 +1,7 @@
 -- Lines that are taken, and then answered together.
 use Rattle.std.specs.Prelude.{◌≡◌, ℕ, ◌+◌, ◌<◌, ◌≤◌, nat_eq, if◌then◌else◌, List, [], ◌∷◌, ◌++◌, length, get_or}
 use Rattle.std.specs.List.{AllByRecursion}
-use Rattle.kb_each.specs.Made.{AreMadeInOrder}
+use Rattle.kb_draw.specs.Made.{AreMadeInOrder}
 use Rattle.kb_io.specs.Bytes.{newline}
 use Rattle.kb_io.specs.States.{SinkState}
 use Rattle.kb_word.specs.Presentations.{PresentationParts}

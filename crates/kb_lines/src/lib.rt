@@ -25,7 +25,7 @@
 //!
 //! In `specs/Batches.antt` a batch goes on as `Progress` does, behind bytes that are held.
 //!
-//! Below are `kb_word`, `kb_record`, `kb_wordreader`, `kb_io`, and `kb_each`, by which workers share the blocks of a
+//! Below are `kb_word`, `kb_record`, `kb_wordreader`, `kb_io`, and `kb_draw`, by which workers share the blocks of a
 //! batch.
 #![tactic(auto)]
 

@@ -6,7 +6,7 @@ ghost use Rattle.kb_lines.specs.Batches.{AreBlockAnswers, IsBlockAnswer};
 use crate::answerer::Answerer;
 use crate::batches::Batches;
 use crate::line::{LineWorkspace, answer_line, split_line};
-use kb_each::{Making, make_all};
+use kb_draw::{Making, make_all};
 use kb_io::Gate;
 use kb_record::WordError;
 use kb_word::{Memory, Word};

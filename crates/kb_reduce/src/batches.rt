@@ -7,8 +7,7 @@ ghost use Rattle.kb_fsa.specs.Language.{Accepts, generators};
 ghost use Rattle.kb_relations.specs.Images.{CanBeFollowed};
 ghost use Rattle.kb_reduce.specs.Batches.{AreAnswersOf, LeadsTo};
 
-use kb_draw::Crew;
-use kb_each::{Making, make_all};
+use kb_draw::{Crew, Making, make_all};
 use kb_fsa::Fsa;
 use kb_io::Gate;
 use kb_products::by_multipliers;

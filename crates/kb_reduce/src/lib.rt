@@ -12,7 +12,7 @@
 //! follows them by multipliers.
 //!
 //! Below are `kb_lines`, which reads and answers the lines, `kb_index`, `kb_products`, which follows words by
-//! multipliers, and `kb_each`, by which workers share the words of a batch.
+//! multipliers, and `kb_draw`, by which workers share the words of a batch.
 #![tactic(auto)]
 
 mod batches;

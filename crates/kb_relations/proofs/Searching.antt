@@ -11,7 +11,7 @@ use Rattle.kb_structure.specs.Structure.{Structure, Follows}
 use Rattle.kb_structure.specs.StructureOf.{structure_of, OfAutomata}
 use Rattle.kb_structure.specs.Axioms.{ActAlike}
 use Rattle.kb_structure.specs.Certificates.{RelationBroken}
-use Rattle.kb_search.specs.First.{AllLack}
+use Rattle.kb_draw.specs.First.{AllLack}
 use Rattle.kb_relations.specs.Images.{CanBeFollowed}
 use Rattle.kb_relations.specs.Composites.{CountedRelation}
 use Rattle.kb_relations.specs.Acts.{AreOver, LeadApart, ActAlikeBefore, AtNumber, IsFirstBroken, IsFirstCounted}

@@ -26,7 +26,7 @@
 //! last letter, so that a text with a longer first word may come first. From the least word both sides are then
 //! followed.
 //!
-//! One relation is asked without regard to the others, so this is a search of `kb_search` whose places are the
+//! One relation is asked without regard to the others, so this is a search of `kb_draw` whose places are the
 //! relations. A place has where the search stops (`specs/Stops.antt`): the word, or the count. Both sides are
 //! followed after the search, at the first relation alone.
 //!
@@ -39,7 +39,7 @@
 //! - `LedApart`: the first words of the symmetric difference.
 //! - `Searching`: from what is found of each relation to what is first.
 //!
-//! Below are `kb_structure` with the definitions, `kb_compose`, `kb_fsabool`, `kb_leastpair` and `kb_search`.
+//! Below are `kb_structure` with the definitions, `kb_compose`, `kb_fsabool`, `kb_leastpair` and `kb_draw`.
 #![tactic(auto)]
 
 mod acting;

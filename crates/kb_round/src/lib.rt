@@ -29,7 +29,7 @@
 //! `CanonicalForms` has that those of multipliers with labels are multipliers.
 //!
 //! Below are `kb_diffwa`, which makes the automata, all multipliers as one with labels (`kb_labelled`), `kb_fsamin`,
-//! which makes that one small and each multiplier canonical, `kb_each`, by which several workers do so, and
+//! which makes that one small and each multiplier canonical, `kb_draw`, by which several workers do so, and
 //! `kb_axioms` with the check.
 #![tactic(auto)]
 

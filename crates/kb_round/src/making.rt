@@ -13,8 +13,7 @@ ghost use Rattle.kb_round.specs.Rounds.{IsAcceptorOf};
 
 use kb_diff::{Differences, Machine};
 use kb_diffwa::{AllMultipliers, acceptor, multipliers};
-use kb_draw::Crew;
-use kb_each::{Making, make_all};
+use kb_draw::{Crew, Making, make_all};
 use kb_explore::Det;
 use kb_fsa::Fsa;
 use kb_fsamin::{canonical, reduced_by_labels};

@@ -1,5 +1,5 @@
 use Rattle.std.proofs.Common.{ℕ, IfSome, Option, Some, length, ap, ◌∙◌, subst}
-use Rattle.kb_search.specs.First.{IsFirstFound}
+use Rattle.kb_draw.specs.First.{IsFirstFound}
 use Rattle.kb_relations.specs.declared.stop.Stop.{Stop}
 use Rattle.kb_relations.specs.declared.stop.Stop.TheVariants.{LedApart}
 use Rattle.kb_relations.specs.Stops.{GoesOnAt, StopsAt}

@@ -1,6 +1,6 @@
 use Rattle.std.proofs.Common.{get_or, length}
 use Rattle.std.proofs.lemmas.Result.{IfOk-weaker}
-use Rattle.kb_each.specs.Made.{AreMadeInOrder}
+use Rattle.kb_draw.specs.Made.{AreMadeInOrder}
 use Rattle.kb_round.specs.Reduced.{AreCanonicalForms, IsCanonicalForm}
 use Rattle.kb_round.proofs.making.canonical_each.Goals as goal
 

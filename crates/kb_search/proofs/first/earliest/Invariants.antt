@@ -1,6 +1,0 @@
-use Rattle.kb_search.specs.Earliest.{IsEarliestOf}
-use Rattle.kb_search.proofs.first.earliest.Given as goal
-
--- the earliest of the shares so far
-abbrev pub invariant-loop-share : goal.invariant-loop-share
-invariant-loop-share g l = IsEarliestOf l.places l.yielded l.earliest
