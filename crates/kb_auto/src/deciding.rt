@@ -49,15 +49,7 @@ pub fn gpaxioms<G: Gate, W: Watch, T: Threads + Wait + Sync>(
         multipliers.now) }
 {
     let states = limits.states;
-    match check_alone(
-        rt,
-        alloc,
-        presentation,
-        acceptor,
-        multipliers,
-        states,
-        crew,
-    )? {
+    match check_alone(rt, alloc, presentation, acceptor, multipliers, states, crew)? {
         Automata::No(cert) => Ok(Checked::No(cert)),
         Automata::TooManyStates { which } => Ok(Checked::TooManyStates { which }),
         Automata::Pass => {

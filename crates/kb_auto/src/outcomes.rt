@@ -67,16 +67,7 @@ pub(crate) fn answer_by_complete<R: Reducer, W: WatchRounds, G: Gate, T: Threads
     book_is_sound(&book);
     // The log alone may still be asked for: the rest of the book gives its memory to the automata.
     let (lines, _) = book.into_log();
-    match try_rules(
-        rt,
-        alloc,
-        presentation,
-        &rules,
-        limits,
-        None,
-        crew,
-        watch,
-    )? {
+    match try_rules(rt, alloc, presentation, &rules, limits, None, crew, watch)? {
         Trial::Own(structure) => Ok(Autgroup::Own(structure)),
         Trial::NoRoom(listing) => Ok(Autgroup::TooManyDifferences {
             lines,

@@ -95,16 +95,7 @@ fn search_by_growths<
         match grow_twofold(rt, alloc, book, finder, crew, watch)? {
             Grown::More(next) => book = next,
             Grown::Confluent(rules, end) => {
-                return answer_by_complete(
-                    rt,
-                    alloc,
-                    presentation,
-                    rules,
-                    end,
-                    limits,
-                    crew,
-                    watch,
-                );
+                return answer_by_complete(rt, alloc, presentation, rules, end, limits, crew, watch);
             }
             Grown::Halted(end) => {
                 return answer_at_halt(rt, alloc, presentation, end, limits, crew, watch);

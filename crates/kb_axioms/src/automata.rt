@@ -45,9 +45,7 @@ pub fn check_automata<G: Gate, T: Threads + Wait + Sync>(
         return Ok(Automata::No(n2(pair)));
     }
     match check_images(rt, alloc, acceptor, multipliers, limit, crew)? {
-        Images::Given => {
-            look_further(rt, alloc, acceptor, multipliers, relations, limit, crew)
-        }
+        Images::Given => { look_further(rt, alloc, acceptor, multipliers, relations, limit, crew) }
         Images::Lacking { x, word } => Ok(Automata::No(Cert::N4 { x, u: word })),
         Images::TooManyStates { x } => Ok(Automata::TooManyStates {
             which: Construction::Images(x),

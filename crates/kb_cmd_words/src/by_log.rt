@@ -81,16 +81,7 @@ fn check_log<T: Threads + Wait + Sync, G: Gate, I: Source, O: Sink>(
         (outside shelf (I.state input.new) (O.state out.new)) result }
 {
     match verify(alloc, &presentation, log) {
-        Ok(answer) => go_on(
-            rt,
-            alloc,
-            presentation,
-            log,
-            answer,
-            batches,
-            input,
-            out,
-        ),
+        Ok(answer) => go_on(rt, alloc, presentation, log, answer, batches, input, out),
         Err(Memory) => Status::Memory,
     }
 }
@@ -114,15 +105,7 @@ fn go_on<T: Threads + Wait + Sync, G: Gate, I: Source, O: Sink>(
         (outside shelf (I.state input.new) (O.state out.new)) result }
 {
     match answer {
-        Verified::Yes => check_relations(
-            rt,
-            alloc,
-            presentation,
-            log,
-            batches,
-            input,
-            out,
-        ),
+        Verified::Yes => check_relations(rt, alloc, presentation, log, batches, input, out),
         Verified::No { line, why } => {
             let objection = Objection::Unjustified { line, why };
             print_objection(alloc, &presentation, objection, out)
@@ -147,16 +130,7 @@ fn check_relations<T: Threads + Wait + Sync, G: Gate, I: Source, O: Sink>(
         (outside shelf (I.state input.new) (O.state out.new)) result }
 {
     match index_of(alloc, &presentation, log) {
-        Ok(index) => check_joined(
-            rt,
-            alloc,
-            presentation,
-            log,
-            index,
-            batches,
-            input,
-            out,
-        ),
+        Ok(index) => check_joined(rt, alloc, presentation, log, index, batches, input, out),
         Err(Memory) => Status::Memory,
     }
 }
@@ -180,16 +154,7 @@ fn check_joined<T: Threads + Wait + Sync, G: Gate, I: Source, O: Sink>(
         (outside shelf (I.state input.new) (O.state out.new)) result }
 {
     match relation_apart(alloc, &presentation, &index) {
-        Ok(None) => check_confluence(
-            rt,
-            alloc,
-            presentation,
-            log,
-            index,
-            batches,
-            input,
-            out,
-        ),
+        Ok(None) => check_confluence(rt, alloc, presentation, log, index, batches, input, out),
         Ok(Some(objection)) => print_objection(alloc, &presentation, objection, out),
         Err(Memory) => Status::Memory,
     }

@@ -4,7 +4,7 @@ ghost use Rattle.std.specs.Prelude.{◌≡◌, ℕ, ◌^◌, ◌<◌, ◌≤◌,
 ghost use Rattle.kb_draw.specs.Made.{AreMadeInOrder};
 
 use crate::crew::Crew;
-use crate::making_share::{Placed, MakingShare};
+use crate::making_share::{MakingShare, Placed};
 use crate::slots::in_order;
 use crate::work::{Work, share_out};
 use kb_io::Gate;

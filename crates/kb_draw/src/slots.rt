@@ -5,7 +5,7 @@ ghost use Rattle.kb_draw.specs.Sharing.{IsShared};
 ghost use Rattle.kb_draw.specs.Shares.{AreInOrder, AreWithin, HasMade, IsAmong, IsMadeBy};
 ghost use Rattle.kb_draw.specs.Slots.{AreEmpty, AreFull, IsFilled};
 
-use crate::making_share::{Placed, MakingShare};
+use crate::making_share::{MakingShare, Placed};
 use kb_word::Memory;
 use std::alloc::Global;
 

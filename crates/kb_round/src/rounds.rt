@@ -65,15 +65,7 @@ pub fn round<R: Reducer, G: Gate, T: Threads + Wait + Sync>(
         acceptor,
         multipliers,
     };
-    let (round, broken) = checked(
-        rt,
-        alloc,
-        presentation,
-        differences,
-        structure,
-        limit,
-        crew,
-    )?;
+    let (round, broken) = checked(rt, alloc, presentation, differences, structure, limit, crew)?;
     figures.broken = broken;
     Ok((round, figures))
 }
