@@ -7,7 +7,7 @@ use Rattle.kb_word.specs.Presentations.{PresentationParts}
 use Rattle.kb_fsa.specs.Language.{Automaton}
 use Rattle.kb_machine.specs.declared.line.Line.{Line}
 use Rattle.kb_system.specs.Ended.{IsCompletionWithin}
-use Rattle.kb_logged.specs.Logged.{IsCertificate}
+use Rattle.kb_system.specs.Logged.{IsCertificate}
 use Rattle.kb_task.specs.Statuses.{IsFaultless}
 use Rattle.kb_task.specs.Stores.{Text, names_of, texts_of}
 use Rattle.kb_task.specs.declared.status.Limit.{Limit}

@@ -7,7 +7,7 @@ use Rattle.kb_fsaprint.specs.Printed.{text_of_automaton}
 use Rattle.kb_machine.specs.declared.line.Line.{Line}
 use Rattle.kb_system.specs.Ended.{IsCompletionWithin}
 use Rattle.kb_system.specs.Evidence.{Limits}
-use Rattle.kb_logged.specs.Logged.{IsCertificate}
+use Rattle.kb_system.specs.Logged.{IsCertificate}
 use Rattle.kb_task.specs.Stores.{Text}
 use Rattle.kb_evidence.specs.Files.{acceptor_file, evidence_texts, log_text}
 

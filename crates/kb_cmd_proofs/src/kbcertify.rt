@@ -11,7 +11,7 @@ use crate::finding::{Finding, show};
 use kb_book::Limits;
 use kb_draw::Crew;
 use kb_io::{Gate, Shelf, Sink, Source};
-use kb_logged::{LoggedEnding, complete_with_log};
+use kb_system::{LoggedEnding, complete_with_log};
 use kb_progress::{Evidence, Limit, Progress, Stored, Summary};
 use kb_system::Reached;
 use kb_task::{Status, Task, load_presentation};

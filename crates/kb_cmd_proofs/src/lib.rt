@@ -12,7 +12,7 @@
 //! - `kbverify` and `kbcertify` are the commands, and `task` has the enum of all commands.
 //! - `certificate` makes the files of a completion whose log is kept, and `finding` stores and writes what is found.
 //!
-//! Below are `kb_proof`, which reads and checks logs, `kb_logged`, which completes and keeps the log, `kb_evidence`,
+//! Below are `kb_proof`, which reads and checks logs, `kb_system`, which completes and keeps the log, `kb_evidence`,
 //! with the names of files and what shows a limit, and `kb_task`.
 #![tactic(auto)]
 

@@ -3,3 +3,4 @@ pub mod OneCompletion
 pub mod Evidence
 pub mod Problems
 pub mod Ended
+pub mod Logged

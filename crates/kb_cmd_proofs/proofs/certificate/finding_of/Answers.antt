@@ -1,7 +1,7 @@
 use Rattle.std.proofs.Common.{subst}
 use Rattle.kb_word.specs.Presentations.{PresentationParts, parts_of}
-use Rattle.kb_logged.specs.Logged.{EndsLogged}
-use Rattle.kb_logged.specs.declared.ending.LoggedEnding.{LoggedEnding}
+use Rattle.kb_system.specs.Logged.{EndsLogged}
+use Rattle.kb_system.specs.declared.logged.LoggedEnding.{LoggedEnding}
 use Rattle.kb_cmd_proofs.proofs.certificate.finding_of.Goals as goal
 
 pub completed-requires-clause-certificate : goal.completed-requires-clause-certificate

@@ -1,6 +1,6 @@
 use Rattle.std.proofs.Common.{subst}
 use Rattle.kb_word.specs.Presentations.{parts_of}
-use Rattle.kb_logged.specs.Logged.{EndsLogged}
+use Rattle.kb_system.specs.Logged.{EndsLogged}
 use Rattle.kb_cmd_proofs.specs.Given.{KbcertifyGiven}
 use Rattle.kb_cmd_proofs.proofs.kbcertify.find.Goals as goal
 

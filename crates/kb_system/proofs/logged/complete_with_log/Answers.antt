@@ -1,6 +1,6 @@
 use Rattle.kb_word.specs.Presentations.{parts_of}
 use Rattle.kb_system.specs.Problems.{limits_of}
-use Rattle.kb_logged.proofs.ending.complete_with_log.Goals as goal
+use Rattle.kb_system.proofs.logged.complete_with_log.Goals as goal
 
 pub halted-requires : goal.halted-requires
 halted-requires g c =

@@ -9,8 +9,8 @@ use Rattle.kb_machine.specs.declared.line.Line.{Line}
 use Rattle.kb_system.specs.Completed.{below, relations}
 use Rattle.kb_system.specs.Ended.{IsCompletionWithin, ShowsHalt}
 use Rattle.kb_system.specs.Evidence.{Limits, IsTooLarge}
-use Rattle.kb_logged.specs.declared.ending.LoggedEnding.{LoggedEnding}
-use Rattle.kb_logged.specs.declared.ending.LoggedEnding.TheVariants.{Completed, Halted, TooLarge}
+use Rattle.kb_system.specs.declared.logged.LoggedEnding.{LoggedEnding}
+use Rattle.kb_system.specs.declared.logged.LoggedEnding.TheVariants.{Completed, Halted, TooLarge}
 
 -- The lines of a log certify the congruence of a presentation: each follows from the relations and the lines before it,
 -- and their rules are confluent and generate the congruence of the relations.
