@@ -1,6 +1,6 @@
 //! Deciding whether automata are a group's own automatic structure.
 
-ghost use Rattle.std.specs.Prelude.{◌≡◌, ◌≤◌, ℕ, List, IfOk};
+ghost use Rattle.std.specs.Prelude.{◌≡◌, ℕ, List, IfOk};
 ghost use Rattle.kb_word.specs.declared.presentation.Presentation.{Presentation as Presented};
 ghost use Rattle.kb_word.specs.declared.word_order.WordOrder.TheVariants.{ShortLex};
 ghost use Rattle.kb_fsa.specs.Language.{Automaton};

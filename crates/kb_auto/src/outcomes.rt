@@ -1,6 +1,6 @@
 //! How the search for an automatic structure ends.
 
-ghost use Rattle.std.specs.Prelude.{◌≡◌, ◌≤◌, [], ◌∷◌, IfOk};
+ghost use Rattle.std.specs.Prelude.{◌≡◌, [], ◌∷◌, IfOk};
 ghost use Rattle.kb_word.specs.Presentations.{parts_of};
 ghost use Rattle.kb_word.specs.Relations.{relations_of};
 ghost use Rattle.kb_word.specs.declared.word_order.WordOrder.TheVariants.{ShortLex};

@@ -1,6 +1,6 @@
 //! The search for a group's automatic structure.
 
-ghost use Rattle.std.specs.Prelude.{◌≡◌, ◌≤◌, [], IfOk};
+ghost use Rattle.std.specs.Prelude.{◌≡◌, [], IfOk};
 ghost use Rattle.kb_word.specs.Presentations.{parts_of};
 ghost use Rattle.kb_word.specs.declared.word_order.WordOrder.TheVariants.{ShortLex};
 ghost use Rattle.kb_diff.specs.Groups.{EachInverts};

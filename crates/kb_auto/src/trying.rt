@@ -1,6 +1,6 @@
 //! Rounds by one list of rules.
 
-ghost use Rattle.std.specs.Prelude.{◌≡◌, ◌≤◌, IfOk, false, None};
+ghost use Rattle.std.specs.Prelude.{◌≡◌, IfOk, false, None};
 ghost use Rattle.kb_word.specs.Relations.{relations_of};
 ghost use Rattle.kb_word.specs.declared.word_order.WordOrder.TheVariants.{ShortLex};
 ghost use Rattle.kb_diff.specs.Groups.{AreRulesOver, EachInverts, group_of};

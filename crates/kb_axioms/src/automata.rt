@@ -1,6 +1,6 @@
 //! What the automata show, whatever the rules of the group are.
 
-ghost use Rattle.std.specs.Prelude.{◌≡◌, ◌≤◌, IfOk};
+ghost use Rattle.std.specs.Prelude.{◌≡◌, IfOk};
 ghost use Rattle.kb_structure.specs.StructureOf.{FitTogether};
 ghost use Rattle.kb_relations.specs.Acts.{AreOver, IsActing};
 ghost use Rattle.kb_structure.specs.declared.cert.Cert.TheVariants.{N2, N5, N6, N7};

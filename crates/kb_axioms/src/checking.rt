@@ -1,6 +1,6 @@
 //! The whole check.
 
-ghost use Rattle.std.specs.Prelude.{◌≡◌, ◌≤◌, ℕ, Bool, List, Ok, IsTrue, IfOk};
+ghost use Rattle.std.specs.Prelude.{◌≡◌, ℕ, Bool, List, Ok, IsTrue, IfOk};
 ghost use Rattle.kb_word.specs.Words.{Pair as Sides};
 ghost use Rattle.kb_word.specs.Relations.{relations_of};
 ghost use Rattle.kb_word.specs.declared.presentation.Presentation.{Presentation};

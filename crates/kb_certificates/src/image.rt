@@ -1,6 +1,6 @@
 //! Certificates N4: accepted words without an image.
 
-ghost use Rattle.std.specs.Prelude.{◌≤◌, IfOk};
+ghost use Rattle.std.specs.Prelude.{IfOk};
 ghost use Rattle.std.proofs.lemmas.Bool.{eqb-true};
 ghost use Rattle.kb_structure.specs.StructureOf.{FitTogether};
 ghost use Rattle.kb_certificates.specs.Images.{ImagesSay};

@@ -1,6 +1,6 @@
 //! Certificates N2: pairs of a multiplier with a word that isn't accepted.
 
-ghost use Rattle.std.specs.Prelude.{◌≡◌, ◌≤◌, IfOk, IfSome, IfNone};
+ghost use Rattle.std.specs.Prelude.{◌≡◌, IfOk, IfSome, IfNone};
 ghost use Rattle.std.proofs.Common.{rules};
 ghost use Rattle.kb_structure.specs.Certificates.{PairOutsideAcceptor};
 ghost use Rattle.kb_structure.specs.StructureOf.{FitTogether, OfAutomata};

@@ -1,6 +1,6 @@
 //! Certificates N5: words with two images.
 
-ghost use Rattle.std.specs.Prelude.{◌≡◌, ◌≤◌, List, ℕ, IfOk, IfSome, IfNone};
+ghost use Rattle.std.specs.Prelude.{◌≡◌, List, ℕ, IfOk, IfSome, IfNone};
 ghost use Rattle.kb_fsa.specs.Language.{generators};
 ghost use Rattle.kb_fsa.specs.declared.alphabet.Alphabet.TheVariants.{Pair};
 ghost use Rattle.kb_structure.specs.Certificates.{TwoImages};

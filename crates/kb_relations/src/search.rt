@@ -1,6 +1,6 @@
 //! The first relation whose sides don't act alike.
 
-ghost use Rattle.std.specs.Prelude.{◌≤◌, IfOk};
+ghost use Rattle.std.specs.Prelude.{IfOk};
 ghost use Rattle.kb_word.specs.Relations.{IsOver};
 ghost use Rattle.kb_fsa.specs.Language.{Accepts, generators};
 ghost use Rattle.kb_structure.specs.Structure.{Follows};

@@ -1,6 +1,6 @@
 //! The automata of word differences.
 
-ghost use Rattle.std.specs.Prelude.{◌≡◌, ◌≤◌, All, Ok, None, length, IfOk, IfSome};
+ghost use Rattle.std.specs.Prelude.{◌≡◌, All, Ok, None, length, IfOk, IfSome};
 ghost use Rattle.kb_word.specs.declared.word_order.WordOrder.TheVariants.{ShortLex};
 ghost use Rattle.kb_fsa.specs.Canonical.{IsCanonical};
 ghost use Rattle.kb_fsa.specs.declared.alphabet.Alphabet.TheVariants.{Plain};

@@ -1,6 +1,6 @@
 //! A round.
 
-ghost use Rattle.std.specs.Prelude.{◌≡◌, ◌≤◌, IfOk};
+ghost use Rattle.std.specs.Prelude.{◌≡◌, IfOk};
 ghost use Rattle.kb_word.specs.Relations.{relations_of};
 ghost use Rattle.kb_word.specs.declared.word_order.WordOrder.TheVariants.{ShortLex};
 ghost use Rattle.kb_diff.specs.Groups.{EachInverts, group_of};
