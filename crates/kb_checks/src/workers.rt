@@ -1,7 +1,5 @@
 //! A pass by workers, each in a thread of its own.
 
-ghost use Rattle.std.specs.Prelude.{◌≤◌};
-
 use crate::books::published;
 use crate::meeting::Meeting;
 use kb_draw::Crew;
@@ -33,17 +31,14 @@ fn relations(alloc: Global) -> Result<String, AllocError> {
     )
 }
 
-/// The events of a pass by so many workers over the book of these relations.
+/// The events of a pass by these workers over the book of these relations.
 fn events_of<G: Gate, T: thread::Threads + Wait + Sync>(
     rt: &T,
     alloc: Global,
-    workers: u32,
-    gate: &G,
-) -> Result<Vec<Event>, Memory>
-    requires { (1 ≤ workers) × (workers ≤ 64) }
-{
+    crew: Crew<'_, G>,
+) -> Result<Vec<Event>, Memory> {
     let book = published(alloc, relations(alloc)?.as_str())?;
-    match Threads::of(Crew::new(workers, gate)).pass(rt, alloc, book)? {
+    match Threads::of(crew).pass(rt, alloc, book)? {
         Passed::Confluent(_) => Ok(Vec::new(alloc)),
         Passed::Entered(after) => Ok(Vec::from_slice(alloc, after.journal())?),
     }
@@ -92,12 +87,12 @@ fn are_shortest(found: &[Found]) -> bool {
 fn workers_enter_the_shortest_side_by_side(rt: HostRuntime) -> Result<(), Fail> {
     let alloc = rt.alloc();
     let meeting = Meeting::new();
-    let events = events_of(&rt, alloc, 2, &meeting)?;
+    let events = events_of(&rt, alloc, Crew::new(2, &meeting))?;
     assert!(rt; !meeting.was_missed());
     assert!(rt; are_shortest(&entered(alloc, &events, 0)?));
     assert!(rt; !entered(alloc, &events, 1)?.is_empty());
     assert!(rt; !entered(alloc, &events, 2)?.is_empty());
-    let events = events_of(&rt, alloc, 8, &OpenGate)?;
+    let events = events_of(&rt, alloc, Crew::new(8, &OpenGate))?;
     assert!(rt; are_shortest(&entered(alloc, &events, 0)?));
     Ok(())
 }
