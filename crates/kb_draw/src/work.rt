@@ -36,6 +36,9 @@ pub trait Work {
     fn begin(&self, alloc: Global, worker: u32) -> Result<Self::Share, Memory>
         ensures { IfOk result (sound self.now) };
 
+    /// A worker is about to draw.
+    fn attend(&self, _worker: u32) {}
+
     /// Does a part, and takes it into the share.
     fn take(&self, part: u64, share: &mut Self::Share) -> Result<(), Memory>
         requires part { part < parts self.now }
@@ -60,6 +63,39 @@ struct Drawn<S> {
     share: S,
 }
 
+/// A work whose workers come to a gate before each draw.
+#[derive(Drop)]
+struct Gated<'a, W: Work, G: Gate> {
+    work: &'a W,
+    gate: &'a G,
+}
+
+impl<'a, W: Work, G: Gate> Work for Gated<'a, W, G> {
+    type Share = W::Share;
+
+    ghost parts = { λ it. W.parts it.work.now };
+
+    ghost sound = { λ it share. W.sound it.work.now share };
+
+    ghost done = { λ it share part. W.done it.work.now share part };
+
+    fn parts(&self) -> u64 {
+        self.work.parts()
+    }
+
+    fn begin(&self, alloc: Global, worker: u32) -> Result<W::Share, Memory> {
+        self.work.begin(alloc, worker)
+    }
+
+    fn attend(&self, worker: u32) {
+        self.gate.at(worker, Point::Draw);
+    }
+
+    fn take(&self, part: u64, share: &mut W::Share) -> Result<(), Memory> {
+        self.work.take(part, share)
+    }
+}
+
 /// Does all parts of a work, by the workers of a crew. Each part is done in one of the shares.
 pub fn share_out<W: Work + Sync, G: Gate, T: Threads + Wait + Sync>(
     rt: &T,
@@ -78,7 +114,11 @@ where
     if crew.count() == 1 {
         do_all(alloc, work)
     } else {
-        draw_all(rt, alloc, work, crew)
+        let gated = Gated {
+            work,
+            gate: crew.gate(),
+        };
+        draw_all(rt, alloc, &gated, crew.count())
     }
 }
 
@@ -99,33 +139,33 @@ fn do_all<W: Work>(alloc: Global, work: &W) -> Result<Vec<W::Share>, Memory>
 }
 
 /// Does all parts of a work by threads, which draw them.
-fn draw_all<W: Work + Sync, G: Gate, T: Threads + Wait + Sync>(
+fn draw_all<W: Work + Sync, T: Threads + Wait + Sync>(
     rt: &T,
     alloc: Global,
     work: &W,
-    crew: &Crew<'_, G>,
+    workers: u32,
 ) -> Result<Vec<W::Share>, Memory>
 where
     W::Share: Send,
-    requires { W.parts work.now ≤ 2 ^ 62 }
-    ensures count { IfOk result (λ shares. length shares.items ≡ crew.now.count) }
+    requires parts { W.parts work.now ≤ 2 ^ 62 }
+    requires workers { (1 ≤ workers) × (workers ≤ 64) }
+    ensures count { IfOk result (λ shares. length shares.items ≡ workers) }
     ensures sound { IfOk result (λ shares. All (W.sound work.now) shares.items) }
     ensures done { IfOk result
         (λ shares. IsShared (W.parts work.now) (W.done work.now) shares.items) }
 {
-    let (draw, seats) = Draw::new(alloc, 0, work.parts(), crew.count())?;
-    let workers = seated(alloc, seats)?;
-    let gate = crew.gate();
+    let (draw, seats) = Draw::new(alloc, 0, work.parts(), workers)?;
+    let crew = seated(alloc, seats)?;
     let drawn = thread::map_vec(
         rt,
-        workers,
+        crew,
         &|worker: Worker| -> Result<Drawn<W::Share>, Memory>
             requires seat { IsNewSeatOf draw worker.seat }
             requires end { draw.bounds.end ≡ W.parts work.now }
             ensures { IfOk result
                 (IsDrawnOf draw (W.parts work.entry.now) (W.sound work.entry.now)
                 (W.done work.entry.now)) }
-        { draw_to_end(rt, alloc, work, gate, &draw, worker) },
+        { draw_to_end(rt, alloc, work, &draw, worker) },
     )?;
     let (seats, shares) = taken(alloc, drawn)?;
     draw.close(seats);
@@ -145,12 +185,11 @@ fn seated(alloc: Global, mut seats: Vec<Seat>) -> Result<Vec<Worker>, Memory>
     Ok(made)
 }
 
-/// Draws parts until the seat is dry, and takes each into the share. The worker comes to the gate before each draw.
-fn draw_to_end<W: Work, G: Gate, T: Wait>(
+/// Draws parts until the seat is dry, and takes each into the share.
+fn draw_to_end<W: Work, T: Wait>(
     rt: &T,
     alloc: Global,
     work: &W,
-    gate: &G,
     draw: &Draw,
     worker: Worker,
 ) -> Result<Drawn<W::Share>, Memory>
@@ -162,7 +201,7 @@ fn draw_to_end<W: Work, G: Gate, T: Wait>(
     let Worker { number, mut seat } = worker;
     let mut share = work.begin(alloc, number)?;
     for _ in rt.forever() {
-        gate.at(number, Point::Draw);
+        work.attend(number);
         let Some(part) = draw.next(&mut seat) else {
             return Ok(Drawn { seat, share });
         };

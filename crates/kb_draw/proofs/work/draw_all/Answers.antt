@@ -14,7 +14,7 @@ all_drawn : (g : _) (c : In_ok-seats g)
     (length c.in_ok-drawn.drawn.items) c.in_ok-seats.seats.items c.in_ok-seats.shares.items
 all_drawn g c =
     let draw = c.in_ok-draw.draw in let work = c.args.work.now in
-    let len = c.in_ok-drawn.ensures.len in let shares = c.in_ok-drawn.drawn.ok.0 in let jobs = c.in_ok-workers.workers.ok.0 in
+    let len = c.in_ok-drawn.ensures.len in let shares = c.in_ok-drawn.drawn.ok.0 in let jobs = c.in_ok-crew.crew.ok.0 in
     let each : All (λ one. IfOk one (IsDrawnOf draw (g.W.Work.parts work) (g.W.Work.sound work) (g.W.Work.done work))) c.in_ok-drawn.drawn.items =
     λ k d within. (c.in_ok-drawn.ensures.each k d (omega (arith, within, len, shares, jobs))).1.call.met in
     all_taken draw (g.W.Work.parts work) (g.W.Work.sound work) (g.W.Work.done work) c.in_ok-seats.ensures each
@@ -22,7 +22,7 @@ all_drawn g c =
 pub map_vec-requires-after_bounds : goal.map_vec-requires-after_bounds
 map_vec-requires-after_bounds g c κs within =
     let draw = c.in_ok-draw.draw in
-    let made = c.in_ok-workers.ensures.each draw c.in_ok-draw.ensures.seats.1 in
+    let made = c.in_ok-crew.ensures.each draw c.in_ok-draw.ensures.seats.1 in
     λ i x low is.
     let own : IsNewSeatOf draw x.seat = subst (λ (one : Worker). IsNewSeatOf draw one.seat) (sym is) (made i x low) in
     (own, c.in_ok-draw.ensures.bounds.1 ∙ c.parts.ensures)
@@ -31,15 +31,15 @@ pub close-requires : goal.close-requires
 close-requires g c =
     let all = all_drawn g c in
     let count = all.count in let made = c.in_ok-draw.ensures.seats.0 in let bounds = c.in_ok-draw.ensures.bounds in
-    let workers = c.in_ok-workers.ensures.count in
-    let len = c.in_ok-drawn.ensures.len in let shares = c.in_ok-drawn.drawn.ok.0 in let jobs = c.in_ok-workers.workers.ok.0 in
+    let workers = c.in_ok-crew.ensures.count in
+    let len = c.in_ok-drawn.ensures.len in let shares = c.in_ok-drawn.drawn.ok.0 in let jobs = c.in_ok-crew.crew.ok.0 in
     (omega (arith, count, made, workers, bounds, len, shares, jobs), all.each)
 
 pub returns-clause-count : goal.returns-clause-count
 returns-clause-count g c =
     let all = all_drawn g (goal.at.returns-clause-count g c).In_ok-seats in
-    let count = all.as_many in let made = c.in_ok-draw.ensures.seats.0 in let workers = c.in_ok-workers.ensures.count in
-    let len = c.in_ok-drawn.ensures.len in let shares = c.in_ok-drawn.drawn.ok.0 in let jobs = c.in_ok-workers.workers.ok.0 in
+    let count = all.as_many in let made = c.in_ok-draw.ensures.seats.0 in let workers = c.in_ok-crew.ensures.count in
+    let len = c.in_ok-drawn.ensures.len in let shares = c.in_ok-drawn.drawn.ok.0 in let jobs = c.in_ok-crew.crew.ok.0 in
     omega (arith, count, made, workers, len, shares, jobs)
 
 pub returns-clause-sound : goal.returns-clause-sound
