@@ -11,3 +11,8 @@ pub mod Connecting
 pub mod Grown
 pub mod Ending
 pub mod Numbers
+pub mod HasAt
+pub mod Least
+pub mod Entries
+pub mod Looking
+pub mod Joining

@@ -5,3 +5,5 @@ pub mod FailureTrees
 pub mod Walks
 pub mod Ends
 pub mod Tries
+pub mod LeftSides
+pub mod Lookups

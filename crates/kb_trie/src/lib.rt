@@ -25,6 +25,16 @@
 //!   free answer, and leaves all as it was.
 //! - `Trie::copy` is the same trie.
 //!
+//! [`Lookup`] keeps left sides, each with a number. A caller knows of it the words of the states of its trie, and for each
+//! number its left side, or that it went (`LeftSides` of specs/LeftSides.antt).
+//!
+//! - `Lookup::push` adds a left side, which gets the next number, and `Lookup::remove` takes out that of a number. Several
+//!   numbers may have one left side. Want of memory is the one free answer, and leaves the left sides as they were, though
+//!   states may have come. `Lookup::count` is how many numbers were given, and `Lookup::states` how many states there are.
+//! - `Lookup::first_ending` is the least number whose left side ends a state's word, `Lookup::first_at` the least whose left
+//!   side is that word, and `Lookup::next_at` the next with the same left side (`IsLeastOf`). `Lookup::end_at` is the state of
+//!   the longest left side that ends a state's word (`IsLongestLeft`), and `Lookup::step`, `link` and `depth` are the trie's.
+//!
 //! # How it works
 //!
 //! - `edge`: an edge for each state but state 0, by the state that it leads from and its letter. `child` finds a child by the
@@ -43,13 +53,17 @@
 //!   the walk reached: they become the state itself, or the end of its link. The end of a new state is that of its link.
 //! - `automaton` adds the edge and has all these together; `trie` hides them from callers. Memory is taken first, so that after want
 //!   of it nothing has changed.
+//! - `lookup`: each state keeps the least number that has its word as left side, and each number the next one that has the
+//!   same. So the left sides that end a text are met along the ends of its state, and the least of those with one word first.
 //!
 //! # The proofs
 //!
 //! `proofs/Suffixes.antt` and `proofs/Longest.antt` have suffixes, steps and links, `proofs/Words.antt` and `proofs/Edges.antt` the words
 //! of the states, `proofs/FailureLists.antt` the lists of the failure tree, `proofs/Walking.antt` the walk, `proofs/Growing.antt` and
 //! `proofs/Connecting.antt` what a new state changes, `proofs/Rows.antt` the table, `proofs/Ending.antt` and
-//! `proofs/Numbers.antt` ends and numbers, and `proofs/Grown.antt` the states of a word.
+//! `proofs/Numbers.antt` ends and numbers, and `proofs/Grown.antt` the states of a word. `proofs/HasAt.antt` and
+//! `proofs/Least.antt` have what is there under numbers, and the least of them, `proofs/Entries.antt` and
+//! `proofs/Joining.antt` the left sides that come and go, and `proofs/Looking.antt` those that end a word.
 //!
 //! Below is `kb_word`, with words.
 #![tactic(auto)]
@@ -59,10 +73,12 @@ mod child;
 mod edge;
 mod ends;
 mod failure_tree;
+mod lookup;
 mod room;
 mod steps;
 mod table;
 mod trie;
 mod walk;
 
+pub use lookup::Lookup;
 pub use trie::Trie;

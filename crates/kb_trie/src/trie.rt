@@ -159,6 +159,7 @@ impl Trie {
     pub fn insert(&mut self, w: &Word) -> Result<u32, Memory>
         ensures word { IfOk result (HasWord self.new.words w.now) }
         ensures grows { Grows w.now self.old self.new }
+        ensures words { AreWords self.new.words }
     {
         self.automaton.insert(w)
     }
