@@ -22,7 +22,7 @@ pub state_here : (entries : List (Option Entry)) (entry : Entry) (number : ℕ) 
     → HasAt (states_in entries) entry.state number
 state_here entries entry number has = has_map (λ (e : Entry). e.state) entries entry number has
 
-only_zero : (state : ℕ) → get_or (0 ∷ []) state 0 ≡ 0
+only_zero : (state : ℕ) → ◌≡◌ {A = ℕ} (get_or (0 ∷ []) state 0) 0
 only_zero zero = refl
 only_zero (suc state) = refl
 
@@ -36,8 +36,8 @@ lookup_none trie words numbers =
       entries_are = λ number entry has. absurd (none-some entry has);
       firsts = λ state within.
           let P : ℕ → Type 0 = λ n. IsLeastOf (HasAt (states_in []) state) 0 (kept n) in
-          let zero_is : get_or trie.numbers state 0 ≡ 0 = ap (λ (ns : List ℕ). get_or ns state 0) numbers ∙ only_zero state in
-          subst P (sym zero_is) (λ number behind has. none-some state has);
+          let none_is : get_or trie.numbers state 0 ≡ 0 = ap (λ (ns : List ℕ). get_or ns state 0) numbers ∙ only_zero state in
+          subst P (sym none_is) (λ number behind has. none-some state has);
     }
 
 -- by a trie with the same words and numbers
@@ -57,6 +57,10 @@ state_within trie entries is state number has =
     let entry : IsEntry (length trie.words) (states_in entries) number here.0 = is.entries_are number here.0 here.1 in
     (omega (arith, entry.some, here.2), omega (arith, entry.within, here.2))
 
+pub lefts_length : (trie : States) (entries : List (Option Entry)) → length (lefts_of trie.words (states_in entries)) ≡ length entries
+lefts_length trie entries =
+    length-map (states_in entries) (option_map (word trie.words)) ∙ length-map entries (option_map (λ (e : Entry). e.state))
+
 -- with more states
 pub lookup_grown : (w : List ℕ) (trie trie' : States) (entries : List (Option Entry)) → Grows w trie trie' → AreWords trie'.words
     → IsLookup trie entries → IsLookup trie' entries
@@ -65,7 +69,7 @@ lookup_grown w trie trie' entries grows are is =
     let words : length trie'.words ≡ length trie.words + length grows.more =
     ap length grows.words ∙ length-append trie.words grows.more in
     let numbers : length trie'.numbers ≡ length trie.numbers + length grows.more =
-    omega (arith, ap length grows.numbers, length-append trie.numbers zeros, length-replicate (length grows.more) 0) in
+    omega (arith, ap length grows.numbers, length-append trie.numbers zeros, length-replicate {A = ℕ} (length grows.more) 0) in
     record {
       words = are;
       numbers = omega (arith, is.numbers);

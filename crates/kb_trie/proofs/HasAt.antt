@@ -81,7 +81,7 @@ has_set list place y x number has =
 -- a map doesn't see a change that its function doesn't see
 pub map_same : {A B : Type 0} (f : A → B) (list : List (Option A)) (place : ℕ) (x y : A) → HasAt list x place → f y ≡ f x
     → map (option_map f) (set list place (Some y)) ≡ map (option_map f) list
-map_same f list place x y has same =
+map_same {B = B} f list place x y has same =
     let here : HasAt (map (option_map f) list) (f x) place = has_map f list x place has in
     map-set (option_map f) list place (Some y)
     ∙ ap (λ (o : Option B). set (map (option_map f) list) place o) (ap (λ (z : B). Some z) same ∙ sym here)

@@ -1,5 +1,5 @@
 -- The entries when a number comes, and when one goes.
-use Rattle.std.proofs.Common.{◌≡◌, ℕ, ◌+◌, ◌<◌, ◌≤◌, ◌^◌, List, [], ◌∷◌, ◌++◌, length, get_or, set, map, Option, Some, None, option_map, refl, sym, ap, ◌∙◌, subst, inl, inr, arith, length-set}
+use Rattle.std.proofs.Common.{◌≡◌, ℕ, ◌+◌, ◌-◌, ◌<◌, ◌≤◌, ◌^◌, List, [], ◌∷◌, ◌++◌, length, get_or, set, map, Option, Some, None, option_map, refl, sym, ap, ◌∙◌, subst, inl, inr, arith, length-set}
 use Rattle.std.proofs.lemmas.List.{get_or-set_same, get_or-set_other, length_push, length-map, map-set, map_push}
 use Rattle.std.proofs.lemmas.Bool.{cases_eq, cases_lt}
 use Rattle.kb_trie.specs.declared.lookup.Entry.{Entry}
@@ -7,8 +7,8 @@ use Rattle.kb_trie.specs.States.{States}
 use Rattle.kb_trie.specs.LeftSides.{HasAt, IsLast, IsLeast, IsLeastOf}
 use Rattle.kb_trie.specs.Lookups.{AreEntries, IsEntry, IsLookup, kept, states_in}
 use Rattle.kb_trie.proofs.HasAt.{has_before, has_cases, has_one, has_set, has_within, map_same}
-use Rattle.kb_trie.proofs.Entries.{keeps_here, lookup_same, state_here}
-use Rattle.kb_trie.proofs.Least.{kept_none, least_at, least_behind, least_first, least_less, least_more, least_of_number, least_passed, least_there}
+use Rattle.kb_trie.proofs.Entries.{entry_here, keeps_here, lookup_same, state_here}
+use Rattle.kb_trie.proofs.Least.{kept_none, least_at, least_behind, least_first, least_kept, least_less, least_more, least_of_number, least_passed, least_there}
 use Rattle.kb_trie.proofs.Numbers.{by}
 
 -- the entry with this state and this next number, counted from 1
@@ -290,3 +290,43 @@ left_later trie entries is number before entry old has has_old old_is last =
           omega (arith, there.least before (omega arith) (subst T (sym same) last.is)))
           (is.firsts s in_words));
     }
+
+-- the number after one that has the state
+pub next_is : (count : ℕ) (entries : List (Option Entry)) → AreEntries count entries → (state at : ℕ) (read : Option ℕ)
+    → ((entry : Entry) → HasAt entries entry at → read ≡ kept entry.next) → HasAt (states_in entries) state at
+    → IsLeastOf (HasAt (states_in entries) state) (at + 1) read
+next_is count entries are state at read reads has =
+    let here = entry_here entries state at has in
+    let entry : Entry = here.0 in
+    let of : IsEntry count (states_in entries) at entry = are at entry here.1 in
+    let P : Option ℕ → Type 0 = λ r. IsLeastOf (HasAt (states_in entries) state) (at + 1) r in
+    let S : ℕ → Type 0 = λ s. IsLeastOf (HasAt (states_in entries) s) (at + 1) (kept entry.next) in
+    subst P (sym (reads entry here.1)) (subst S here.2 of.next)
+
+-- the one that was reached is the last, where none comes after it before the bound
+pub last_here : (these : ℕ → Type 0) (bound at : ℕ) → at < bound → these at
+    → ((other : ℕ) → at + 1 ≤ other → other < bound → these other → ⊥) → IsLast these bound at
+last_here these bound at before is none =
+    record {
+      before = before;
+      is = is;
+      last = λ other below there.
+          elim (cases_lt at other) [
+            | inl later ↦ absurd (none other (omega arith) below there)
+            | inr up ↦ up
+          ];
+    }
+
+-- the number before one that goes, along the numbers of its state
+pub last_there : (trie : States) (entries : List (Option Entry)) → IsLookup trie entries → (number : ℕ) (entry : Entry)
+    → HasAt entries entry number → (first before : ℕ) → first ≡ get_or trie.numbers entry.state 0
+    → ((state : ℕ) → HasAt (states_in entries) state (first - 1) → IsLast (HasAt (states_in entries) state) number before)
+    → IsLast (HasAt (states_in entries) entry.state) number before
+last_there trie entries is number entry has first before same ensures =
+    let of : IsEntry (length trie.words) (states_in entries) number entry = is.entries_are number entry has in
+    let here : HasAt (states_in entries) entry.state number = state_here entries entry number has in
+    let least : IsLeast (HasAt (states_in entries) entry.state) 0 (get_or trie.numbers entry.state 0 - 1) =
+    least_kept (HasAt (states_in entries) entry.state) 0 (get_or trie.numbers entry.state 0) (is.firsts entry.state of.within)
+    (keeps_here trie entries is entry.state number here) in
+    let P : ℕ → Type 0 = λ k. HasAt (states_in entries) entry.state (k - 1) in
+    ensures entry.state (subst P (sym same) least.is)

@@ -49,8 +49,8 @@ least_kept these from (suc n) least some =
 
 pub least_none : (these : ℕ → Type 0) (from : ℕ) (n : ℕ) → IsLeastOf these from (kept n) → n ≡ 0
     → (number : ℕ) → from ≤ number → these number → ⊥
-least_none these from zero none zero_is number behind is = none number behind is
-least_none these from (suc n) least zero_is number behind is = absurd (omega arith)
+least_none these from zero none same number behind is = none number behind is
+least_none these from (suc n) least same number behind is = absurd (omega arith)
 
 pub least_at : (these : ℕ → Type 0) (from n number : ℕ) → IsLeastOf these from (kept n) → n ≡ number + 1 → IsLeast these from number
 least_at these from n number least same = subst (IsLeastOf these from) (ap kept same ∙ kept_number number) least

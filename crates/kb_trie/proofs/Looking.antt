@@ -173,7 +173,7 @@ looking_all trie entries is w end least looking same =
     let none : get_or trie.numbers end 0 ≡ 0 = kept_none (get_or trie.numbers end 0) (sym same) in
     let root : end ≡ 0 = elim (cases_lt 0 end) [
       | inl some ↦ absurd (omega (arith, looking.keeps some))
-      | inr zero_is ↦ omega arith
+      | inr up ↦ omega arith
     ] in
     let empty : word trie.words end ≡ [] = ap (word trie.words) root ∙ is.words.root in
     let lefts : AreLefts trie.words (lefts_of trie.words (states_in entries)) = are_lefts trie entries is in
