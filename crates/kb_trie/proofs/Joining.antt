@@ -89,7 +89,7 @@ joined_first trie trie' entries is state number some within last few none words 
     let new : Entry = entry_by state 0 in
     let set_numbers : List ℕ = set trie.numbers state (number + 1) in
     let long : length states ≡ length entries = states_length entries in
-    let zero_is : get_or trie.numbers state 0 ≡ 0 = kept_none (get_or trie.numbers state 0) (sym none) in
+    let none_is : get_or trie.numbers state 0 ≡ 0 = kept_none (get_or trie.numbers state 0) (sym none) in
     let empty : (k : ℕ) → HasAt (states_in entries) state k → ⊥ = λ k has. omega (arith, keeps_here trie entries is state k has) in
     lookup_same (by trie.words (set trie.numbers state (number + 1))) trie' (entries ++ Some (entry_by state 0) ∷ []) words numbers
     (record {
