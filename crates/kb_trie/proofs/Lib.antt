@@ -16,3 +16,4 @@ pub mod Least
 pub mod Entries
 pub mod Looking
 pub mod Joining
+pub mod Changed

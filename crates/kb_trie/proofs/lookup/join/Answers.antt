@@ -30,8 +30,8 @@ returns-in_default-clause-err c =
     (λ numbers. lookup_same c.args.trie.now c.set.new.self c.args.entries.now c.set.ensures.words numbers c.requires.lookup)
     c.set.ensures.err
 
-pub last_before-requires : goal.last_before-requires
-last_before-requires c =
+pub last_before-last-requires : goal.last_before-last-requires
+last_before-last-requires c =
     let same : Some c.in-Some.first ≡ kept c.number_at.result = sym c.in-Some.is ∙ c.kept.ensures in
     let least : IsLeast (HasAt (states_in c.args.entries.now) c.args.state) 0 c.in-Some.first =
     looking_first c.args.trie.now c.args.entries.now c.requires.lookup c.args.state c.in-Some.first c.requires.state
@@ -42,8 +42,8 @@ last_before-requires c =
       before = omega (arith, has_within (states_in c.args.entries.now) c.args.state c.in-Some.first least.is, states_length c.args.entries.now, c.requires.number);
     }
 
-pub index_mut-requires : goal.index_mut-requires
-index_mut-requires c =
+pub bounds-entries-last : goal.bounds-entries-last
+bounds-entries-last c =
     let same : Some c.in-Some.first ≡ kept c.number_at.result = sym c.in-Some.is ∙ c.kept.ensures in
     let least : IsLeast (HasAt (states_in c.args.entries.now) c.args.state) 0 c.in-Some.first =
     looking_first c.args.trie.now c.args.entries.now c.requires.lookup c.args.state c.in-Some.first c.requires.state

@@ -8,12 +8,12 @@ use Rattle.kb_trie.proofs.Joining.{last_there, left_first, left_later, states_sa
 use Rattle.kb_trie.proofs.Least.{least_kept}
 use Rattle.kb_trie.proofs.lookup.leave.Goals as goal
 
-pub number_at-requires : goal.number_at-requires
-number_at-requires c = (c.requires.lookup.entries_are c.args.number c.args.entry c.requires.entry).within
+pub number_at-first-requires : goal.number_at-first-requires
+number_at-first-requires c = (c.requires.lookup.entries_are c.args.number c.args.entry c.requires.entry).within
 
 pub overflow_sub-first : goal.overflow_sub-first
 overflow_sub-first c =
-    omega (arith, c.number_at.ensures, keeps_here c.args.trie.now c.args.entries.now c.requires.lookup c.args.entry.state c.args.number
+    omega (arith, c.number_at-first.ensures, keeps_here c.args.trie.now c.args.entries.now c.requires.lookup c.args.entry.state c.args.number
     (state_here c.args.entries.now c.args.entry c.args.number c.requires.entry))
 
 pub set_first-requires : goal.set_first-requires
@@ -29,7 +29,7 @@ returns-then-first-number-clause-ok c =
     let some = keeps_here c.args.trie.now c.args.entries.now c.requires.lookup c.args.entry.state c.args.number
     (state_here c.args.entries.now c.args.entry c.args.number c.requires.entry) in
     let first : get_or c.args.trie.now.numbers c.args.entry.state 0 ≡ c.args.number + 1 =
-    omega (arith, some, c.number_at.ensures, c.if-first-number.true) in
+    omega (arith, some, c.number_at-first.ensures, c.if-first-number.true) in
     on_ok_weaker c.set_first.result
     (λ numbers.
     left_first c.args.trie.now c.set_first.new.trie c.args.entries.now c.requires.lookup c.args.number c.args.entry c.requires.entry first
@@ -42,8 +42,8 @@ returns-then-first-number-clause-err c =
     (λ numbers. lookup_same c.args.trie.now c.set_first.new.trie c.args.entries.now c.set_first.ensures.words numbers c.requires.lookup)
     c.set_first.ensures.err
 
-pub last_before-requires : goal.last_before-requires
-last_before-requires c =
+pub last_before-before-requires : goal.last_before-before-requires
+last_before-before-requires c =
     let of : IsEntry (length c.args.trie.now.words) (states_in c.args.entries.now) c.args.number c.args.entry =
     c.requires.lookup.entries_are c.args.number c.args.entry c.requires.entry in
     let here : HasAt (states_in c.args.entries.now) c.args.entry.state c.args.number =
@@ -55,24 +55,24 @@ last_before-requires c =
     let P : ℕ → Type 0 = λ k. HasAt (states_in c.args.entries.now) c.args.entry.state (k - 1) in
     record {
       entries = (length c.args.trie.now.words, c.requires.lookup.entries_are);
-      has = (c.args.entry.state, subst P (sym c.number_at.ensures) least.is);
-      before = omega (arith, c.number_at.ensures, least.least c.args.number (omega arith) here, c.if-first-number.false);
+      has = (c.args.entry.state, subst P (sym c.number_at-first.ensures) least.is);
+      before = omega (arith, c.number_at-first.ensures, least.least c.args.number (omega arith) here, c.if-first-number.false);
     }
 
-pub index_mut-requires : goal.index_mut-requires
-index_mut-requires c =
+pub bounds-entries-before : goal.bounds-entries-before
+bounds-entries-before c =
     let here : HasAt (states_in c.args.entries.now) c.args.entry.state c.args.number =
     state_here c.args.entries.now c.args.entry c.args.number c.requires.entry in
     let some = keeps_here c.args.trie.now c.args.entries.now c.requires.lookup c.args.entry.state c.args.number here in
     omega (arith, has_within c.args.entries.now c.args.entry c.args.number c.requires.entry,
-    (last_there c.args.trie.now c.args.entries.now c.requires.lookup c.args.number c.args.entry c.requires.entry c.number_at.result
-    c.last_before-before.result c.number_at.ensures c.last_before-before.ensures).before)
+    (last_there c.args.trie.now c.args.entries.now c.requires.lookup c.args.number c.args.entry c.requires.entry c.number_at-first.result
+    c.last_before-before.result c.number_at-first.ensures c.last_before-before.ensures).before)
 
 pub returns-clause-ok : goal.returns-clause-ok
 returns-clause-ok c =
     let last : IsLast (HasAt (states_in c.args.entries.now) c.args.entry.state) c.args.number c.last_before-before.result =
-    last_there c.args.trie.now c.args.entries.now c.requires.lookup c.args.number c.args.entry c.requires.entry c.number_at.result
-    c.last_before-before.result c.number_at.ensures c.last_before-before.ensures in
+    last_there c.args.trie.now c.args.entries.now c.requires.lookup c.args.number c.args.entry c.requires.entry c.number_at-first.result
+    c.last_before-before.result c.number_at-first.ensures c.last_before-before.ensures in
     let there = entry_here c.args.entries.now c.args.entry.state c.last_before-before.result last.is in
     left_later c.args.trie.now c.args.entries.now c.requires.lookup c.args.number c.last_before-before.result c.args.entry there.0 c.requires.entry
     there.1 there.2 last
@@ -80,7 +80,7 @@ returns-clause-ok c =
 pub returns-clause-states : goal.returns-clause-states
 returns-clause-states c =
     let last : IsLast (HasAt (states_in c.args.entries.now) c.args.entry.state) c.args.number c.last_before-before.result =
-    last_there c.args.trie.now c.args.entries.now c.requires.lookup c.args.number c.args.entry c.requires.entry c.number_at.result
-    c.last_before-before.result c.number_at.ensures c.last_before-before.ensures in
+    last_there c.args.trie.now c.args.entries.now c.requires.lookup c.args.number c.args.entry c.requires.entry c.number_at-first.result
+    c.last_before-before.result c.number_at-first.ensures c.last_before-before.ensures in
     let there = entry_here c.args.entries.now c.args.entry.state c.last_before-before.result last.is in
     states_same c.args.entries.now c.last_before-before.result there.0 c.args.entry there.1 (sym there.2)
