@@ -6,8 +6,8 @@ use Rattle.std.proofs.lemmas.Bool.{cases_lt}
 use Rattle.kb_trie.specs.declared.lookup.Entry.{Entry}
 use Rattle.kb_trie.specs.States.{AreWords, Grows, States, word}
 use Rattle.kb_trie.specs.LeftSides.{AreLefts, HasAt, IsLeastOf}
-use Rattle.kb_trie.specs.Lookups.{AreEntries, IsEntry, IsLookup, kept, lefts_of, states_in}
-use Rattle.kb_trie.proofs.HasAt.{has_map, has_mapped, has_one, has_within}
+use Rattle.kb_trie.specs.Lookups.{IsEntry, IsLookup, kept, lefts_of, states_in}
+use Rattle.kb_trie.proofs.HasAt.{has_map, has_mapped}
 use Rattle.kb_trie.proofs.Least.{least_there}
 use Rattle.kb_trie.proofs.Longest.{some_length}
 use Rattle.kb_trie.proofs.Numbers.{by}

@@ -1,9 +1,8 @@
 -- The least of some numbers, as numbers come and go.
-use Rattle.std.proofs.Common.{◌≡◌, ℕ, zero, suc, ◌+◌, ◌-◌, ◌<◌, ◌≤◌, ◌⊎◌, List, [], ◌∷◌, ◌++◌, length, set, Option, Some, None, SomeIff, refl, sym, ap, ◌∙◌, subst, inl, inr, arith}
-use Rattle.std.proofs.lemmas.Bool.{cases_lt}
+use Rattle.std.proofs.Common.{◌≡◌, ℕ, zero, suc, ◌+◌, ◌-◌, ◌<◌, ◌≤◌, List, [], ◌∷◌, ◌++◌, length, set, Option, Some, None, SomeIff, refl, sym, ap, ◌∙◌, subst, inl, inr, arith}
 use Rattle.kb_trie.specs.LeftSides.{HasAt, IsLeast, IsLeastOf}
 use Rattle.kb_trie.specs.Lookups.{kept}
-use Rattle.kb_trie.proofs.HasAt.{has_before, has_cases, has_left, has_new, has_old, has_one, has_within}
+use Rattle.kb_trie.proofs.HasAt.{has_before, has_cases, has_left, has_new, has_old, has_within}
 
 -- what is kept, less one, where it is not 0
 pub kept_is : (n : ℕ) (read : Option ℕ) → SomeIff read (1 ≤ n) (n - 1) → read ≡ kept n

@@ -1,6 +1,5 @@
-use Rattle.std.proofs.Common.{◌≡◌, ℕ, ◌+◌, ◌<◌, List, Option, Some, None, length, sym, ap, ◌∙◌, subst, arith}
+use Rattle.std.proofs.Common.{◌≡◌, ◌+◌, Some, None, length, sym, ap, ◌∙◌, arith}
 use Rattle.std.proofs.lemmas.Result.{on_err_weaker, on_ok_weaker}
-use Rattle.kb_trie.specs.declared.lookup.Entry.{Entry}
 use Rattle.kb_trie.specs.LeftSides.{HasAt, IsLast, IsLeast}
 use Rattle.kb_trie.specs.Lookups.{kept, states_in}
 use Rattle.kb_trie.proofs.HasAt.{has_within}

@@ -1,4 +1,4 @@
-use Rattle.std.proofs.Common.{◌≡◌, ℕ, ◌+◌, ◌<◌, List, Option, Some, None, length, sym, subst, arith}
+use Rattle.std.proofs.Common.{ℕ, ◌+◌, Option, None, subst, arith}
 use Rattle.kb_trie.specs.LeftSides.{HasAt, IsLeast, IsLeastOf}
 use Rattle.kb_trie.specs.Lookups.{states_in}
 use Rattle.kb_trie.proofs.HasAt.{has_within}

@@ -1,4 +1,4 @@
-use Rattle.std.proofs.Common.{◌≡◌, ℕ, ◌+◌, ◌-◌, ◌<◌, List, Option, length, get_or, sym, ap, ◌∙◌, subst, arith}
+use Rattle.std.proofs.Common.{◌≡◌, ℕ, ◌+◌, ◌-◌, length, get_or, sym, subst, arith}
 use Rattle.std.proofs.lemmas.Result.{on_err_weaker, on_ok_weaker}
 use Rattle.kb_trie.specs.LeftSides.{HasAt, IsLast, IsLeast}
 use Rattle.kb_trie.specs.Lookups.{IsEntry, states_in}
@@ -13,8 +13,12 @@ number_at-first-requires c = (c.requires.lookup.entries_are c.args.number c.args
 
 pub overflow_sub-first : goal.overflow_sub-first
 overflow_sub-first c =
-    omega (arith, c.number_at-first.ensures, keeps_here c.args.trie.now c.args.entries.now c.requires.lookup c.args.entry.state c.args.number
-    (state_here c.args.entries.now c.args.entry c.args.number c.requires.entry))
+    omega (
+      arith,
+      c.number_at-first.ensures,
+      keeps_here c.args.trie.now c.args.entries.now c.requires.lookup c.args.entry.state c.args.number
+          (state_here c.args.entries.now c.args.entry c.args.number c.requires.entry),
+    )
 
 pub set_first-requires : goal.set_first-requires
 set_first-requires c =
@@ -64,9 +68,12 @@ bounds-entries-before c =
     let here : HasAt (states_in c.args.entries.now) c.args.entry.state c.args.number =
     state_here c.args.entries.now c.args.entry c.args.number c.requires.entry in
     let some = keeps_here c.args.trie.now c.args.entries.now c.requires.lookup c.args.entry.state c.args.number here in
-    omega (arith, has_within c.args.entries.now c.args.entry c.args.number c.requires.entry,
-    (last_there c.args.trie.now c.args.entries.now c.requires.lookup c.args.number c.args.entry c.requires.entry c.number_at-first.result
-    c.last_before-before.result c.number_at-first.ensures c.last_before-before.ensures).before)
+    omega (
+      arith,
+      has_within c.args.entries.now c.args.entry c.args.number c.requires.entry,
+      (last_there c.args.trie.now c.args.entries.now c.requires.lookup c.args.number c.args.entry c.requires.entry c.number_at-first.result
+          c.last_before-before.result c.number_at-first.ensures c.last_before-before.ensures).before,
+    )
 
 pub returns-clause-ok : goal.returns-clause-ok
 returns-clause-ok c =

@@ -1,4 +1,4 @@
-use Rattle.std.proofs.Common.{length, sym, ap, ◌∙◌, subst, arith}
+use Rattle.std.proofs.Common.{length, ap, subst, arith}
 use Rattle.kb_trie.specs.LeftSides.{AreLefts, LeftSides}
 use Rattle.kb_trie.proofs.Entries.{are_lefts, lefts_length}
 use Rattle.kb_trie.proofs.lookup.Lookup.count.Goals as goal

@@ -1,4 +1,4 @@
-use Rattle.std.proofs.Common.{ℕ, ◌<◌, length, ap, ◌∙◌, subst, arith}
+use Rattle.std.proofs.Common.{◌<◌, length, ap, ◌∙◌, subst, arith}
 use Rattle.kb_trie.specs.States.{word}
 use Rattle.kb_trie.specs.LeftSides.{HasAt, IsLeastOf, LeftSides}
 use Rattle.kb_trie.specs.Lookups.{kept}

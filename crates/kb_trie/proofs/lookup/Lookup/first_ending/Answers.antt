@@ -1,7 +1,7 @@
-use Rattle.std.proofs.Common.{◌≡◌, ℕ, ◌<◌, List, length, Option, Some, None, sym, ap, ◌∙◌, subst, arith}
+use Rattle.std.proofs.Common.{◌≡◌, Some, None, sym, ap, ◌∙◌, subst}
 use Rattle.kb_trie.specs.States.{word}
 use Rattle.kb_trie.specs.LeftSides.{HasEnding, IsLeastOf, LeftSides}
-use Rattle.kb_trie.specs.Lookups.{kept, left_sides}
+use Rattle.kb_trie.specs.Lookups.{kept}
 use Rattle.kb_trie.proofs.Looking.{looking_all, looking_more, looking_shorter, looking_start}
 use Rattle.kb_trie.proofs.lookup.Lookup.first_ending.Goals as goal
 

@@ -1,4 +1,4 @@
-use Rattle.std.proofs.Common.{◌≡◌, List, [], Option, sym, subst}
+use Rattle.std.proofs.Common.{List, Option, sym, subst}
 use Rattle.kb_trie.specs.declared.lookup.Entry.{Entry}
 use Rattle.kb_trie.specs.Lookups.{IsLookup}
 use Rattle.kb_trie.proofs.Entries.{lookup_none}

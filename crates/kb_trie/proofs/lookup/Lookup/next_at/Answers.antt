@@ -1,7 +1,7 @@
-use Rattle.std.proofs.Common.{◌≡◌, ℕ, ◌+◌, ◌<◌, List, Option, length, sym, ap, ◌∙◌, subst, arith}
+use Rattle.std.proofs.Common.{◌≡◌, ◌+◌, List, Option, length, sym, ap, subst, arith}
 use Rattle.kb_trie.specs.declared.lookup.Entry.{Entry}
 use Rattle.kb_trie.specs.LeftSides.{HasAt, IsLeastOf, LeftSides}
-use Rattle.kb_trie.specs.Lookups.{kept, left_sides, states_in}
+use Rattle.kb_trie.specs.Lookups.{kept, left_sides}
 use Rattle.kb_trie.proofs.HasAt.{has_within}
 use Rattle.kb_trie.proofs.Entries.{lefts_length}
 use Rattle.kb_trie.proofs.Looking.{next_at}

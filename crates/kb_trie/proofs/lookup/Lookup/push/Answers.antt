@@ -1,4 +1,4 @@
-use Rattle.std.proofs.Common.{◌≡◌, ℕ, ◌<◌, List, [], ◌∷◌, ◌++◌, Option, Some, length, sym, ap, ◌∙◌, subst, inl, inr, arith}
+use Rattle.std.proofs.Common.{◌≡◌, ℕ, List, [], ◌∷◌, ◌++◌, Option, Some, length, sym, ap, ◌∙◌, inl, inr, arith}
 use Rattle.std.proofs.lemmas.Bool.{cases_lt}
 use Rattle.std.proofs.lemmas.Result.{IfOk-weaker, on_err_weaker, on_ok_weaker}
 use Rattle.kb_trie.specs.States.{word}
@@ -51,8 +51,7 @@ returns-clause-err c =
 
 pub returns-clause-words : goal.returns-clause-words
 returns-clause-words c =
-    let grows = c.insert.ensures.grows in
-    (
+    let grows = c.insert.ensures.grows in (
       grows.more,
       c.add.ensures.words ∙ grows.words ∙ ap (λ (v : LeftSides). v.words ++ c.insert.ensures.grows.more) c.self.view_is,
     )
