@@ -1,5 +1,5 @@
 -- What the copies hold after entries.
-use Rattle.std.proofs.Common.{◌≡◌, Bool, true, false, List, [], ◌∷◌, Some, None, fold, refl, ap, ◌∙◌}
+use Rattle.std.proofs.Common.{◌≡◌, Bool, true, false, List, [], ◌∷◌, ◌++◌, Some, None, fold, refl, ap}
 use Rattle.std.specs.Prelude.{cond}
 use Rattle.kb_publish.specs.declared.versions.Shown.{Shown}
 use Rattle.kb_publish.specs.declared.versions.View.{View}
@@ -7,6 +7,13 @@ use Rattle.kb_publish.specs.declared.versions.Entry.{Entry}
 use Rattle.kb_publish.specs.declared.versions.Entry.TheVariants.{Begins, Operation}
 use Rattle.kb_publish.specs.Entries.{stage, entered, operations}
 use Rattle.kb_publish.specs.Versions.{state_of, MayPublish, further, first}
+
+-- one operation more is told
+pub operations_with_one_more : {O : Type 0} (entries : List (Entry O)) (operation : O)
+    → operations (entries ++ Operation operation ∷ []) ≡ operations entries ++ operation ∷ []
+operations_with_one_more [] operation = refl
+operations_with_one_more (Begins ∷ entries) operation = operations_with_one_more entries operation
+operations_with_one_more (Operation other ∷ entries) operation = ap (λ (all : List _). other ∷ all) (operations_with_one_more entries operation)
 
 module _ {S O : Type 0} (applied : S → O → S) where
   -- the state is the one before with each operation applied

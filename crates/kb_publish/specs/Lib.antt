@@ -1,5 +1,6 @@
 pub mod Entries
 pub mod Versions
 pub mod Publishing
+pub mod Looking
 pub mod Notes
 pub mod Readers

@@ -8,6 +8,7 @@ ghost use Rattle.kb_publish.specs.Versions.{last, state_of};
 use crate::notes::Note;
 use crate::versions::{Looks, Place, TakenPlace};
 use left_right::Absorb;
+use std::marker::Model;
 
 /// Through what a reader looks. It has seen versions, whose states contracts list, and may refuse a look; it counts
 /// its refusals, as far as a `u64` goes.
@@ -62,12 +63,27 @@ pub struct RuledGlass<V: Absorb<O> + Drop, O: Drop> {
     refusals: u64,
 }
 
-/// A look through the glass of a publisher.
+/// A look through the glass of a publisher. Contracts see it as what is seen, and the count of refusals.
 pub struct RuledReading<V: Absorb<O> + Drop, O: Drop> {
     place: TakenPlace<V, V::State, O>,
     refusals: u64,
-    ghost shows: { last (view place.place).seen ≡ Some (V.state place.part.value.version) },
-    ghost something: { (view place.place).seen ≢ [] },
+}
+
+impl<V: Absorb<O> + Drop, O: Drop> Model for RuledReading<V, O> {
+    ghost use Rattle.std.specs.Prelude.{◌≡◌, Some};
+    ghost use Rattle.kb_publish.specs.Looking.{Looking};
+
+    ghost Value = { Looking V.State };
+
+    ghost use Rattle.left_right.specs.Sides as sides;
+    ghost use Rattle.kb_publish.specs.Versions.{last};
+
+    ghost view = { λ reading. record {
+        seen = (sides.view reading.place.place).seen; refusals = reading.refusals } };
+
+    ghost invariant = { λ reading.
+        last (sides.view reading.place.place).seen
+        ≡ Some (V.state reading.place.part.value.version) };
 }
 
 impl<V: Absorb<O> + Drop, O: Drop> RuledGlass<V, O> {
@@ -103,7 +119,7 @@ impl<V: Absorb<O> + Drop, O: Drop> RuledGlass<V, O> {
         refusals: u64,
     ) -> Result<RuledReading<V, O>, RuledGlass<V, O>>
         ensures looks { IfOk result (λ reading.
-            IsPrefix (view place.place).seen (view reading.place.place).seen
+            IsPrefix (view place.place).seen reading.seen × (reading.seen ≢ [])
             × (reading.refusals ≡ refusals)) }
         ensures refuses { IfErr result (λ glass.
             (seen_through glass ≡ (view place.place).seen) × (glass.refusals ≡ counted refusals)) }
@@ -126,7 +142,7 @@ impl<V: Absorb<O> + Drop, O: Drop> RuledReading<V, O> {
     ) -> Result<RuledReading<V, O>, RuledGlass<V, O>>
         requires { last (view place.place).seen ≡ state_of V.state place.part.value }
         ensures looks { IfOk result (λ reading.
-            ((view reading.place.place).seen ≡ (view place.place).seen)
+            (reading.seen ≡ (view place.place).seen) × (reading.seen ≢ [])
             × (reading.refusals ≡ refusals)) }
         ensures refuses { IfErr result (λ glass.
             ((view place.place).seen ≡ []) × (seen_through glass ≡ [])
@@ -155,7 +171,7 @@ impl<V: Absorb<O> + Drop, O: Drop> Glass for RuledGlass<V, O> {
 
     ghost refusals = { λ glass. glass.refusals };
 
-    ghost shown = { λ reading. (view reading.place.place).seen };
+    ghost shown = { λ reading. reading.seen };
 
     ghost refused = { λ reading. reading.refusals };
 

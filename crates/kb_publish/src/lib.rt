@@ -46,6 +46,7 @@
 #![tactic(auto)]
 
 mod glass;
+mod in_place;
 mod notes;
 mod publisher;
 mod reader;

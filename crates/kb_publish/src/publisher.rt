@@ -7,10 +7,10 @@ ghost use Rattle.kb_publish.specs.Entries.{operations};
 ghost use Rattle.kb_publish.specs.Versions.{MayPublish, newcomer, publisher_of};
 ghost use Rattle.kb_publish.specs.Publishing.{Grows};
 
+use crate::in_place::publish_in_place;
 use crate::notes::{NoteBook, add};
 use crate::versions::{Entry, Learns, Place, Press, Publishes, Shown, Tells};
 use crate::{RuledGlass, VersionReader};
-use core::mem::replace_with;
 use kb_word::Memory;
 use left_right::Absorb;
 use left_right::writer::Writer;
@@ -105,9 +105,8 @@ impl<V: Absorb<O> + Drop, O: Drop> Publisher<V, O> {
             version: second,
             begun: false,
         };
-        let press: Press<V, V::State, O> = Writer::new(alloc, one, other, readers as usize)?;
-        let (press, begun) = begin(press, rt);
-        match begun {
+        let mut press: Press<V, V::State, O> = Writer::new(alloc, one, other, readers as usize)?;
+        match begin(&mut press, rt) {
             Ok(()) => Ok(Publisher { press, notes }),
             Err(memory) => {
                 press.take(rt);
@@ -123,9 +122,10 @@ impl<V: Absorb<O> + Drop, O: Drop> Publisher<V, O> {
         ensures nothing { OnErr result (self.new ≡ self.old) }
     {
         match self.press.append(Entry::Operation(operation)) {
-            Ok(()) => Ok(()),
-            Err(_) => Err(Memory),
+            Ok(()) => {}
+            Err(_) => return Err(Memory),
         }
+        Ok(())
     }
 
     /// Publishes what the operations make of the version that was published last: from now on a look shows it. Nothing
@@ -137,7 +137,7 @@ impl<V: Absorb<O> + Drop, O: Drop> Publisher<V, O> {
         ensures nothing { OnErr result (self.new ≡ self.old) }
         ensures succeeds { V.never_fails → IsOk result }
     {
-        replace_with(&mut self.press, rt, shown_by)?;
+        show(&mut self.press, rt)?;
         add::<V, O>(&mut self.notes, &self.press.published().version);
         Ok(())
     }
@@ -207,52 +207,50 @@ impl<V: Absorb<O> + Drop, O: Drop> Publisher<V, O> {
 
 /// Begins publishing: shows the first version.
 fn begin<V: Absorb<O> + Drop, O: Drop, T: Wait>(
-    mut press: Press<V, V::State, O>,
+    press: &mut Press<V, V::State, O>,
     rt: &T,
-) -> (Press<V, V::State, O>, Result<(), Memory>)
-    requires unseen { view press.desk.place ≡ newcomer }
-    requires unbegun { press.desk.shown.value.begun ≡ false }
-    requires untold { drop press.behind press.log.items ≡ [] }
-    ensures published { OnOk result.1 (view result.0.desk.place
-        ≡ publisher_of (V.state press.desk.shown.value.version ∷ [])) }
-    ensures shown { OnOk result.1 ((result.0.desk.shown.value.begun ≡ true)
-        × (V.state result.0.desk.shown.value.version
-        ≡ V.state press.desk.shown.value.version)) }
-    ensures told { OnOk result.1 (drop result.0.behind result.0.log.items ≡ []) }
+) -> Result<(), Memory>
+    requires unseen { view press.old.desk.place ≡ newcomer }
+    requires unbegun { press.old.desk.shown.value.begun ≡ false }
+    requires untold { drop press.old.behind press.old.log.items ≡ [] }
+    ensures published { OnOk result (view press.new.desk.place
+        ≡ publisher_of (V.state press.old.desk.shown.value.version ∷ [])) }
+    ensures shown { OnOk result ((press.new.desk.shown.value.begun ≡ true)
+        × (V.state press.new.desk.shown.value.version
+        ≡ V.state press.old.desk.shown.value.version)) }
+    ensures told { OnOk result (drop press.new.behind press.new.log.items ≡ []) }
 {
     match press.append(Entry::Begins) {
-        Ok(()) => shown_by(press, rt),
-        Err(_) => (press, Err(Memory)),
+        Ok(()) => show(press, rt),
+        Err(_) => Err(Memory),
     }
 }
 
 /// Shows a further version from now on: what the entries that were told make of the one that was shown. After want of
 /// memory what is shown is as it was, and so is what was told.
-fn shown_by<V: Absorb<O> + Drop, O: Drop, T: Wait>(
-    press: Press<V, V::State, O>,
+fn show<V: Absorb<O> + Drop, O: Drop, T: Wait>(
+    press: &mut Press<V, V::State, O>,
     rt: &T,
-) -> (Press<V, V::State, O>, Result<(), Memory>)
-    requires { MayPublish (view press.desk.place) press.desk.shown.value
-        (drop press.behind press.log.items) }
-    ensures published { MatchResult result.1
-        (λ _. view result.0.desk.place
-        ≡ publisher_of ((view press.desk.place).seen
-        ++ V.state result.0.desk.shown.value.version ∷ []))
-        (λ _. view result.0.desk.place ≡ view press.desk.place) }
-    ensures shown { MatchResult result.1
-        (λ _. (result.0.desk.shown.value.begun ≡ true)
-        × (V.state result.0.desk.shown.value.version
-        ≡ fold V.applied (V.state press.desk.shown.value.version)
-        (operations (drop press.behind press.log.items))))
-        (λ _. result.0.desk.shown.value ≡ press.desk.shown.value) }
-    ensures told { MatchResult result.1
-        (λ _. drop result.0.behind result.0.log.items ≡ [])
-        (λ _. drop result.0.behind result.0.log.items ≡ drop press.behind press.log.items) }
-    ensures succeeds { V.never_fails → IsOk result.1 }
+) -> Result<(), Memory>
+    requires { MayPublish (view press.old.desk.place) press.old.desk.shown.value
+        (drop press.old.behind press.old.log.items) }
+    ensures published { MatchResult result
+        (λ _. view press.new.desk.place
+        ≡ publisher_of ((view press.old.desk.place).seen
+        ++ V.state press.new.desk.shown.value.version ∷ []))
+        (λ _. view press.new.desk.place ≡ view press.old.desk.place) }
+    ensures shown { MatchResult result
+        (λ _. (press.new.desk.shown.value.begun ≡ true)
+        × (V.state press.new.desk.shown.value.version
+        ≡ fold V.applied (V.state press.old.desk.shown.value.version)
+        (operations (drop press.old.behind press.old.log.items))))
+        (λ _. press.new.desk.shown.value ≡ press.old.desk.shown.value) }
+    ensures told { MatchResult result
+        (λ _. drop press.new.behind press.new.log.items ≡ [])
+        (λ _. drop press.new.behind press.new.log.items
+        ≡ drop press.old.behind press.old.log.items) }
+    ensures succeeds { V.never_fails → IsOk result }
 {
-    let (press, shown) = press.publish_as::<Publishes<O>, T>(rt);
-    match shown {
-        Ok(()) => (press, Ok(())),
-        Err(_) => (press, Err(Memory)),
-    }
+    publish_in_place::<Publishes<O>, _, _, _, _, T>(press, rt)?;
+    Ok(())
 }
