@@ -42,5 +42,5 @@ where
         writer.new.desk.shown.value (view writer.new.desk.place))
         (λ _. view writer.new.desk.place ≡ view writer.old.desk.place) }
 {
-    replace_with(writer, rt, Writer::publish_as::<M, R>)
+    replace_with(writer, rt, |writer, rt| writer.publish_as::<M, R>(rt))
 }
