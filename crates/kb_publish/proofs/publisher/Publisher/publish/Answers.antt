@@ -11,8 +11,8 @@ use Rattle.kb_publish.proofs.publisher.Publisher.publish.Goals as goal
 pub show-requires : goal.show-requires
 show-requires g c = further (ap (λ (v : View g.row.V-State.Denot). v.publishes) c.self.invariant.0) c.self.invariant.2
 
-pub invariant_of-self : goal.invariant_of-self
-invariant_of-self g c =
+pub invariant_of-self-2 : goal.invariant_of-self-2
+invariant_of-self-2 g c =
     let S : Type 0 = g.row.V-State.Denot in
     let notes : List S = c.self.inside.notes in
     let next : S = g.V.Absorb.state c.show.new.press.desk.shown.value.version in
