@@ -1,5 +1,5 @@
 -- Each step keeps the rule of the versions.
-use Rattle.std.proofs.Common.{◌≡◌, ◌≢◌, ℕ, true, false, List, [], ◌∷◌, ◌++◌, Some, None, set, refl, sym, ap, ◌∙◌, subst, ⊎_elim}
+use Rattle.std.proofs.Common.{◌≡◌, ◌≢◌, ℕ, true, false, List, [], ◌∷◌, ◌++◌, set, refl, sym, ap, ◌∙◌, subst, ⊎_elim}
 use mathlib.Core.List.{IsPrefix}
 use mathlib.Core.Option.{some, some-ne-none}
 use lib.ListN.{get_elem?}

@@ -1,5 +1,5 @@
 -- What a publisher is in contracts, and what publishing does to it.
-use Rattle.std.specs.Prelude.{◌≡◌, List, [], ◌∷◌, ◌++◌, Option, Some, fold}
+use Rattle.std.specs.Prelude.{◌≡◌, List, [], ◌∷◌, ◌++◌, Some, fold}
 use Rattle.kb_publish.specs.Versions.{last}
 
 -- the states of the versions that were published, in their order, and the operations that were told since

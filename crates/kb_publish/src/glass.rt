@@ -79,7 +79,9 @@ impl<V: Absorb<O> + Drop, O: Drop> Model for RuledReading<V, O> {
     ghost use Rattle.kb_publish.specs.Versions.{last};
 
     ghost view = { λ reading. record {
-        seen = (sides.view reading.place.place).seen; refusals = reading.refusals } };
+      seen = (sides.view reading.place.place).seen;
+      refusals = reading.refusals;
+    } };
 
     ghost invariant = { λ reading.
         last (sides.view reading.place.place).seen

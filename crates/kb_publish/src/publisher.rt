@@ -43,8 +43,9 @@ where
     ghost use Rattle.kb_publish.specs.Versions.{last, publisher_of};
 
     ghost view = { λ publisher. record {
-        published = publisher.notes;
-        pending = operations (drop publisher.press.behind publisher.press.log.items) } };
+      published = publisher.notes;
+      pending = operations (drop publisher.press.behind publisher.press.log.items);
+    } };
 
     ghost invariant = { λ publisher.
         (sides.view publisher.press.desk.place ≡ publisher_of publisher.notes)
@@ -118,7 +119,9 @@ impl<V: Absorb<O> + Drop, O: Drop> Publisher<V, O> {
     /// Tells an operation. What is published stays the same. After want of memory nothing is told.
     pub fn append(&mut self, operation: O) -> Result<(), Memory>
         ensures told { OnOk result (self.new ≡ record {
-            published = self.old.published; pending = self.old.pending ++ operation ∷ [] }) }
+          published = self.old.published;
+          pending = self.old.pending ++ operation ∷ [];
+        }) }
         ensures nothing { OnErr result (self.new ≡ self.old) }
     {
         match self.press.append(Entry::Operation(operation)) {

@@ -11,7 +11,7 @@ returns-clause-told g c =
     let press = c.self.inside.press in
     let pending : List O = operations (drop press.behind press.log.items) in
     let told : operations (drop c.append.new.self.behind c.append.new.self.log.items) ≡ pending ++ c.args.operation ∷ [] =
-        ap operations c.in-Ok.ensures.pending ∙ operations_with_one_more (drop press.behind press.log.items) c.args.operation in
+    ap operations c.in-Ok.ensures.pending ∙ operations_with_one_more (drop press.behind press.log.items) c.args.operation in
     let publishing : List O → Publishing S O = λ all. record { published = c.self.inside.notes; pending = all } in
     subst (λ (value : Publishing S O). publishing (operations (drop c.append.new.self.behind c.append.new.self.log.items))
-        ≡ record { published = value.published; pending = value.pending ++ c.args.operation ∷ [] }) c.self.view_is (ap publishing told)
+    ≡ record { published = value.published; pending = value.pending ++ c.args.operation ∷ [] }) c.self.view_is (ap publishing told)

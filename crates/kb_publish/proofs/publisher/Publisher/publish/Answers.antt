@@ -1,4 +1,4 @@
-use Rattle.std.proofs.Common.{◌≡◌, List, [], ◌∷◌, ◌++◌, Some, drop, sym, ap, ◌∙◌, subst}
+use Rattle.std.proofs.Common.{◌≡◌, List, [], ◌∷◌, ◌++◌, drop, sym, ap, ◌∙◌, subst}
 use Rattle.left_right.specs.Sides.{view}
 use Rattle.kb_publish.specs.declared.versions.Shown.{Shown}
 use Rattle.kb_publish.specs.declared.versions.View.{View}
