@@ -7,8 +7,8 @@ pub record Publishing (S O : Type 0) : Type 0 where
   pub published : List S
   pub pending : List O
 
--- The published states grow by one: what the pending operations, applied in their order, make of the last one. Then nothing
--- is pending.
+-- The published states grow by one: what the pending operations, applied in their order, make of the last one. Then
+-- nothing is pending.
 pub record Grows {S O : Type 0} (applied : S → O → S) (before after : Publishing S O) : Type 0 where
   pub last_state : S
   pub was_last : last before.published ≡ Some last_state

@@ -67,6 +67,7 @@ module _ {V S : Type 0} (state : V → S) where
 
 -- who publishes next, with these entries told: the publisher; or the first to publish, where nothing but that
 -- publishing begins is told
-pub data MayPublish {V S O : Type 0} (v : View S) (shown : Shown V) (entries : List (Entry O)) : Type 0 where
+pub data MayPublish {V S O : Type 0} (v : View S) (shown : Shown V)
+    (entries : List (Entry O)) : Type 0 where
   further : v.publishes ≡ true → shown.begun ≡ true → MayPublish v shown entries
   first : v.seen ≡ [] → shown.begun ≡ false → entries ≡ Begins ∷ [] → MayPublish v shown entries

@@ -8,23 +8,23 @@
 //! one before. Contracts see a publisher as the states of the versions that it has published, and the operations that
 //! are pending. The list of states only grows, and its last one is what readers are shown.
 //!
-//! Nothing is copied: there are two copies of the value from the beginning, with one state. Readers are shown one, while
-//! the other takes the operations, and each operation is applied to both.
+//! Nothing is copied: there are two copies of the value from the beginning, with one state. Readers are shown one,
+//! while the other takes the operations, and each operation is applied to both.
 //!
 //! A [`VersionReader`] goes to a thread that reads. [`VersionReader::look`] gives a [`Look`] at the version that
 //! was published last; it takes no lock and waits for nobody. The list that the look shows begins with all that the
-//! reader has seen, and ends in the state of the version that it looks at, so that is never an older one. [`Look::leave`]
-//! gives the reader back, which has then seen that list. [`Publisher::tell`] makes a reader one that has seen all that
-//! was published, so that what it sees from then on begins with that.
+//! reader has seen, and ends in the state of the version that it looks at, so that is never an older one.
+//! [`Look::leave`] gives the reader back, which has then seen that list. [`Publisher::tell`] makes a reader one that has
+//! seen all that was published, so that what it sees from then on begins with that.
 //!
 //! A look may be refused. Then the reader is as it was, and its count of refusals goes up. Readers look through a
 //! [`Glass`], a trait with what is seen, shown and refused. The glass of a publisher is [`RuledGlass`]; a test may
 //! have one of its own.
 //!
 //! It is not proved that a look is given rather than refused, nor that the wait of `publish` and `close` ends. What
-//! two readers of one publisher saw is not compared, nor what a reader had seen before it was told with what it is told:
-//! that of two such lists one begins the other is known to the rule alone, and nothing but its list ties a reader to a
-//! publisher.
+//! two readers of one publisher saw is not compared, nor what a reader had seen before it was told with what it is
+//! told: that of two such lists one begins the other is known to the rule alone, and nothing but its list ties a reader
+//! to a publisher.
 //!
 //! # How it is made
 //!
