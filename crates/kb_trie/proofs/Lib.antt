@@ -8,6 +8,9 @@ pub mod Growing
 pub mod FailureLists
 pub mod Rows
 pub mod Connecting
+pub mod Adding
+pub mod ChildLists
+pub mod Leading
 pub mod Grown
 pub mod Ending
 pub mod Numbers

@@ -1,7 +1,10 @@
 pub mod States
 pub mod Edges
 pub mod Steps
+pub mod Adding
+pub mod Children
 pub mod FailureTrees
 pub mod Walks
 pub mod Ends
+pub mod Factors
 pub mod Tries
