@@ -207,24 +207,6 @@ children_added words words' are root letter count old new grows counted in_root 
       next = earlier_grow words are root letter lasts earlier in_root none has (omega arith);
     })))
 
--- of the empty word alone
-pub children_root : (children : Children) → children.lasts.items ≡ 0 ∷ [] → children.earlier.items ≡ 0 ∷ [] → HasChildren ([] ∷ []) children
-children_root children lasts_is earlier_is =
-    let none : (parent other : ℕ) → ¬ IsTrieChild ([] ∷ []) parent other = λ parent other is.
-    let zero : other ≡ 0 = omega (arith, is.child.within) in
-    omega (arith, ap length (sym (ap (word ([] ∷ [])) zero) ∙ is.child.spelled), length_push (word ([] ∷ []) parent) is.letter) in
-    record {
-      last_room = omega (arith, ap length lasts_is);
-      earlier_room = omega (arith, ap length earlier_is);
-      last = λ state within.
-          let root : 0 ≡ state = omega arith in
-          let value : get_or children.lasts.items state 0 ≡ 0 =
-          ap (λ (s : ℕ). get_or children.lasts.items s 0) (sym root) ∙ ap (λ (l : List ℕ). get_or l 0 0) lasts_is in
-          let L : ℕ → Type 0 = λ c. IsLastChild ([] ∷ []) state (length ([] ∷ [])) c in
-          subst L (sym value) (last_none ([] ∷ []) state (length ([] ∷ [])) (none state));
-      next = λ parent state within is. absurd (none parent state is);
-    }
-
 -- with room for more
 pub children_same : (words : List (List ℕ)) (lasts earlier lasts' earlier' : List ℕ)
     → ((place : ℕ) → get_or lasts' place 0 ≡ get_or lasts place 0) → ((place : ℕ) → get_or earlier' place 0 ≡ get_or earlier place 0)

@@ -1,10 +1,10 @@
 -- Where letters lead from a state, along the links.
-use Rattle.std.proofs.Common.{◌≡◌, ℕ, ◌+◌, ◌<◌, ◌≤◌, ◌⊎◌, List, [], ◌∷◌, ◌++◌, length, get_or, drop, sym, ap, ◌∙◌, subst, inl, inr, arith}
+use Rattle.std.proofs.Common.{◌≡◌, ℕ, ◌+◌, ◌<◌, ◌≤◌, ◌⊎◌, List, [], ◌∷◌, ◌++◌, length, drop, sym, ap, ◌∙◌, subst, inl, inr, arith}
 use Rattle.std.proofs.lemmas.Bool.{cases_lt}
 use Rattle.std.proofs.lemmas.List.{length_push}
 use Rattle.kb_word.specs.Words.{EndsWith}
 use Rattle.kb_trie.specs.States.{AreWords, word}
-use Rattle.kb_trie.specs.Steps.{AreLinks, IsLink, IsStep, IsStepBeyond}
+use Rattle.kb_trie.specs.Steps.{IsLink, IsStep, IsStepBeyond}
 use Rattle.kb_trie.specs.Adding.{Adds}
 use Rattle.kb_trie.specs.Children.{IsLed, IsTrieChild, LeadsToChild}
 use Rattle.kb_trie.proofs.Adding.{adds_none, adds_same, adds_then}
@@ -91,13 +91,11 @@ led_beyond words state beyond at next long leads =
     }
 
 -- on to the link
-pub linking_more : (words : List (List ℕ)) → AreWords words → (links : List ℕ) → AreLinks words links → (state beyond at : ℕ) (xs ys zs : List ℕ)
-    → 0 < at → beyond ≤ length (word words at) → Linking words state beyond at xs ys → Adds (LeadsToChild words state at) ys zs
-    → Linking words state beyond (get_or links at 0) xs zs
-linking_more words are links linked state beyond at xs ys zs some long linking added =
+pub linking_more : (words : List (List ℕ)) → AreWords words → (state beyond at link : ℕ) (xs ys zs : List ℕ) → 0 < at
+    → beyond ≤ length (word words at) → IsLink words at link → Linking words state beyond at xs ys
+    → Adds (LeadsToChild words state at) ys zs → Linking words state beyond link xs zs
+linking_more words are state beyond at link xs ys zs some long is linking added =
     let v : List ℕ = word words at in
-    let link : ℕ = get_or links at 0 in
-    let is : IsLink words at link = linked at linking.within in
     let shorter : length (word words link) < length v = link_shorter words are at link some linking.within is in
     record {
       within = is.within;

@@ -24,14 +24,18 @@ impl Automaton {
             found.old.items found.new.items) }
     {
         let mut at = state;
-        while at > 0 && self.depth(at) >= beyond {
+        while at > 0 {
+            if self.depth(at) < beyond {
+                return Ok(());
+            }
             self.add_children(state, at, found)?;
             at = self.link(at);
         }
         // State 0 is the last one along the links.
-        if beyond == 0 {
-            self.add_children(state, 0, found)?;
+        if beyond > 0 {
+            return Ok(());
         }
+        self.add_children(state, 0, found)?;
         Ok(())
     }
 
