@@ -11,6 +11,8 @@ pub mod Connecting
 pub mod Adding
 pub mod ChildLists
 pub mod Leading
+pub mod Below
+pub mod Factors
 pub mod Grown
 pub mod Ending
 pub mod Numbers

@@ -67,6 +67,7 @@ mod children;
 mod edge;
 mod ends;
 mod failure_tree;
+mod longer;
 mod room;
 mod steps;
 mod table;
