@@ -36,13 +36,15 @@ contains_filter p (y ∷ xs) x (suc place, within, is) passes =
 
 -- a word that ends with the other, and goes on
 factor_of : (w u v rest : List ℕ) → EndsWith u v → w ≡ u ++ rest → IsFactor w v
-factor_of w u v rest ends whole =
-    (length ends.0, record {
-      before = ends.0;
-      after = rest;
-      whole = whole ∙ ap (λ (x : List ℕ). x ++ rest) ends.1;
-      at = refl;
-    })
+factor_of w u v rest ends whole = (
+  length ends.0,
+  record {
+    before = ends.0;
+    after = rest;
+    whole = whole ∙ ap (λ (x : List ℕ). x ++ rest) ends.1;
+    at = refl;
+  },
+)
 
 -- the states below those that a walk reached that never stops are those whose words have the root's as a factor
 pub below_factor : (words : List (List ℕ)) (links : List ℕ) (root : ℕ) (free stopped below : List ℕ)

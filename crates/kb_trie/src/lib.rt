@@ -25,6 +25,8 @@
 //!   state stays. `Trie::number_at` is the number of a state, and `Trie::end_at` its end (`IsEnd` of specs/Ends.antt): the
 //!   state of the longest suffix of its word, the word itself among them, that keeps a number. Here too want of memory is the one
 //!   free answer, and leaves all as it was.
+//! - `Trie::add_longer` adds to a list, ascending, the states that keep a number and whose words have a state's word as a factor
+//!   (`IsNumberedOver` of specs/Factors.antt).
 //! - `Trie::copy` is the same trie.
 //!
 //! # How it works
@@ -46,6 +48,8 @@
 //! - `children`: the children of each state in a list, latest first. A new state comes to the head of that of its parent.
 //! - `beyond`: a state to which a letter leads is a child of the state or of one along its failure links, so that only these are
 //!   looked at, and not all letters.
+//! - `longer`: the words that end with a state's word are those of the states below it in the failure tree, and those that have it as
+//!   a factor are below these in the trie. Such a state may be met more than once: they are sorted, and repeats go.
 //! - `automaton` adds the edge and has all these together; `trie` hides them from callers. Memory is taken first, so that after want
 //!   of it nothing has changed.
 //!
@@ -54,8 +58,9 @@
 //! `proofs/Suffixes.antt` and `proofs/Longest.antt` have suffixes, steps and links, `proofs/Words.antt` and `proofs/Edges.antt` the words
 //! of the states, `proofs/FailureLists.antt` the lists of the failure tree, `proofs/Walking.antt` the walk, `proofs/Growing.antt` and
 //! `proofs/Connecting.antt` what a new state changes, `proofs/Rows.antt` the table, `proofs/Ending.antt` and
-//! `proofs/Numbers.antt` ends and numbers, `proofs/Grown.antt` the states of a word, `proofs/ChildLists.antt` the lists of children, and
-//! `proofs/Leading.antt` where letters lead along the links.
+//! `proofs/Numbers.antt` ends and numbers, `proofs/Grown.antt` the states of a word, `proofs/ChildLists.antt` the lists of children,
+//! `proofs/Leading.antt` where letters lead along the links, `proofs/Below.antt` the states below others in the trie, and
+//! `proofs/Factors.antt` those whose words have a factor.
 //!
 //! Below is `kb_word`, with words.
 #![tactic(auto)]

@@ -24,5 +24,5 @@ returns c =
     ap (word words) (sym same) ∙ is.spell.spelled place within ∙ ap (λ (e : Edge). word words parent ++ e.letter ∷ []) edge in
     let P : ℕ → Type 0 = λ s. IsStep (words_of c.args.self.now.edges.keys) c.args.state c.index.result.now.letter s in (
       λ true_is. record { letter = letter; step = subst P (eqb-true c.step.result c.args.after true_is) c.step.ensures },
-      λ led. eq-eqb c.step.result c.args.after (led_by words is.are c.args.state parent letter c.args.after c.step.result spelled c.step.ensures led)
+      λ led. eq-eqb c.step.result c.args.after (led_by words is.are c.args.state parent letter c.args.after c.step.result spelled c.step.ensures led),
     )
