@@ -1,6 +1,6 @@
 -- The states whose words have a state's word as a factor.
-use Rattle.std.proofs.Common.{◌≡◌, ℕ, zero, suc, ◌<◌, ◌≤◌, Bool, true, false, cond, nat_cmp, eqb, List, [], ◌∷◌, ◌++◌, length, get_or, take, refl, sym, ap, ◌∙◌, subst, inl, inr, arith}
-use Rattle.std.specs.List.{All, Contains, dedup, filter}
+use Rattle.std.proofs.Common.{◌≡◌, ℕ, zero, suc, ◌<◌, Bool, true, false, cond, nat_cmp, eqb, List, [], ◌∷◌, ◌++◌, length, get_or, take, refl, sym, ap, ◌∙◌, subst, inl, inr, arith}
+use Rattle.std.specs.List.{Contains, dedup, filter}
 use Rattle.std.specs.List.Sorted.{IsPermutation, IsSorted}
 use Rattle.std.proofs.lemmas.Bool.{lt-ltb, ltb-true}
 use Rattle.std.proofs.lemmas.List.{get_or-take}
@@ -15,7 +15,7 @@ use Rattle.kb_trie.specs.Adding.{AddsAscending}
 use Rattle.kb_trie.specs.Children.{AreBelow, IsBelowOne}
 use Rattle.kb_trie.specs.Ends.{keeps}
 use Rattle.kb_trie.specs.Factors.{IsNumberedOver}
-use Rattle.kb_trie.specs.Walks.{IsAmong, IsWalk, NotesNothing}
+use Rattle.kb_trie.specs.Walks.{IsWalk, NotesNothing}
 use Rattle.kb_trie.proofs.Adding.{contains_none}
 use Rattle.kb_trie.proofs.Among.{among_contains, contains_among}
 use Rattle.kb_trie.proofs.Below.{beginning}

@@ -2,7 +2,6 @@ use Rattle.std.proofs.Common.{◌≡◌, ℕ, List, ◌∷◌, [], ◌++◌, Boo
 use Rattle.std.proofs.lemmas.List.{length_push}
 use Rattle.kb_trie.specs.declared.edge.Edge.{Edge}
 use Rattle.kb_trie.specs.Edges.{IsTree, words_of}
-use Rattle.kb_trie.specs.Children.{HasChildren}
 use Rattle.kb_trie.specs.Ends.{HasEnds}
 use Rattle.kb_trie.specs.Tries.{HasSteps}
 use Rattle.kb_trie.proofs.ChildLists.{children_added}

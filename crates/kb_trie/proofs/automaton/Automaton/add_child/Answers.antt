@@ -1,4 +1,4 @@
-use Rattle.std.proofs.Common.{◌≡◌, ℕ, List, refl, sym, ◌∙◌, subst}
+use Rattle.std.proofs.Common.{ℕ, List, refl, sym, ◌∙◌, subst}
 use Rattle.std.proofs.lemmas.Bool.{true≢false}
 use Rattle.kb_trie.specs.Adding.{Adds, IsThis}
 use Rattle.kb_trie.specs.Children.{IsLed, LeadsToChild}

@@ -1,4 +1,4 @@
-use Rattle.std.proofs.Common.{ℕ, ◌<◌, length}
+use Rattle.std.proofs.Common.{◌<◌}
 use Rattle.kb_trie.specs.Adding.{Adds}
 use Rattle.kb_trie.specs.Children.{IsTrieChild, LeadsToChild}
 use Rattle.kb_trie.specs.Tries.{words_in}

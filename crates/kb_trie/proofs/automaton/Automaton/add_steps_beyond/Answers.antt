@@ -1,7 +1,7 @@
-use Rattle.std.proofs.Common.{◌≡◌, ℕ, ◌<◌, ◌≤◌, List, length, get_or, sym, ap, ◌∙◌, subst, arith}
+use Rattle.std.proofs.Common.{◌≡◌, ℕ, List, length, ap, ◌∙◌, arith}
 use Rattle.kb_trie.specs.Edges.{words_of}
 use Rattle.kb_trie.specs.States.{word}
-use Rattle.kb_trie.proofs.Leading.{Linking, linking_first, linking_more, linking_root, linking_short}
+use Rattle.kb_trie.proofs.Leading.{linking_first, linking_more, linking_root, linking_short}
 use Rattle.kb_trie.proofs.Longest.{link_shorter}
 use Rattle.kb_trie.proofs.automaton.Automaton.add_steps_beyond.Goals as goal
 
