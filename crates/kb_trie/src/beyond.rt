@@ -10,8 +10,8 @@ use crate::automaton::Automaton;
 use kb_word::Memory;
 
 impl Automaton {
-    /// Adds the states to which a letter leads from a state, if their words are longer than `beyond`. Each of them is a child
-    /// of the state, or of one along its failure links, whose word is at least `beyond` long.
+    /// Adds the states to which a letter leads from a state, if their words are longer than `beyond`. Each of them is a
+    /// child of the state, or of one along its failure links, whose word is at least `beyond` long.
     pub fn add_steps_beyond(
         &self,
         state: u32,
