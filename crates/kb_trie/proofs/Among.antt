@@ -58,11 +58,11 @@ among_or_not (first ∷ numbers) number =
           ]
     ]
 
-contains_among : (numbers : List ℕ) (number : ℕ) → IsAmong numbers number → Contains numbers number
+pub contains_among : (numbers : List ℕ) (number : ℕ) → IsAmong numbers number → Contains numbers number
 contains_among numbers number is =
     (is.place, is.within, get_or_default numbers is.place number 0 is.within ∙ is.is)
 
-among_contains : (numbers : List ℕ) (number : ℕ) → Contains numbers number → IsAmong numbers number
+pub among_contains : (numbers : List ℕ) (number : ℕ) → Contains numbers number → IsAmong numbers number
 among_contains numbers number is =
     record { place = is.0; within = is.1; is = get_or_default numbers is.0 0 number is.1 ∙ is.2 }
 

@@ -156,7 +156,7 @@ link_new words root letter after none is =
     (longest_kept words next (drop 1 next) u longest (λ ends. absurd (ends_no_longer (word words root) letter ends)))
 
 -- the new state has no children
-leaf_none : (words : List (List ℕ)) → AreWords words → (root letter x : ℕ) → root < length words → IsNoChild words root letter
+pub leaf_none : (words : List (List ℕ)) → AreWords words → (root letter x : ℕ) → root < length words → IsNoChild words root letter
     → IsNoChild (grown words root letter) (length words) x
 leaf_none words are root letter x in_words none child is =
     let next : List ℕ = next_word words root letter in

@@ -8,6 +8,11 @@ pub mod Growing
 pub mod FailureLists
 pub mod Rows
 pub mod Connecting
+pub mod Adding
+pub mod ChildLists
+pub mod Leading
+pub mod Below
+pub mod Factors
 pub mod Grown
 pub mod Ending
 pub mod Numbers

@@ -20,7 +20,7 @@ pub record EndsBy (words : List (List ℕ)) (w : List ℕ) (x state : ℕ) : Typ
   pub ends : EndsWith w (word words parent)
   pub spelled : word words state ≡ word words parent ++ x ∷ []
 
-ends_by : (words : List (List ℕ)) → AreWords words → (w : List ℕ) (x state : ℕ) → state < length words → 0 < state
+pub ends_by : (words : List (List ℕ)) → AreWords words → (w : List ℕ) (x state : ℕ) → state < length words → 0 < state
     → EndsWith (w ++ x ∷ []) (word words state) → EndsBy words w x state
 ends_by words are w x state within some ends =
     let longer : IsLonger words state = are.longer state some within in

@@ -68,3 +68,15 @@ ends_compare w u v one two = compare one.0 two.0 w u v one.1 two.1
 pub ends_no_longer : (u : List ℕ) (x : ℕ) → EndsWith (drop 1 (u ++ x ∷ [])) (u ++ x ∷ []) → ⊥
 ends_no_longer u x ends =
     omega (arith, ends_length (drop 1 (u ++ x ∷ [])) (u ++ x ∷ []) ends, length-drop 1 (u ++ x ∷ []), length_push u x)
+
+-- of two suffixes of a word the one that is no longer is a suffix of the other
+pub ends_of_both : (w u v : List ℕ) → EndsWith w u → EndsWith w v → length v ≤ length u → EndsWith u v
+ends_of_both w u v one two short =
+    elim (ends_compare w u v one two) [
+      | inl inner ↦ inner
+      | inr outer ↦
+          let long : length v ≡ length u = omega (arith, ends_length v u outer) in
+          let same : v ≡ u = outer.1 ∙ ap (λ (before : List ℕ). before ++ u) (none_before outer.0 v u outer.1 long) in
+          let P : List ℕ → Type 0 = λ x. EndsWith u x in
+          subst P (sym same) (ends_all u)
+    ]

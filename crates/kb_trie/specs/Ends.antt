@@ -1,5 +1,5 @@
 -- The numbers that states keep, and the ends of states.
-use Rattle.std.specs.Prelude.{ℕ, ◌<◌, ◌≤◌, List, length, get_or}
+use Rattle.std.specs.Prelude.{ℕ, ◌<◌, ◌≤◌, Bool, nat_lt, List, length, get_or}
 use Rattle.kb_word.specs.Words.{EndsWith}
 use Rattle.kb_trie.specs.declared.ends.Ends.{Ends}
 use Rattle.kb_trie.specs.States.{word}
@@ -20,3 +20,7 @@ pub record HasEnds (words : List (List ℕ)) (ends : Ends) : Type 0 where
   pub end_room : length words ≤ length ends.ends.items
   pub each : (state : ℕ) → state < length words
       → IsEnd words ends.numbers.items state (get_or ends.ends.items state 0)
+
+-- whether the state keeps a number
+abbrev pub keeps : List ℕ → ℕ → Bool
+keeps numbers state = nat_lt 0 (get_or numbers state 0)

@@ -1,9 +1,12 @@
 pub mod States
 pub mod Edges
 pub mod Steps
+pub mod Adding
+pub mod Children
 pub mod FailureTrees
 pub mod Walks
 pub mod Ends
+pub mod Factors
 pub mod Tries
 pub mod LeftSides
 pub mod Lookups

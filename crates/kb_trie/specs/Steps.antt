@@ -14,6 +14,12 @@ pub record IsStep (words : List (List ℕ)) (state letter after : ℕ) : Type 0 
   pub within : after < length words
   pub longest : IsLongestSuffix words (word words state ++ letter ∷ []) (word words after)
 
+-- a letter leads from the state to one whose word is longer than `beyond`
+pub record IsStepBeyond (words : List (List ℕ)) (state beyond after : ℕ) : Type 0 where
+  pub letter : ℕ
+  pub step : IsStep words state letter after
+  pub longer : beyond < length (word words after)
+
 -- the state's failure link: the state of the longest proper suffix that is a state's word
 pub record IsLink (words : List (List ℕ)) (state link : ℕ) : Type 0 where
   pub within : link < length words

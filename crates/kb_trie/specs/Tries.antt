@@ -7,6 +7,7 @@ use Rattle.kb_trie.specs.Edges.{IsTree, words_of}
 use Rattle.kb_trie.specs.Steps.{AreLinks, AreSteps}
 use Rattle.kb_trie.specs.FailureTrees.{IsFailureTree}
 use Rattle.kb_trie.specs.Ends.{HasEnds}
+use Rattle.kb_trie.specs.Children.{HasChildren}
 
 -- the lengths of the states' words
 pub record AreDepths (words : List (List ℕ)) (depths : List ℕ) : Type 0 where
@@ -49,3 +50,4 @@ pub record IsAutomaton (automaton : Automaton) : Type 0 where
   pub states : IsTree automaton.edges.keys
   pub steps : HasSteps (words_in automaton) automaton.steps
   pub ends : HasEnds (words_in automaton) automaton.ends
+  pub children : HasChildren (words_in automaton) automaton.children

@@ -2,7 +2,7 @@
 use Rattle.std.specs.Prelude.{◌≡◌, ℕ, ◌<◌, ◌≤◌, ◌⊎◌, List, length, get_or, set}
 use Rattle.kb_word.specs.Words.{EndsWith}
 use Rattle.kb_trie.specs.declared.walk.Stop.{Stop}
-use Rattle.kb_trie.specs.declared.walk.Stop.TheVariants.{Child, Numbered}
+use Rattle.kb_trie.specs.declared.walk.Stop.TheVariants.{Child, Nowhere, Numbered}
 use Rattle.kb_trie.specs.States.{IsChild, word}
 
 -- the number is one of the list's
@@ -17,10 +17,15 @@ pub record IsNumbered (numbers : List ℕ) (state noted : ℕ) : Type 0 where
   pub is : noted ≡ state
 
 -- a walk stops at the state and notes a number: its child by the letter, or itself where it keeps a number and is another
--- state than this one
+-- state than this one, or never
 abbrev pub Notes : List (List ℕ) → List ℕ → Stop → ℕ → ℕ → Type 0
 Notes words numbers (Child letter) state noted = IsChild words state letter noted
 Notes words numbers (Numbered except) state noted = IsNumbered (set numbers except 0) state noted
+Notes words numbers Nowhere state noted = ⊥
+
+-- a walk stops nowhere
+abbrev pub NotesNothing : ℕ → ℕ → Type 0
+NotesNothing state noted = ⊥
 
 -- the state's word ends with the root's, and at no state between them, nor at either, a walk stops
 pub record IsFree (words : List (List ℕ)) (notes : ℕ → ℕ → Type 0) (root state : ℕ) : Type 0 where

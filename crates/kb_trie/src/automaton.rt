@@ -7,6 +7,7 @@ ghost use Rattle.kb_trie.specs.Ends.{IsEnd};
 ghost use Rattle.kb_trie.specs.Tries.{IsAutomaton, numbers_in, states_of, words_in};
 
 use crate::child::child;
+use crate::children::Children;
 use crate::edge::Edge;
 use crate::ends::Ends;
 use crate::steps::Steps;
@@ -21,6 +22,7 @@ pub struct Automaton {
     pub edges: IndexSet<Edge>,
     pub steps: Steps,
     pub ends: Ends,
+    pub children: Children,
     /// What the last walk found.
     pub walk: Walk,
 }
@@ -34,10 +36,12 @@ impl Automaton {
     {
         let steps = Steps::root(alloc, letters)?;
         let ends = Ends::root(alloc)?;
+        let children = Children::root(alloc)?;
         Ok(Automaton {
             edges: IndexSet::new(alloc),
             steps,
             ends,
+            children,
             walk: Walk::none(alloc),
         })
     }
@@ -52,10 +56,12 @@ impl Automaton {
         let edges = self.edges.clone()?;
         let steps = self.steps.copy(alloc)?;
         let ends = self.ends.copy(alloc)?;
+        let children = self.children.copy(alloc)?;
         Ok(Automaton {
             edges,
             steps,
             ends,
+            children,
             walk: Walk::none(alloc),
         })
     }
@@ -186,6 +192,7 @@ impl Automaton {
         let after = self.step(state, letter);
         self.steps.make_room()?;
         self.ends.make_room(self.steps.tree.count + 1)?;
+        self.children.make_room(self.steps.tree.count + 1)?;
         self.walk.find_children(
             &self.edges,
             &self.steps.tree,
@@ -198,6 +205,7 @@ impl Automaton {
             letter,
         })?;
         self.ends.add(self.steps.tree.count, after);
+        self.children.add(self.steps.tree.count as u32, state);
         self.steps.connect(&self.walk, state, letter, after);
         Ok(self.edges.len() as u32)
     }

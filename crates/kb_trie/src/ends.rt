@@ -1,8 +1,9 @@
 //! The numbers that states keep, and the ends of states.
 
 ghost use Rattle.std.specs.Prelude.{◌≡◌, ℕ, List, ◌<◌, ◌≤◌, ◌+◌, [], ◌∷◌, ◌++◌, IfOk, OnOk, length, get_or, set};
+ghost use Rattle.std.specs.List.{All, filter};
 ghost use Rattle.kb_trie.specs.States.{word};
-ghost use Rattle.kb_trie.specs.Ends.{HasEnds};
+ghost use Rattle.kb_trie.specs.Ends.{HasEnds, keeps};
 ghost use Rattle.kb_trie.specs.Walks.{IsAmong};
 
 use crate::room::make_room;
@@ -78,6 +79,20 @@ impl Ends {
     {
         self.numbers[state as usize] = number;
         set_ends(&mut self.ends, states, end);
+    }
+
+    /// Adds those of these states that keep a number.
+    pub fn add_numbered(&self, states: &[u32], found: &mut Vec<u32>) -> Result<(), Memory>
+        requires { All (λ state. state < length self.now.numbers.items) states.now }
+        ensures { OnOk result (found.new.items
+            ≡ found.old.items ++ filter (keeps self.now.numbers.items) states.now) }
+    {
+        for state in states {
+            if self.numbers[*state as usize] > 0 {
+                found.push(*state)?;
+            }
+        }
+        Ok(())
     }
 }
 

@@ -16,6 +16,8 @@
 //! - `Trie::child` is the state of a state's word with a letter more, if there is one, `Trie::step` the state of the longest
 //!   suffix of it that is a state's word (`IsStep` of specs/Steps.antt), `Trie::link` that of the longest proper suffix of a
 //!   state's word (`IsLink`), and `Trie::depth` the length of its word.
+//! - `Trie::add_steps_beyond` adds to a list the states to which a letter leads from a state, if their words are longer than a
+//!   bound (`IsStepBeyond`). Here and below, a list gains exactly such states, at its end (`Adds` of specs/Adding.antt).
 //! - `Trie::add` adds the state of a state's word with a letter more, and `Trie::insert` those of a word and its beginnings. A state
 //!   that comes keeps no number. Want of memory is the one free answer. It leaves the trie as it was, but that `insert` may have
 //!   made some of its states.
@@ -23,6 +25,8 @@
 //!   state stays. `Trie::number_at` is the number of a state, and `Trie::end_at` its end (`IsEnd` of specs/Ends.antt): the
 //!   state of the longest suffix of its word, the word itself among them, that keeps a number. Here too want of memory is the one
 //!   free answer, and leaves all as it was.
+//! - `Trie::add_longer` adds to a list, ascending, the states that keep a number and whose words have a state's word as a factor
+//!   (`IsNumberedOver` of specs/Factors.antt).
 //! - `Trie::copy` is the same trie.
 //!
 //! [`Lookup`] keeps left sides, each with a number. A caller knows of it the words of the states of its trie, and for each
@@ -51,6 +55,11 @@
 //!   link of the new state is the step that x had before, and its row is that of its link.
 //! - `ends`: the numbers and the ends. A number that comes to a state or goes from it changes the ends of exactly those states that
 //!   the walk reached: they become the state itself, or the end of its link. The end of a new state is that of its link.
+//! - `children`: the children of each state in a list, latest first. A new state comes to the head of that of its parent.
+//! - `beyond`: a state to which a letter leads is a child of the state or of one along its failure links, so that only these are
+//!   looked at, and not all letters.
+//! - `longer`: the words that end with a state's word are those of the states below it in the failure tree, and those that have it as
+//!   a factor are below these in the trie. Such a state may be met more than once: they are sorted, and repeats go.
 //! - `automaton` adds the edge and has all these together; `trie` hides them from callers. Memory is taken first, so that after want
 //!   of it nothing has changed.
 //! - `lookup`: each state keeps the least number that has its word as left side, and each number the next one that has the
@@ -61,18 +70,23 @@
 //! `proofs/Suffixes.antt` and `proofs/Longest.antt` have suffixes, steps and links, `proofs/Words.antt` and `proofs/Edges.antt` the words
 //! of the states, `proofs/FailureLists.antt` the lists of the failure tree, `proofs/Walking.antt` the walk, `proofs/Growing.antt` and
 //! `proofs/Connecting.antt` what a new state changes, `proofs/Rows.antt` the table, `proofs/Ending.antt` and
-//! `proofs/Numbers.antt` ends and numbers, and `proofs/Grown.antt` the states of a word. `proofs/HasAt.antt` and
-//! `proofs/Least.antt` have what is there under numbers, and the least of them, `proofs/Entries.antt` and
-//! `proofs/Joining.antt` the left sides that come and go, and `proofs/Looking.antt` those that end a word.
+//! `proofs/Numbers.antt` ends and numbers, `proofs/Grown.antt` the states of a word, `proofs/ChildLists.antt` the lists of children,
+//! `proofs/Leading.antt` where letters lead along the links, `proofs/Below.antt` the states below others in the trie, and
+//! `proofs/Factors.antt` those whose words have a factor. `proofs/HasAt.antt` and `proofs/Least.antt` have what is there under
+//! numbers, and the least of them, `proofs/Entries.antt` and `proofs/Joining.antt` the left sides that come and go, and
+//! `proofs/Looking.antt` those that end a word.
 //!
 //! Below is `kb_word`, with words.
 #![tactic(auto)]
 
 mod automaton;
+mod beyond;
 mod child;
+mod children;
 mod edge;
 mod ends;
 mod failure_tree;
+mod longer;
 mod lookup;
 mod room;
 mod steps;

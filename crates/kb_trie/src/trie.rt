@@ -2,8 +2,10 @@
 
 ghost use Rattle.std.specs.Prelude.{◌≡◌, ◌<◌, ◌^◌, [], ◌∷◌, ◌++◌, IfOk, IfNone, IfSome, OnErr, OnOk, length, get_or, set};
 ghost use Rattle.kb_trie.specs.States.{AreWords, Grows, HasWord, IsChild, IsNoChild, word};
-ghost use Rattle.kb_trie.specs.Steps.{IsLink, IsStep};
+ghost use Rattle.kb_trie.specs.Steps.{IsLink, IsStep, IsStepBeyond};
+ghost use Rattle.kb_trie.specs.Adding.{Adds, AddsAscending};
 ghost use Rattle.kb_trie.specs.Ends.{IsEnd};
+ghost use Rattle.kb_trie.specs.Factors.{IsNumberedOver};
 
 use crate::automaton::Automaton;
 use kb_word::{Memory, Word};
@@ -106,6 +108,31 @@ impl Trie {
         ensures { IsEnd self.now.words self.now.numbers state result }
     {
         self.automaton.end_at(state)
+    }
+
+    /// Adds to a list the states to which a letter leads from a state, if their words are longer than `beyond`, in any order.
+    /// After want of memory some of them may be there.
+    pub fn add_steps_beyond(
+        &self,
+        state: u32,
+        beyond: u32,
+        found: &mut Vec<u32>,
+    ) -> Result<(), Memory>
+        requires { state < length self.now.words }
+        ensures { OnOk result (Adds (IsStepBeyond self.now.words state beyond)
+            found.old.items found.new.items) }
+    {
+        self.automaton.add_steps_beyond(state, beyond, found)
+    }
+
+    /// Adds to a list, ascending, the states that keep a number and whose words have a state's word as a factor: the state
+    /// itself among them, if it keeps one. After want of memory some of them may be there.
+    pub fn add_longer(&self, state: u32, found: &mut Vec<u32>) -> Result<(), Memory>
+        requires { state < length self.now.words }
+        ensures { OnOk result (AddsAscending (IsNumberedOver self.now.words self.now.numbers state)
+            found.old.items found.new.items) }
+    {
+        self.automaton.add_longer(state, found)
     }
 
     /// Lets a state keep a number that keeps none.

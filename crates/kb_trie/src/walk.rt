@@ -5,7 +5,7 @@ ghost use Rattle.kb_trie.specs.States.{IsChild, IsNoChild, word};
 ghost use Rattle.kb_trie.specs.Edges.{IsTree, words_of};
 ghost use Rattle.kb_trie.specs.Steps.{AreLinks};
 ghost use Rattle.kb_trie.specs.FailureTrees.{IsFailureTree};
-ghost use Rattle.kb_trie.specs.Walks.{AreDeep, Gains, IsChildWalk, IsNumbered, IsWalk, IsWalking, Notes};
+ghost use Rattle.kb_trie.specs.Walks.{AreDeep, Gains, IsChildWalk, IsNumbered, IsWalk, IsWalking, Notes, NotesNothing};
 
 use crate::child::child;
 use crate::edge::Edge;
@@ -15,11 +15,12 @@ use kb_word::Memory;
 use std::alloc::Global;
 
 /// At which states a walk stops, and what it notes there: at those that have a child by the letter, the child, or at those that
-/// keep a number and are not this state, themselves.
+/// keep a number and are not this state, themselves, or at none.
 #[derive(Clone, Copy, Debug)]
 pub enum Stop {
     Child(u16),
     Numbered(u32),
+    Nowhere,
 }
 
 /// The states that a walk reached and left, and what it noted at those at which it stopped.
@@ -80,6 +81,26 @@ impl Walk {
             (IsNumbered (set numbers.now state 0)) state self.new.free.items self.new.stopped.items) }
     {
         self.go(edges, tree, numbers, state, Stop::Numbered(state))
+    }
+
+    /// Walks down from a state to all below it.
+    pub fn find_all(
+        &mut self,
+        edges: &IndexSet<Edge>,
+        tree: &FailureTree,
+        numbers: &[u32],
+        state: u32,
+    ) -> Result<(), Memory>
+        requires states { IsTree edges.now.keys }
+        requires numbers { length (words_of edges.now.keys) ≤ length numbers.now }
+        requires links { AreLinks (words_of edges.now.keys) tree.now.links.items }
+        requires tree { IsFailureTree tree.now }
+        requires count { tree.now.count ≡ length (words_of edges.now.keys) }
+        requires state { state < tree.now.count }
+        ensures { OnOk result (IsWalk (words_of edges.now.keys) tree.now.links.items NotesNothing
+            state self.new.free.items self.new.stopped.items) }
+    {
+        self.go(edges, tree, numbers, state, Stop::Nowhere)
     }
 
     /// Walks down from a state, at which it doesn't stop. What was held before is gone; where memory runs out it holds
@@ -208,6 +229,7 @@ fn noted(edges: &IndexSet<Edge>, numbers: &[u32], state: u32, stop: Stop) -> Opt
     match stop {
         Stop::Child(letter) => child(edges, state, letter),
         Stop::Numbered(except) => numbered(numbers, state, except),
+        Stop::Nowhere => None,
     }
 }
 

@@ -4,6 +4,7 @@ use Rattle.kb_trie.specs.declared.edge.Edge.{Edge}
 use Rattle.kb_trie.specs.Edges.{IsTree, words_of}
 use Rattle.kb_trie.specs.Ends.{HasEnds}
 use Rattle.kb_trie.specs.Tries.{HasSteps}
+use Rattle.kb_trie.proofs.ChildLists.{children_added}
 use Rattle.kb_trie.proofs.Ending.{ends_added}
 use Rattle.kb_trie.proofs.Numbers.{by, numbers_added, on_err_any, take_same}
 use Rattle.kb_trie.proofs.Edges.{no_edge_is}
@@ -43,6 +44,11 @@ returns-clause-automaton c =
           c.make_room-2.new.self c.add.new.self (ap words_of keys ∙ words_more old edge) has.count (omega (arith, c.in_ok-make_room-2.ensures.room))
           (omega (arith, c.in_ok-make_room-2.ensures.end_room)) c.requires.none c.step-after.ensures (c.make_room-2.ensures.ends words is.ends) c.add.ensures.numbers
           c.add.ensures.ends;
+      children =
+          children_added words (words_of c.insert.new.self.keys) is.states.are c.args.state c.args.letter c.make_room.new.self.tree.count
+          c.make_room-3.new.self c.add-2.new.self (ap words_of keys ∙ words_more old edge) has.count c.requires.state c.requires.none
+          (c.make_room-3.ensures.children words is.children) (omega (arith, c.in_ok-make_room-3.ensures.last_room))
+          (omega (arith, c.in_ok-make_room-3.ensures.earlier_room)) c.add-2.ensures.lasts c.add-2.ensures.earlier;
     }
 
 pub returns-clause-words : goal.returns-clause-words
@@ -79,6 +85,16 @@ returns-clause-numbers c =
 
 pub returns-in_err-make_room-2-clause-err : goal.returns-in_err-make_room-2-clause-err
 returns-in_err-make_room-2-clause-err c =
+    let is = c.requires.automaton in
+    let words : List (List ℕ) = words_of c.args.self.now.edges.keys in
+    let there : HasEnds words c.make_room-2.new.self = c.make_room-2.ensures.ends words is.ends in
+    let kept : take (length words) c.make_room-2.new.self.numbers.items ≡ take (length words) c.args.self.now.ends.numbers.items =
+    take_same (length words) c.make_room-2.new.self.numbers.items c.args.self.now.ends.numbers.items there.number_room is.ends.number_room
+    c.make_room-2.ensures.numbers in
+    on_err_any _ (ap (λ (ns : List ℕ). by (words_of c.args.self.now.edges.keys) ns) kept)
+
+pub returns-in_err-make_room-3-clause-err : goal.returns-in_err-make_room-3-clause-err
+returns-in_err-make_room-3-clause-err c =
     let is = c.requires.automaton in
     let words : List (List ℕ) = words_of c.args.self.now.edges.keys in
     let there : HasEnds words c.make_room-2.new.self = c.make_room-2.ensures.ends words is.ends in

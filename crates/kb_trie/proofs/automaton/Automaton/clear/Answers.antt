@@ -36,6 +36,7 @@ returns-clause-automaton c =
     record {
       states = is.states;
       steps = is.steps;
+      children = is.children;
       ends =
           ends_changed words root 0 c.index-end.result.now free c.deref-2.result.now c.args.self.now.ends c.change.new.self is.ends
           c.deref-2.ensures.value c.change.ensures.numbers c.change.ensures.count c.change.ensures.moved c.change.ensures.others

@@ -14,6 +14,7 @@ returns-clause-automaton c =
     record {
       states = is.states;
       steps = is.steps;
+      children = is.children;
       ends = record {
         number_room = omega (arith, is.ends.number_room, length-set numbers c.args.state c.args.number);
         end_room = is.ends.end_room;

@@ -32,6 +32,7 @@ returns-clause-automaton c =
     record {
       states = is.states;
       steps = is.steps;
+      children = is.children;
       ends =
           ends_changed words root c.args.number root free c.deref-2.result.now c.args.self.now.ends c.change.new.self is.ends
           c.deref-2.ensures.value c.change.ensures.numbers c.change.ensures.count c.change.ensures.moved c.change.ensures.others
