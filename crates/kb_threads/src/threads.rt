@@ -31,7 +31,7 @@ pub struct Threads<'g, G: Gate> {
 impl<'g, G: Gate> Threads<'g, G> {
     /// The workers of this crew.
     pub fn of(crew: Crew<'g, G>) -> Threads<'g, G>
-        ensures { result.crew.count ≡ crew.count }
+        ensures { result.crew.count ≡ crew.entry.count }
     {
         Threads { crew }
     }
