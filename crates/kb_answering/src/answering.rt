@@ -19,8 +19,9 @@ use std::alloc::Global;
 use std::sync::Wait;
 use std::thread::Threads;
 
-/// Stores the files that belong to a presentation, and answers the word lines with its least words, in batches of as many
-/// lines as the command takes together. Of the command nothing is read: it says that, and what the run means.
+/// Stores the files that belong to a presentation, and answers the word lines with its least words, in batches
+/// of as many lines as the command takes together. Of the command nothing is read: it says that, and what the
+/// run means.
 pub fn store_and_answer<
     C: Concludes,
     A: Answerer + Sync,

@@ -28,12 +28,12 @@
 //!   derivations by the numbers of lines; `numbers` finds lines by their numbers.
 //! - `room` takes memory before anything changes; `copies` copies halts and rules.
 //!
-//! In specs/, `Books` says what a book is seen as and what it keeps, and `Answers` what its calls answer; `Lives` says
-//! which versions have which lines; `Normal`, `Factors` and `Shorter` say when a line may be made, taken away and
-//! replaced; `Problems` says what is completed of a presentation, and `Limited` which limits there are. In proofs/,
-//! `Courses` has what is kept along every course, by which the other lemmas know that lines decrease and that live numbers
-//! ascend; `Lives` has what becomes of the versions' lines where a line is made, where one goes, and where a version is
-//! published.
+//! In specs/, `Books` says what a book is seen as and what it keeps, and `Answers` what its calls answer;
+//! `Lives` says which versions have which lines; `Normal`, `Factors` and `Shorter` say when a line may be made,
+//! taken away and replaced; `Problems` says what is completed of a presentation, and `Limited` which limits
+//! there are. In proofs/, `Courses` has what is kept along every course, by which the other lemmas know that
+//! lines decrease and that live numbers ascend; `Lives` has what becomes of the versions' lines where a line is
+//! made, where one goes, and where a version is published.
 //!
 //! Below are `kb_rules`, whose `Reducer` computes normal forms by the live rules, `kb_overlap`, which knows
 //! overlaps and their pairs, and `kb_machine`.

@@ -6,9 +6,9 @@ use std::sync::atomic::{AtomicU64, Ordering};
 /// As many turns as a worker waits for another: a turn is one look at who has come.
 const TURNS: u32 = 50_000_000;
 
-/// A gate that notes which workers come to it, and which of them draw after something was entered, which is in a later
-/// pass than the first. Where workers are to meet, the one who comes first waits before its first draw until another has
-/// come.
+/// A gate that notes which workers come to it, and which of them draw after something was entered, which is in
+/// a later pass than the first. Where workers are to meet, the one who comes first waits before its first draw
+/// until another has come.
 #[derive(Drop)]
 pub(crate) struct Meeting {
     /// Whether the first waits.

@@ -49,8 +49,8 @@ pub record IsKbprogUnrefused (given : KbprogGiven) (before : Outside) : Type 0 w
       → ¬ IsFirstRefused parts (IsLeastIn parts) before.input.left number fault
   pub short : length before.input.left ≤ most_input
 
--- Whether a limit of the log is reached, and which, may depend on the course of the completion. Another on the same file
--- is the same but for its workers, its limits and its batches.
+-- Whether a limit of the log is reached, and which, may depend on the course of the completion. Another on the
+-- same file is the same but for its workers, its limits and its batches.
 abbrev pub kbprog_promise : KbprogGiven → Promise KbprogGiven
 kbprog_promise given = record {
   means = KbprogMeans given;

@@ -63,9 +63,9 @@ abbrev pub IsKbcertifyUnrefused : KbcertifyGiven → Outside → Type 0
 IsKbcertifyUnrefused given before =
     IsUnrefused (IsPresentationFault before.shelf.holds given.file)
 
--- Whether a limit of the log is reached may depend on the course of the completion. Another on the same file is the same
--- but for its workers and its limits: they change no byte of the rules and of the word acceptor that a yes stores. Which
--- log certifies these is left open.
+-- Whether a limit of the log is reached may depend on the course of the completion. Another on the same file is
+-- the same but for its workers and its limits: they change no byte of the rules and of the word acceptor that a
+-- yes stores. Which log certifies these is left open.
 abbrev pub kbcertify_promise : KbcertifyGiven → Promise KbcertifyGiven
 kbcertify_promise given = record {
   means = KbcertifyMeans given;

@@ -35,8 +35,8 @@ use std::alloc::Global;
 use std::sync::Wait;
 use std::thread::Threads;
 
-/// Loads the presentation and its log, and answers the word lines by the log's lines, in batches of as many lines as were
-/// asked for.
+/// Loads the presentation and its log, and answers the word lines by the log's lines, in batches of as many
+/// lines as were asked for.
 pub(crate) fn run_by_log<T: Threads + Wait + Sync, G: Gate, F: Shelf, I: Source, O: Sink>(
     rt: &T,
     alloc: Global,

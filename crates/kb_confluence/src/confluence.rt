@@ -40,9 +40,9 @@ pub enum Verdict {
     },
 }
 
-/// Whether the rules are confluent, by the normal forms of critical pairs: those of the prime overlaps, and where one of
-/// them is apart, those of all overlaps in their order. Where there are few rules the first of the workers looks at them
-/// alone; how many workers there are changes nothing of the verdict.
+/// Whether the rules are confluent, by the normal forms of critical pairs: those of the prime overlaps, and
+/// where one of them is apart, those of all overlaps in their order. Where there are few rules the first of the
+/// workers looks at them alone; how many workers there are changes nothing of the verdict.
 pub fn check<R: Reducer + Sync, G: Gate, T: Threads + Wait + Sync>(
     rt: &T,
     alloc: Global,

@@ -3,27 +3,38 @@
 ghost use Rattle.std.specs.Prelude.{◌≡◌, ◌≤◌};
 
 use kb_io::Gate;
+use std::marker::Model;
 
 /// So many workers, from 1 to 64, who pass this gate. One works in the caller's thread; several are a thread each.
 #[derive(Drop)]
 pub struct Crew<'g, G: Gate> {
     count: u32,
     gate: &'g G,
-    ghost bounds: { (1 ≤ count) × (count ≤ 64) },
+}
+
+/// A crew is how many workers it has.
+impl<'g, G: Gate> Model for Crew<'g, G> {
+    ghost use Rattle.std.specs.Prelude.{ℕ, ◌≤◌};
+
+    ghost Value = { ℕ };
+
+    ghost view = { λ crew. crew.count };
+
+    ghost invariant = { λ crew. (1 ≤ crew.count) × (crew.count ≤ 64) };
 }
 
 impl<'g, G: Gate> Crew<'g, G> {
     /// So many workers, who pass this gate.
     pub fn new(count: u32, gate: &'g G) -> Crew<'g, G>
         requires { (1 ≤ count) × (count ≤ 64) }
-        ensures { result.count ≡ count }
+        ensures { result ≡ count }
     {
         Crew { count, gate }
     }
 
     /// How many workers there are.
     pub fn count(&self) -> u32
-        ensures number { result ≡ self.now.count }
+        ensures number { result ≡ self.now }
         ensures bounds { (1 ≤ result) × (result ≤ 64) }
     {
         self.count
@@ -36,7 +47,7 @@ impl<'g, G: Gate> Crew<'g, G> {
 
     /// The first of them alone.
     pub fn first(&self) -> Crew<'g, G>
-        ensures { result.count ≡ 1 }
+        ensures { result ≡ 1 }
     {
         Crew {
             count: 1,
@@ -46,7 +57,7 @@ impl<'g, G: Gate> Crew<'g, G> {
 
     /// The same workers.
     pub fn copy(&self) -> Crew<'g, G>
-        ensures { result.count ≡ self.now.count }
+        ensures { result ≡ self.now }
     {
         Crew {
             count: self.count,

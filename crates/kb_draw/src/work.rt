@@ -106,7 +106,7 @@ pub fn share_out<W: Work + Sync, G: Gate, T: Threads + Wait + Sync>(
 where
     W::Share: Send,
     requires { W.parts work.now ≤ 2 ^ 62 }
-    ensures count { IfOk result (λ shares. length shares.items ≡ crew.now.count) }
+    ensures count { IfOk result (λ shares. length shares.items ≡ crew.now) }
     ensures sound { IfOk result (λ shares. All (W.sound work.now) shares.items) }
     ensures done { IfOk result
         (λ shares. IsShared (W.parts work.now) (W.done work.now) shares.items) }

@@ -9,11 +9,12 @@
 //! - [`bare_name`] takes a value that is a Name, [`number_of`] one that is a number and [`numbers_listed`] one that is
 //!   a list of numbers, and they answer none for any other. [`number_at`] takes a place of a list, as [`number_of`] a
 //!   value.
-//! - [`names_of`] answers the names of generators that a value lists: at most 1,000 Names, none of them twice and
-//!   none `IdWord` or `_`. A refusal names the first fault of the value (`HasNamesFault` of `specs/Generators.antt`): it
-//!   is no list of Names; there are too many; a name is taken, the first that stands earlier in the list too, or is
-//!   `IdWord` or `_`. By the laws a value has one fault at most ([`a_value_has_one_names_fault`]), and none where it
-//!   lists such names ([`names_of_generators_have_no_fault`]): so, want of memory apart, the fault is exact.
+//! - [`names_of`] answers the names of generators that a value lists: at most 1,000 Names, none of them twice
+//!   and none `IdWord` or `_`. A refusal names the first fault of the value (`HasNamesFault` of
+//!   `specs/Generators.antt`): it is no list of Names; there are too many; a name is taken, the first that
+//!   stands earlier in the list too, or is `IdWord` or `_`. By the laws a value has one fault at most
+//!   ([`a_value_has_one_names_fault`]), and none where it lists such names
+//!   ([`names_of_generators_have_no_fault`]): so, want of memory apart, the fault is exact.
 //!
 //! # How it is made
 //!

@@ -22,16 +22,17 @@
 //! # The public contract
 //!
 //! [`read`] returns the names and the automaton that the bytes hold (`AutomatonOf` of `specs/Holds.antt`). A
-//! refusal names the first fault that the bytes have (`HasFsaFault` of `specs/Faults.antt`): of those of a text the
-//! one that a check finds before which no check finds any. The checks stand in the order of refusals
-//! (`specs/Checks.antt`): names of fields that stand twice, then field by field, then row by row and entry by entry, and
-//! last the padding of accepted texts. The laws complete that: by [`an_automaton_file_has_no_fault`] no bytes are both
-//! read and refused, by [`an_automaton_file_has_one_fault`] they are refused for one fault at most, and by
-//! [`a_text_says_one_automaton`] they are read in one way at most. So, want of memory apart, the bytes alone say whether
-//! they are refused, and for what.
+//! refusal names the first fault that the bytes have (`HasFsaFault` of `specs/Faults.antt`): of those of a text
+//! the one that a check finds before which no check finds any. The checks stand in the order of refusals
+//! (`specs/Checks.antt`): names of fields that stand twice, then field by field, then row by row and entry by
+//! entry, and last the padding of accepted texts. The laws complete that: by [`an_automaton_file_has_no_fault`]
+//! no bytes are both read and refused, by [`an_automaton_file_has_one_fault`] they are refused for one fault at
+//! most, and by [`a_text_says_one_automaton`] they are read in one way at most. So, want of memory apart, the
+//! bytes alone say whether they are refused, and for what.
 //!
-//! [`read_language`] is for who needs the language alone. It refuses the same bytes, and returns an automaton that
-//! accepts the same texts (`LanguageOf` of `specs/Languages.antt`): of the states that texts lead to, unless these are most.
+//! [`read_language`] is for who needs the language alone. It refuses the same bytes, and returns an automaton
+//! that accepts the same texts (`LanguageOf` of `specs/Languages.antt`): of the states that texts lead to,
+//! unless these are most.
 //!
 //! # How it is made
 //!
@@ -49,14 +50,14 @@
 //!
 //! Definitions speak of the tree of the text: in `specs/` the kinds of values in `Kinds`, what a text holds in
 //! `Holds`, the order of the checks in `Checks`, where fields stand in `Standing`, and what each check finds in
-//! `Faults`; what the functions for fields and rows return in `Reading` and `RowsRead`. In `proofs/`, `CheckLemmas` has
-//! that of two checks one comes first, `FirstLemmas`, `Refused` and `RowFaults` that what a function refuses is the first
-//! fault, `NoFault` that checks find nothing in what is read, and `OneFault` and `UniqueAutomaton` the laws;
-//! `ReachedStates` has the table as a machine, and `RenamedRows` and `PairStates` that an automaton of pairs may be
-//! cleaned after the states are left out that no text leads to.
+//! `Faults`; what the functions for fields and rows return in `Reading` and `RowsRead`. In `proofs/`,
+//! `CheckLemmas` has that of two checks one comes first, `FirstLemmas`, `Refused` and `RowFaults` that what a
+//! function refuses is the first fault, `NoFault` that checks find nothing in what is read, and `OneFault` and
+//! `UniqueAutomaton` the laws; `ReachedStates` has the table as a machine, and `RenamedRows` and `PairStates`
+//! that an automaton of pairs may be cleaned after the states are left out that no text leads to.
 //!
-//! Below are `kb_record` (trees), `kb_fields` (fields), `kb_fsa` (automata), `kb_explore` (states that texts lead to) and
-//! `kb_padding` (moves that no padded text takes).
+//! Below are `kb_record` (trees), `kb_fields` (fields), `kb_fsa` (automata), `kb_explore` (states that texts
+//! lead to) and `kb_padding` (moves that no padded text takes).
 #![tactic(auto)]
 
 mod accepting;

@@ -81,8 +81,8 @@ pub fn first_live(numbers: &[usize], first: usize, before: &[u32], head: u32) ->
     best
 }
 
-/// The place of a number among the numbers, or how many there are. While no earlier number is missing, that is the number
-/// itself.
+/// The place of a number among the numbers, or how many there are. While no earlier number is missing, that is
+/// the number itself.
 fn place_of(numbers: &[usize], number: usize) -> usize
     requires { Rise numbers.now }
     ensures within { result ≤ length numbers.now }

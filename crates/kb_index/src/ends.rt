@@ -11,9 +11,10 @@ use kb_rules::Rule;
 use kb_word::Memory;
 use std::alloc::Global;
 
-/// The marks of all states, by the last of each state's rules. That rule, counted from 1, is the mark of a state with
-/// rules. The mark of another state is the state of the longest suffix of its word that has rules, counted on behind the
-/// rules, or 0 where there is none. There are fewer than 2^32 marks: where more are wanted, memory is.
+/// The marks of all states, by the last of each state's rules. That rule, counted from 1, is the mark of a
+/// state with rules. The mark of another state is the state of the longest suffix of its word that has rules,
+/// counted on behind the rules, or 0 where there is none. There are fewer than 2^32 marks: where more are
+/// wanted, memory is.
 pub fn marks_of(
     alloc: Global,
     rules: &[Rule],

@@ -28,21 +28,22 @@
 //!   step of its parent's link, one look at a row that is there. So links and rows are made together, state by state.
 //!   The table has a row for each state, with four bytes for each number up to the greatest letter, and 16 MiB at most:
 //!   where it would take more, it is empty, and steps go by children and links.
-//! - `chains`: the rules of each state, those whose left side is its word: the last of them, and for each rule the
-//!   one before it. `ends`: the mark of each state, one number that tells the last of its rules, or where it has none the
-//!   state of the longest suffix of its word that has rules. `automaton` puts all these together; it never changes.
-//!   `stepping` has its calls for other crates, state by state.
+//! - `chains`: the rules of each state, those whose left side is its word: the last of them, and for each rule
+//!   the one before it. `ends`: the mark of each state, one number that tells the last of its rules, or where
+//!   it has none the state of the longest suffix of its word that has rules. `automaton` puts all these
+//!   together; it never changes. `stepping` has its calls for other crates, state by state.
 //! - `recent`: the rules that came after the automaton was made: a trie of the left sides read from their ends, which
 //!   takes a further rule letter by letter. What is read is looked up in it from its last letter on. Where no rule
 //!   came, it costs nothing. `short_children` has the children of its states by the letters of the automaton, but for
 //!   64 of them at most, in a row for each state, with four bytes for each number up to the greatest letter, so that a
 //!   child is one look; those by other letters are found by their hashes. Where the automaton has no letters, a row has
 //!   room for those below 8.
-//! - `lookup`: the automaton and the recent rules, and the numbers of the list's rules. A rule has a number of its
-//!   own, which stays the same while others come and go, and the numbers rise along the list. A rule that goes only
-//!   loses its number: chains are followed past rules that have none. When more than a quarter as many rules came as
-//!   the automaton has, or as many went as are left, all is made anew at the next change, after the old one is given back. A copy
-//!   shares the automaton, and has its own list and its own rules that came.
+//! - `lookup`: the automaton and the recent rules, and the numbers of the list's rules. A rule has a number of
+//!   its own, which stays the same while others come and go, and the numbers rise along the list. A rule that
+//!   goes only loses its number: chains are followed past rules that have none. When more than a quarter as
+//!   many rules came as the automaton has, or as many went as are left, all is made anew at the next change,
+//!   after the old one is given back. A copy shares the automaton, and has its own list and its own rules that
+//!   came.
 //! - `reading`: a word is read letter by letter. A stack keeps the state after each letter of what is read, so that
 //!   after a replacement reading goes on from the state before it; the right side is put back to be read. All this
 //!   stands in the caller's workspace (`kb_rules::Workspace`). Reading goes from one replacement to the next; each is a
@@ -55,11 +56,12 @@
 //! automaton (`IsAutomaton`) and those that came later (`IsRecent`), and the first place of the list at which a rule
 //! of either kind ends what is read (`IsFirstSuch` of specs/Live.antt) gives the rule of the first rewrite (`IsOwner`).
 //!
-//! The definitions are in specs/, and the lemmas in proofs/: `Words` and `States` on the states and their words,
-//! `Sides` on the left sides in order, `Growth` on a level of the trie, `Runs` on children, `Steps` and `Linking` on
-//! links, `Rows` on the table, `Chaining` on chains, `Marks` and `Ending` on the rules of the automaton that end what is read,
-//! `Recents`, `ChildRows` and `Walking` on those that came later, `Numbering` on the numbers of the list's rules, and
-//! `Fronts` on reading. What a step does to a word, and that steps come to an end, are lemmas of `kb_rules`.
+//! The definitions are in specs/, and the lemmas in proofs/: `Words` and `States` on the states and their
+//! words, `Sides` on the left sides in order, `Growth` on a level of the trie, `Runs` on children, `Steps` and
+//! `Linking` on links, `Rows` on the table, `Chaining` on chains, `Marks` and `Ending` on the rules of the
+//! automaton that end what is read, `Recents`, `ChildRows` and `Walking` on those that came later, `Numbering`
+//! on the numbers of the list's rules, and `Fronts` on reading. What a step does to a word, and that steps come
+//! to an end, are lemmas of `kb_rules`.
 //!
 //! Below are `kb_word`, with words and the definitions of rewriting, and `kb_rules`, with rules and the contract of
 //! reducers.

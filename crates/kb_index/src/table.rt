@@ -133,8 +133,8 @@ impl Table {
         }
     }
 
-    /// The state after a letter more, as `step` has it, also where the places of first edges are not kept: the table has
-    /// the steps by all letters of the edges then.
+    /// The state after a letter more, as `step` has it, also where the places of first edges are not kept: the
+    /// table has the steps by all letters of the edges then.
     pub fn next(
         &self,
         edges: &[Edge],
@@ -215,8 +215,8 @@ impl Table {
     }
 }
 
-/// The state after a letter more that isn't below the width of the rows: state 0, where they have the steps by all letters
-/// of the edges, and else by children and links.
+/// The state after a letter more that isn't below the width of the rows: state 0, where they have the steps by
+/// all letters of the edges, and else by children and links.
 fn step_beyond(
     width: usize,
     edges: &[Edge],

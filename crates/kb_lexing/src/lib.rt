@@ -10,10 +10,11 @@
 //! and [`starred_name`] a name of one byte. The laws are [`a_text_has_one_list_of_tokens`], and
 //! [`a_front_ending_in_a_bracket_keeps_its_tokens`], by which what is read of a front stays so.
 //!
-//! [`syntax_place`] is a place in the bytes where the reading of tokens stops (`IsPlace` of `specs/Possible.antt`). What a text is
-//! the caller says, as a form of lists of tokens, which a clause can't range over: so a lemma says of each form that this place
-//! is the length of the longest front with which some text of the form begins, if the reading stops there (`longest_possible`:
-//! from `PassedAre` and `Stops` follows `IsLongestPossible`). [`last_place`] is the place of the last token that was passed.
+//! [`syntax_place`] is a place in the bytes where the reading of tokens stops (`IsPlace` of
+//! `specs/Possible.antt`). What a text is the caller says, as a form of lists of tokens, which a clause can't
+//! range over: so a lemma says of each form that this place is the length of the longest front with which some
+//! text of the form begins, if the reading stops there (`longest_possible`: from `PassedAre` and `Stops`
+//! follows `IsLongestPossible`). [`last_place`] is the place of the last token that was passed.
 //!
 //! # Where the proofs are
 //!
@@ -28,13 +29,14 @@
 //! - `proofs/NameFronts.antt`: the name with which a text begins.
 //! - `proofs/TokenFronts.antt`: where the last token of a front is a bracket, the whole text begins with its tokens;
 //!   `proofs/MarkedFronts.antt`: the same of marks, and of texts that have tokens at their front alone.
-//! - `proofs/Longer.antt`: when a spelling goes on with what stands behind it; so `proofs/PassedTokens.antt`: the tokens
-//!   at the front of a text keep their places with other bytes behind them, and `proofs/LastTokens.antt`: what may
-//!   stand in place of the last one. `proofs/SpelledTexts.antt`: tokens that can be spelled have a text.
-//! - `proofs/ExpectedTokens.antt`: which tokens are expected; `proofs/ExpectedFronts.antt`, `proofs/ExpectedValues.antt`: the longest
-//!   fronts of bytes that begin one.
-//! - `proofs/Reached.antt`, `proofs/NoFurther.antt`, `proofs/LongestPossible.antt`: up to the place some text of the form begins
-//!   with the bytes, and none begins with more of them.
+//! - `proofs/Longer.antt`: when a spelling goes on with what stands behind it; so `proofs/PassedTokens.antt`:
+//!   the tokens at the front of a text keep their places with other bytes behind them, and
+//!   `proofs/LastTokens.antt`: what may stand in place of the last one. `proofs/SpelledTexts.antt`: tokens that
+//!   can be spelled have a text.
+//! - `proofs/ExpectedTokens.antt`: which tokens are expected; `proofs/ExpectedFronts.antt`,
+//!   `proofs/ExpectedValues.antt`: the longest fronts of bytes that begin one.
+//! - `proofs/Reached.antt`, `proofs/NoFurther.antt`, `proofs/LongestPossible.antt`: up to the place some text
+//!   of the form begins with the bytes, and none begins with more of them.
 //!
 //! Nothing is below but `std`.
 #![tactic(auto)]

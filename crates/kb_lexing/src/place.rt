@@ -32,8 +32,9 @@ pub enum Expected {
 /// The length of the longest front of the bytes with which some text begins, where the tokens up to the last one
 /// begin some text, with the next one they don't, and `expected` is what may come behind them.
 ///
-/// What a text is the caller says: by `longest_possible` of `proofs/LongestPossible.antt` this is the longest front with which
-/// some text of a form begins, whatever the form, where the reading of tokens of the form stops there (`Stops`).
+/// What a text is the caller says: by `longest_possible` of `proofs/LongestPossible.antt` this is the longest
+/// front with which some text of a form begins, whatever the form, where the reading of tokens of the form
+/// stops there (`Stops`).
 pub fn syntax_place(bytes: &[u8], last: Option<Lexeme<'_>>, expected: Expected) -> usize
     ensures { IsPlace bytes.now last.entry expected result }
 {

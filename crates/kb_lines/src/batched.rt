@@ -105,8 +105,8 @@ where
     }
 }
 
-/// Reads more of the input, as [`Source::read`]. Of the batch nothing is read: fewer lines are held than make a batch, and
-/// all that was answered was sent, where more input is asked for.
+/// Reads more of the input, as [`Source::read`]. Of the batch nothing is read: fewer lines are held than make a
+/// batch, and all that was answered was sent, where more input is asked for.
 fn read_next<G: Gate, I: Source>(
     batch: &Batch,
     batches: &Batches<'_, G>,

@@ -14,8 +14,8 @@ pub struct Batches<'g, G: Gate> {
 }
 
 impl<'g, G: Gate> Batches<'g, G> {
-    /// Batches of so many lines, each of which these workers answer. By 1, and by 0, each line is answered alone, in the
-    /// caller's thread.
+    /// Batches of so many lines, each of which these workers answer. By 1, and by 0, each line is answered
+    /// alone, in the caller's thread.
     pub fn of(size: u32, crew: Crew<'g, G>) -> Batches<'g, G>
         ensures { result.size ≡ size }
     {

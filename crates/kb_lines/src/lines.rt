@@ -69,8 +69,8 @@ pub fn answer_lines<A: Answerer, I: Source, O: Sink>(
     }
 }
 
-/// Reads more of the input, as [`Source::read`]. Of the progress nothing is read: all that was answered was sent, and no
-/// line that ended waits, where more input is asked for.
+/// Reads more of the input, as [`Source::read`]. Of the progress nothing is read: all that was answered was
+/// sent, and no line that ended waits, where more input is asked for.
 fn read_next<I: Source>(
     progress: &Progress,
     input: &mut I,

@@ -63,8 +63,8 @@ impl<'r> PrimeOverlaps<'r> {
         })
     }
 
-    /// Finds the prime overlaps in which the rule at this index begins first. They are sorted, which nothing rests on. What
-    /// the list held is gone; where memory runs out it holds anything.
+    /// Finds the prime overlaps in which the rule at this index begins first. They are sorted, which nothing
+    /// rests on. What the list held is gone; where memory runs out it holds anything.
     pub fn of_rule(&self, index: usize, found: &mut Vec<Overlap>) -> Result<(), Memory>
         requires { index < length self.now }
         ensures { OnOk result (ArePrimeOverlaps self.now index found.new.items) }

@@ -16,14 +16,15 @@
 //! # The public contract
 //!
 //! [`read`] answers the presentation that the bytes say (`PresentationOf` of `specs/Holds.antt`): the names in
-//! the order of the letters, the inverses as letters, and each equation as the two words that its sides mean.
-//! A refusal names the first fault that the bytes have (`HasPresFault` of `specs/Faults.antt`): of those of a text the
-//! one that a check finds before which no check finds any. The checks stand in the order of refusals
-//! (`specs/Checks.antt`): names of fields that stand twice, then field by field, and within them place by place, generator
-//! by generator, equation by equation. The laws complete that: by [`a_presentation_file_has_no_fault`] no bytes are both
-//! read and refused, by [`a_presentation_file_has_one_fault`] they are refused for one fault at most, and by
-//! [`a_text_says_one_presentation`] they are read in one way at most. So, want of memory apart, the bytes alone say
-//! whether they are refused, and for what.
+//! the order of the letters, the inverses as letters, and each equation as the two words that its sides mean. A
+//! refusal names the first fault that the bytes have (`HasPresFault` of `specs/Faults.antt`): of those of a
+//! text the one that a check finds before which no check finds any. The checks stand in the order of refusals
+//! (`specs/Checks.antt`): names of fields that stand twice, then field by field, and within them place by
+//! place, generator by generator, equation by equation. The laws complete that: by
+//! [`a_presentation_file_has_no_fault`] no bytes are both read and refused, by
+//! [`a_presentation_file_has_one_fault`] they are refused for one fault at most, and by
+//! [`a_text_says_one_presentation`] they are read in one way at most. So, want of memory apart, the bytes alone
+//! say whether they are refused, and for what.
 //!
 //! # How it is made
 //!
@@ -42,8 +43,8 @@
 //!
 //! - `proofs/CheckLemmas.antt`: the order of the checks, and the first fault by steps.
 //! - `proofs/NoFault.antt`, `proofs/FreeLemmas.antt`: which checks find nothing where a field is read.
-//! - `proofs/FaultLemmas.antt`, `proofs/EquationFaults.antt`, `proofs/RefusalLemmas.antt`: what each function refuses is
-//!   the first fault.
+//! - `proofs/FaultLemmas.antt`, `proofs/EquationFaults.antt`, `proofs/RefusalLemmas.antt`: what each function
+//!   refuses is the first fault.
 //! - `proofs/OneFault.antt`, `proofs/UniqueParts.antt`: a text's fields, and bytes, have one fault at most, or say one
 //!   presentation.
 //! - `proofs/PlaceLemmas.antt`, `proofs/EmptyPlaces.antt`, `proofs/InverseLemmas.antt`, `proofs/LetterSteps.antt`:

@@ -11,11 +11,11 @@
 //! Nothing is copied: there are two copies of the value from the beginning, with one state. Readers are shown one,
 //! while the other takes the operations, and each operation is applied to both.
 //!
-//! A [`VersionReader`] goes to a thread that reads. [`VersionReader::look`] gives a [`Look`] at the version that
-//! was published last; it takes no lock and waits for nobody. The list that the look shows begins with all that the
-//! reader has seen, and ends in the state of the version that it looks at, so that is never an older one.
-//! [`Look::leave`] gives the reader back, which has then seen that list. [`Publisher::tell`] makes a reader one that has
-//! seen all that was published, so that what it sees from then on begins with that.
+//! A [`VersionReader`] goes to a thread that reads. [`VersionReader::look`] gives a [`Look`] at the version
+//! that was published last; it takes no lock and waits for nobody. The list that the look shows begins with all
+//! that the reader has seen, and ends in the state of the version that it looks at, so that is never an older
+//! one. [`Look::leave`] gives the reader back, which has then seen that list. [`Publisher::tell`] makes a
+//! reader one that has seen all that was published, so that what it sees from then on begins with that.
 //!
 //! A look may be refused. Then the reader is as it was, and its count of refusals goes up. Readers look through a
 //! [`Glass`], a trait with what is seen, shown and refused. The glass of a publisher is [`RuledGlass`]; a test may

@@ -18,11 +18,12 @@
 //! both in one call. By [`a_word_that_is_read_has_no_fault`] bytes that mean a word are not refused but for want of
 //! memory, by [`a_word_has_one_meaning`] they mean one word, and by [`a_word_has_one_fault`] others have one fault.
 //!
-//! A list is one tree, in whichever form it is kept: [`Value::place_count`](Value) and [`Value::place`](Value) read it
-//! place by place, and [`Place`] hands out a row of numbers, or of pairs, as it stands. Any other list keeps where in the
-//! text each of its places begins ([`WrittenPlaces`]): four bytes a place, whatever stands there. Who needs a place takes
-//! the text that begins with it ([`PlaceText`]), and reads it again. [`PlaceText::repeated_name`](PlaceText) answers
-//! the name that stands twice in a record there, nested ones too, whatever is inside.
+//! A list is one tree, in whichever form it is kept: [`Value::place_count`](Value) and [`Value::place`](Value)
+//! read it place by place, and [`Place`] hands out a row of numbers, or of pairs, as it stands. Any other list
+//! keeps where in the text each of its places begins ([`WrittenPlaces`]): four bytes a place, whatever stands
+//! there. Who needs a place takes the text that begins with it ([`PlaceText`]), and reads it again.
+//! [`PlaceText::repeated_name`](PlaceText) answers the name that stands twice in a record there, nested ones
+//! too, whatever is inside.
 //!
 //! A field of a record is kept as it is written where its text is short, and its value is kept where it is long
 //! ([`RecordField`]): so a record of many short fields takes no more memory than a list of as many places, and a long
@@ -42,10 +43,11 @@
 //!   `proofs/`.
 //! - `passed` goes over the tokens of refused bytes once more, up to the last one that was passed: `kb_lexing` says
 //!   its place.
-//! - `numbers` reads a list of numbers, or of lists of numbers or of pairs, into arrays (`kb_ragged`), in which a
-//!   number takes 8 bytes. It gives up at the first token that doesn't fit, and then the list is read from its beginning
-//!   as any other: `records` reads each place, and keeps where it begins alone. So a table of numbers is gone through
-//!   once, and no token is made more than five times. `listed` reads the places of a list in any form.
+//! - `numbers` reads a list of numbers, or of lists of numbers or of pairs, into arrays (`kb_ragged`), in which
+//!   a number takes 8 bytes. It gives up at the first token that doesn't fit, and then the list is read from
+//!   its beginning as any other: `records` reads each place, and keeps where it begins alone. So a table of
+//!   numbers is gone through once, and no token is made more than five times. `listed` reads the places of a
+//!   list in any form.
 //! - `fields` reads again the name and the value of a field that is kept as it is written.
 //! - `repeats` goes over the tokens of a place once, with the names of each record that is open, for a name that stands
 //!   there twice; only where it finds one is the place read, to see that it can be.

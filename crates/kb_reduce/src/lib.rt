@@ -7,9 +7,9 @@
 //! - [`LeastWords`] answers it with the least word of its class, by the presented group's own word acceptor and
 //!   multipliers (`specs/Leading.antt`).
 //!
-//! Words that are given together are reduced by the workers of a crew, and each has the very answer that it has alone, in
-//! the order of the words (`specs/Batches.antt`): [`batch_rules`] makes their normal forms, and [`batch_multipliers`]
-//! follows them by multipliers.
+//! Words that are given together are reduced by the workers of a crew, and each has the very answer that it has
+//! alone, in the order of the words (`specs/Batches.antt`): [`batch_rules`] makes their normal forms, and
+//! [`batch_multipliers`] follows them by multipliers.
 //!
 //! Below are `kb_lines`, which reads and answers the lines, `kb_index`, `kb_products`, which follows words by
 //! multipliers, and `kb_draw`, by which workers share the words of a batch.

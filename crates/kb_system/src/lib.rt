@@ -8,8 +8,8 @@
 //! the live rules, which cover it; and why the limit is reached.
 //!
 //! [`complete_with_log`] keeps the log of a completion that came to its end too, which certifies what was found
-//! (`EndsLogged` of `specs/Logged.antt`): each line follows from the relations and the lines before it, and the rules of
-//! the lines are confluent and generate the congruence of the relations.
+//! (`EndsLogged` of `specs/Logged.antt`): each line follows from the relations and the lines before it, and the
+//! rules of the lines are confluent and generate the congruence of the relations.
 //!
 //! A presentation has one completion, and is never both completed within limits and too large for them
 //! (`specs/OneCompletion.antt`).

@@ -13,15 +13,15 @@
 //! fall, and that other files stay.
 //!
 //! - `status` is how a run ends, with its exit status and its messages.
-//! - `loading` loads files, and the presentations, automata and logs that they hold; [`load_language`] loads an automaton
-//!   for its language alone, which takes less memory. By [`stored_logs_are_read`] the log of a completion that is stored
-//!   beside its presentation can be read (`specs/StoredLogs.antt`). By the laws (`laws`) a file is refused for one reason
-//!   at most: [`a_presentation_is_refused_for_one_reason`],
+//! - `loading` loads files, and the presentations, automata and logs that they hold; [`load_language`] loads an
+//!   automaton for its language alone, which takes less memory. By [`stored_logs_are_read`] the log of a
+//!   completion that is stored beside its presentation can be read (`specs/StoredLogs.antt`). By the laws
+//!   (`laws`) a file is refused for one reason at most: [`a_presentation_is_refused_for_one_reason`],
 //!   [`a_group_is_refused_for_one_reason`], [`an_automaton_is_refused_for_one_reason`],
 //!   [`a_second_automaton_is_refused_for_one_reason`], [`a_log_is_refused_for_one_reason`]; and by
-//!   [`files_are_refused_for_one_reason`] for none where it holds what is needed. `storing` stores
-//!   files, and an automaton in its canonical form; `lines` prints the line of an answer, and `stopping` is how a run
-//!   ends where the word lines stop.
+//!   [`files_are_refused_for_one_reason`] for none where it holds what is needed. `storing` stores files, and
+//!   an automaton in its canonical form; `lines` prints the line of an answer, and `stopping` is how a run ends
+//!   where the word lines stop.
 //!
 //! Below are the readers and printers of files and the canonical form of automata.
 #![tactic(auto)]

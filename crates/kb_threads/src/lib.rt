@@ -2,10 +2,10 @@
 //!
 //! # The public contract
 //!
-//! - [`make_pass`] makes a pass by the workers of a `kb_draw::Crew`: one, who needs no thread (`kb_share::OneByOne`), or
-//!   more ([`Threads`]). What [`Passed`] says of a pass (`PassSays` of `specs/Passes.antt`):
-//!   overlaps were entered, and nothing else happened to the book given; or none is apart, the live rules are
-//!   confluent, and the book is as it was.
+//! - [`make_pass`] makes a pass by the workers of a `kb_draw::Crew`: one, who needs no thread
+//!   (`kb_share::OneByOne`), or more ([`Threads`]). What [`Passed`] says of a pass (`PassSays` of
+//!   `specs/Passes.antt`): overlaps were entered, and nothing else happened to the book given; or none is
+//!   apart, the live rules are confluent, and the book is as it was.
 //! - [`Shared`] is a book under a lock, whose workers hold a [`Pass`] each. Where there is no memory for the passes,
 //!   [`Shared::new`] gives the book back. [`Shared::enter`] enters an overlap, and says so only where it did: the pass
 //!   counts it. [`Shared::finish`] takes all passes back: the book is the one that was given, with just as many entries

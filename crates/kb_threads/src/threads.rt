@@ -17,7 +17,7 @@ use kb_rules::Reducer;
 use kb_share::{Apart, Version, book_is_sound, prime_overlaps_decide};
 use kb_word::Memory;
 use std::alloc::Global;
-use std::marker::Brand;
+use std::marker::{Brand, Model};
 use std::sync::Wait;
 use std::sync::ledger::Blank;
 use std::thread;
@@ -28,10 +28,19 @@ pub struct Threads<'g, G: Gate> {
     crew: Crew<'g, G>,
 }
 
+/// The pool is how many workers it has.
+impl<'g, G: Gate> Model for Threads<'g, G> {
+    ghost use Rattle.std.specs.Prelude.{ℕ};
+
+    ghost Value = { ℕ };
+
+    ghost view = { λ threads. threads.crew };
+}
+
 impl<'g, G: Gate> Threads<'g, G> {
     /// The workers of this crew.
     pub fn of(crew: Crew<'g, G>) -> Threads<'g, G>
-        ensures { result.crew.count ≡ crew.entry.count }
+        ensures { result ≡ crew.entry }
     {
         Threads { crew }
     }

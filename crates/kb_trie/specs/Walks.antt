@@ -16,8 +16,8 @@ pub record IsNumbered (numbers : List ℕ) (state noted : ℕ) : Type 0 where
   pub keeps : 0 < get_or numbers state 0
   pub is : noted ≡ state
 
--- a walk stops at the state and notes a number: its child by the letter, or itself where it keeps a number and is another
--- state than this one, or never
+-- a walk stops at the state and notes a number: its child by the letter, or itself where it keeps a number and
+-- is another state than this one, or never
 abbrev pub Notes : List (List ℕ) → List ℕ → Stop → ℕ → ℕ → Type 0
 Notes words numbers (Child letter) state noted = IsChild words state letter noted
 Notes words numbers (Numbered except) state noted = IsNumbered (set numbers except 0) state noted
@@ -68,8 +68,9 @@ pub record Gains (count : ℕ) (links : List ℕ) (notes : ℕ → ℕ → Type 
   pub all : (state : ℕ) → upto < state → IsFailureChild count links link state
       → IsAmong free' state ⊎ IsStop notes stopped' state
 
--- A walk down the failure tree: the states that it reached and left, among them the root, and what it noted at those at which it
--- stopped. It has looked at all children of the states at the first places, as many as are done.
+-- A walk down the failure tree: the states that it reached and left, among them the root, and what it noted at
+-- those at which it stopped. It has looked at all children of the states at the first places, as many as are
+-- done.
 pub record IsWalking (words : List (List ℕ)) (links : List ℕ) (notes : ℕ → ℕ → Type 0) (root : ℕ)
     (done : ℕ) (free stopped : List ℕ) : Type 0 where
   pub starts : IsAmong free root

@@ -10,8 +10,8 @@ use crate::room::make_room;
 use kb_word::Memory;
 use std::alloc::Global;
 
-/// For each state the number that it keeps, or 0, and its end: the state of the longest suffix of its word, the word itself
-/// among them, that keeps a number, or 0. There may be room for more.
+/// For each state the number that it keeps, or 0, and its end: the state of the longest suffix of its word, the
+/// word itself among them, that keeps a number, or 0. There may be room for more.
 #[derive(Debug, Drop)]
 pub struct Ends {
     pub numbers: Vec<u32>,

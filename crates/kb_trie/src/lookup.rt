@@ -19,9 +19,9 @@ pub struct Entry {
     pub next: u32,
 }
 
-/// Left sides that come and go, each with a number, found where they end a text. A left side that comes gets the next
-/// number, from 0 on, and keeps it; one that goes leaves its number empty. Several numbers may have one left side. None is
-/// empty.
+/// Left sides that come and go, each with a number, found where they end a text. A left side that comes gets
+/// the next number, from 0 on, and keeps it; one that goes leaves its number empty. Several numbers may have
+/// one left side. None is empty.
 ///
 /// A state of the trie stands for a word that begins a left side, or began one that went; state 0 stands for the empty
 /// word.
@@ -86,8 +86,8 @@ impl Lookup {
         self.trie.count()
     }
 
-    /// Adds a left side, which gets the next number. After want of memory the left sides are as they were, but states may have
-    /// come. There are fewer than 2^32 - 1 numbers: where more are wanted, memory is.
+    /// Adds a left side, which gets the next number. After want of memory the left sides are as they were, but
+    /// states may have come. There are fewer than 2^32 - 1 numbers: where more are wanted, memory is.
     pub fn push(&mut self, left: &Word) -> Result<u32, Memory>
         requires { ¬ (left.now ≡ []) }
         ensures number { IfOk result (λ number. number ≡ length self.old.lefts) }
@@ -144,7 +144,8 @@ impl Lookup {
         self.trie.step(state, letter)
     }
 
-    /// The failure link of a state: the state of the longest proper suffix of its word that is a state's word, or state 0.
+    /// The failure link of a state: the state of the longest proper suffix of its word that is a state's word,
+    /// or state 0.
     pub fn link(&self, state: u32) -> u32
         requires { state < length self.now.words }
         ensures { IsLink self.now.words state result }
@@ -246,8 +247,8 @@ fn last_before(entries: &[Option<Entry>], first: u32, bound: u32) -> u32
     at
 }
 
-/// Lets the last of a state's numbers, or where there is none the state, know the number that comes, which is to have the
-/// state too.
+/// Lets the last of a state's numbers, or where there is none the state, know the number that comes, which is
+/// to have the state too.
 fn join(
     trie: &mut Trie,
     entries: &mut [Option<Entry>],

@@ -56,7 +56,8 @@ impl Steps {
         })
     }
 
-    /// The state after a letter more: one look where the letter is below the width of the table, else by children and links.
+    /// The state after a letter more: one look where the letter is below the width of the table, else by
+    /// children and links.
     pub fn step(&self, edges: &IndexSet<Edge>, state: u32, letter: u16) -> u32
         requires states { IsTree edges.now.keys }
         requires steps { HasSteps (words_of edges.now.keys) self.now }
@@ -84,8 +85,8 @@ impl Steps {
         self.tree.make_room()
     }
 
-    /// Adds the state of a state's word with a letter more, which has no state yet, to which the walk from there found what
-    /// leads. The step there was this one.
+    /// Adds the state of a state's word with a letter more, which has no state yet, to which the walk from
+    /// there found what leads. The step there was this one.
     pub fn connect(&mut self, walk: &Walk, state: u32, letter: u16, after: u32)
         requires room { HasRoom self.old }
         requires walked { (words : List (List ℕ)) × AreWords words × HasSteps words self.old

@@ -31,8 +31,8 @@ impl Model for Trie {
 }
 
 impl Trie {
-    /// The trie of the empty word alone. Most letters are at most this one: a step by one of those is one look into a table,
-    /// as long as that isn't too large.
+    /// The trie of the empty word alone. Most letters are at most this one: a step by one of those is one look
+    /// into a table, as long as that isn't too large.
     pub fn new(alloc: Global, letters: u16) -> Result<Trie, Memory>
         ensures words { IfOk result (λ trie. trie.words ≡ [] ∷ []) }
         ensures numbers { IfOk result (λ trie. trie.numbers ≡ 0 ∷ []) }
@@ -77,7 +77,8 @@ impl Trie {
         self.automaton.step(state, letter)
     }
 
-    /// The failure link of a state: the state of the longest proper suffix of its word that is a state's word, or state 0.
+    /// The failure link of a state: the state of the longest proper suffix of its word that is a state's word,
+    /// or state 0.
     pub fn link(&self, state: u32) -> u32
         requires { state < length self.now.words }
         ensures { IsLink self.now.words state result }
@@ -101,8 +102,8 @@ impl Trie {
         self.automaton.number_at(state)
     }
 
-    /// The end of a state: the state of the longest suffix of its word, the word itself among them, that keeps a number, or
-    /// state 0 where there is none.
+    /// The end of a state: the state of the longest suffix of its word, the word itself among them, that keeps
+    /// a number, or state 0 where there is none.
     pub fn end_at(&self, state: u32) -> u32
         requires { state < length self.now.words }
         ensures { IsEnd self.now.words self.now.numbers state result }
@@ -110,8 +111,8 @@ impl Trie {
         self.automaton.end_at(state)
     }
 
-    /// Adds to a list the states to which a letter leads from a state, if their words are longer than `beyond`, in any order.
-    /// After want of memory some of them may be there.
+    /// Adds to a list the states to which a letter leads from a state, if their words are longer than `beyond`,
+    /// in any order. After want of memory some of them may be there.
     pub fn add_steps_beyond(
         &self,
         state: u32,
@@ -125,8 +126,8 @@ impl Trie {
         self.automaton.add_steps_beyond(state, beyond, found)
     }
 
-    /// Adds to a list, ascending, the states that keep a number and whose words have a state's word as a factor: the state
-    /// itself among them, if it keeps one. After want of memory some of them may be there.
+    /// Adds to a list, ascending, the states that keep a number and whose words have a state's word as a
+    /// factor: the state itself among them, if it keeps one. After want of memory some of them may be there.
     pub fn add_longer(&self, state: u32, found: &mut Vec<u32>) -> Result<(), Memory>
         requires { state < length self.now.words }
         ensures { OnOk result (AddsAscending (IsNumberedOver self.now.words self.now.numbers state)
@@ -181,8 +182,8 @@ impl Trie {
         self.automaton.add(state, letter)
     }
 
-    /// The state of a word, which is made where it isn't there, with those of the word's first letters. After want of memory
-    /// some of these may have been made.
+    /// The state of a word, which is made where it isn't there, with those of the word's first letters. After
+    /// want of memory some of these may have been made.
     pub fn insert(&mut self, w: &Word) -> Result<u32, Memory>
         ensures word { IfOk result (HasWord self.new.words w.now) }
         ensures grows { Grows w.now self.old self.new }

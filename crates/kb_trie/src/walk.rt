@@ -14,8 +14,8 @@ use indexmap::IndexSet;
 use kb_word::Memory;
 use std::alloc::Global;
 
-/// At which states a walk stops, and what it notes there: at those that have a child by the letter, the child, or at those that
-/// keep a number and are not this state, themselves, or at none.
+/// At which states a walk stops, and what it notes there: at those that have a child by the letter, the child,
+/// or at those that keep a number and are not this state, themselves, or at none.
 #[derive(Clone, Copy, Debug)]
 pub enum Stop {
     Child(u16),
