@@ -17,7 +17,7 @@ use Rattle.kb_diff.proofs.Growing.{Keeps-contains, Keeps-seen, grows_keeps}
 use Rattle.kb_diff.proofs.Places.{have_from_all}
 use Rattle.kb_kept.specs.declared.equality.Equality.{Equality}
 use Rattle.kb_round.specs.Rounds.{IsRefuted, RefutesBy, ShowsEquality, no_image}
-use Rattle.kb_reducedrounds.specs.Kept.{KeepsReduced}
+use Rattle.kb_round.specs.Kept.{KeepsReduced}
 use Rattle.kb_structure.specs.declared.cert.Cert.{Cert}
 use Rattle.kb_structure.specs.declared.cert.Cert.TheVariants.{N4}
 use Rattle.kb_system.specs.Completed.{IsReducedSystem}

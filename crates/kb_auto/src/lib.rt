@@ -30,7 +30,7 @@
 //! check fails, the equality of its certificate has differences that the automata lack. They are kept too
 //! (`gathering`), and another round is made, unless a word of the equality is reducible, or its differences are kept
 //! already: then only better rules help. Nor do few rules get many rounds: as many as there were lines, in
-//! proportion. By the reduced complete system each failed round keeps more (`kb_reducedrounds`), so that it is tried
+//! proportion. By the reduced complete system each failed round keeps more (a law of `kb_round`), so that it is tried
 //! until the automata are the group's own or a limit is reached. Where the completion halts a last round is made by
 //! its live rules (`outcomes`).
 //!

@@ -18,10 +18,10 @@ use kb_index::Index;
 use kb_io::Gate;
 use kb_kept::Listing;
 use kb_reduced::reduced_complete_systems_are_complete;
-use kb_reducedrounds::{
-    rounds_by_reduced_systems_keep_more, rounds_by_reduced_systems_lack_images,
+use kb_round::{
+    Construction, Round, Structure, WatchRounds, round, rounds_by_reduced_systems_keep_more,
+    rounds_by_reduced_systems_lack_images,
 };
-use kb_round::{Construction, Round, Structure, WatchRounds, round};
 use kb_rules::Rules;
 use kb_word::{Memory, Presentation};
 use std::alloc::Global;

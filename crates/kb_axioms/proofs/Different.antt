@@ -18,7 +18,7 @@ use Rattle.kb_fsa.specs.declared.alphabet.Alphabet.TheVariants.{Pair}
 use Rattle.kb_leastpair.specs.LeastPair.{IsLeastPair}
 use Rattle.kb_structure.specs.Labels.{RelatesProducts}
 use Rattle.kb_labels.specs.Labels.{AreEqualSides, HaveOneNormalForm, labelling_of}
-use Rattle.kb_unequal.specs.Unequal.{IsUnequalPair}
+use Rattle.kb_labels.specs.Unequal.{IsUnequalPair}
 use Rattle.kb_axioms.specs.Truth.{AreConfluentRulesOf, IsDifferentPair}
 
 module _ (presentation : Presentation) (rules : List Sides) (order : WordOrder) (decreasing : AreDecreasing (Below order) rules)

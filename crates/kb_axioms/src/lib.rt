@@ -23,7 +23,7 @@
 //! one normal form each, or there is a first state where they don't. Where they have, and both sides of each rule are
 //! the same element, each multiplier relates only words that differ by its generator (the clause `sound`). Where they
 //! don't and the rules are confluent, the multiplier relates words that don't differ by its generator, and the least
-//! pair of them is certificate N3 (`kb_unequal`). By other rules it may yet relate none, so that nothing is looked
+//! pair of them is certificate N3 (`kb_labels`). By other rules it may yet relate none, so that nothing is looked
 //! for, and the state is named.
 //!
 //! By [`automata_that_pass_are_the_groups_own`] both parts together are enough, and by [`certificates_refute_automata`]
@@ -36,8 +36,8 @@
 //! multiplier to multiplier, and `Different` from different normal forms to different elements. `GroupAutomata` has
 //! what the multipliers read, `Presented` what automata are checked for a presentation, and `Own` has the laws.
 //!
-//! Below are the crates that look for one kind each or a few, `kb_certificates`, `kb_relations` and `kb_unequal`,
-//! with `kb_labels` and `kb_structure`. `kb_confluence` has the law of normal forms by confluent rules, and
+//! Below are the crates that look for one kind each or a few, `kb_certificates`, `kb_relations` and `kb_labels`,
+//! with `kb_structure`. `kb_confluence` has the law of normal forms by confluent rules, and
 //! `kb_machine` that a presentation's relations are over its generators.
 #![tactic(auto)]
 

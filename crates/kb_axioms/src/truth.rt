@@ -15,9 +15,8 @@ ghost use Rattle.kb_axioms.specs.Truth.{AreConfluentRulesOf, AreMultipliers, IsD
 
 use crate::answers::Truth;
 use kb_fsa::Fsa;
-use kb_labels::{Labels, check};
+use kb_labels::{Labels, check, least_unequal_pair};
 use kb_rules::Reducer;
-use kb_unequal::least_unequal_pair;
 use kb_word::{Letter, Memory, Presentation, Word};
 use std::alloc::Global;
 

@@ -1,3 +1,4 @@
+pub mod AbelianLemmas
 pub mod LimitLemmas
 pub mod RunLemmas
 pub mod LogreadRuns

@@ -19,7 +19,7 @@ use Rattle.kb_task.proofs.RunLemmas.{run-prints}
 use Rattle.kb_system.specs.Ended.{IsCompletionWithin}
 use Rattle.kb_system.specs.Evidence.{IsHalted, IsTooLarge}
 use Rattle.kb_system.specs.declared.ending.Halted.{Halted}
-use Rattle.kb_freeabelian.specs.FreeAbelian.{free_abelian}
+use Rattle.kb_cmd_completion.specs.FreeAbelian.{free_abelian}
 use Rattle.kb_cmd_completion.specs.Given.{SelfTestGiven}
 use Rattle.kb_cmd_completion.specs.SelfTest.{Reports, completed, halted, too_large, IsReport, summary_line, IsCompletedReport, IsHaltedReport, IsTooLargeReport, SelfTestMeans, selftest_promise}
 use Rattle.kb_cmd_completion.specs.declared.selftest.Report.{Report}

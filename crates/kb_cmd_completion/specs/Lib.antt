@@ -1,3 +1,4 @@
+pub mod FreeAbelian
 pub mod Given
 pub mod Files
 pub mod Conclusions

@@ -20,7 +20,7 @@ use Rattle.kb_system.specs.declared.ending.Halted.{Halted}
 use Rattle.kb_system.specs.declared.ending.Reached.{Reached}
 use Rattle.kb_evidence.specs.Files.{log_text, limit_of}
 use Rattle.kb_evidence.specs.Settled.{IsYesOrStates}
-use Rattle.kb_freeabelian.specs.FreeAbelian.{free_abelian}
+use Rattle.kb_cmd_completion.specs.FreeAbelian.{free_abelian}
 use Rattle.kb_cmd_completion.specs.Given.{SelfTestGiven}
 use Rattle.kb_cmd_completion.specs.declared.selftest.Report.{Report}
 

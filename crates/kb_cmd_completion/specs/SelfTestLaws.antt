@@ -12,7 +12,7 @@ use Rattle.kb_evidence.specs.Settled.{IsYesOrStates, CompletesAs, within_limits,
 use Rattle.kb_evidence.specs.SettledLaws.{log-no_states, one_end, states-conclusive}
 use Rattle.kb_system.specs.Completed.{IsCompletion}
 use Rattle.kb_system.specs.OneCompletion.{one_acceptor, one_rules}
-use Rattle.kb_freeabelian.specs.FreeAbelian.{free_abelian}
+use Rattle.kb_cmd_completion.specs.FreeAbelian.{free_abelian}
 use Rattle.kb_cmd_completion.specs.Given.{SelfTestGiven}
 use Rattle.kb_cmd_completion.specs.SelfTest.{Reports, completed, halted, too_large, summary_line, SelfTestMeans, selftest_promise}
 

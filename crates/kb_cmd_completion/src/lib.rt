@@ -13,16 +13,18 @@
 //! - `kbprog`, `logread` and `selftest` are the commands, and `task` has the enum of all three.
 //! - `files` makes the files of a completed presentation, and `conclusion` those or what shows a limit, by how a
 //!   completion ended.
+//! - `free_abelian` makes what `selftest` completes: the presentation of the free abelian group of a rank, by generators
+//!   that commute (`free_abelian` of `specs/FreeAbelian.antt`).
 //! - `printing` appends the parts of lines.
 //!
 //! Below are `kb_system`, which completes presentations, `kb_progress`, which shows how far that has come,
-//! `kb_freeabelian`, which makes what `selftest` completes, `kb_proof`, which prints and reads logs, `kb_evidence`,
-//! with the names of files and what shows a limit, `kb_answering`, which stores files and answers word lines, and
-//! `kb_task`.
+//! `kb_proof`, which prints and reads logs, `kb_evidence`, with the names of files and what shows a limit,
+//! `kb_answering`, which stores files and answers word lines, and `kb_task`.
 #![tactic(auto)]
 
 mod conclusion;
 mod files;
+mod free_abelian;
 mod kbprog;
 mod logread;
 mod printing;

@@ -3,16 +3,16 @@
 ghost use Rattle.std.specs.Prelude.{◌≡◌, ◌≤◌, IfOk};
 ghost use Rattle.kb_word.specs.Presentations.{parts_of};
 ghost use Rattle.kb_system.specs.Ended.{EndsAs};
-ghost use Rattle.kb_freeabelian.specs.FreeAbelian.{free_abelian};
+ghost use Rattle.kb_cmd_completion.specs.FreeAbelian.{free_abelian};
 ghost use Rattle.kb_cmd_completion.specs.Given.{SelfTestGiven, limits_of};
 ghost use Rattle.kb_cmd_completion.specs.SelfTest.{IsCompletedReport, IsHaltedReport, IsReport, IsTooLargeReport};
 
+use crate::free_abelian::selftest_presentation;
 use crate::printing::{append, append_number};
 use kb_answering::limit_of_log;
 use kb_book::Limits;
 use kb_draw::Crew;
 use kb_evidence::limit_reached;
-use kb_freeabelian::selftest_presentation;
 use kb_io::{Gate, Shelf, Sink, Source};
 use kb_progress::{Evidence, Limit as ReachedLimit, Progress, Stored, Summary};
 use kb_proof::{Log, Version, print_log};

@@ -8,7 +8,7 @@ use Rattle.kb_lines.specs.Answered.{AllAnswered, Stops, StopIsCounted}
 use Rattle.kb_lines.specs.Streams.{Streams, AreTold, StreamsGoOn}
 use Rattle.kb_lines.specs.declared.stop.Stop.{Stop}
 use Rattle.kb_lines.specs.declared.stop.Stop.TheVariants as stops
-use Rattle.kb_cosetwords.specs.Cosets.{Cosets, IsLeastOf}
+use Rattle.kb_coset.specs.CosetWords.{Cosets, IsLeastOf}
 use Rattle.kb_evidence.specs.Files.{rules_file}
 use Rattle.kb_task.specs.Runs.{FaultIsCounted, IsRun}
 use Rattle.kb_task.specs.Statuses.{IsYes}

@@ -9,7 +9,7 @@ use Rattle.kb_coset.specs.Subgroups.{EachInverts}
 use Rattle.kb_coset.proofs.LeastWords.{told_by_least}
 use Rattle.kb_coset.proofs.Marks.{marked_cosets}
 use Rattle.kb_coset.proofs.SubgroupCosets.{subgroup_cosets}
-use Rattle.kb_cosetwords.specs.Cosets.{Cosets, IsLeastOf}
+use Rattle.kb_coset.specs.CosetWords.{Cosets, IsLeastOf}
 use Rattle.kb_cmd_elements.specs.CosetsTold.{TellCosets}
 
 module _ (cosets : Cosets) where

@@ -9,7 +9,7 @@ use Rattle.kb_word.specs.declared.presentation.Presentation.{Presentation}
 use Rattle.kb_word.specs.declared.word_order.WordOrder.TheVariants.{ShortLex}
 use Rattle.kb_diff.specs.Groups.{EachInverts}
 use Rattle.kb_fields.specs.Generators.{most_generators}
-use Rattle.kb_cosetwords.specs.Cosets.{Cosets}
+use Rattle.kb_coset.specs.CosetWords.{Cosets}
 use Rattle.kb_evidence.specs.Files.{rules_file, log_file}
 use Rattle.kb_evidence.proofs.ShownLemmas.{shows_named}
 use Rattle.kb_answering.specs.Answers.{AnswersMean}

@@ -5,7 +5,7 @@ use Rattle.kb_io.specs.Outside.{Outside, IsUnchanged}
 use Rattle.kb_word.specs.Words.{Pair}
 use Rattle.kb_word.specs.Presentations.{PresentationParts}
 use Rattle.kb_coset.specs.Marked.{marked_parts}
-use Rattle.kb_cosetwords.specs.Cosets.{Cosets, IsLeastOf}
+use Rattle.kb_coset.specs.CosetWords.{Cosets, IsLeastOf}
 use Rattle.kb_lines.specs.Answered.{AllAnswered, Stops}
 use Rattle.kb_lines.specs.declared.stop.Stop.{Stop}
 use Rattle.kb_lines.specs.declared.stop.Stop.TheVariants as stops

@@ -1,6 +1,6 @@
 -- What the completion of a marked presentation came to.
 use Rattle.std.specs.Prelude.{◌≡◌}
-use Rattle.kb_cosetwords.specs.Cosets.{Cosets}
+use Rattle.kb_coset.specs.CosetWords.{Cosets}
 use Rattle.kb_task.specs.Stores.{texts_of}
 use Rattle.kb_cmd_elements.specs.CosetAnswers.{AreCosetTexts, marked_of}
 use Rattle.kb_cmd_elements.specs.Given.{KbcosGiven}

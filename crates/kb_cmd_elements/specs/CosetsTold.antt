@@ -3,7 +3,7 @@ use Rattle.std.specs.Prelude.{◌≡◌, ◌↔◌, ℕ, List, ◌++◌, length,
 use Rattle.kb_word.specs.Relations.{IsOver, inverse_word}
 use Rattle.kb_coset.specs.Marked.{AreCongruent, marked_word, relations}
 use Rattle.kb_coset.specs.Subgroups.{IsInSubgroup}
-use Rattle.kb_cosetwords.specs.Cosets.{Cosets, IsLeastOf}
+use Rattle.kb_coset.specs.CosetWords.{Cosets, IsLeastOf}
 use Rattle.kb_cmd_elements.specs.CosetAnswers.{marked_of}
 
 -- The answers to words tell the right cosets of a subgroup apart: m and k, the answers to u and to v, are equal

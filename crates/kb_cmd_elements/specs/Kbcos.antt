@@ -2,7 +2,7 @@
 use Rattle.std.specs.Prelude.{◌≡◌, ◌≢◌, ℕ, ◌≤◌, ◌⊎◌, List, length}
 use Rattle.kb_io.specs.Outside.{Outside, IsUnchanged}
 use Rattle.kb_word.specs.Presentations.{PresentationParts}
-use Rattle.kb_cosetwords.specs.Cosets.{Cosets, IsLeastOf}
+use Rattle.kb_coset.specs.CosetWords.{Cosets, IsLeastOf}
 use Rattle.kb_record.specs.declared.error.WordError.{WordError}
 use Rattle.kb_lines.specs.WordLines.{most_input, IsFirstRefused}
 use Rattle.kb_system.specs.Evidence.{Limits}

@@ -6,7 +6,7 @@ use Rattle.kb_word.specs.WordOrderLaws.{word_orders}
 use Rattle.kb_coset.specs.Cosets.{SameCoset}
 use Rattle.kb_coset.specs.Marked.{relations}
 use Rattle.kb_coset.proofs.LeastWords.{told_by_least}
-use Rattle.kb_cosetwords.specs.Cosets.{Cosets, IsLeastOf}
+use Rattle.kb_coset.specs.CosetWords.{Cosets, IsLeastOf}
 use Rattle.kb_record.specs.Tree.{TextTree}
 use Rattle.kb_record.specs.declared.error.WordError.{WordError}
 use Rattle.kb_lines.specs.WordLines.{most_input, IsFirstRefused}

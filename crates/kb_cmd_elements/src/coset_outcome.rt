@@ -4,7 +4,7 @@ ghost use Rattle.std.specs.Prelude.{◌≡◌, ◌<◌, [], ◌∷◌, IfOk, All
 ghost use Rattle.kb_word.specs.Presentations.{parts_of};
 ghost use Rattle.kb_word.specs.Relations.{IsOver};
 ghost use Rattle.kb_coset.specs.Marked.{marker_name};
-ghost use Rattle.kb_cosetwords.specs.Cosets.{Cosets};
+ghost use Rattle.kb_coset.specs.CosetWords.{Cosets};
 ghost use Rattle.kb_complete.specs.Completing.{AreReduced, IsHalted};
 ghost use Rattle.kb_system.specs.Completed.{IsReducedSystem};
 ghost use Rattle.kb_system.specs.Problems.{problem_of};
@@ -18,8 +18,7 @@ use crate::kbcos::Kbcos;
 use kb_answering::limit_of_log;
 use kb_book::{Book, Limits};
 use kb_complete::{Outcome, complete_watched};
-use kb_coset::marked;
-use kb_cosetwords::CosetWords;
+use kb_coset::{CosetWords, marked};
 use kb_draw::Crew;
 use kb_evidence::{Evidence, halted as evidence_of, rules_file};
 use kb_index::Index;

@@ -8,7 +8,7 @@ ghost use Rattle.kb_cmd_elements.specs.CosetAnswers.{AreCosetTexts, CosetLinesMe
 ghost use Rattle.kb_cmd_elements.specs.Kbcos.{kbcos_may_store};
 
 use crate::kbcos::Kbcos;
-use kb_cosetwords::CosetWords;
+use kb_coset::CosetWords;
 use kb_io::{Shelf, Sink, Source};
 use kb_lines::answer_lines;
 use kb_progress::Progress;

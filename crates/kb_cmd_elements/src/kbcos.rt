@@ -6,7 +6,7 @@ ghost use Rattle.kb_io.specs.Outside.{outside};
 ghost use Rattle.kb_word.specs.Presentations.{parts_of};
 ghost use Rattle.kb_word.specs.declared.word_order.WordOrder.TheVariants.{ShortLex};
 ghost use Rattle.kb_coset.specs.Marked.{marker_name};
-ghost use Rattle.kb_cosetwords.specs.Cosets.{Cosets};
+ghost use Rattle.kb_coset.specs.CosetWords.{Cosets};
 ghost use Rattle.kb_diff.specs.Groups.{EachInverts};
 ghost use Rattle.kb_fields.specs.Generators.{most_generators};
 ghost use Rattle.kb_task.specs.Runs.{IsRun};

@@ -24,8 +24,8 @@
 //! - `proofs/CosetsToldLemmas.antt`: least words of cosets tell the cosets apart, by the laws of `kb_coset`.
 //! - `proofs/CosetRuns.antt`: rules that are stored, and word lines that are answered with least words of cosets.
 //!
-//! Below are `kb_system` and `kb_complete`, which complete presentations, `kb_coset` and `kb_cosetwords`, which mark
-//! cosets and answer with their least words, `kb_listing`, which prints accepted words, `kb_progress`, which shows
+//! Below are `kb_system` and `kb_complete`, which complete presentations, `kb_coset`, which marks cosets
+//! and answers with their least words, `kb_listing`, which prints accepted words, `kb_progress`, which shows
 //! how far a completion has come, `kb_evidence` and `kb_answering`, with what shows a limit, and `kb_task`.
 #![tactic(auto)]
 

@@ -1,3 +1,4 @@
+pub mod Fields
 pub mod RunLemmas
 pub mod FoundLemmas
 pub mod LoadRuns

@@ -1,3 +1,4 @@
+pub mod Printed
 pub mod Given
 pub mod Loaded
 pub mod LoadedLaws

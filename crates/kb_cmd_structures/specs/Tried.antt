@@ -4,7 +4,7 @@ use Rattle.kb_io.specs.Bytes.{newline}
 use Rattle.kb_word.specs.Words.{Pair}
 use Rattle.kb_word.specs.Presentations.{PresentationParts, parts_of}
 use Rattle.kb_word.specs.declared.presentation.Presentation.{Presentation}
-use Rattle.kb_diffprint.specs.Printed.{text_of_differences, text_of_seen}
+use Rattle.kb_cmd_structures.specs.Printed.{text_of_differences, text_of_seen}
 use Rattle.kb_kept.specs.declared.listing.Listing.{Listing}
 use Rattle.kb_kept.specs.declared.equality.Equality.{Equality}
 use Rattle.kb_kept.specs.declared.seen.Seen.{Seen}

@@ -9,7 +9,7 @@ ghost use Rattle.kb_evidence.specs.Files.{halted_texts, limit_of};
 ghost use Rattle.kb_cmd_structures.specs.Tried.{counted_of, difference_text, needed_line, needed_text, tried_texts};
 
 use crate::finding::construction_of;
-use kb_diffprint::{print_differences, print_seen};
+use crate::printing::{print_differences, print_seen};
 use kb_evidence::{Evidence, difference_file, evidence_files, halted as halted_evidence};
 use kb_kept::Listing;
 use kb_machine::Line;

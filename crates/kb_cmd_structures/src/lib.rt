@@ -42,7 +42,8 @@
 //!
 //! - `autgroup`, `gpaxioms` and `gpminkb` are the commands, and `task` has the enum of the family.
 //! - `conclusion` makes what is stored and written of the search for a structure, and `evidence` what shows a limit
-//!   of it.
+//!   of it; `printing` has the text of word differences, each with the pair of words at which it was first seen
+//!   (`text_of_differences` of `specs/Printed.antt`).
 //! - `automata_check` is the check of automata that `gpaxioms` and `gpminkb` have in common, by a completion.
 //!   `by_log` is that by the lines of a log: `logged` loads it, `by_lines` decides, and `unresolved` says what the
 //!   lines leave open.
@@ -53,8 +54,8 @@
 //!   them, and its laws, for `gpaxioms` and `gpminkb`.
 //!
 //! Below are `kb_auto`, which searches and decides, `kb_bylog` with the lines of a log, `kb_answering`, which stores
-//! and answers, `kb_evidence`, with what shows a limit, `kb_diffprint`, which prints word differences, `kb_reduce`
-//! with least words, `kb_progress`, which shows how far a completion has come, and `kb_task`.
+//! and answers, `kb_evidence`, with what shows a limit, `kb_kept`, with where word differences were first seen,
+//! `kb_reduce` with least words, `kb_progress`, which shows how far a completion has come, and `kb_task`.
 #![tactic(auto)]
 
 mod autgroup;
@@ -70,6 +71,7 @@ mod gpaxioms;
 mod gpminkb;
 mod loading;
 mod logged;
+mod printing;
 mod system;
 mod task;
 mod unresolved;

@@ -7,3 +7,4 @@ pub mod SubgroupCosets
 pub mod LeastMarked
 pub mod LeastWords
 pub mod MarkedPresentation
+pub mod CosetAnswers

@@ -1,3 +1,4 @@
 pub mod Subgroups
 pub mod Cosets
 pub mod Marked
+pub mod CosetWords

@@ -12,6 +12,11 @@
 //! [`marked_words_are_congruent_within_cosets`], [`cosets_are_those_of_the_subgroup`],
 //! [`least_marked_words_are_least_in_cosets`] and [`cosets_are_told_by_their_least_words`].
 //!
+//! [`CosetWords`] answers a word of a presentation (`Answerer` of `kb_lines`) with the least word of its right coset
+//! (`IsLeastOf` of `specs/CosetWords.antt`), by the reduced complete system of the marked presentation. The marker comes
+//! in front of the word, the rules reduce that, and what then stands behind the marker is the answer. The word becomes
+//! its answer in place, in memory that serves for all words.
+//!
 //! A right coset is taken for any presentation by steps: a relation is applied, or a generator of the subgroup comes
 //! or goes in front. No inverse is needed for that. Where each generator has one, the words of a coset are those that
 //! differ in front by a product of the subgroup's generators and their inverses.
@@ -20,12 +25,16 @@
 //! stands before the marker is whatever the inverse relations put there, and what stands behind it stays in the coset
 //! (`proofs/Behind.antt`).
 //!
-//! Below is `kb_word`, with presentations and congruence.
+//! Below are `kb_word`, with presentations and congruence, `kb_reduced`, by whose law normal forms are least, `kb_index`,
+//! and `kb_lines`, which reads and answers the lines.
 #![tactic(auto)]
 
+mod coset_words;
 mod laws;
+mod marker;
 mod marking;
 
+pub use coset_words::{CosetWords, Workspace};
 pub use laws::{
     cosets_are_those_of_the_subgroup, cosets_are_told_by_their_least_words,
     least_marked_words_are_least_in_cosets, marked_words_are_congruent_by_the_subgroup,

@@ -7,3 +7,10 @@ pub mod Comparisons
 pub mod MoveWords
 pub mod Answering
 pub mod Consequences
+pub mod SecondMoves
+pub mod SecondRuns
+pub mod UnequalPairs
+pub mod Adding
+pub mod Layering
+pub mod LayerMoves
+pub mod WrongPairs

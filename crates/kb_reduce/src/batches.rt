@@ -10,7 +10,7 @@ ghost use Rattle.kb_reduce.specs.Batches.{AreAnswersOf, LeadsTo};
 use kb_draw::{Crew, Making, make_all};
 use kb_fsa::Fsa;
 use kb_io::Gate;
-use kb_products::by_multipliers;
+use kb_relations::by_multipliers;
 use kb_rules::Reducer;
 use kb_word::{Memory, Word};
 use std::alloc::Global;

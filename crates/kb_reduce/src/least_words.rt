@@ -6,7 +6,7 @@ ghost use Rattle.kb_reduce.specs.Leading.{LeadToLeastWords};
 
 use kb_fsa::Fsa;
 use kb_lines::Answerer;
-use kb_products::{Workspace, own_structures_lead_to_least_words, reduce};
+use kb_relations::{Workspace, own_structures_lead_to_least_words, reduce};
 use kb_word::{Memory, Word};
 use kb_wordreader::WordReader;
 use std::alloc::Global;

@@ -11,7 +11,7 @@
 //! alone, in the order of the words (`specs/Batches.antt`): [`batch_rules`] makes their normal forms, and
 //! [`batch_multipliers`] follows them by multipliers.
 //!
-//! Below are `kb_lines`, which reads and answers the lines, `kb_index`, `kb_products`, which follows words by
+//! Below are `kb_lines`, which reads and answers the lines, `kb_index`, `kb_relations`, which follows words by
 //! multipliers, and `kb_draw`, by which workers share the words of a batch.
 #![tactic(auto)]
 

@@ -3,3 +3,7 @@ pub mod LeastImages
 pub mod Composites
 pub mod LedApart
 pub mod Searching
+pub mod Beside
+pub mod TrailLemmas
+pub mod Images
+pub mod OwnLeast

@@ -3,3 +3,4 @@ pub mod Composites
 pub mod Acts
 pub mod Stops
 pub mod Progress
+pub mod Trails

@@ -1,3 +1,4 @@
 pub mod Reduced
 pub mod Rounds
 pub mod Shown
+pub mod Kept

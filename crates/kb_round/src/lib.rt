@@ -12,6 +12,12 @@
 //!   of it that are the same element, so that their differences may be kept for the next round (`ShowsEquality`).
 //! - [`Round::TooManyStates`]: a construction counts more states than it may, which comes before any certificate.
 //!
+//! By the reduced complete system of a group, with all word differences of its rules, a round can fail in one way
+//! alone: the difference of a word and its image isn't kept yet. [`rounds_by_reduced_systems_lack_images`] is the law
+//! that a certificate is then of the kind N4, a word without image, and [`rounds_by_reduced_systems_keep_more`] the
+//! law that the words of its equality are irreducible, and have a difference that isn't kept. So each such round keeps
+//! one more, or finds no room for it.
+//!
 //! # Why passing is enough
 //!
 //! Multipliers that are made of differences relate only words that differ by their generators, whatever the rules
@@ -28,17 +34,28 @@
 //! automata: that they are true to the group, and that there is no certificate N1 or N2 against them.
 //! `CanonicalForms` has that those of multipliers with labels are multipliers.
 //!
+//! Of rounds by a reduced complete system `specs/Kept.antt` says what is known of the rules and the differences. In
+//! `proofs/`, `Elements` has words as elements of the group, and their normal forms; `Leading` that words which lead by
+//! differences differ by what they lead to, and `KeptDifferences` that words whose differences are kept do lead so.
+//! `LeastWords` has which words are accepted: a word that isn't least has a left side as a factor, and the differences
+//! of its rule show that it is greater than the right side. `GeneratorForms` has that the normal form of each generator
+//! is kept, and `Extensions` where a word with its extension leads. By these the automata are a sound structure
+//! (`MadeStructures`), against which no certificate but a word without image is possible (`SoundStructures`,
+//! `Certificates`).
+//!
 //! Below are `kb_diffwa`, which makes the automata, all multipliers as one with labels (`kb_labelled`), `kb_fsamin`,
-//! which makes that one small and each multiplier canonical, `kb_draw`, by which several workers do so, and
-//! `kb_axioms` with the check.
+//! which makes that one small and each multiplier canonical, `kb_draw`, by which several workers do so, `kb_axioms` with
+//! the check, and `kb_reduced` with the law that reduced complete systems are complete.
 #![tactic(auto)]
 
 mod answers;
+mod laws;
 mod making;
 mod rounds;
 mod showing;
 mod watching;
 
 pub use answers::{Axiom, Construction, Figures, Round, Structure};
+pub use laws::{rounds_by_reduced_systems_keep_more, rounds_by_reduced_systems_lack_images};
 pub use rounds::round;
 pub use watching::WatchRounds;

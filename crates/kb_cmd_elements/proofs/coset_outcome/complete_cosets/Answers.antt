@@ -4,7 +4,7 @@ use Rattle.kb_coset.specs.Marked.{marked_parts}
 use Rattle.kb_machine.specs.States.{Problem, below}
 use Rattle.kb_reduced.specs.Reduced.{IsReducedComplete}
 use Rattle.kb_book.specs.Problems.{problem_of as problem_within}
-use Rattle.kb_cosetwords.specs.Cosets.{Cosets}
+use Rattle.kb_coset.specs.CosetWords.{Cosets}
 use Rattle.kb_cmd_elements.specs.CosetAnswers.{marked_of, subgroup_file}
 use Rattle.kb_cmd_elements.specs.Given.{KbcosGiven}
 use Rattle.kb_cmd_elements.proofs.coset_outcome.complete_cosets.Goals as goal

@@ -3,7 +3,7 @@ use Rattle.kb_word.specs.Words.{Pair}
 use Rattle.kb_word.specs.Presentations.{PresentationParts, parts_of}
 use Rattle.kb_word.specs.declared.presentation.Presentation.{Presentation}
 use Rattle.kb_coset.specs.Marked.{marked_parts}
-use Rattle.kb_cosetwords.specs.Cosets.{AreCosetRules, Cosets}
+use Rattle.kb_coset.specs.CosetWords.{AreCosetRules, Cosets}
 use Rattle.kb_system.specs.Completed.{IsReducedSystem}
 use Rattle.kb_task.specs.Stores.{Text, texts_of}
 use Rattle.kb_cmd_elements.specs.CosetAnswers.{marked_of, texts_of_rules}

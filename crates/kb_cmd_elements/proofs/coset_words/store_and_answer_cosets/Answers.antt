@@ -2,7 +2,7 @@ use Rattle.std.proofs.Common.{List, subst}
 use Rattle.kb_io.specs.Outside.{Outside, outside}
 use Rattle.kb_io.specs.States.{ShelfState}
 use Rattle.kb_lines.specs.Streams.{Streams, streams}
-use Rattle.kb_cosetwords.specs.Cosets.{Cosets}
+use Rattle.kb_coset.specs.CosetWords.{Cosets}
 use Rattle.kb_task.specs.Stores.{Text, texts_of}
 use Rattle.kb_task.specs.declared.status.Status.{Status}
 use Rattle.kb_answering.proofs.StoreRuns.{other-no_yes}

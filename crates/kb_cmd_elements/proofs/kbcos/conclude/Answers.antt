@@ -3,7 +3,7 @@ use Rattle.kb_io.specs.Outside.{Outside, outside}
 use Rattle.kb_task.specs.Runs.{IsRun}
 use Rattle.kb_task.specs.Stores.{texts_of}
 use Rattle.kb_evidence.proofs.ShownLemmas.{shows_differ}
-use Rattle.kb_cosetwords.specs.Cosets.{Cosets}
+use Rattle.kb_coset.specs.CosetWords.{Cosets}
 use Rattle.kb_cmd_elements.specs.CosetAnswers.{AreCosetTexts, CosetsMean, marked_of, subgroup_file}
 use Rattle.kb_cmd_elements.specs.CosetOutcomes.{CosetsComeTo}
 use Rattle.kb_cmd_elements.specs.Given.{KbcosGiven}

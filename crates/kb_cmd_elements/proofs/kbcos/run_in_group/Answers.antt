@@ -4,7 +4,7 @@ use Rattle.kb_io.specs.Outside.{Outside, outside}
 use Rattle.kb_io.specs.States.{ShelfState, SourceState, SinkState}
 use Rattle.kb_word.specs.Presentations.{PresentationParts, parts_of}
 use Rattle.kb_word.specs.Relations.{IsOver}
-use Rattle.kb_cosetwords.specs.Cosets.{Cosets}
+use Rattle.kb_coset.specs.CosetWords.{Cosets}
 use Rattle.kb_task.specs.Loads.{EndsAtLoad}
 use Rattle.kb_task.specs.Subgroups.{HoldsSubgroup, IsSubgroupFault}
 use Rattle.kb_task.specs.declared.status.Status.TheVariants.{Memory}

@@ -1,7 +1,0 @@
-use Rattle.std.proofs.Common.{◌≡◌, ◌≤◌}
-use Rattle.kb_freeabelian.specs.FreeAbelian.{generator_inverses}
-use Rattle.kb_freeabelian.proofs.free_abelian.generator_inverses.Given as goal
-
--- the inverses so far are those of the generators so far
-abbrev pub invariant-loop-i : goal.invariant-loop-i
-invariant-loop-i l = (l.i ≤ l.n) × (l.inverses.items ≡ generator_inverses l.i)

@@ -1,4 +1,0 @@
-pub mod Beside
-pub mod TrailLemmas
-pub mod Images
-pub mod OwnLeast

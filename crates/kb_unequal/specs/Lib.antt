@@ -1,4 +1,0 @@
-pub mod Unequal
-pub mod Seconds
-pub mod OrderProps
-pub mod Layers
