@@ -2,7 +2,6 @@
 
 use crate::batches::{multipliers_answer, rules_answer};
 use crate::books::published;
-use kb_axioms::is_group;
 use kb_book::Limits;
 use kb_complete::{Outcome, complete};
 use kb_draw::Crew;
@@ -11,9 +10,8 @@ use kb_io::OpenGate;
 use kb_layout::print;
 use kb_presfile::read;
 use kb_record::{parse, parse_expr};
-use kb_rules::{Reducer, Rule, Rules, Scan};
-use kb_share::Version;
-use kb_word::{Letter, Memory, OwnedText, Word};
+use kb_rules::{Reducer, Rules, Scan};
+use kb_word::{Letter, Memory, Word};
 use std::alloc::Global;
 use std::sync::Wait;
 use std::test::Fail;
@@ -67,24 +65,19 @@ fn has_version(alloc: Global) -> Result<bool, Memory> {
     if last == 0 {
         return Ok(false);
     }
-    let lines = versions.numbers(alloc, last)?;
-    Ok(Version::of(&book).number() == 1 && lines.len() == 5)
+    Ok(versions.numbers(alloc, last)?.len() == 5)
 }
 
 /// The complete system of a presentation, by a reducer that tries one rule after another.
-pub(crate) fn completed<T: Threads + Wait + Sync>(
-    rt: &T,
-    alloc: Global,
-    text: &str,
-) -> Result<Option<Rules>, Memory> {
+fn completed<T: Threads + Wait + Sync>(rt: &T, alloc: Global, text: &str) -> Result<Rules, Memory> {
     let Ok(presentation) = read(alloc, text.as_bytes()) else {
-        return Ok(None);
+        return Err(Memory);
     };
     let limits = Limits::new(1000, 100, 100, 100);
     let crew = Crew::new(2, &OpenGate);
     match complete::<Scan, OpenGate, T>(rt, alloc, &presentation, &limits, &crew)? {
-        Outcome::Confluent(rules, _) => Ok(Some(rules)),
-        Outcome::Halted(_) => Ok(None),
+        Outcome::Confluent(rules, _) => Ok(rules),
+        Outcome::Halted(_) => Err(Memory),
     }
 }
 
@@ -111,31 +104,6 @@ fn copy_answers<R: Reducer + Sync, T: Threads + Wait + Sync>(
     Ok(reduced && rules_answer(rt, alloc, &reducer, first, second)?)
 }
 
-/// Whether a list of rules has each of its own and no other, and gives them back with their sides.
-fn are_given_back(alloc: Global, rules: &Rules) -> Result<bool, Memory> {
-    let foreign = Rule::new(word(alloc, &[1, 3])?, word(alloc, &[1])?);
-    let mut alike = !rules.contains(&foreign);
-    for rule in rules.copy(alloc)?.into_vec() {
-        alike = alike && rules.contains(&rule);
-        let same = rule.copy(alloc)?;
-        let (left, right) = rule.into_sides();
-        alike = alike && left == *same.left() && right == *same.right();
-    }
-    Ok(alike)
-}
-
-/// Whether a presentation is told to be a group's as it is, and a text is given back as it was.
-fn are_told(alloc: Global) -> Result<bool, Memory> {
-    let (Ok(group), Ok(monoid)) = (
-        read(alloc, RANK_2.as_bytes()),
-        read(alloc, BRAID.as_bytes()),
-    ) else {
-        return Ok(false);
-    };
-    let text = OwnedText::from_str(alloc, BRAID)?.into_string();
-    Ok(is_group(&group) && !is_group(&monoid) && text.as_str() == BRAID)
-}
-
 /// Whether a word alone is read, and what is none is refused.
 fn is_word_read() -> bool {
     parse_expr(b"(a*b)^-2\n").is_ok() && parse_expr(b"a*").is_err()
@@ -156,15 +124,11 @@ fn calls_that_no_command_makes_succeed(rt: HostRuntime) -> Result<(), Fail> {
     let alloc = rt.alloc();
     assert!(rt; has_room(alloc)?);
     assert!(rt; has_version(alloc)?);
-    let Some(rules) = completed(&rt, alloc, RANK_2)? else {
-        return Err(Fail::new("it isn't completed"));
-    };
+    let rules = completed(&rt, alloc, RANK_2)?;
     assert!(rt; rules.len() == 8);
     assert!(rt; copy_answers::<Scan, HostRuntime>(&rt, alloc, &rules)?);
     assert!(rt; copy_answers::<Index, HostRuntime>(&rt, alloc, &rules)?);
     assert!(rt; multipliers_answer(&rt, alloc, 3, 2)?);
-    assert!(rt; are_given_back(alloc, &rules)?);
-    assert!(rt; are_told(alloc)?);
     assert!(rt; is_word_read());
     assert!(rt; is_printed(alloc)?);
     Ok(())
