@@ -2,9 +2,9 @@
 
 use crate::mistake::Mistake;
 use crate::section::Section;
-use crate::terms::{as_text, text_of};
+use crate::terms::text_of;
 use crate::texts::{Named, find};
-use crate::token::{Token, tokens};
+use crate::token::{Token, as_text, number, tokens};
 use std::alloc::Global;
 use std::rt::Files;
 
@@ -214,14 +214,6 @@ fn named<R: Files + AllocGlobal>(
         Vec::from_slice(rt.alloc(), text)?
     };
     Ok(Named::new(rt.alloc(), name, bytes)?)
-}
-
-/// The number that the word is.
-fn number<N: std::str::FromStr>(word: &str) -> Result<N, Mistake>
-where
-    N::Err: Drop,
-{
-    word.parse::<N>().map_err(|_| Mistake::Number)
 }
 
 /// The number that is alone on a line.

@@ -4,7 +4,7 @@ use crate::draft::Draft;
 use crate::mistake::{Mistake, Stop, on_line};
 use crate::section::{Line, Section};
 use crate::texts::Named;
-use crate::token::tokens;
+use crate::token::{number, tokens};
 use std::alloc::Global;
 
 /// What is between two columns of a row.
@@ -80,8 +80,8 @@ struct Range {
 fn range_of(text: &str) -> Result<Range, Mistake> {
     let (first, last) = text.split_once(" to ").ok_or(Mistake::Number)?;
     Ok(Range {
-        first: first.parse::<u32>().map_err(|_| Mistake::Number)?,
-        last: last.parse::<u32>().map_err(|_| Mistake::Number)?,
+        first: number::<u32>(first)?,
+        last: number::<u32>(last)?,
     })
 }
 

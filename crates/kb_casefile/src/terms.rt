@@ -3,7 +3,7 @@
 use crate::mistake::Mistake;
 use crate::section::Section;
 use crate::texts::{Named, find};
-use crate::token::{Token, tokens};
+use crate::token::{Token, as_text, number, tokens};
 use std::alloc::Global;
 use std::fs;
 use std::rt::Files;
@@ -171,7 +171,7 @@ fn repeated(
     if !is_word(times, "times") {
         return Err(Mistake::MissingText);
     }
-    let count = number(count.text()?)?;
+    let count = number::<usize>(count.text()?)?;
     let part = simple(text, texts)?;
     if let [byte] = part {
         let run = vec![in alloc; *byte; count]?;
@@ -191,14 +191,9 @@ fn front<'a>(operands: &'a [Token], texts: &'a [Named]) -> Result<&'a [u8], Mist
     if !is_word(of, "of") {
         return Err(Mistake::MissingText);
     }
-    let count = number(as_text(simple(count, texts)?)?)?;
+    let count = number::<usize>(as_text(simple(count, texts)?)?)?;
     let whole = simple(whole, texts)?;
     whole.get(..count).ok_or(Mistake::Number)
-}
-
-/// The number that the word is.
-fn number(word: &str) -> Result<usize, Mistake> {
-    word.parse::<usize>().map_err(|_| Mistake::Number)
 }
 
 /// The bytes with a new part for an old one, which is there once.
@@ -227,12 +222,4 @@ fn replaced(
     changed.extend_from_slice(new)?;
     changed.extend_from_slice(after.as_bytes())?;
     Ok(changed)
-}
-
-/// The bytes as text.
-pub fn as_text(bytes: &[u8]) -> Result<&str, Mistake> {
-    match std::str::from_utf8(bytes) {
-        Ok(text) => Ok(text),
-        Err(_) => Err(Mistake::NoUtf8),
-    }
 }

@@ -2,6 +2,7 @@
 
 use crate::mistake::Mistake;
 use std::alloc::Global;
+use std::str::FromStr;
 
 /// A word, or a text in quotation marks.
 #[derive(Drop)]
@@ -15,10 +16,26 @@ pub struct Token {
 impl Token {
     /// The token as text.
     pub fn text(&self) -> Result<&str, Mistake> {
-        match std::str::from_utf8(self.bytes.as_slice()) {
-            Ok(text) => Ok(text),
-            Err(_) => Err(Mistake::NoUtf8),
-        }
+        as_text(self.bytes.as_slice())
+    }
+}
+
+/// The bytes as text.
+pub fn as_text(bytes: &[u8]) -> Result<&str, Mistake> {
+    match std::str::from_utf8(bytes) {
+        Ok(text) => Ok(text),
+        Err(_) => Err(Mistake::NoUtf8),
+    }
+}
+
+/// The number that the word is.
+pub fn number<N: FromStr>(word: &str) -> Result<N, Mistake>
+where
+    N::Err: Drop,
+{
+    match word.parse::<N>() {
+        Ok(number) => Ok(number),
+        Err(_) => Err(Mistake::Number),
     }
 }
 
