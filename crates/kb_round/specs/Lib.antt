@@ -1,4 +1,5 @@
 pub mod Reduced
 pub mod Rounds
+pub mod Figures
 pub mod Shown
 pub mod Kept

@@ -8,6 +8,7 @@ ghost use Rattle.kb_diff.specs.Steps.{AreSteps};
 ghost use Rattle.kb_diff.specs.Tables.{step_in};
 ghost use Rattle.kb_diffwa.specs.Multipliers.{AreMultipliers, CountedPlaces};
 ghost use Rattle.kb_diffwa.specs.Rivals.{CountedRivals};
+ghost use Rattle.kb_round.specs.Figures.{largest_of};
 ghost use Rattle.kb_round.specs.Reduced.{AreCanonicalForms, IsCanonicalForm};
 ghost use Rattle.kb_round.specs.Rounds.{IsAcceptorOf};
 
@@ -115,6 +116,7 @@ struct Forms<'a> {
 /// A place is a label's.
 impl<'a> Making for Forms<'a> {
     ghost use Rattle.std.specs.Prelude.{length, get_or};
+    ghost use Rattle.kb_round.specs.Figures.{largest_of};
     ghost use Rattle.kb_round.specs.Reduced.{IsCanonicalForm};
 
     type Made = Fsa;
@@ -142,6 +144,12 @@ fn canonical_form(alloc: Global, labelled: &Labelled, label: u32) -> Result<Fsa,
 }
 
 /// How many states the largest of the automata has.
-pub(crate) fn largest(automata: &[Fsa]) -> u32 {
-    automata.iter().map(|fsa| fsa.len()).max().unwrap_or(0)
+pub(crate) fn largest(automata: &[Fsa]) -> u32
+    ensures { result ≡ largest_of automata.now }
+{
+    let mut most = 0u32;
+    for fsa in automata {
+        most = most.max(fsa.len());
+    }
+    most
 }

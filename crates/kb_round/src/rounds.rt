@@ -5,6 +5,7 @@ ghost use Rattle.kb_word.specs.Relations.{relations_of};
 ghost use Rattle.kb_word.specs.declared.word_order.WordOrder.TheVariants.{ShortLex};
 ghost use Rattle.kb_diff.specs.Groups.{EachInverts, group_of};
 ghost use Rattle.kb_labels.specs.Labels.{AreEqualSides};
+ghost use Rattle.kb_round.specs.Figures.{AreFiguresOf, IsChecked, figures_of};
 ghost use Rattle.kb_round.specs.Rounds.{AreMadeOf, RoundSays};
 
 use crate::answers::{Axiom, Construction, Figures, Round, Structure};
@@ -22,7 +23,7 @@ use std::thread::Threads;
 
 /// Makes the automata of word differences, and checks whether they are the group's own automatic structure. Several
 /// workers are a thread each: they make the multipliers canonical, and check the axioms. How large the automata were is
-/// told beside the answer, and counts for nothing.
+/// told beside the answer.
 pub fn round<R: Reducer, G: Gate, T: Threads + Wait + Sync>(
     rt: &T,
     alloc: Global,
@@ -37,15 +38,18 @@ pub fn round<R: Reducer, G: Gate, T: Threads + Wait + Sync>(
         ≡ group_of presentation.now differences.now.group.rules }
     requires sides { AreEqualSides (relations_of presentation.now.inv presentation.now.eqs)
         differences.now.group.rules }
-    ensures { IfOk result (λ answer. RoundSays presentation.now differences.now.group.rules
+    ensures says { IfOk result (λ answer. RoundSays presentation.now differences.now.group.rules
         differences.now.words limit answer.0) }
+    ensures figures { IfOk result (λ answer. AreFiguresOf presentation.now
+        differences.now.group.rules differences.now.words limit answer.0 answer.1) }
 {
-    let mut figures = no_figures(differences.len());
+    let count = differences.len();
     let machine = differences.machine(alloc)?;
     let Some(acceptor) = canonical_acceptor(alloc, differences, &machine, limit)? else {
+        let figures = figures_of(count, 0, 0, None);
         return Ok((Round::TooManyStates(Construction::Acceptor), figures));
     };
-    figures.acceptor = acceptor.len();
+    let states = acceptor.len();
     let Some(multipliers) = canonical_multipliers(
         rt,
         alloc,
@@ -56,9 +60,10 @@ pub fn round<R: Reducer, G: Gate, T: Threads + Wait + Sync>(
         crew,
     )?
     else {
+        let figures = figures_of(count, states, 0, None);
         return Ok((Round::TooManyStates(Construction::Multipliers), figures));
     };
-    figures.multiplier = largest(&multipliers);
+    let most = largest(&multipliers);
     // The check has more need of the memory.
     drop(machine);
     let structure = Structure {
@@ -66,19 +71,18 @@ pub fn round<R: Reducer, G: Gate, T: Threads + Wait + Sync>(
         multipliers,
     };
     let (round, broken) = checked(rt, alloc, presentation, differences, structure, limit, crew)?;
-    figures.broken = broken;
-    Ok((round, figures))
+    Ok((round, figures_of(count, states, most, broken)))
 }
 
-/// The figures of so many word differences, of which nothing is made yet.
-fn no_figures(differences: usize) -> Figures
-    ensures { result.differences ≡ differences }
+/// The figures of so many word differences, and of automata that have so many states.
+fn figures_of(differences: usize, acceptor: u32, multiplier: u32, broken: Option<Axiom>) -> Figures
+    ensures { result ≡ figures_of differences acceptor multiplier broken }
 {
     Figures {
         differences,
-        acceptor: 0,
-        multiplier: 0,
-        broken: None,
+        acceptor,
+        multiplier,
+        broken,
     }
 }
 
@@ -98,8 +102,11 @@ fn checked<R: Reducer, G: Gate, T: Threads + Wait + Sync>(
         differences.now.group.rules }
     requires made { AreMadeOf (group_of presentation.now differences.now.group.rules)
         differences.now.words structure.acceptor structure.multipliers.items }
-    ensures { IfOk result (λ answer. RoundSays presentation.now differences.now.group.rules
+    ensures says { IfOk result (λ answer. RoundSays presentation.now differences.now.group.rules
         differences.now.words limit answer.0) }
+    ensures broken { IfOk result (λ answer. IsChecked presentation.now
+        differences.now.group.rules limit structure.acceptor structure.multipliers.items answer.0
+        answer.1) }
 {
     // A use of the acceptor brings its invariant.
     let _alphabet = structure.acceptor.alphabet();
@@ -117,7 +124,7 @@ fn checked<R: Reducer, G: Gate, T: Threads + Wait + Sync>(
         Automata::No(cert) => {
             let broken = axiom_of(&cert);
             let equality = equality_of(alloc, differences.reducer(), cert)?;
-            Ok((Round::Refuted(equality), broken))
+            Ok((Round::Refuted(equality), Some(broken)))
         }
         Automata::TooManyStates { which } => {
             Ok((Round::TooManyStates(Construction::Check(which)), None))

@@ -4,6 +4,7 @@ ghost use Rattle.std.specs.Prelude.{◌≡◌, [], ◌∷◌, ◌++◌, None, So
 ghost use Rattle.kb_word.specs.Rewriting.{NormalForm};
 ghost use Rattle.kb_kept.specs.Listed.{equality_of};
 ghost use Rattle.kb_structure.specs.declared.cert.Cert.TheVariants.{N4, N7};
+ghost use Rattle.kb_round.specs.Figures.{Breaks};
 ghost use Rattle.kb_round.specs.Rounds.{ShowsEquality};
 ghost use Rattle.kb_round.specs.Shown.{HasEquality};
 
@@ -33,15 +34,18 @@ pub(crate) fn equality_of<R: Reducer>(
     }
 }
 
-/// The axiom that a certificate breaks, where automata of word differences may break it.
-pub(crate) fn axiom_of(cert: &Cert) -> Option<Axiom> {
+/// The axiom that a certificate breaks.
+pub(crate) fn axiom_of(cert: &Cert) -> Axiom
+    requires { HasEquality cert.now }
+    ensures { Breaks cert.now result }
+{
     match cert {
-        Cert::N4 { .. } => Some(Axiom::N4),
-        Cert::N5 { .. } => Some(Axiom::N5),
-        Cert::N6 { .. } => Some(Axiom::N6),
-        Cert::N7 { .. } => Some(Axiom::N7),
-        Cert::N8 { .. } => Some(Axiom::N8),
-        Cert::N1 { .. } | Cert::N2 { .. } | Cert::N3 { .. } => None,
+        Cert::N4 { .. } => Axiom::N4,
+        Cert::N5 { .. } => Axiom::N5,
+        Cert::N6 { .. } => Axiom::N6,
+        Cert::N7 { .. } => Axiom::N7,
+        Cert::N8 { .. } => Axiom::N8,
+        Cert::N1 { .. } | Cert::N2 { .. } | Cert::N3 { .. } => unreachable!(),
     }
 }
 

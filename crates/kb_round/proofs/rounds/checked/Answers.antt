@@ -1,4 +1,4 @@
-use Rattle.std.proofs.Common.{◌≡◌, ℕ, List, sym, ◌∙◌, subst}
+use Rattle.std.proofs.Common.{◌≡◌, ℕ, List, refl, sym, ◌∙◌, subst}
 use Rattle.kb_word.specs.Words.{Pair as Sides}
 use Rattle.kb_word.specs.Relations.{relations_of}
 use Rattle.kb_word.specs.declared.presentation.Presentation.{Presentation}
@@ -11,6 +11,8 @@ use Rattle.kb_axioms.specs.declared.answers.Automata.TheVariants.{No, Pass, TooM
 use Rattle.kb_axioms.proofs.Presented.{over}
 use Rattle.kb_round.specs.Rounds.IsCounted.{check}
 use Rattle.kb_round.proofs.DifferenceStructures.{has_equality, own_structure_made}
+use Rattle.kb_round.specs.Rounds.{ShowsEquality}
+use Rattle.kb_round.specs.Figures.IsChecked.{own, refuted, counted}
 use Rattle.kb_round.proofs.rounds.checked.Goals as goal
 
 -- what is answered of the automata, by the names that the round has for them
@@ -41,8 +43,19 @@ equality_of-requires g c =
     c.in_ok-check_automata.field-0 (No c.in-No.cert) c.deref.ensures.value (c.deref-2.ensures.value ∙ c.in_ok-relations.ensures) c.in-No.is
     c.in_ok-check_automata.ensures)
 
-pub returns-in-Pass : goal.returns-in-Pass
-returns-in-Pass g c =
+pub axiom_of-broken-requires : goal.axiom_of-broken-requires
+axiom_of-broken-requires g c =
+    let presentation = c.args.presentation.now in
+    let structure = c.args.structure in
+    let given = c.args.differences.now in
+    has_equality presentation given.group.rules given.words structure.acceptor structure.multipliers.items c.requires.made
+    c.alphabet-alphabet.ensures.automaton c.args.limit c.in-No.cert
+    (said presentation structure.acceptor structure.multipliers.items c.deref.result.now c.deref-2.result.now c.args.limit
+    c.in_ok-check_automata.field-0 (No c.in-No.cert) c.deref.ensures.value (c.deref-2.ensures.value ∙ c.in_ok-relations.ensures) c.in-No.is
+    c.in_ok-check_automata.ensures)
+
+pub returns-in-Pass-clause-says : goal.returns-in-Pass-clause-says
+returns-in-Pass-clause-says g c =
     let presentation = c.args.presentation.now in
     let structure = c.args.structure in
     let given = c.args.differences.now in
@@ -52,8 +65,8 @@ returns-in-Pass g c =
     c.in_ok-check_automata.field-0 Pass c.deref.ensures.value (c.deref-2.ensures.value ∙ c.in_ok-relations.ensures) c.in-Pass.is
     c.in_ok-check_automata.ensures)
 
-pub returns-in-TooManyStates : goal.returns-in-TooManyStates
-returns-in-TooManyStates g c =
+pub returns-in-TooManyStates-clause-says : goal.returns-in-TooManyStates-clause-says
+returns-in-TooManyStates-clause-says g c =
     let presentation = c.args.presentation.now in
     let structure = c.args.structure in
     let given = c.args.differences.now in
@@ -61,3 +74,20 @@ returns-in-TooManyStates g c =
     (said presentation structure.acceptor structure.multipliers.items c.deref.result.now c.deref-2.result.now c.args.limit
     c.in_ok-check_automata.field-0 (TooManyStates c.in-TooManyStates.which) c.deref.ensures.value
     (c.deref-2.ensures.value ∙ c.in_ok-relations.ensures) c.in-TooManyStates.is c.in_ok-check_automata.ensures)
+
+pub returns-in-Pass-clause-broken : goal.returns-in-Pass-clause-broken
+returns-in-Pass-clause-broken g c = own refl refl
+
+pub returns-in_ok-equality-in-No-clause-broken : goal.returns-in_ok-equality-in-No-clause-broken
+returns-in_ok-equality-in-No-clause-broken g c =
+    let presentation = c.args.presentation.now in
+    let structure = c.args.structure in
+    let Shows : List Sides → Type 0 = λ rules. ShowsEquality rules c.in-No.cert c.in_ok-equality-in-No.equality in
+    refuted
+    (said presentation structure.acceptor structure.multipliers.items c.deref.result.now c.deref-2.result.now c.args.limit
+    c.in_ok-check_automata.field-0 (No c.in-No.cert) c.deref.ensures.value (c.deref-2.ensures.value ∙ c.in_ok-relations.ensures) c.in-No.is
+    c.in_ok-check_automata.ensures)
+    (subst Shows c.reducer.ensures c.in_ok-equality-in-No.ensures) c.axiom_of-broken.ensures
+
+pub returns-in-TooManyStates-clause-broken : goal.returns-in-TooManyStates-clause-broken
+returns-in-TooManyStates-clause-broken g c = counted
