@@ -3,7 +3,8 @@
 ghost use Rattle.std.specs.Prelude.{◌≡◌, ℕ, ◌+◌, ◌<◌, ◌≤◌, ◌⊎◌, ◌^◌, List, [], ◌∷◌, ◌++◌, IfOk, IfSome, OnErr, OnOk, length, get_or, set};
 ghost use Rattle.kb_trie.specs.declared.lookup.Entry.{Entry};
 ghost use Rattle.kb_trie.specs.States.{AreWords, word};
-ghost use Rattle.kb_trie.specs.Steps.{IsLink, IsStep};
+ghost use Rattle.kb_trie.specs.Steps.{IsLink, IsStep, IsStepBeyond};
+ghost use Rattle.kb_trie.specs.Adding.{Adds};
 ghost use Rattle.kb_trie.specs.LeftSides.{AreLefts, HasAt, HasEnding, IsLast, IsLeastOf, IsLongestLeft};
 ghost use Rattle.kb_trie.specs.Lookups.{AreEntries, IsLookup, kept, states_in};
 
@@ -151,6 +152,21 @@ impl Lookup {
         ensures { IsLink self.now.words state result }
     {
         self.trie.link(state)
+    }
+
+    /// Adds to a list the states to which a letter leads from a state, if their words are longer than `beyond`,
+    /// in any order.
+    pub fn add_steps_beyond(
+        &self,
+        state: u32,
+        beyond: u32,
+        found: &mut Vec<u32>,
+    ) -> Result<(), Memory>
+        requires { state < length self.now.words }
+        ensures { OnOk result (Adds (IsStepBeyond self.now.words state beyond)
+            found.old.items found.new.items) }
+    {
+        self.trie.add_steps_beyond(state, beyond, found)
     }
 
     /// The length of a state's word.
