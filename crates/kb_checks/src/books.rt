@@ -4,14 +4,14 @@ ghost use Rattle.std.specs.Prelude.{IfOk};
 ghost use Rattle.kb_share.specs.Versions.{IsPublished};
 
 use kb_book::{Book, Limits};
+use kb_index::Index;
 use kb_presfile::read;
-use kb_rules::Scan;
 use kb_share::{Finder, Silent, settle};
 use kb_word::Memory;
 use std::alloc::Global;
 
 /// The book of a presentation after its relations are settled and their lines published.
-pub(crate) fn published(alloc: Global, text: &str) -> Result<Book<Scan>, Memory>
+pub(crate) fn published(alloc: Global, text: &str) -> Result<Book<Index>, Memory>
     ensures { IfOk result (λ book. IsPublished book.course.state) }
 {
     let Ok(presentation) = read(alloc, text.as_bytes()) else {
@@ -23,7 +23,7 @@ pub(crate) fn published(alloc: Global, text: &str) -> Result<Book<Scan>, Memory>
 }
 
 /// A book after it is settled and its live lines published.
-pub(crate) fn settled(alloc: Global, mut book: Book<Scan>) -> Result<Book<Scan>, Memory>
+pub(crate) fn settled(alloc: Global, mut book: Book<Index>) -> Result<Book<Index>, Memory>
     ensures { IfOk result (λ book. IsPublished book.course.state) }
 {
     settle(alloc, &mut book, &mut Finder::new(alloc), &mut Silent)?;

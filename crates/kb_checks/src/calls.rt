@@ -75,7 +75,7 @@ fn completed<T: Threads + Wait + Sync>(rt: &T, alloc: Global, text: &str) -> Res
     };
     let limits = Limits::new(1000, 100, 100, 100);
     let crew = Crew::new(2, &OpenGate);
-    match complete::<Scan, OpenGate, T>(rt, alloc, &presentation, &limits, &crew)? {
+    match complete::<Index, OpenGate, T>(rt, alloc, &presentation, &limits, &crew)? {
         Outcome::Confluent(rules, _) => Ok(rules),
         Outcome::Halted(_) => Err(Memory),
     }

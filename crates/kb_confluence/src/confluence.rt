@@ -9,6 +9,7 @@ use crate::prime_rows::PrimeRows;
 use crate::rows::Rows;
 use crate::shares::{all_joined, earliest};
 use kb_draw::{Crew, share_out};
+use kb_index::Automaton;
 use kb_io::{Gate, Point};
 use kb_overlap::composite_overlaps_need_no_look;
 use kb_rules::{Reducer, Rule, Rules};
@@ -95,7 +96,8 @@ fn primes_are_joined<R: Reducer + Sync, G: Gate, T: Threads + Wait + Sync>(
     requires size { length rules.now.rules ≤ 2 ^ 31 }
     ensures { IfOk result (λ joined. IsTrue joined → PrimesAreJoined rules.now.rules) }
 {
-    let rows = PrimeRows::of(alloc, rules, reducer)?;
+    let automaton = Automaton::of(alloc, rules.as_slice())?;
+    let rows = PrimeRows::of(alloc, rules, reducer, &automaton);
     let shares = share_out(rt, alloc, &rows, &crew_for(rules.len(), crew))?;
     Ok(all_joined(&shares))
 }

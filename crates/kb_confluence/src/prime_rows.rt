@@ -1,12 +1,14 @@
 //! The test of one row by its prime overlaps, and of all rows as work to be shared out.
 
 ghost use Rattle.std.specs.Prelude.{◌≡◌, ◌<◌, IfOk, IsTrue, Some, length, slice_get};
+ghost use Rattle.kb_index.specs.Automata.{IsAutomaton};
 ghost use Rattle.kb_overlap.specs.Composite.{ArePrimeOverlaps};
 ghost use Rattle.kb_confluence.specs.PrimeRows.{PrimesOfRowAreJoined};
 
 use crate::rows::Buffers;
 use crate::shares::PrimeShare;
 use kb_draw::Work;
+use kb_index::Automaton;
 use kb_overlap::{Joinability, Overlap, PairWorkspace, PrimeOverlaps};
 use kb_rules::{Reducer, Rule, Rules};
 use kb_word::Memory;
@@ -24,17 +26,22 @@ pub struct PrimeRows<'r, R: Reducer> {
 }
 
 impl<'r, R: Reducer> PrimeRows<'r, R> {
-    /// The rows of these rules.
-    pub fn of(alloc: Global, rules: &'r Rules, reducer: &'r R) -> Result<PrimeRows<'r, R>, Memory>
-        requires { R.rules reducer.now ≡ rules.now.rules }
-        ensures { IfOk result (λ rows. rows.rules.now ≡ rules.now.rules) }
+    /// The rows of these rules, whose automaton this is.
+    pub fn of(
+        alloc: Global,
+        rules: &'r Rules,
+        reducer: &'r R,
+        automaton: &'r Automaton,
+    ) -> PrimeRows<'r, R>
+        requires reducer { R.rules reducer.now ≡ rules.now.rules }
+        requires automaton { IsAutomaton rules.now.rules automaton.now }
+        ensures { result.rules.now ≡ rules.now.rules }
     {
-        let primes = PrimeOverlaps::of(alloc, rules)?;
-        Ok(PrimeRows {
+        PrimeRows {
             rules: rules.as_slice(),
             reducer,
-            primes,
-        })
+            primes: PrimeOverlaps::by(alloc, rules, automaton),
+        }
     }
 
     /// Whether each overlap of the row of this index is joined.

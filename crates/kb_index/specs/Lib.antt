@@ -1,14 +1,2 @@
-pub mod Edges
-pub mod Tries
-pub mod Sides
-pub mod Growing
-pub mod Children
-pub mod Links
-pub mod Rows
-pub mod Chains
-pub mod Ends
-pub mod Live
-pub mod Owners
+pub mod Lefts
 pub mod Automata
-pub mod Recents
-pub mod Lookups

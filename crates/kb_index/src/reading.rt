@@ -4,11 +4,10 @@ ghost use Rattle.std.specs.Prelude.{◌≡◌, List, ◌+◌, ◌-◌, ◌<◌, 
 ghost use Rattle.kb_word.specs.Words.{Pair, OneOf, EndsWith};
 ghost use Rattle.kb_word.specs.Rewriting.{IsIrreducible, NormalForm};
 ghost use Rattle.kb_rules.specs.Steps.{IsFirstStep, Leads};
-ghost use Rattle.kb_index.specs.Automata.{IsAutomaton, AreStates, StandsFor};
-ghost use Rattle.kb_index.specs.Lookups.{IsLookup};
+ghost use Rattle.kb_trie.specs.States.{AreWords};
+ghost use Rattle.kb_index.specs.Automata.{AreStatesAlong, IsAutomaton, ReadsBy, StandsFor};
 
 use crate::automaton::Automaton;
-use crate::lookup::Lookup;
 use kb_rules::{Rule, Rules, Step, Trace, Workspace};
 use kb_word::{Letter, Memory, Word};
 use std::alloc::Global;
@@ -17,35 +16,37 @@ use std::mem::swap;
 /// Replaces the word by its normal form.
 pub fn reduce(
     list: &Rules,
-    lookup: &Lookup,
+    automaton: &Automaton,
     w: &mut Word,
     workspace: &mut Workspace,
 ) -> Result<(), Memory>
-    requires { IsLookup list.now.rules lookup.now }
+    requires { IsAutomaton list.now.rules automaton.now }
     ensures ok { OnOk result (NormalForm list.now.rules w.old w.new) }
     ensures err { OnErr result (w.new ≡ w.old) }
 {
-    // A use of the list brings its invariant, that the rules decrease.
+    // A use of the list brings its invariant, that the rules decrease, and so that of the automaton.
     let _rules = list.as_slice();
+    let _states = automaton.states();
     start(workspace, w)?;
-    while let Some(_) = next_step(list, lookup, workspace)? {}
+    while let Some(_) = next_step(list, automaton, workspace)? {}
     swap(w, &mut workspace.front);
     Ok(())
 }
 
 /// The normal form, with the steps that lead to it.
-pub fn trace(alloc: Global, list: &Rules, lookup: &Lookup, w: &Word) -> Result<Trace, Memory>
-    requires { IsLookup list.now.rules lookup.now }
+pub fn trace(alloc: Global, list: &Rules, automaton: &Automaton, w: &Word) -> Result<Trace, Memory>
+    requires { IsAutomaton list.now.rules automaton.now }
     ensures normal { IfOk result (λ trace. NormalForm list.now.rules w.now trace.word) }
     ensures steps { IfOk result (λ trace.
         Leads (IsFirstStep list.now.rules) w.now trace.steps.items trace.word) }
 {
-    // A use of the list brings its invariant, that the rules decrease.
+    // A use of the list brings its invariant, that the rules decrease, and so that of the automaton.
     let _rules = list.as_slice();
+    let _states = automaton.states();
     let mut workspace = Workspace::new(alloc);
     start(&mut workspace, w)?;
     let mut steps = Vec::new(alloc);
-    while let Some(step) = next_step(list, lookup, &mut workspace)? {
+    while let Some(step) = next_step(list, automaton, &mut workspace)? {
         steps.push(step)?;
     }
     // What is kept of it, as in a line of a log, takes no more memory than its letters.
@@ -69,16 +70,16 @@ fn start(workspace: &mut Workspace, word: &Word) -> Result<(), Memory>
 /// all is read. What is read is irreducible.
 fn next_step(
     list: &Rules,
-    lookup: &Lookup,
+    automaton: &Automaton,
     workspace: &mut Workspace,
 ) -> Result<Option<Step>, Memory>
-    requires lookup { IsLookup list.now.rules lookup.now }
-    requires states { AreStates lookup.now.settled.value.edges.items workspace.old.front
+    requires automaton { ReadsBy list.now.rules automaton.now }
+    requires states { AreStatesAlong automaton.now.words workspace.old.front
         workspace.old.states.items }
     requires irreducible { IsIrreducible (OneOf list.now.rules) workspace.old.front }
     requires range { All (λ x. x < 2 ^ 16) (workspace.old.front ++ workspace.old.unread) }
     ensures states { OnOk result
-        (AreStates lookup.now.settled.value.edges.items workspace.new.front
+        (AreStatesAlong automaton.now.words workspace.new.front
         workspace.new.states.items) }
     ensures irreducible { OnOk result (IsIrreducible (OneOf list.now.rules) workspace.new.front) }
     ensures range { IfOk result (λ found.
@@ -90,7 +91,7 @@ fn next_step(
         IfNone found (workspace.new.front ≡ workspace.old.front ++ workspace.old.unread)) }
 {
     while let Some(letter) = workspace.unread.next() {
-        if let Some(step) = read_letter(list, lookup, workspace, letter)? {
+        if let Some(step) = read_letter(list, automaton, workspace, letter)? {
             return Ok(Some(step));
         }
     }
@@ -100,17 +101,17 @@ fn next_step(
 /// Reads a letter: it joins the front, at whose end a left side is then replaced, if one stands there.
 fn read_letter(
     list: &Rules,
-    lookup: &Lookup,
+    automaton: &Automaton,
     workspace: &mut Workspace,
     letter: Letter,
 ) -> Result<Option<Step>, Memory>
-    requires lookup { IsLookup list.now.rules lookup.now }
-    requires states { AreStates lookup.now.settled.value.edges.items workspace.old.front
+    requires automaton { ReadsBy list.now.rules automaton.now }
+    requires states { AreStatesAlong automaton.now.words workspace.old.front
         workspace.old.states.items }
     requires irreducible { IsIrreducible (OneOf list.now.rules) workspace.old.front }
     requires range { All (λ x. x < 2 ^ 16) (workspace.old.front ++ letter ∷ workspace.old.unread) }
     ensures states { OnOk result
-        (AreStates lookup.now.settled.value.edges.items workspace.new.front
+        (AreStatesAlong automaton.now.words workspace.new.front
         workspace.new.states.items) }
     ensures irreducible { OnOk result (IsIrreducible (OneOf list.now.rules) workspace.new.front) }
     ensures range { OnOk result (All (λ x. x < 2 ^ 16) (workspace.new.front ++ workspace.new.unread)) }
@@ -122,14 +123,16 @@ fn read_letter(
     ensures unread { IfOk result (λ found. IfNone found (workspace.new.unread ≡ workspace.old.unread)) }
 {
     let state = advance(
-        &lookup.settled,
+        automaton,
         &mut workspace.front,
         &mut workspace.states,
         letter,
     )?;
-    let place = lookup.first_ending(state, &workspace.front);
-    let Some(rule) = list.get(place) else {
+    let Some(place) = automaton.first_ending(state) else {
         return Ok(None);
+    };
+    let Some(rule) = list.get(place) else {
+        unreachable!()
     };
     let kept = cut(&mut workspace.front, &mut workspace.states, rule);
     workspace.unread.put_back(rule.right())?;
@@ -145,18 +148,16 @@ fn advance(
     front: &mut Word,
     states: &mut Vec<u32>,
     letter: Letter,
-) -> Result<usize, Memory>
-    requires automaton { (rules : List Pair) × IsAutomaton rules automaton.now }
-    requires states { AreStates automaton.now.edges.items front.old states.old.items }
+) -> Result<u32, Memory>
+    requires words { AreWords automaton.now.words }
+    requires states { AreStatesAlong automaton.now.words front.old states.old.items }
     ensures word { OnOk result (front.new ≡ front.old ++ letter ∷ []) }
-    ensures states { OnOk result (AreStates automaton.now.edges.items front.new states.new.items) }
-    ensures state { IfOk result
-        (λ state. StandsFor automaton.now.edges.items (front.old ++ letter ∷ []) state) }
+    ensures states { OnOk result (AreStatesAlong automaton.now.words front.new states.new.items) }
+    ensures state { IfOk result (StandsFor automaton.now.words (front.old ++ letter ∷ [])) }
 {
-    let last = states[states.len() - 1] as usize;
-    let state = automaton.step(last, letter.number());
+    let state = automaton.step(states[states.len() - 1], letter.number());
     front.push(letter)?;
-    states.push(state as u32)?;
+    states.push(state)?;
     Ok(state)
 }
 

@@ -1,8 +1,9 @@
 -- What a list gains.
-use Rattle.std.proofs.Common.{◌≡◌, ℕ, ◌+◌, ◌<◌, ◌⊎◌, List, [], ◌∷◌, ◌++◌, length, get_or, take, sym, subst, inl, inr, arith}
+use Rattle.std.proofs.Common.{◌≡◌, ℕ, ◌+◌, ◌<◌, ◌⊎◌, List, [], ◌∷◌, length, get_or, take, sym, subst, inl, inr, arith}
 use Rattle.std.specs.List.{Contains}
 use Rattle.std.proofs.lemmas.List.{take_more}
-use Rattle.std.proofs.lemmas.List.Elements.{Contains-append_left, Contains-push, Contains-push_cases}
+use Rattle.std.proofs.lemmas.List.Elements.{Contains-append_cases, Contains-append_left, Contains-append_right, Contains-push, Contains-push_cases}
+use Rattle.kb_trie.specs.Adding.{Adds}
 use Rattle.kb_overlap.specs.Ways.{Gains}
 
 -- nothing, where there is no such element
@@ -11,21 +12,6 @@ gains_none Such xs none = record {
   kept = λ one there. there;
   gained = λ one is. absurd (none one is);
   only = λ one there. inl there;
-}
-
--- an element at the end, where it is the only such one
-pub gains_push : {A : Type 0} (Such : A → Type 0) (xs : List A) (x : A) → Such x → ((one : A) → Such one → one ≡ x)
-    → Gains Such xs (xs ++ x ∷ [])
-gains_push {A} Such xs x is alone = record {
-  kept = λ one there. Contains-append_left xs (x ∷ []) one there;
-  gained = λ one such.
-      let P : A → Type 0 = λ y. Contains (xs ++ x ∷ []) y in
-      subst P (sym (alone one such)) (Contains-push xs x);
-  only = λ one there.
-      elim (Contains-push_cases xs x one there) [
-        | inl before ↦ inl before
-        | inr same ↦ inr (subst Such same is)
-      ];
 }
 
 -- the same elements under another name
@@ -62,6 +48,20 @@ gains_then One Two Both xs ys zs first second of_one of_two split = record {
         | inr is ↦ inr (of_two one is)
       ];
 }
+
+-- the numbers that a list gained at its end
+pub gains_adds : (Such : ℕ → Type 0) (xs ys : List ℕ) → Adds Such xs ys → Gains Such xs ys
+gains_adds Such xs ys adds =
+    let P : List ℕ → Type 0 = λ list. Gains Such xs list in
+    subst P (sym adds.whole) (record {
+      kept = λ one there. Contains-append_left xs adds.more one there;
+      gained = λ one such. Contains-append_right xs adds.more one (adds.all one such);
+      only = λ one there.
+          elim (Contains-append_cases xs adds.more one there) [
+            | inl before ↦ inl before
+            | inr after ↦ inr (adds.each one after)
+          ];
+    })
 
 -- such an element by one of the states
 pub record Over {A : Type 0} (Such : ℕ → A → Type 0) (states : List ℕ) (one : A) : Type 0 where

@@ -11,11 +11,8 @@ mod Narrowed
 mod Inside
 pub mod Criterion
 mod Gaining
-mod Shortness
 mod Suffixed
-mod Kept
 mod Ended
-mod Leading
 mod Reached
 mod Sticking
 mod Prefixed

@@ -2,16 +2,15 @@
 use Rattle.std.proofs.Common.{◌≡◌, ℕ, ◌+◌, ◌<◌, ◌≤◌, List, length, take, subst, inl, inr, arith, length-take}
 use Rattle.std.proofs.lemmas.Bool.{cases_lt}
 use Rattle.kb_word.specs.Words.{Pair}
-use Rattle.kb_index.specs.declared.edge.Edge.{Edge}
-use Rattle.kb_index.specs.declared.automaton.Automaton.{Automaton}
-use Rattle.kb_index.specs.Edges.{word}
-use Rattle.kb_index.specs.Tries.{left_at}
-use Rattle.kb_index.specs.Automata.{IsAutomaton, StandsFor, HaveLefts}
-use Rattle.kb_index.proofs.Suffixes.{ends_within}
+use Rattle.kb_trie.specs.States.{word}
+use Rattle.kb_trie.proofs.Suffixes.{ends_length, ends_within}
+use Rattle.kb_index.specs.Automata.{StandsFor, HaveLefts}
+use Rattle.kb_index.specs.Lefts.{left_at}
 use Rattle.kb_overlap.specs.declared.left_sides.Overlap.{Overlap}
+use Rattle.kb_overlap.specs.Prefixes.{AreWordsOf}
 use Rattle.kb_overlap.specs.Ways.{EndsPrefix, EndsRead, Gains, IsContained}
 use Rattle.kb_overlap.proofs.Gaining.{gains_none, gains_same, gains_then}
-use Rattle.kb_overlap.proofs.Suffixed.{ends_length, left_to_state}
+use Rattle.kb_overlap.proofs.Suffixed.{left_to_state}
 use Rattle.kb_overlap.proofs.Sticking.{contained_of, ends_prefix}
 
 -- nothing ends before a letter is read
@@ -24,13 +23,12 @@ prefix_none rules index l xs =
     omega (arith, length-take ends.read l))
 
 -- a letter more is read
-pub prefix_more : {rules : List Pair} {automaton : Automaton} → IsAutomaton rules automaton → (index : ℕ) (l : List ℕ) (count next : ℕ)
-    (xs ys zs : List Overlap) → StandsFor automaton.edges.items (take (count + 1) l) next → Gains (EndsPrefix rules index l count) xs ys
-    → Gains (EndsRead rules index (word automaton.edges.items next) (count + 1) 0) ys zs → Gains (EndsPrefix rules index l (count + 1)) xs zs
-prefix_more {rules} {automaton} is index l count next xs ys zs stands before added =
-    let edges : List Edge = automaton.edges.items in
+pub prefix_more : {rules : List Pair} {words : List (List ℕ)} → AreWordsOf rules words → (index : ℕ) (l : List ℕ) (count next : ℕ)
+    (xs ys zs : List Overlap) → StandsFor words (take (count + 1) l) next → Gains (EndsPrefix rules index l count) xs ys
+    → Gains (EndsRead rules index (word words next) (count + 1) 0) ys zs → Gains (EndsPrefix rules index l (count + 1)) xs zs
+prefix_more {rules} {words} known index l count next xs ys zs stands before added =
     let w : List ℕ = take (count + 1) l in
-    gains_then (EndsPrefix rules index l count) (EndsRead rules index (word edges next) (count + 1) 0) (EndsPrefix rules index l (count + 1)) xs ys zs
+    gains_then (EndsPrefix rules index l count) (EndsRead rules index (word words next) (count + 1) 0) (EndsPrefix rules index l (count + 1)) xs ys zs
     before added
     (λ one ends. record { read = ends.read; within = let within = ends.within in omega arith; ends = ends.ends })
     (λ one ends.
@@ -39,7 +37,7 @@ prefix_more {rules} {automaton} is index l count next xs ys zs stands before add
       within = omega arith;
       ends = record {
         within = ends.within;
-        ends = ends_within w (word edges next) (left_at rules one.rule) stands.longest.ends ends.ends;
+        ends = ends_within w (word words next) (left_at rules one.rule) stands.longest.ends ends.ends;
         longer = ends.longer;
         upto = ends.upto;
         other = ends.other;
@@ -54,7 +52,7 @@ prefix_more {rules} {automaton} is index l count next xs ys zs stands before add
           let here : P (count + 1) = subst P same ends.ends in
           inr (record {
             within = here.within;
-            ends = left_to_state is w next one.rule stands here.within here.ends;
+            ends = left_to_state known w next one.rule stands here.within here.ends;
             longer = here.longer;
             upto = here.upto;
             other = here.other;

@@ -15,17 +15,16 @@ use Rattle.kb_rules.specs.Agreement.{AgreeAsFar}
 use Rattle.kb_rules.proofs.Lists.{FromEnd, from_end}
 use Rattle.kb_rules.proofs.Lists.FromEnd.{empty, last}
 use Rattle.kb_rules.proofs.Superposed.{overlap-agrees, slice_get-drop}
-use Rattle.kb_index.specs.declared.edge.Edge.{Edge}
-use Rattle.kb_index.specs.declared.automaton.Automaton.{Automaton}
-use Rattle.kb_index.specs.Edges.{word}
-use Rattle.kb_index.specs.Tries.{left_at}
-use Rattle.kb_index.specs.Automata.{IsAutomaton, HaveLefts}
-use Rattle.kb_index.proofs.Suffixes.{ends_all, ends_within}
+use Rattle.kb_trie.specs.States.{word}
+use Rattle.kb_trie.proofs.Suffixes.{ends_all, ends_length, ends_within}
+use Rattle.kb_index.specs.Automata.{HaveLefts}
+use Rattle.kb_index.specs.Lefts.{left_at}
 use Rattle.kb_overlap.specs.declared.left_sides.Overlap.{Overlap}
 use Rattle.kb_overlap.specs.Composite.{ArePrimeOverlaps, BothStickOut, IsComposite, IsPrime, IsPrimeOverlap, StandsInside}
 use Rattle.kb_overlap.specs.Composite.IsPrime.{contained, proper}
+use Rattle.kb_overlap.specs.Prefixes.{AreWordsOf}
 use Rattle.kb_overlap.specs.Ways.{EndsPrefix, Gains, IsContained, IsMet, IsProper}
-use Rattle.kb_overlap.proofs.Suffixed.{no_rule, left_of, ends_length, left_to_state, ends_some}
+use Rattle.kb_overlap.proofs.Suffixed.{no_rule, left_of, left_to_state, ends_some, have_lefts}
 use Rattle.kb_overlap.proofs.Reached.{standing, none_in_irreducible}
 
 some_injective : {x y : ℕ} → Some x ≡ Some y → x ≡ y
@@ -61,7 +60,7 @@ overlap_from l m before after rest whole within = record {
 }
 
 -- the rules of an overlap, from the index of the second
-left_some : (rules : List Pair) → HaveLefts rules → (index : ℕ) → index < length rules → 0 < length (left_at rules index)
+pub left_some : (rules : List Pair) → HaveLefts rules → (index : ℕ) → index < length rules → 0 < length (left_at rules index)
 left_some rules lefts index within =
     elim (cases_lt 0 (length (left_at rules index))) [
       | inl some ↦ some
@@ -222,23 +221,22 @@ irreducible_none rules tail [] count long none irreducible =
     subst P back irreducible
 irreducible_none rules tail (x ∷ way) count long none irreducible = absurd (let no : ⊥ = omega arith in no)
 
-module _ {rules : List Pair} {automaton : Automaton} (is : IsAutomaton rules automaton) where
+module _ {rules : List Pair} {words : List (List ℕ)} (known : AreWordsOf rules words) where
   -- what is met is a proper overlap
-  pub proper_of : (index count : ℕ) (one : Overlap) → index < length rules → IsMet rules automaton.edges.items index count one
+  pub proper_of : (index count : ℕ) (one : Overlap) → index < length rules → IsMet rules words index count one
       → IsProper rules index one
   proper_of index count one within met =
-      let edges : List Edge = automaton.edges.items in
       let l : List ℕ = left_at rules index in
       let m : List ℕ = left_at rules one.rule in
       let tail : List ℕ = drop 1 l in
       let way : List ℕ = met.reached.way in
       let long : length way ≡ count = met.reached.count_is in
-      let some : 0 < length l = left_some rules is.lefts index within in
+      let some : 0 < length l = left_some rules (have_lefts known) index within in
       let whole_l = tail_of l some in
       let x : ℕ = whole_l.0 in
       let is_l : l ≡ x ∷ tail = whole_l.1 in
       let ends : EndsWith (tail ++ way) m =
-      ends_within (tail ++ way) (word edges met.state) m met.reached.stands.longest.ends met.ends.ends in
+      ends_within (tail ++ way) (word words met.state) m met.reached.stands.longest.ends met.ends.ends in
       let before : List ℕ = ends.0 in
       let longer : count < length m = met.ends.longer in
       let upto : one.place + length m ≡ length l + count = met.ends.upto in
@@ -255,7 +253,7 @@ module _ {rules : List Pair} {automaton : Automaton} (is : IsAutomaton rules aut
         | inr none ↦
             let zero_count : count ≡ 0 = omega arith in
             let good = irreducible_none rules tail way count long zero_count met.reached.irreducible in
-            absurd (ends_some is (tail ++ way) one.rule met.ends.within ends
+            absurd (ends_some rules (tail ++ way) one.rule met.ends.within ends
             (none_in_irreducible rules (tail ++ way) good (tail ++ way) (ends_all (tail ++ way))))
       ] in
       let push = pushed way (omega arith) (from_end way) in
@@ -284,9 +282,8 @@ module _ {rules : List Pair} {automaton : Automaton} (is : IsAutomaton rules aut
 
   -- a proper overlap that isn't composite is met
   pub met_of : (index : ℕ) (one : Overlap) → IsProper rules index one
-      → (count : ℕ) × IsMet rules automaton.edges.items index count one
+      → (count : ℕ) × IsMet rules words index count one
   met_of index one given =
-      let edges : List Edge = automaton.edges.items in
       let l : List ℕ = left_at rules index in
       let m : List ℕ = left_at rules one.rule in
       let place : ℕ = one.place in
@@ -319,11 +316,11 @@ module _ {rules : List Pair} {automaton : Automaton} (is : IsAutomaton rules aut
       let whole : tail ++ way ≡ take (place - 1) tail ++ m =
       ap (λ (u : List ℕ). u ++ way) split_tail ∙ append_assoc (take (place - 1) tail) (drop place l) way
       ∙ ap (λ (u : List ℕ). take (place - 1) tail ++ u) (sym split_m) in
-      let stand = standing edges (tail ++ way) in
+      let stand = standing words known.are (tail ++ way) in
       let in_rules : one.rule < length rules = slice_get_within rules one.rule given.second given.overlap.is_second in
-      let inner : EndsWith (word edges stand.state) m =
-      left_to_state is (tail ++ way) stand.state one.rule stand.stands in_rules (take (place - 1) tail, whole) in
-      let fits = ends_length (word edges stand.state) m inner in
+      let inner : EndsWith (word words stand.state) m =
+      left_to_state known (tail ++ way) stand.state one.rule stand.stands in_rules (take (place - 1) tail, whole) in
+      let fits = ends_length (word words stand.state) m inner in
       let push = pushed way (omega arith) (from_end way) in
       let front : List ℕ = take (count - 1) way in
       let y : ℕ = push.letter in (

@@ -4,10 +4,9 @@ use Rattle.std.specs.List.{Contains}
 use Rattle.kb_word.specs.Words.{Pair, OneOf, EndsWith}
 use Rattle.kb_word.specs.Rewriting.{IsIrreducible}
 use Rattle.kb_word.specs.Overlap.{OverlapOf}
-use Rattle.kb_index.specs.declared.edge.Edge.{Edge}
-use Rattle.kb_index.specs.Edges.{word}
-use Rattle.kb_index.specs.Tries.{left_at}
+use Rattle.kb_trie.specs.States.{word}
 use Rattle.kb_index.specs.Automata.{StandsFor}
+use Rattle.kb_index.specs.Lefts.{left_at}
 use Rattle.kb_overlap.specs.declared.left_sides.Overlap.{Overlap}
 use Rattle.kb_overlap.specs.Composite.{BothStickOut, IsComposite}
 
@@ -64,25 +63,25 @@ pub record IsProper (rules : List Pair) (index : ℕ) (one : Overlap) : Type 0 w
 
 -- A way of so many letters leads from the word `tail` to the state: no left side stands in `tail` and the way without
 -- its last letter, and the state's word is longer than the way.
-pub record IsReached (rules : List Pair) (edges : List Edge) (tail : List ℕ)
+pub record IsReached (rules : List Pair) (words : List (List ℕ)) (tail : List ℕ)
     (count state : ℕ) : Type 0 where
   pub way : List ℕ
   pub count_is : length way ≡ count
   pub irreducible : IsIrreducible (OneOf rules) (tail ++ take (count - 1) way)
-  pub stands : StandsFor edges (tail ++ way) state
-  pub longer : count < length (word edges state)
+  pub stands : StandsFor words (tail ++ way) state
+  pub longer : count < length (word words state)
 
 -- these are exactly the states to which ways of so many letters lead
-pub record AreReached (rules : List Pair) (edges : List Edge) (tail : List ℕ) (count : ℕ)
+pub record AreReached (rules : List Pair) (words : List (List ℕ)) (tail : List ℕ) (count : ℕ)
     (level : List ℕ) : Type 0 where
-  pub each : (state : ℕ) → Contains level state → IsReached rules edges tail count state
-  pub all : (state : ℕ) → IsReached rules edges tail count state → Contains level state
+  pub each : (state : ℕ) → Contains level state → IsReached rules words tail count state
+  pub all : (state : ℕ) → IsReached rules words tail count state → Contains level state
 
 -- a way of so many letters leads from the left side of the rule at the index, without its first letter, to a state at
 -- which the other left side ends
-pub record IsMet (rules : List Pair) (edges : List Edge) (index count : ℕ)
+pub record IsMet (rules : List Pair) (words : List (List ℕ)) (index count : ℕ)
     (one : Overlap) : Type 0 where
   pub state : ℕ
-  pub reached : IsReached rules edges (drop 1 (left_at rules index)) count state
-  pub ends : EndsRead rules index (word edges state) (length (left_at rules index) + count) count
+  pub reached : IsReached rules words (drop 1 (left_at rules index)) count state
+  pub ends : EndsRead rules index (word words state) (length (left_at rules index) + count) count
       one

@@ -1,7 +1,7 @@
 //! Overlaps with the left sides that end what is read.
 
 ghost use Rattle.std.specs.Prelude.{◌≡◌, ◌<◌, ◌≤◌, ◌+◌, OnOk, length};
-ghost use Rattle.kb_index.specs.Edges.{word};
+ghost use Rattle.kb_trie.specs.States.{word};
 ghost use Rattle.kb_overlap.specs.Prefixes.{ArePrefixes};
 ghost use Rattle.kb_overlap.specs.Ways.{EndsRead, Gains, HasLeft, IsContained, IsOther};
 
@@ -31,45 +31,45 @@ impl<'a> Prefixes<'a> {
     pub(crate) fn add_endings(
         &self,
         index: usize,
-        state: usize,
+        state: u32,
         read: usize,
-        beyond: usize,
+        beyond: u32,
         found: &mut Vec<Overlap>,
     ) -> Result<(), Memory>
         requires prefixes { ArePrefixes self.now }
-        requires state { state ≤ length self.now.automaton.now.edges.items }
-        requires read { length (word self.now.automaton.now.edges.items state) ≤ read }
+        requires state { state < length self.now.automaton.now.words }
+        requires read { length (word self.now.automaton.now.words state) ≤ read }
         ensures { OnOk result (Gains
-            (EndsRead self.now.rules.now index (word self.now.automaton.now.edges.items state) read
+            (EndsRead self.now.rules.now index (word self.now.automaton.now.words state) read
             beyond) found.old.items found.new.items) }
     {
         let mut end = self.automaton.end_at(state);
-        while self.lengths[end] as usize > beyond {
-            let place = read - self.lengths[end] as usize;
-            self.add_chain(index, end, place, found)?;
-            end = self.automaton.end_at(self.automaton.links[end] as usize);
+        while self.automaton.depth(end) > beyond {
+            let place = read - self.automaton.depth(end) as usize;
+            self.add_at(index, end, place, found)?;
+            end = self.automaton.end_at(self.automaton.link(end));
         }
         Ok(())
     }
 
     /// Adds the overlap at the place with each rule whose left side is the word of the state.
-    fn add_chain(
+    fn add_at(
         &self,
         index: usize,
-        state: usize,
+        state: u32,
         place: usize,
         found: &mut Vec<Overlap>,
     ) -> Result<(), Memory>
         requires prefixes { ArePrefixes self.now }
-        requires state { state ≤ length self.now.automaton.now.edges.items }
+        requires state { state < length self.now.automaton.now.words }
         ensures { OnOk result (Gains
-            (HasLeft self.now.rules.now index (word self.now.automaton.now.edges.items state) place)
+            (HasLeft self.now.rules.now index (word self.now.automaton.now.words state) place)
             found.old.items found.new.items) }
     {
-        let mut rest = self.automaton.head_at(state) as usize;
-        while rest > 0 {
-            add_other(index, rest - 1, place, found)?;
-            rest = self.automaton.before[rest - 1] as usize;
+        let mut next = self.automaton.first_at(state);
+        while let Some(rule) = next {
+            add_other(index, rule, place, found)?;
+            next = self.automaton.next_at(rule);
         }
         Ok(())
     }

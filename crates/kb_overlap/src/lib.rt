@@ -10,9 +10,9 @@
 //!   `LeftSides::overlaps` then finds all overlaps of a word with them: `AreOverlaps` (specs/Overlapping.antt) says
 //!   that they are exactly the overlaps, strictly ascending by the rule's index and then by the place. A caller
 //!   leaves out a rule with itself at place 0.
-//! - `PrimeOverlaps::of` takes rules that decrease, and `PrimeOverlaps::by` their automaton too, which it shares.
-//!   `PrimeOverlaps::of_rule` then finds the prime overlaps in which one of them begins first: `ArePrimeOverlaps`
-//!   (specs/Composite.antt) says that they are exactly these. A rule with itself at place 0 is none.
+//! - `PrimeOverlaps::by` takes rules and the automaton of their left sides. `PrimeOverlaps::of_rule` then finds
+//!   the prime overlaps in which one of them begins first: `ArePrimeOverlaps` (specs/Composite.antt) says that
+//!   they are exactly these. A rule with itself at place 0 is none.
 //! - `meets` tells whether two words overlap at a place.
 //! - A `PairWorkspace` has two words, reduces them by a `kb_rules::Reducer`, and tells whether they are joined or
 //!   apart: whether their normal forms are one word or two (`specs/Joining.antt`). It is kept for one pair after
@@ -34,21 +34,22 @@
 //!
 //! # How prime overlaps are found
 //!
-//! By the automaton of the left sides, whose states stand for the prefixes of left sides: the state after a word is
-//! that of its longest suffix that is such a prefix (src/prefixes.rt, and `kb_index`).
+//! By the automaton of the left sides, in which each prefix of a left side is a state's word: the state after a
+//! word is that of its longest suffix that is a state's word (src/prefixes.rt, and `kb_index`).
 //!
 //! A left side that is contained in `l` ends where some first letters of `l` are read, so along the ends of the state
 //! after them all such left sides are met (src/endings.rt).
 //!
-//! The superposition of a proper overlap is `l u`, and the overlap is prime where no left side stands in `l u` without
-//! its first and last letter. So where `l` without its first letter is reducible, no proper overlap is prime. Else the
-//! automaton reads on from the state after `l` without its first letter, level by level (src/ways.rt). At the level of
-//! k letters stand the states after all ways `u` of k letters on which no left side ended earlier and whose word is
-//! longer than `u`, so that a left side that began in `l` may still go on. Where a left side ends at a state, the way
-//! ends too: each left side that ends there and is longer than `u` gives a prime overlap. Elsewhere the way goes on to
-//! the children of the state and of those along its links whose words are longer than `u`, where a child is the state
-//! after the letter. Where no left side contains another one, each way leads to an overlap. So the cost is that of the
-//! letters on the ways to the overlaps found, however many composite overlaps there are.
+//! The superposition of a proper overlap is `l u`, and the overlap is prime where no left side stands in `l u`
+//! without its first and last letter. So where `l` without its first letter is reducible, no proper overlap is
+//! prime. Else the automaton reads on from the state after `l` without its first letter, level by level
+//! (src/ways.rt). At the level of k letters stand the states after all ways `u` of k letters on which no left
+//! side ended earlier and whose word is longer than `u`, so that a left side that began in `l` may still go on.
+//! Where a left side ends at a state, the way ends too: each left side that ends there and is longer than `u`
+//! gives a prime overlap. Elsewhere the way goes on to the states after a letter more whose words are longer
+//! than `u` with that letter. Where no left side contains another one, and each state's word is a prefix of a
+//! left side, each way leads to an overlap. So the cost is that of the letters on the ways to the overlaps
+//! found, however many composite overlaps there are.
 //!
 //! # The proofs
 //!
@@ -64,13 +65,14 @@
 //! two replacements give is connected by words that are all below the word (`proofs/Criterion.antt`), and by
 //! well-founded induction each word has one normal form (`proofs/Connected.antt`).
 //!
-//! For prime overlaps, `proofs/Suffixed.antt` and `proofs/Ended.antt` follow chains and ends, `proofs/Leading.antt`
-//! links and children, `proofs/Reached.antt` the ways from level to level, and `proofs/Sweeping.antt` all levels
-//! together. `proofs/Sticking.antt` and `proofs/Prefixed.antt` say that what is met are the prime overlaps. Each
-//! function says what a list gained (`Gains` of specs/Ways.antt), and `proofs/Gaining.antt` puts such facts together.
+//! For prime overlaps, `proofs/Suffixed.antt` has the left sides as states' words, `proofs/Ended.antt` follows
+//! the left sides that end a state's word, `proofs/Reached.antt` the ways from level to level, and
+//! `proofs/Sweeping.antt` all levels together. `proofs/Sticking.antt` and `proofs/Prefixed.antt` say that what
+//! is met are the prime overlaps. Each function says what a list gained (`Gains` of specs/Ways.antt), and
+//! `proofs/Gaining.antt` puts such facts together.
 //!
-//! Below are `kb_word`, with the definitions of overlap and critical pair, `kb_rules`, and `kb_index`, with the
-//! automaton of left sides.
+//! Below are `kb_word`, with the definitions of overlap and critical pair, `kb_rules`, `kb_trie`, with the
+//! states of an automaton, and `kb_index`, with the automaton of left sides.
 #![tactic(auto)]
 
 mod endings;

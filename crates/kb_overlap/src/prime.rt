@@ -1,66 +1,52 @@
 //! Prime overlaps, found by the automaton of the left sides.
 
-ghost use Rattle.std.specs.Prelude.{◌≡◌, ◌<◌, IfOk, OnOk, length};
+ghost use Rattle.std.specs.Prelude.{◌≡◌, ◌<◌, OnOk, length};
 ghost use Rattle.kb_index.specs.Automata.{IsAutomaton};
 ghost use Rattle.kb_overlap.specs.Composite.{ArePrimeOverlaps};
-ghost use Rattle.kb_overlap.specs.Prefixes.{ArePrefixes};
 
 use crate::left_sides::Overlap;
-use crate::prefixes::{Prefixes, lengths_of};
+use crate::prefixes::Prefixes;
 use kb_index::Automaton;
-use kb_rules::{Rule, Rules};
+use kb_rules::Rules;
 use kb_word::Memory;
 use std::alloc::Global;
 use std::marker::Model;
-use std::sync::Arc;
 
-/// The left sides of a list of rules as an automaton, by which the prime overlaps of each with all of them are found.
+/// A list of rules and the automaton of their left sides, by which the prime overlaps of each with all of them
+/// are found.
 #[derive(Drop)]
 pub struct PrimeOverlaps<'r> {
     alloc: Global,
-    rules: &'r [Rule],
-    automaton: Arc<Automaton>,
-    /// For each state the length of its word.
-    lengths: Vec<u32>,
+    prefixes: Prefixes<'r>,
 }
 
 impl<'r> Model for PrimeOverlaps<'r> {
     ghost use Rattle.std.specs.Prelude.{List};
     ghost use Rattle.kb_word.specs.Words.{Pair};
-    ghost use Rattle.kb_overlap.specs.Prefixes.{AreStatesOf};
+    ghost use Rattle.kb_overlap.specs.Prefixes.{ArePrefixes};
 
     ghost Value = { List Pair };
 
-    ghost view = { λ primes. primes.rules.now };
+    ghost view = { λ primes. primes.prefixes.rules.now };
 
-    ghost invariant = { λ primes. AreStatesOf primes.rules.now primes.automaton.value primes.lengths.items };
+    ghost invariant = { λ primes. ArePrefixes primes.prefixes };
 }
 
 impl<'r> PrimeOverlaps<'r> {
-    /// The prime overlaps of these rules.
-    pub fn of(alloc: Global, rules: &'r Rules) -> Result<PrimeOverlaps<'r>, Memory>
-        ensures { IfOk result (λ primes. primes ≡ rules.now.rules) }
-    {
-        let automaton = Automaton::of(alloc, rules.as_slice())?;
-        PrimeOverlaps::by(alloc, rules, Arc::new(alloc, automaton)?)
-    }
-
     /// The prime overlaps of these rules, whose automaton this is.
-    pub fn by(
-        alloc: Global,
-        rules: &'r Rules,
-        automaton: Arc<Automaton>,
-    ) -> Result<PrimeOverlaps<'r>, Memory>
-        requires { IsAutomaton rules.now.rules automaton.value }
-        ensures { IfOk result (λ primes. primes ≡ rules.now.rules) }
+    pub fn by(alloc: Global, rules: &'r Rules, automaton: &'r Automaton) -> PrimeOverlaps<'r>
+        requires { IsAutomaton rules.now.rules automaton.now }
+        ensures { result ≡ rules.now.rules }
     {
-        let lengths = lengths_of(alloc, &automaton)?;
-        Ok(PrimeOverlaps {
+        // What holds of the states of every automaton.
+        let _count = automaton.states();
+        PrimeOverlaps {
             alloc,
-            rules: rules.as_slice(),
-            automaton,
-            lengths,
-        })
+            prefixes: Prefixes {
+                rules: rules.as_slice(),
+                automaton,
+            },
+        }
     }
 
     /// Finds the prime overlaps in which the rule at this index begins first. They are sorted, which nothing
@@ -70,22 +56,9 @@ impl<'r> PrimeOverlaps<'r> {
         ensures { OnOk result (ArePrimeOverlaps self.now index found.new.items) }
     {
         found.clear();
-        let prefixes = self.prefixes();
-        prefixes.add_contained(index, found)?;
-        prefixes.add_proper(self.alloc, index, found)?;
+        self.prefixes.add_contained(index, found)?;
+        self.prefixes.add_proper(self.alloc, index, found)?;
         found.sort_unstable();
         Ok(())
-    }
-
-    /// The prefixes of the left sides.
-    fn prefixes(&self) -> Prefixes<'_>
-        ensures rules { result.rules.now ≡ self.now }
-        ensures are { ArePrefixes result }
-    {
-        Prefixes {
-            rules: self.rules,
-            automaton: &self.automaton,
-            lengths: &self.lengths,
-        }
     }
 }

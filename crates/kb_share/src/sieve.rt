@@ -39,12 +39,14 @@ impl SieveSpace {
 }
 
 impl<'b, R: HasAutomaton> Sieve<'b, R> {
-    /// The sieve of a version. A reducer that is tidy lends its automaton.
+    /// The sieve of a version. Its reducer lends the automaton of its rules.
     pub fn of(alloc: Global, version: Version<'b, R>) -> Result<Sieve<'b, R>, Memory>
         ensures { IfOk result (λ sieve. sieve.version ≡ version.entry) }
     {
-        let automaton = version.reducer().automaton(alloc)?;
-        let primes = PrimeOverlaps::by(alloc, version.rules(), automaton)?;
+        let Some(automaton) = version.reducer().automaton() else {
+            return Err(Memory);
+        };
+        let primes = PrimeOverlaps::by(alloc, version.rules(), automaton);
         Ok(Sieve { version, primes })
     }
 

@@ -1,4 +1,4 @@
--- The automaton of the explored states, and its language.
+-- The trie of the explored states, and its language.
 use Rattle.std.proofs.Common.{◌≡◌, ◌≢◌, ◌↔◌, ℕ, ◌≤◌, List, Option, Some, None, refl}
 use Rattle.kb_word.specs.Words.{Pair, OneOf}
 use Rattle.kb_word.specs.Relations.{IsOver}
@@ -9,13 +9,13 @@ use Rattle.kb_fsa.specs.declared.alphabet.Alphabet.TheVariants.{Plain}
 use Rattle.kb_explore.specs.Machine.{leads}
 use Rattle.kb_explore.specs.Exploration.{IsExploration}
 use Rattle.kb_explore.proofs.ExplorationLemmas.{accepts_same, leads_nowhere}
-use Rattle.kb_index.specs.declared.automaton.Automaton.{Automaton}
+use Rattle.kb_trie.specs.States.{States}
 use Rattle.kb_wa.specs.Dictionary.{dictionary}
 use Rattle.kb_wa.proofs.Reading.{IsDictionary, accepts_irreducible, read_there}
 
-module _ {n : ℕ} {rules : List Pair} {automaton : Automaton} (given : IsDictionary n rules automaton) {table : Table} {states : List ℕ}
-    {origins : List (ℕ × ℕ)} (explored : IsExploration (dictionary n automaton) table states origins) where
-  over_there : (w : List ℕ) (there : Option ℕ) → leads (dictionary n automaton) w ≡ there → there ≢ None → IsOver n w
+module _ {n : ℕ} {rules : List Pair} {trie : States} (given : IsDictionary n rules trie) {table : Table} {states : List ℕ}
+    {origins : List (ℕ × ℕ)} (explored : IsExploration (dictionary n trie) table states origins) where
+  over_there : (w : List ℕ) (there : Option ℕ) → leads (dictionary n trie) w ≡ there → there ≢ None → IsOver n w
   over_there w None leads_there some = absurd (some refl)
   over_there w (Some state) leads_there some = (read_there given w state leads_there).over
 
@@ -24,7 +24,7 @@ module _ {n : ℕ} {rules : List Pair} {automaton : Automaton} (given : IsDictio
     generators = few;
     table = explored.is_table;
     symbols = symbols;
-    texts = λ text some. over_there text (leads (dictionary n automaton) text) refl (λ none. some ((leads_nowhere explored text).1 none));
+    texts = λ text some. over_there text (leads (dictionary n trie) text) refl (λ none. some ((leads_nowhere explored text).1 none));
   }
 
   pub language : (w : List ℕ) → AcceptsFrom table table.initial w ↔ (IsOver n w × IsIrreducible (OneOf rules) w)

@@ -1,3 +1,4 @@
+pub mod Inserting
 pub mod States
 pub mod Reading
 pub mod Counting

@@ -11,9 +11,9 @@ ghost use Rattle.kb_explore.specs.declared.det.Det.TheVariants.{TooManyStates};
 ghost use Rattle.kb_wa.specs.Prefixes.{AreLeftSidesApart, AreLeftSidesOver, CountedPrefixes};
 
 use crate::dictionary::Dictionary;
+use crate::trie::trie_of;
 use kb_explore::{Det, explore};
 use kb_fsa::{Alphabet, Fsa};
-use kb_index::Automaton;
 use kb_rules::Rules;
 use std::alloc::Global;
 
@@ -30,8 +30,8 @@ pub fn acceptor_of_rules(alloc: Global, n: u16, rules: &Rules, limit: u32) -> Re
     ensures many { (most : ℕ) → result ≡ Err (TooManyStates most)
         → (most ≡ limit) × CountedPrefixes rules.now.rules limit }
 {
-    let automaton = Automaton::of(alloc, rules.as_slice())?;
-    let dictionary = Dictionary::new(n, automaton);
+    let trie = trie_of(alloc, n, rules.as_slice())?;
+    let dictionary = Dictionary::new(n, trie);
     let exploration = explore(alloc, &dictionary, limit)?;
     Ok(Fsa::new(Alphabet::Plain(n), exploration.table))
 }

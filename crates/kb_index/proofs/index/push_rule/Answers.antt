@@ -1,39 +1,22 @@
-use Rattle.std.proofs.Common.{◌≡◌, ℕ, List, ◌∷◌, [], ◌++◌, refl, sym, ap, ◌∙◌}
+use Rattle.std.proofs.Common.{◌≡◌, ◌-◌, List, length, sym, ap, ◌∙◌, arith}
+use Rattle.std.proofs.lemmas.List.{length_push}
+use Rattle.std.specs.List.{remove}
 use Rattle.kb_word.specs.Words.{Pair}
-use Rattle.kb_index.specs.Recents.{IsRecent}
-use Rattle.kb_index.proofs.Numbering.{left_of, lookup_kept, lookup_joined}
+use Rattle.kb_index.specs.Lefts.{lefts_of}
+use Rattle.kb_index.proofs.Sides.{last_removed, left_some}
 use Rattle.kb_index.proofs.index.push_rule.Goals as goal
 
-pub returns-in_err-reserve-clause-lookup : goal.returns-in_err-reserve-clause-lookup
-returns-in_err-reserve-clause-lookup c =
-    let rule : Pair = c.in_ok-rule.rule in
-    let is = c.requires.lookup in
-    let same : rule ≡ c.args.rule.now = c.in_ok-rule.ensures in
-    let recent : IsRecent (is.later ++ rule ∷ []) c.push.new.self =
-    c.in_ok-push.ensures.ok is.later rule is.recent (sym c.left.ensures)
-    (λ none. left_of c.args.rules.now.order c.args.rule.now c.requires.falls (ap (λ (r : Pair). r.0) (sym same) ∙ none)) in
-    lookup_kept c.args.rules.now.rules c.args.rules.now.rules rule c.args.lookup.now _ is refl refl c.reserve.ensures.items recent
+pub push-requires-2 : goal.push-requires-2
+push-requires-2 c none = left_some c.args.rules.now.order c.args.rule.now c.requires.falls (sym c.left.ensures ∙ none)
 
-pub returns-in_err-push-2-clause-lookup : goal.returns-in_err-push-2-clause-lookup
-returns-in_err-push-2-clause-lookup c =
-    let rule : Pair = c.in_ok-rule.rule in
-    let is = c.requires.lookup in
-    let same : rule ≡ c.args.rule.now = c.in_ok-rule.ensures in
-    let recent : IsRecent (is.later ++ rule ∷ []) c.push.new.self =
-    c.in_ok-push.ensures.ok is.later rule is.recent (sym c.left.ensures)
-    (λ none. left_of c.args.rules.now.order c.args.rule.now c.requires.falls (ap (λ (r : Pair). r.0) (sym same) ∙ none)) in
-    lookup_kept c.args.rules.now.rules c.push-2.new.self.rules rule c.args.lookup.now _ is c.in_err-push-2.ensures.err refl
-    c.reserve.ensures.items recent
+pub returns-in-Err-clause-err : goal.returns-in-Err-clause-err
+returns-in-Err-clause-err c =
+    let rules : List Pair = c.args.rules.now.rules in
+    let last : length rules ≡ c.len.result - 1 =
+    omega (arith, c.len.ensures, ap length c.in_ok-push.ensures.ok, length_push rules c.in_ok-copy.copy) in
+    c.remove-rule.ensures.rules ∙ ap (λ (rs : List Pair). remove rs (c.len.result - 1)) c.in_ok-push.ensures.ok
+    ∙ last_removed rules c.in_ok-copy.copy (c.len.result - 1) last
 
-pub returns-clause-lookup : goal.returns-clause-lookup
-returns-clause-lookup c =
-    let rule : Pair = c.in_ok-rule.rule in
-    let is = c.requires.lookup in
-    let same : rule ≡ c.args.rule.now = c.in_ok-rule.ensures in
-    let number : ℕ = c.next_number-number.result in
-    let recent : IsRecent (is.later ++ rule ∷ []) c.push.new.self =
-    c.in_ok-push.ensures.ok is.later rule is.recent (sym c.left.ensures)
-    (λ none. left_of c.args.rules.now.order c.args.rule.now c.requires.falls (ap (λ (r : Pair). r.0) (sym same) ∙ none)) in
-    lookup_joined c.args.rules.now.rules c.push-2.new.self.rules rule number c.args.lookup.now _ is c.in_ok-push-2.ensures.ok
-    c.next_number-number.ensures refl
-    (c.in_ok-push-3.ensures.items ∙ ap (λ (ns : List ℕ). ns ++ number ∷ []) c.reserve.ensures.items) recent
+pub returns-in-Err-clause-automaton : goal.returns-in-Err-clause-automaton
+returns-in-Err-clause-automaton c =
+    c.in-Err.ensures.err ∙ c.requires.automaton ∙ ap (λ (rs : List Pair). lefts_of rs) (sym (returns-in-Err-clause-err c))

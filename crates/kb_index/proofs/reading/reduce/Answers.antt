@@ -5,21 +5,21 @@ use Rattle.kb_word.specs.Rewriting.{IsIrreducible, NormalForm}
 use Rattle.kb_rules.proofs.Exists.{empty_irreducible}
 use Rattle.kb_rules.proofs.Tracing.{step_falls}
 use Rattle.kb_rules.proofs.Unique.{normal_form_more}
-use Rattle.kb_index.specs.Automata.{AreStates}
+use Rattle.kb_index.specs.Automata.{AreStatesAlong}
 use Rattle.kb_index.proofs.Fronts.{states_first}
 use Rattle.kb_index.proofs.reading.reduce.Goals as goal
 
 pub loop-init : goal.loop-init
 loop-init c =
     let rules = c.args.list.now.rules in
-    let edges = c.args.lookup.now.settled.value.edges.items in
+    let words = c.args.automaton.now.words in
     let workspace = c.start.new.workspace in
     let whole : workspace.front ++ workspace.unread ≡ c.args.w.now =
     ap (λ w. w ++ workspace.unread) c.in_ok-start.ensures.front ∙ c.in_ok-start.ensures.unread in
-    let S : List ℕ → Type 0 = λ ss. AreStates edges [] ss in
-    let T : List ℕ → Type 0 = λ w. AreStates edges w workspace.states.items in
+    let S : List ℕ → Type 0 = λ ss. AreStatesAlong words [] ss in
+    let T : List ℕ → Type 0 = λ w. AreStatesAlong words w workspace.states.items in
     record {
-      states = subst T (sym c.in_ok-start.ensures.front) (subst S (sym c.in_ok-start.ensures.states) (states_first edges));
+      states = subst T (sym c.in_ok-start.ensures.front) (subst S (sym c.in_ok-start.ensures.states) (states_first words c.states-states.ensures.words));
       irreducible =
           subst (IsIrreducible (OneOf rules)) (sym c.in_ok-start.ensures.front)
           (empty_irreducible (word_orders c.args.list.now.order) rules c.as_slice-rules.ensures.decreasing);

@@ -6,22 +6,22 @@ use Rattle.kb_rules.specs.declared.trace.Step.{Step}
 use Rattle.kb_rules.specs.Steps.{IsFirstStep, Leads}
 use Rattle.kb_rules.proofs.Exists.{empty_irreducible}
 use Rattle.kb_rules.proofs.Tracing.{leads_normal, leads_push, step_falls}
-use Rattle.kb_index.specs.Automata.{AreStates}
+use Rattle.kb_index.specs.Automata.{AreStatesAlong}
 use Rattle.kb_index.proofs.Fronts.{states_first}
 use Rattle.kb_index.proofs.reading.trace.Goals as goal
 
 pub loop-steps-init : goal.loop-steps-init
 loop-steps-init c =
     let rules = c.args.list.now.rules in
-    let edges = c.args.lookup.now.settled.value.edges.items in
+    let words = c.args.automaton.now.words in
     let workspace = c.start.new.workspace in
     let whole : workspace.front ++ workspace.unread ≡ c.args.w.now =
     ap (λ w. w ++ workspace.unread) c.in_ok-start.ensures.front ∙ c.in_ok-start.ensures.unread in
     let L : List Step → Type 0 = λ steps. Leads (IsFirstStep rules) c.args.w.now steps (workspace.front ++ workspace.unread) in
-    let S : List ℕ → Type 0 = λ ss. AreStates edges [] ss in
-    let T : List ℕ → Type 0 = λ w. AreStates edges w workspace.states.items in
+    let S : List ℕ → Type 0 = λ ss. AreStatesAlong words [] ss in
+    let T : List ℕ → Type 0 = λ w. AreStatesAlong words w workspace.states.items in
     record {
-      states = subst T (sym c.in_ok-start.ensures.front) (subst S (sym c.in_ok-start.ensures.states) (states_first edges));
+      states = subst T (sym c.in_ok-start.ensures.front) (subst S (sym c.in_ok-start.ensures.states) (states_first words c.states-states.ensures.words));
       irreducible =
           subst (IsIrreducible (OneOf rules)) (sym c.in_ok-start.ensures.front)
           (empty_irreducible (word_orders c.args.list.now.order) rules c.as_slice-rules.ensures.decreasing);

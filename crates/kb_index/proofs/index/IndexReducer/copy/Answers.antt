@@ -1,10 +1,5 @@
-use Rattle.std.proofs.Common.{List, sym, subst}
-use Rattle.kb_word.specs.Words.{Pair}
-use Rattle.kb_index.specs.Automata.{HaveLefts}
-use Rattle.kb_index.proofs.Numbering.{lefts_of}
+use Rattle.kb_index.proofs.Sides.{have_lefts}
 use Rattle.kb_index.proofs.index.IndexReducer.copy.Goals as goal
 
 pub of-requires : goal.of-requires
-of-requires c =
-    let P : List Pair → Type 0 = λ rules. HaveLefts rules in
-    subst P (sym c.as_slice.ensures.rules) (lefts_of _ _ c.as_slice.ensures.decreasing)
+of-requires c = have_lefts _ _ c.as_slice.result.now c.as_slice.ensures.decreasing c.as_slice.ensures.rules

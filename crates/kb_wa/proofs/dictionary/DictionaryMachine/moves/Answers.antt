@@ -7,15 +7,15 @@ use Rattle.kb_wa.proofs.dictionary.DictionaryMachine.moves.Goals.{in-Some+in_ok-
 pub loop-symbol-init : goal.loop-symbol-init
 loop-symbol-init c =
     let given = c.args.self.now in
-    subst (AreMovesBefore given.n given.automaton c.args.state.now 1) (sym c.in_ok-moves.ensures.items)
-    (no_moves_yet given.n given.automaton c.args.state.now)
+    subst (AreMovesBefore given.n given.trie c.args.state.now 1) (sym c.in_ok-moves.ensures.items)
+    (no_moves_yet given.n given.trie c.args.state.now)
 
 pub loop-symbol-preserved : goal.loop-symbol-preserved
 loop-symbol-preserved c =
     let given = c.args.self.now in
     let symbol : ℕ = c.loop-symbol.symbol in
     let n : c.self.inside.n ≡ given.n = ap (λ (sides : LeftSides). sides.n) c.self.view_is in
-    let P = λ (moves : List (ℕ × ℕ)). AreMovesBefore given.n given.automaton c.args.state.now (symbol + 1) moves in
+    let P = λ (moves : List (ℕ × ℕ)). AreMovesBefore given.n given.trie c.args.state.now (symbol + 1) moves in
     elim c.match-follow.branch [
       | in-Some+in_ok-push w ↦
           subst P (sym w.in_ok-push.ensures.items ∙ ap (λ v. v.items) (sym w.moves-is))
