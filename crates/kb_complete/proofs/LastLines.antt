@@ -1,6 +1,6 @@
 -- The end of a completion: confluent live rules, or an overlap that is apart.
 use Rattle.std.proofs.Common.{◌≡◌, ◌≢◌, map, refl, ℕ, zero, suc, ◌⊎◌, List, [], ◌∷◌, ◌++◌, length, Some, None, sym, ◌∙◌, ap, subst, inl, inr, arith}
-use Rattle.std.specs.List.{Contains}
+use Rattle.std.specs.List.{All, Contains}
 use Rattle.std.proofs.lemmas.Option.{get_or_from_slice_get}
 use Rattle.kb_word.specs.Words.{Pair, OneOf}
 use Rattle.kb_word.specs.Congruence.{Congruent, SameCongruence}
@@ -18,7 +18,7 @@ use Rattle.kb_machine.specs.States.{Problem, State, live_rules, IsLiveRule, IsPe
 use Rattle.kb_machine.specs.Course.{Course, IsSound}
 use Rattle.kb_book.specs.Answers.{DropsPair}
 use Rattle.kb_share.specs.Versions.{IsRuleOfLine, version_of}
-use Rattle.kb_share.specs.Passes.{AreAllApart, EntersSoMany, IsApart, entered, origin_of}
+use Rattle.kb_share.specs.Passes.{EntersApart, IsApart, origin_of, state_entered}
 use Rattle.kb_share.specs.declared.found.Found.{Found}
 use Rattle.kb_word.specs.declared.word_order.WordOrder.{WordOrder}
 use Rattle.kb_share.proofs.LiveRules.{live_rule_is, live_rule_at, one_of_live, live_rules_decrease}
@@ -38,25 +38,25 @@ line_of : (problem : Problem) (state : State) (k : ℕ) (rule : Pair) → IsSoun
 line_of problem state k rule sound line = live_rule_at problem state line.index k rule sound line.is_rule (sym (get_or_from_slice_get state.live line.index k k line.at))
 
 -- where nothing was pending, the first overlap that is entered comes first, and it is apart
-pub first_is_apart : (before after : Course) (count : ℕ) → IsSound before.problem before.state → before.state.pending ≡ []
-    → EntersSoMany before after count → count ≢ 0 → FirstIsApart after
-first_is_apart before after count sound none enters some =
-    first_of before after enters.all.found sound none enters.all.are_apart enters.all.enters
-    (λ empty. some (sym enters.number ∙ ap length empty))
+pub first_is_apart : (before after : Course) → IsSound before.problem before.state → before.state.pending ≡ []
+    → EntersApart before after → FirstIsApart after
+first_is_apart before after sound none enters =
+    first_of before after enters.found sound none enters.are_apart enters.state enters.some
   where
     first_of : (before after : Course) (found : List Found) → IsSound before.problem before.state → before.state.pending ≡ []
-        → AreAllApart (version_of before.state) found → after ≡ entered 1 before found → found ≢ [] → FirstIsApart after
+        → All (IsApart (version_of before.state)) found → after.state ≡ state_entered before.state found → found ≢ []
+        → FirstIsApart after
     first_of before after [] sound none all enters some = absurd (some refl)
     first_of before after (one ∷ found) sound none all enters some =
-        let apart : IsApart (version_of before.state) one = all.each 0 one (omega arith) in
-        let lines = ap (λ (c : Course). c.state.lines) enters in
-        let live = ap (λ (c : Course). live_rules c.state) enters in
+        let apart : IsApart (version_of before.state) one = all 0 one (omega arith) in
+        let lines = ap (λ (s : State). s.lines) enters in
+        let live = ap live_rules enters in
         record {
           i = one.first;
           j = one.second;
           place = one.place;
           rest = map origin_of found;
-          pending = ap (λ (c : Course). c.state.pending) enters ∙ ap (λ (o : List Origin). o ++ map origin_of (one ∷ found)) none;
+          pending = ap (λ (s : State). s.pending) enters ∙ ap (λ (o : List Origin). o ++ map origin_of (one ∷ found)) none;
           first = apart.first;
           second = apart.second;
           is_first = ap (λ l. numbered (rules_of l) one.first) lines

@@ -25,7 +25,8 @@ use Rattle.kb_share.proofs.Stages.{later_itself, later_then, made_settles, made_
 use Rattle.kb_share.proofs.Staying.{knows_same}
 use Rattle.kb_share.specs.Finding.{Knows}
 use Rattle.kb_share.specs.declared.finding.Finder.{Finder}
-use Rattle.kb_share.specs.Later.{IsLater, OnlyEnters}
+use Rattle.kb_share.specs.Later.{IsLater}
+use Rattle.kb_share.specs.Passes.{EntersApart}
 use Rattle.kb_share.specs.Interreduced.{LeftSidesAreReduced, RightSidesAreReduced, StaysReduced}
 use Rattle.kb_threads.specs.Passes.{PassSays}
 use Rattle.kb_threads.specs.declared.passed.Passed.{Passed}
@@ -90,8 +91,9 @@ published_continues before after takes =
     continues_same before after takes.problem (ap (λ (t : State). t.lines) takes.step) (ap (λ (t : State). t.live) takes.step)
 
 -- overlaps were entered
-pub enters_continues : (before after : Course) → OnlyEnters before after → Continues before after
-enters_continues before after only = continues_same before after only.problem only.lines only.live
+pub enters_continues : (before after : Course) → EntersApart before after → Continues before after
+enters_continues before after enters =
+    continues_same before after enters.problem (ap (λ (t : State). t.lines) enters.state) (ap (λ (t : State). t.live) enters.state)
 
 -- halting
 pub halts_continues : (before after : Course) (halt : Halt) → HaltsAt before after halt ⊎ IsHaltedAlready before after halt → Continues before after
@@ -247,9 +249,8 @@ pub pass_confluent : {R : Type 0} (before : Course) (answer : Passed R) (after :
 pass_confluent {R = R} before answer after same says = subst (λ (a : Passed R). PassSays before a) same says
 
 pub pass_entered : {R : Type 0} (before : Course) (answer : Passed R) (after : BookParts) → answer ≡ passed.Entered after
-    → PassSays before answer → Continues before after.course
-pass_entered {R = R} before answer after same says =
-    enters_continues before after.course (subst (λ (a : Passed R). PassSays before a) same says)
+    → PassSays before answer → EntersApart before after.course
+pass_entered {R = R} before answer after same says = subst (λ (a : Passed R). PassSays before a) same says
 
 -- the same completion is settled too, and its live rules are confluent
 pub settled_same : (before after : Course) → after ≡ before → IsSettled before → IsSettled after
@@ -269,13 +270,14 @@ pub known_published : (finder : Finder) (before after : Course) → Takes Publis
 known_published finder before after takes =
     knows_same finder before.state after.state (ap (λ (t : State). t.lines) takes.step) (ap (λ (t : State). t.live) takes.step)
 
-pub known_entered : (finder : Finder) (before after : Course) → OnlyEnters before after → Knows finder before.state → Knows finder after.state
-known_entered finder before after only = knows_same finder before.state after.state only.lines only.live
+pub known_entered : (finder : Finder) (before after : Course) → EntersApart before after → Knows finder before.state
+    → Knows finder after.state
+known_entered finder before after enters =
+    knows_same finder before.state after.state (ap (λ (t : State). t.lines) enters.state) (ap (λ (t : State). t.live) enters.state)
 
-pub known_passed : {R : Type 0} (finder : Finder) (before : Course) (answer : Passed R) (after : BookParts) → answer ≡ passed.Entered after
-    → PassSays before answer → Knows finder before.state → Knows finder after.course.state
-known_passed {R = R} finder before answer after same says =
-    known_entered finder before after.course (subst (λ (a : Passed R). PassSays before a) same says)
+-- so does what waits
+pub known_waiting : (finder : Finder) (waiting : ℕ) (state : State) → Knows finder state → Knows (record finder { waiting = waiting }) state
+known_waiting finder waiting state knows = record { met = knows.met; agrees = knows.agrees; all = knows.all }
 
 pub known_itself : (finder : Finder) (before after : Course) → after ≡ before → Knows finder before.state → Knows finder after.state
 known_itself finder before after same = subst (λ (c : Course). Knows finder c.state) (sym same)

@@ -1,4 +1,4 @@
-//! The end of a completion: the live rules are confluent, or an overlap shows that they aren't.
+//! What follows a pass: the live rules are confluent, or a line is made of the first overlap that was entered.
 
 ghost use Rattle.std.specs.Prelude.{◌≡◌, IfOk, IfNone, IfSome};
 ghost use Rattle.kb_word.specs.Overlap.{IsConfluent};
@@ -17,29 +17,9 @@ use kb_reduced::{
     reduced_by_the_same_congruence, reduced_complete, rules_that_cover_are_confluent,
 };
 use kb_rules::Reducer;
-use kb_share::{Finder, OneByOne, Watch, book_is_sound, line_made};
+use kb_share::{Finder, Watch, book_is_sound, line_made};
 use kb_word::Memory;
 use std::alloc::Global;
-
-/// Makes a pass by one worker over a settled book. What isn't joined leads to a line more, or to a halt.
-pub(crate) fn end<R: Reducer, W: Watch>(
-    alloc: Global,
-    mut book: Book<R>,
-    finder: &mut Finder,
-    watch: &mut W,
-) -> Result<Grown<R>, Memory>
-    requires settled { IsSettled book.course }
-    requires known { Knows finder.old book.course.state }
-    ensures says { IfOk result (GrowSays book.course) }
-    ensures known { IfOk result (KnowsGrown finder.new) }
-{
-    book_is_sound(&book);
-    if OneByOne.enter_apart(alloc, &mut book)? == 0 {
-        Ok(completed(alloc, book)?)
-    } else {
-        Ok(grow_by_first(alloc, book, finder, watch)?)
-    }
-}
 
 /// The end, where the live rules are confluent.
 pub(crate) fn completed<R: Reducer>(alloc: Global, book: Book<R>) -> Result<Grown<R>, Memory>
@@ -59,7 +39,7 @@ pub(crate) fn completed<R: Reducer>(alloc: Global, book: Book<R>) -> Result<Grow
 }
 
 /// Makes a line of the first pending pair, whose words have different normal forms, and settles the book, or halts.
-fn grow_by_first<R: Reducer, W: Watch>(
+pub(crate) fn grow_by_first<R: Reducer, W: Watch>(
     alloc: Global,
     mut book: Book<R>,
     finder: &mut Finder,

@@ -1,20 +1,19 @@
 //! Rounds of completion.
 
-ghost use Rattle.std.specs.Prelude.{◌≡◌, IfOk, length};
-ghost use Rattle.kb_machine.specs.Course.{Course};
+ghost use Rattle.std.specs.Prelude.{IfOk};
 ghost use Rattle.kb_share.specs.Finding.{Knows};
-ghost use Rattle.kb_complete.specs.Completing.{Continues, GrowSays, KnowsGrown};
+ghost use Rattle.kb_complete.specs.Completing.{GrowSays, KnowsGrown};
 ghost use Rattle.kb_complete.specs.Working.{IsSettled, AdvanceSays, KnowsRound};
 
 use crate::answers::Grown;
-use crate::ending::{completed, end};
+use crate::ending::{completed, grow_by_first};
 use crate::publishing::{Standing, settle_and_publish};
 use kb_book::Book;
 use kb_draw::Crew;
 use kb_index::HasAutomaton;
 use kb_io::Gate;
 use kb_rules::Reducer;
-use kb_share::{Finder, Watch};
+use kb_share::{Finder, Watch, book_is_sound};
 use kb_threads::{Passed, make_pass};
 use kb_word::Memory;
 use std::alloc::Global;
@@ -52,7 +51,8 @@ pub fn grow<R: HasAutomaton + Send + Sync, G: Gate, W: Watch, T: Threads + Wait 
     }
 }
 
-/// Makes a pass over a settled book. The completion is at its end where nothing is apart.
+/// Makes a pass over a settled book. The completion is at its end where nothing is apart; else a line is made of the
+/// first overlap that was entered, or the book halts.
 fn look_for_more<R: HasAutomaton + Send + Sync, G: Gate, W: Watch, T: Threads + Wait + Sync>(
     rt: &T,
     alloc: Global,
@@ -66,34 +66,14 @@ fn look_for_more<R: HasAutomaton + Send + Sync, G: Gate, W: Watch, T: Threads + 
     ensures says { IfOk result (GrowSays book.course) }
     ensures known { IfOk result (KnowsGrown finder.new) }
 {
-    let given = book.lines().len();
-    match make_pass(rt, alloc, book, crew)? {
+    book_is_sound(&book);
+    match make_pass(rt, alloc, book, &mut finder.waiting, crew)? {
         Passed::Confluent(same) => {
             // No line comes any more: the finder's memory goes to the reduced system.
             *finder = Finder::new(alloc);
             Ok(completed(alloc, same)?)
         }
-        Passed::Entered(passed) => Ok(go_on(alloc, passed, given, finder, watch)?),
-    }
-}
-
-/// Settles a book after a pass that entered overlaps. Where that leads to no line more than were given, one worker
-/// makes a pass.
-fn go_on<R: Reducer, W: Watch>(
-    alloc: Global,
-    book: Book<R>,
-    given: usize,
-    finder: &mut Finder,
-    watch: &mut W,
-) -> Result<Grown<R>, Memory>
-    requires { Knows finder.old book.course.state }
-    ensures says { (start : Course) → Continues start book.course
-        → length start.state.lines ≡ given → IfOk result (GrowSays start) }
-    ensures known { IfOk result (KnowsGrown finder.new) }
-{
-    match advance(alloc, book, given, finder, watch)? {
-        Round::Over(grown) => Ok(grown),
-        Round::Open(settled) => Ok(end(alloc, settled, finder, watch)?),
+        Passed::Entered(passed) => Ok(grow_by_first(alloc, passed, finder, watch)?),
     }
 }
 

@@ -18,9 +18,8 @@
 //! Knuth, Bendix, Simple Word Problems in Universal Algebras; Holt, Eick, O'Brien, Handbook of Computational Group
 //! Theory, 12.2. The book is settled: lines are made until nothing is pending (`kb_share`). Then a pass of the
 //! workers enters overlaps that are apart (`kb_threads`), and the book is settled again. A pass that enters nothing
-//! is the proof of confluence, so there is no check beside the passes. A pass that entered something leads to a line,
-//! for what it entered is apart; what a pass of threads says of its book doesn't show that, so where no line came of
-//! it one worker makes a pass, whose first entry becomes one (`growing`, `ending`).
+//! is the proof of confluence, so there is no check beside the passes. A pass that entered something leads to a line
+//! or to a halt: what it entered is apart by the live rules, and nothing else was pending (`growing`, `ending`).
 //!
 //! Why the answer is right: where nothing is pending the live rules generate the congruence of the
 //! relations, whatever events led there (`kb_machine::courses_are_sound`), and where they are

@@ -1,14 +1,13 @@
 -- Overlaps that are entered, one after another.
-use Rattle.std.proofs.Common.{◌≡◌, ℕ, ◌+◌, ◌<◌, List, [], ◌∷◌, ◌++◌, length, take, get_or, map, refl, sym, ◌∙◌, ap, append_assoc}
+use Rattle.std.proofs.Common.{◌≡◌, ◌≢◌, ℕ, ◌+◌, ◌<◌, List, [], ◌∷◌, ◌++◌, length, take, get_or, map, refl, sym, ◌∙◌, ap, append_assoc}
 use Rattle.std.proofs.lemmas.List.{map-append, append-nil, take_more}
 use Rattle.kb_machine.specs.declared.origin.Origin.{Origin}
 use Rattle.kb_machine.specs.States.{Problem, State}
 use Rattle.kb_machine.specs.Course.{Course, Takes}
 use Rattle.kb_machine.specs.declared.event.Event.{Event}
-use Rattle.kb_share.specs.Later.{IsLater, OnlyEnters}
 use Rattle.kb_share.specs.declared.found.Found.{Found}
 use Rattle.kb_share.specs.Versions.{version_of}
-use Rattle.kb_share.specs.Passes.{AreAllApart, entered, entry_of, origin_of, EntersAllApart, EntersSoMany}
+use Rattle.kb_share.specs.Passes.{AreAllApart, entered, entry_of, origin_of, state_entered, EntersAllApart, EntersApart, EntersSoMany}
 
 -- a completion with these pending origins and events in place of its own
 abbrev with : Course → List Origin → List Event → Course
@@ -78,44 +77,38 @@ enters_so_many before after found list count apart same enters number = record {
   number = sym number;
 }
 
--- nothing happened
-pub only_itself : (course : Course) → OnlyEnters course course
-only_itself course = record { problem = refl; lines = refl; live = refl; versions = refl; halt = refl }
+-- what was entered first and what came then, of states
+pub state_entered_twice : (state : State) (found row : List Found)
+    → state_entered (state_entered state found) row ≡ state_entered state (found ++ row)
+state_entered_twice state found row =
+    ap (λ (pending : List Origin). record {
+      lines = state.lines;
+      live = state.live;
+      pending = pending;
+      versions = state.versions;
+      halt = state.halt;
+    })
+    (append_assoc state.pending (map origin_of found) (map origin_of row)
+    ∙ ap (λ (o : List Origin). state.pending ++ o) (sym (map-append origin_of found row)))
 
-pub only_then : (start before after : Course) → OnlyEnters start before → OnlyEnters before after → OnlyEnters start after
-only_then start before after first second = record {
-  problem = second.problem ∙ first.problem;
-  lines = second.lines ∙ first.lines;
-  live = second.live ∙ first.live;
-  versions = second.versions ∙ first.versions;
-  halt = second.halt ∙ first.halt;
+-- nothing was entered
+pub state_entered_none : (state : State) → state ≡ state_entered state []
+state_entered_none state =
+    ap (λ (pending : List Origin). record {
+      lines = state.lines;
+      live = state.live;
+      pending = pending;
+      versions = state.versions;
+      halt = state.halt;
+    })
+    (sym (append-nil state.pending))
+
+-- a pass that enters all that is apart enters something apart, if it enters anything
+pub some_entered : (before after : Course) (count : ℕ) → EntersSoMany before after count → count ≢ 0 → EntersApart before after
+some_entered before after count enters some = record {
+  found = enters.all.found;
+  some = λ none. some (sym enters.number ∙ ap length none);
+  are_apart = enters.all.are_apart.each;
+  problem = ap (λ (c : Course). c.problem) enters.all.enters;
+  state = ap (λ (c : Course). c.state) enters.all.enters;
 }
-
--- an overlap was entered
-pub only_entered : (worker : ℕ) (one : Found) (before after : Course) → Takes (entry_of worker one) before after
-    → OnlyEnters before after
-only_entered worker one before after takes = record {
-  problem = takes.problem;
-  lines = ap (λ (s : State). s.lines) takes.step.is;
-  live = ap (λ (s : State). s.live) takes.step.is;
-  versions = ap (λ (s : State). s.versions) takes.step.is;
-  halt = ap (λ (s : State). s.halt) takes.step.is;
-}
-
--- that is a later stage
-pub only_later : (before after : Course) → OnlyEnters before after → IsLater before after
-only_later before after only =
-    record { problem = only.problem; made = []; lines = only.lines ∙ sym (append-nil before.state.lines) }
-
--- a pass that enters all that is apart does nothing else
-pub enters_only : (before after : Course) → EntersAllApart before after → OnlyEnters before after
-enters_only before after done = let e = done.enters in record {
-  problem = ap (λ (c : Course). c.problem) e;
-  lines = ap (λ (c : Course). c.state.lines) e;
-  live = ap (λ (c : Course). c.state.live) e;
-  versions = ap (λ (c : Course). c.state.versions) e;
-  halt = ap (λ (c : Course). c.state.halt) e;
-}
-
-pub enters_later : (before after : Course) → EntersAllApart before after → IsLater before after
-enters_later before after done = only_later before after (enters_only before after done)

@@ -1,19 +1,15 @@
 -- What is apart in the version of a book's live lines is an overlap of two of the book's lines.
-use Rattle.std.proofs.Common.{◌≡◌, ℕ, List, get_or, length, Some, sym, ◌∙◌, ap}
+use Rattle.std.proofs.Common.{◌≡◌, ℕ, List, get_or, Some, sym, ◌∙◌, ap}
 use Rattle.std.specs.List.{All}
-use Rattle.std.proofs.lemmas.List.{length-map}
-use Rattle.std.proofs.lemmas.Option.{get_or_from_slice_get, slice_get_within}
+use Rattle.std.proofs.lemmas.Option.{get_or_from_slice_get}
 use Rattle.kb_word.specs.Words.{Pair}
 use Rattle.kb_machine.specs.Lines.{numbered, rules_of}
-use Rattle.kb_machine.specs.States.{Problem, State, live_rules, rule_numbered}
+use Rattle.kb_machine.specs.States.{Problem, State}
 use Rattle.kb_machine.specs.Course.{Course, IsSound}
 use Rattle.kb_share.specs.Versions.{IsRuleOfLine, version_of}
 use Rattle.kb_share.specs.Passes.{AreAllApart, IsApart, IsOverlapOfLines, entered}
-use Rattle.kb_share.specs.Primes.{IsPrimeApart}
-use Rattle.kb_share.specs.declared.found.Apart.{Apart}
 use Rattle.kb_share.specs.declared.found.Found.{Found}
 use Rattle.kb_share.proofs.LiveRules.{live_rule_at}
-use Rattle.kb_share.proofs.RowByRow.{is_apart}
 
 -- the rule of a line of the version is that of a live line
 pub line_of_version : (problem : Problem) (state : State) (k : ℕ) (rule : Pair) → IsSound problem state
@@ -23,7 +19,7 @@ line_of_version problem state k rule sound line =
     (sym (get_or_from_slice_get state.live line.index k k line.at))
 
 -- an overlap of two of the version's lines
-apart_overlaps : (problem : Problem) (state : State) (one : Found) → IsSound problem state → IsApart (version_of state) one
+pub apart_overlaps : (problem : Problem) (state : State) (one : Found) → IsSound problem state → IsApart (version_of state) one
     → IsOverlapOfLines state one
 apart_overlaps problem state one sound apart =
     let overlap = apart.overlap in (
@@ -42,17 +38,6 @@ pub all_overlap : (problem : Problem) (state : State) (found : List Found) → I
     → AreAllApart (version_of state) found → All (IsOverlapOfLines state) found
 all_overlap problem state found sound all k d low =
     apart_overlaps problem state (get_or found k d) sound (all.each k d low)
-
--- a prime overlap that is apart, found in a row
-pub prime_overlaps : (problem : Problem) (state : State) (row : ℕ) (one : Apart) → IsSound problem state
-    → IsPrimeApart (version_of state) row one → IsOverlapOfLines state one.found
-prime_overlaps problem state row one sound prime =
-    let apart = prime.apart.apart in
-    let within = slice_get_within (live_rules state) row apart.first apart.overlap.is_first in
-    apart_overlaps problem state one.found sound
-    (is_apart (live_rules state) state.live (sym (length-map state.live (rule_numbered state.lines))) sound.ascending
-    (length state.versions) (length (live_rules state)) one.found
-    (record { index = row; overlap = prime.overlap; low = within; apart = apart; is = prime.apart.found }))
 
 -- an overlap is one still after others were entered
 pub still_overlaps : (worker : ℕ) (before now : Course) (found : List Found) (one : Found) → now ≡ entered worker before found

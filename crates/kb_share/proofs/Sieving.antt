@@ -13,25 +13,29 @@ use Rattle.kb_overlap.specs.declared.left_sides.Overlap.{Overlap}
 use Rattle.kb_share.specs.declared.found.Apart.{Apart}
 use Rattle.kb_share.specs.Versions.{VersionParts}
 use Rattle.kb_share.specs.Rows.{found_at}
-use Rattle.kb_share.specs.Primes.{IsJoinedAt, IsApartAs, IsPrimeApart, IsFoundAs, PrimeSays, SiftsRow, PrimesOfRowAreJoined}
+use Rattle.kb_share.specs.Primes.{IsJoinedAt, IsApartAs, IsFrom, IsPrimeApart, IsFoundAs, LateSays, SiftsRow, PrimesOfRowAreJoined}
 
 some-injective : {X : Type 0} {x y : X} → Some x ≡ Some y → x ≡ y
 some-injective e = cc
 
--- each of the first prime overlaps is joined or found
-pub record SiftedUpTo (version : VersionParts) (index : ℕ) (overlaps : List Overlap) (next : ℕ) (found : List Apart) : Type 0 where
-  pub each : All (IsPrimeApart version index) found
-  pub all : (k : ℕ) (d : Overlap) → k < next
-      → IsJoinedAt version.rules index (get_or overlaps k d) ⊎ IsFoundAs version index (get_or overlaps k d) found
+-- where one of its lines has this number or a later one, the overlap is joined or found
+abbrev pub IsSifted : VersionParts → ℕ → ℕ → List Apart → Overlap → Type 0
+IsSifted version from index found overlap = IsFrom from version index overlap
+    → IsJoinedAt version.rules index overlap ⊎ IsFoundAs version index overlap found
 
-pub nothing_sifted : (version : VersionParts) (index : ℕ) (overlaps : List Overlap) (found : List Apart) → found ≡ []
-    → SiftedUpTo version index overlaps 0 found
-nothing_sifted version index overlaps found none = record {
+-- each of the first prime overlaps is sifted
+pub record SiftedUpTo (version : VersionParts) (from index : ℕ) (overlaps : List Overlap) (next : ℕ) (found : List Apart) : Type 0 where
+  pub each : All (IsPrimeApart version index) found
+  pub all : (k : ℕ) (d : Overlap) → k < next → IsSifted version from index found (get_or overlaps k d)
+
+pub nothing_sifted : (version : VersionParts) (from index : ℕ) (overlaps : List Overlap) (found : List Apart) → found ≡ []
+    → SiftedUpTo version from index overlaps 0 found
+nothing_sifted version from index overlaps found none = record {
   each = subst (All (IsPrimeApart version index)) (sym none) (λ k d low. absurd (let no : ⊥ = omega (arith, low) in no));
   all = λ k d low. absurd (let no : ⊥ = omega (arith, low) in no);
 }
 
-module _ (version : VersionParts) (index : ℕ) (overlaps : List Overlap) where
+module _ (version : VersionParts) (from index : ℕ) (overlaps : List Overlap) where
   -- what was said of the first ones, with one more
   one_more : (next : ℕ) (at : Overlap) (P : Overlap → Type 0) → next < length overlaps → at ≡ get_or overlaps next at
       → ((k : ℕ) (d : Overlap) → k < next → P (get_or overlaps k d)) → P at
@@ -53,30 +57,27 @@ module _ (version : VersionParts) (index : ℕ) (overlaps : List Overlap) where
     apart = it.apart;
   }
 
-  -- the next one is joined
+  -- the next one is joined, or both its lines are earlier
   pub next_joined : (next : ℕ) (at : Overlap) (found : List Apart) → next < length overlaps → at ≡ get_or overlaps next at
-      → IsJoinedAt version.rules index at → SiftedUpTo version index overlaps next found
-      → SiftedUpTo version index overlaps (next + 1) found
+      → (IsFrom from version index at → IsJoinedAt version.rules index at) → SiftedUpTo version from index overlaps next found
+      → SiftedUpTo version from index overlaps (next + 1) found
   next_joined next at found within is_at joined so_far = record {
     each = so_far.each;
-    all = one_more next at (λ overlap. IsJoinedAt version.rules index overlap ⊎ IsFoundAs version index overlap found)
-        within is_at so_far.all (inl joined);
+    all = one_more next at (IsSifted version from index found) within is_at so_far.all (λ late. inl (joined late));
   }
 
   -- the next one is apart
   pub next_apart : (next : ℕ) (at : Overlap) (found : List Apart) (one : Apart) → next < length overlaps → at ≡ get_or overlaps next at
-      → IsPrimeOverlap version.rules index at → IsApartAs version index at one → SiftedUpTo version index overlaps next found
-      → SiftedUpTo version index overlaps (next + 1) (found ++ one ∷ [])
+      → IsPrimeOverlap version.rules index at → IsApartAs version index at one → SiftedUpTo version from index overlaps next found
+      → SiftedUpTo version from index overlaps (next + 1) (found ++ one ∷ [])
   next_apart next at found one within is_at prime apart so_far = record {
     each = All-push (IsPrimeApart version index) found one so_far.each (record { overlap = at; prime = prime; apart = apart });
-    all = one_more next at
-        (λ overlap. IsJoinedAt version.rules index overlap ⊎ IsFoundAs version index overlap (found ++ one ∷ []))
-        within is_at
-        (λ k d low. elim (so_far.all k d low) [
+    all = one_more next at (IsSifted version from index (found ++ one ∷ [])) within is_at
+        (λ k d low late. elim (so_far.all k d low late) [
           | inl joined ↦ inl joined
           | inr it ↦ inr (still_found found one (get_or overlaps k d) it)
         ])
-        (inr (record {
+        (λ late. inr (record {
           one = one;
           contained = Contains-append_right found (one ∷ []) one (0, omega arith, refl);
           apart = apart;
@@ -85,14 +86,13 @@ module _ (version : VersionParts) (index : ℕ) (overlaps : List Overlap) where
 
   -- past the last one the row is sifted
   pub all_sifted : (next : ℕ) (found : List Apart) → ArePrimeOverlaps version.rules index overlaps → length overlaps ≤ next
-      → SiftedUpTo version index overlaps next found → SiftsRow version index found
+      → SiftedUpTo version from index overlaps next found → SiftsRow version from index found
   all_sifted next found primes past so_far = record {
     each = so_far.each;
     all = λ overlap prime.
         let at = primes.all overlap prime in
         let within = at.1 in
-        let P : Overlap → Type 0 = λ one. IsJoinedAt version.rules index one ⊎ IsFoundAs version index one found in
-        subst P at.2 (so_far.all at.0 overlap (omega (arith, within, past)));
+        subst (IsSifted version from index found) at.2 (so_far.all at.0 overlap (omega (arith, within, past)));
   }
 
 -- the next one is prime
@@ -144,18 +144,18 @@ is_apart_as version index overlap first second reduced one is_first is_second pr
     }
 
 -- what was answered, by cases
-pub nothing_found : (version : VersionParts) (index : ℕ) (one : Overlap) (found : Option Apart) → None ≡ found
-    → PrimeSays version index one found → IsJoinedAt version.rules index one
-nothing_found version index one found e says = subst (λ (o : Option Apart). PrimeSays version index one o) (sym e) says
+pub nothing_found : (version : VersionParts) (from index : ℕ) (one : Overlap) (found : Option Apart) → None ≡ found
+    → LateSays version from index one found → IsFrom from version index one → IsJoinedAt version.rules index one
+nothing_found version from index one found e says = subst (λ (o : Option Apart). LateSays version from index one o) (sym e) says
 
-pub something_found : (version : VersionParts) (index : ℕ) (one : Overlap) (found : Option Apart) (it : Apart) → found ≡ Some it
-    → PrimeSays version index one found → IsApartAs version index one it
-something_found version index one found it e says = subst (λ (o : Option Apart). PrimeSays version index one o) e says
+pub something_found : (version : VersionParts) (from index : ℕ) (one : Overlap) (found : Option Apart) (it : Apart) → found ≡ Some it
+    → LateSays version from index one found → IsApartAs version index one it
+something_found version from index one found it e says = subst (λ (o : Option Apart). LateSays version from index one o) e says
 
--- where nothing was found in a row, it is joined
-pub none_found_joined : (version : VersionParts) (index : ℕ) (found : List Apart) → found ≡ [] → SiftsRow version index found
+-- where nothing was found in a row from the first line on, it is joined
+pub none_found_joined : (version : VersionParts) (index : ℕ) (found : List Apart) → found ≡ [] → SiftsRow version 0 index found
     → PrimesOfRowAreJoined version.rules index
-none_found_joined version index found none sifts = λ overlap prime. elim (sifts.all overlap prime) [
+none_found_joined version index found none sifts = λ overlap prime. elim (sifts.all overlap prime (inl (omega arith))) [
   | inl joined ↦ joined
   | inr it ↦
       let at = it.contained in

@@ -11,14 +11,6 @@ pub record IsLater (before after : Course) : Type 0 where
   pub made : List Line
   pub lines : after.state.lines ≡ before.state.lines ++ made
 
--- overlaps were entered, or none, and nothing else happened
-pub record OnlyEnters (before after : Course) : Type 0 where
-  pub problem : after.problem ≡ before.problem
-  pub lines : after.state.lines ≡ before.state.lines
-  pub live : after.state.live ≡ before.state.live
-  pub versions : after.state.versions ≡ before.state.versions
-  pub halt : after.state.halt ≡ before.state.halt
-
 -- how many overlaps were entered
 abbrev pub entries : List Event → ℕ
 entries [] = 0

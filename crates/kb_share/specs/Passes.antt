@@ -1,5 +1,5 @@
 -- Passes: what a worker enters into a book.
-use Rattle.std.specs.Prelude.{◌≡◌, ℕ, ◌<◌, ◌⊎◌, List, ◌++◌, length, map}
+use Rattle.std.specs.Prelude.{◌≡◌, ◌≢◌, ℕ, ◌<◌, ◌⊎◌, List, [], ◌++◌, length, map}
 use Rattle.std.specs.List.{All, AllPairs, Contains}
 use Rattle.kb_word.specs.Words.{Pair}
 use Rattle.kb_word.specs.Overlap.{IsUnresolved, critical_pair}
@@ -46,19 +46,31 @@ origin_of one = origins.Overlap one.first one.second one.place
 abbrev pub entry_of : ℕ → Found → Event
 entry_of worker one = Entered worker one.place one.first one.second
 
--- the completion after a worker entered these overlaps, one after another
+-- the state after these overlaps were entered, one after another
+abbrev pub state_entered : State → List Found → State
+state_entered state found = record {
+  lines = state.lines;
+  live = state.live;
+  pending = state.pending ++ map origin_of found;
+  versions = state.versions;
+  halt = state.halt;
+}
+
+-- the completion after a worker entered them
 abbrev pub entered : ℕ → Course → List Found → Course
 entered worker course found = record {
   problem = course.problem;
-  state = record {
-    lines = course.state.lines;
-    live = course.state.live;
-    pending = course.state.pending ++ map origin_of found;
-    versions = course.state.versions;
-    halt = course.state.halt;
-  };
+  state = state_entered course.state found;
   journal = course.journal ++ map (entry_of worker) found;
 }
+
+-- overlaps of live lines that are apart by the live rules were entered, at least one, and nothing else happened
+pub record EntersApart (before after : Course) : Type 0 where
+  pub found : List Found
+  pub some : found ≢ []
+  pub are_apart : All (IsApart (version_of before.state)) found
+  pub problem : after.problem ≡ before.problem
+  pub state : after.state ≡ state_entered before.state found
 
 -- the first worker entered just those overlaps of live lines that are apart by the live rules
 pub record EntersAllApart (before after : Course) : Type 0 where

@@ -10,11 +10,7 @@ use kb_rules::Reducer;
 use kb_word::Memory;
 
 /// Enters these overlaps for a worker, one after another.
-pub(crate) fn enter_all<R: Reducer>(
-    book: &mut Book<R>,
-    worker: u8,
-    found: &[Found],
-) -> Result<(), Memory>
+pub fn enter_all<R: Reducer>(book: &mut Book<R>, worker: u8, found: &[Found]) -> Result<(), Memory>
     requires { All (IsOverlapOfLines book.old.course.state) found.now }
     ensures { OnOk result (book.new.course ≡ entered worker book.old.course found.now) }
 {

@@ -11,6 +11,7 @@ ghost use Rattle.kb_share.specs.Signatures.{HasMarks, IsSignature, AreWithin};
 
 use crate::signature::Signature;
 use crate::sound::book_is_sound;
+use crate::waiting::Waiting;
 use kb_book::Book;
 use kb_machine::Line;
 use kb_rules::Reducer;
@@ -30,6 +31,8 @@ pub struct Finder {
     found: Vec<u32>,
     /// The numbers of those among which they were found.
     likely: Vec<u32>,
+    /// The overlaps that wait to be entered, which a finder keeps beside, since it serves a book as long as it lives.
+    pub waiting: Waiting,
 }
 
 /// The lines that are kept. The signatures of one side stand in a row, which is searched in one
@@ -59,6 +62,7 @@ impl Finder {
             kept: Kept::new(alloc),
             found: Vec::new(alloc),
             likely: Vec::new(alloc),
+            waiting: Waiting::new(alloc),
         }
     }
 

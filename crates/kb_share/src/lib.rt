@@ -33,7 +33,10 @@
 //! - [`OneByOne`] makes a pass by one worker. It enters exactly the overlaps that are apart, in the
 //!   order of their lines and places (`EntersAllApart` of `specs/Passes.antt`), and tells how many there were.
 //! - A [`Sieve`] has a version's prime overlaps, and sifts them row by row: it finds exactly those that are apart, with
-//!   the letters of their normal forms counted (`SiftsRow` of `specs/Primes.antt`).
+//!   the letters of their normal forms counted (`SiftsRow` of `specs/Primes.antt`), of all or of those of which one line
+//!   is new.
+//! - [`Waiting`] has what was found and not entered yet. [`next_batch`] takes the shortest of it that are apart still,
+//!   and [`enter_all`] enters overlaps.
 //!
 //! Where nothing is apart, the live rules are confluent: by [`OneByOne::enter_apart`] of all overlaps, and by
 //! [`prime_overlaps_decide`] of the prime ones, since composite overlaps need no look.
@@ -47,6 +50,7 @@
 //! of a left side with others and tells whether they are joined, and `kb_book`.
 #![tactic(auto)]
 
+mod batch;
 mod deciding;
 mod entering;
 mod finding;
@@ -61,9 +65,12 @@ mod signature;
 mod simplifying;
 mod sound;
 mod version;
+mod waiting;
 mod watch;
 
+pub use batch::next_batch;
 pub use deciding::prime_overlaps_decide;
+pub use entering::enter_all;
 pub use finding::Finder;
 pub use found::{Apart, Found};
 pub use live::live_rules;
@@ -74,4 +81,5 @@ pub use settling::{line_made, settle};
 pub use sieve::{Sieve, SieveSpace};
 pub use sound::book_is_sound;
 pub use version::Version;
+pub use waiting::Waiting;
 pub use watch::{Silent, Watch};

@@ -2,7 +2,7 @@
 
 ghost use Rattle.std.specs.Prelude.{◌≡◌, ◌+◌, ◌<◌, IfOk, OnOk, length};
 ghost use Rattle.kb_overlap.specs.Composite.{ArePrimeOverlaps, IsPrimeOverlap};
-ghost use Rattle.kb_share.specs.Primes.{PrimeSays, SiftsRow};
+ghost use Rattle.kb_share.specs.Primes.{LateSays, PrimeSays, SiftsRow};
 
 use crate::found::{Apart, Found};
 use crate::version::Version;
@@ -50,41 +50,65 @@ impl<'b, R: HasAutomaton> Sieve<'b, R> {
         Ok(Sieve { version, primes })
     }
 
-    /// Finds those that are apart of the prime overlaps in a row. What the list held is gone; where memory runs out it
-    /// holds anything.
+    /// Finds those that are apart of the prime overlaps in a row of which one line has the number `from` or a later
+    /// one: from 0 on these are all of the row. What the list held is gone; where memory runs out it holds anything.
     pub fn sift_row(
         &self,
         index: usize,
+        from: u64,
         space: &mut SieveSpace,
         found: &mut Vec<Apart>,
     ) -> Result<(), Memory>
         requires { index < length self.now.version.rules }
-        ensures { OnOk result (SiftsRow self.now.version index found.new.items) }
+        ensures { OnOk result (SiftsRow self.now.version from index found.new.items) }
     {
         let SieveSpace { overlaps, pair } = space;
         self.primes.of_rule(index, overlaps)?;
-        sift_primes(&self.version, index, overlaps, pair, found)
+        sift_primes(&self.version, index, from, overlaps, pair, found)
     }
 }
 
-/// Finds those that are apart of these prime overlaps, which are all of the row.
+/// Finds those that are apart of these prime overlaps, which are all of the row, if one of their lines has the number
+/// `from` or a later one.
 fn sift_primes<R: Reducer>(
     version: &Version<'_, R>,
     index: usize,
+    from: u64,
     overlaps: &[Overlap],
     pair: &mut PairWorkspace,
     found: &mut Vec<Apart>,
 ) -> Result<(), Memory>
     requires { ArePrimeOverlaps version.now.rules index overlaps.now }
-    ensures { OnOk result (SiftsRow version.now index found.new.items) }
+    ensures { OnOk result (SiftsRow version.now from index found.new.items) }
 {
     found.clear();
     for overlap in overlaps {
-        if let Some(one) = sift_prime(version, index, overlap, pair)? {
+        if let Some(one) = sift_late(version, index, from, overlap, pair)? {
             found.push(one)?;
         }
     }
     Ok(())
+}
+
+/// The prime overlap of the lines at these indices, by their numbers, where it is apart and one of them has the number
+/// `from` or a later one.
+fn sift_late<R: Reducer>(
+    version: &Version<'_, R>,
+    index: usize,
+    from: u64,
+    overlap: &Overlap,
+    pair: &mut PairWorkspace,
+) -> Result<Option<Apart>, Memory>
+    requires { IsPrimeOverlap version.now.rules index overlap.now }
+    ensures { IfOk result (LateSays version.now from index overlap.now) }
+{
+    let numbers = version.numbers();
+    let first = u64::from(numbers[index]);
+    let second = u64::from(numbers[overlap.rule]);
+    if first < from && second < from {
+        return Ok(None);
+    }
+    sift_prime(version, index, overlap, pair)
 }
 
 /// The prime overlap of the lines at these indices, by their numbers, where it is apart.
@@ -103,12 +127,12 @@ fn sift_prime<R: Reducer>(
     match pair.join(version.reducer(), first, second, place)? {
         Joinability::Joined => Ok(None),
         Joinability::Apart => Ok(Some(Apart {
+            letters: letters_of(pair),
             found: Found {
                 first: version.numbers()[index],
                 second: version.numbers()[overlap.rule],
                 place,
             },
-            letters: letters_of(pair),
         })),
     }
 }

@@ -1,3 +1,3 @@
 pub mod Numbers
 pub mod Stages
-mod Keeping
+mod NothingFound

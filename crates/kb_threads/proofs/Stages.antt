@@ -1,106 +1,95 @@
--- A completion that is shared, into which overlaps are entered.
-use Rattle.std.proofs.Common.{◌≡◌, ℕ, ◌+◌, List, [], ◌∷◌, ◌++◌, refl, sym, ◌∙◌, ap, subst, arith}
-use Rattle.std.proofs.lemmas.List.{append-nil}
-use Rattle.std.specs.Prelude.{Some, Result, Ok, Err, IfErr}
-use Rattle.kb_word.specs.Words.{Pair}
-use Rattle.kb_machine.specs.Lines.{rules_of, numbered, rule_of}
-use Rattle.kb_machine.specs.declared.line.Line.{Line}
+-- A completion that is shared, into which a batch of overlaps is entered.
+use Rattle.std.proofs.Common.{◌≡◌, ℕ, ◌+◌, ◌-◌, ◌<◌, List, [], ◌∷◌, ◌++◌, length, get_or, take, drop, refl, sym, ◌∙◌, ap, subst, arith}
+use Rattle.std.specs.List.{All}
+use Rattle.std.proofs.lemmas.List.{length-drop, take_all, take_more, take-append-drop}
+use Rattle.std.proofs.lemmas.List.Elements.{All-drop}
 use Rattle.kb_machine.specs.States.{State}
 use Rattle.kb_machine.specs.Course.{Course, Takes}
-use Rattle.kb_machine.specs.declared.event.Event.{Event}
-use Rattle.kb_book.proofs.Lists.{numbered-more}
-use Rattle.kb_share.specs.Later.{IsLater, entries}
-use Rattle.kb_share.proofs.Stages.{entries-append}
-use Rattle.kb_share.proofs.Entries.{only_itself, only_then, only_entered, only_later}
-use Rattle.kb_share.specs.Passes.{entry_of}
+use Rattle.kb_share.specs.Later.{entries}
+use Rattle.kb_share.specs.Passes.{IsOverlapOfLines, entered as after_entries, entry_of, state_entered}
 use Rattle.kb_share.specs.declared.found.Found.{Found}
-use Rattle.kb_threads.specs.declared.answers.ShareFault.{ShareFault}
-use Rattle.kb_threads.specs.declared.answers.ShareFault.TheVariants as faults
-use Rattle.kb_threads.specs.Shared.{PassParts, IsStageOf, EnterSays, IsNoOverlap}
+use Rattle.kb_share.proofs.Entries.{state_entered_none, state_entered_twice}
+use Rattle.kb_share.proofs.Stages.{entries-append}
+use Rattle.kb_threads.specs.Shared.{AreOverlaps, EntersBatch, IsStageOf}
 
 -- what is given is a stage of itself, into which nothing was entered
-pub stage_itself : (given course : Course) (entered : ℕ) → course ≡ given → entered ≡ 0
-    → IsStageOf given (record { course = course; entered = entered })
-stage_itself given course entered same none =
-    subst (λ (c : Course). IsStageOf given (record { course = c; entered = entered })) (sym same)
-    (record { only = only_itself given; entries = omega (arith, none) })
+pub stage_itself : (given course : Course) (batch : List Found) → course ≡ given → AreOverlaps given batch
+    → IsStageOf given batch (record { course = course; entered = 0 })
+stage_itself given course batch same overlaps =
+    subst (λ (c : Course). IsStageOf given batch (record { course = c; entered = 0 })) (sym same)
+    (record {
+      overlaps = overlaps;
+      within = omega arith;
+      problem = refl;
+      state = state_entered_none given.state;
+      entries = omega arith;
+    })
+
+-- the next overlap of the batch is one of lines still
+pub next_overlaps : (given before : Course) (batch : List Found) (count : ℕ) (one : Found) → count < length batch
+    → one ≡ get_or batch count one → IsStageOf given batch (record { course = before; entered = count })
+    → IsOverlapOfLines before.state one
+next_overlaps given before batch count one within is stage =
+    let overlaps : IsOverlapOfLines given.state one = subst (IsOverlapOfLines given.state) (sym is) (stage.overlaps count one within) in
+    let P : State → Type 0 = λ state. IsOverlapOfLines state one in
+    subst P (sym stage.state) overlaps
+
+-- what is left of a list, as it is read
+rest_of : {X : Type 0} (count : ℕ) (xs : List X) → take (length xs - count) (drop count xs) ≡ drop count xs
+rest_of count xs =
+    let same = length-drop count xs in
+    take_all (length xs - count) (drop count xs) (omega (arith, same))
+
+-- so are those that are left
+pub rest_overlaps : (given before : Course) (batch read : List Found) (count : ℕ) → read ≡ batch
+    → IsStageOf given batch (record { course = before; entered = count })
+    → All (IsOverlapOfLines before.state) (take (length read - count) (drop count read))
+rest_overlaps given before batch read count same stage =
+    let rest : All (IsOverlapOfLines given.state) (drop count batch) =
+    All-drop (IsOverlapOfLines given.state) count batch stage.overlaps in
+    let P : State → Type 0 = λ state. All (IsOverlapOfLines state) (drop count batch) in
+    let Q : List Found → Type 0 = λ list. All (IsOverlapOfLines before.state) list in
+    subst Q (ap (drop count) (sym same) ∙ sym (rest_of count read)) (subst P (sym stage.state) rest)
 
 -- an entry more
-pub stage_entered : (worker : ℕ) (one : Found) (given before after : Course) (entered : ℕ)
-    → IsStageOf given (record { course = before; entered = entered }) → Takes (entry_of worker one) before after
-    → IsStageOf given (record { course = after; entered = entered + 1 })
-stage_entered worker one given before after entered stage takes =
+pub stage_entered : (worker : ℕ) (one : Found) (given before after : Course) (batch : List Found) (count : ℕ) → count < length batch
+    → one ≡ get_or batch count one → IsStageOf given batch (record { course = before; entered = count })
+    → Takes (entry_of worker one) before after → IsStageOf given batch (record { course = after; entered = count + 1 })
+stage_entered worker one given before after batch count within is stage takes =
     let joined = entries-append before.journal (entry_of worker one ∷ []) in
-    let is = ap entries takes.journal in
+    let journal = ap entries takes.journal in
     let so_far = stage.entries in
+    let more : take count batch ++ one ∷ [] ≡ take (count + 1) batch =
+    ap (λ (x : Found). take count batch ++ x ∷ []) is ∙ sym (take_more batch count one within) in
     record {
-      only = only_then given before after stage.only (only_entered worker one before after takes);
-      entries = omega (arith, so_far, is, joined);
+      overlaps = stage.overlaps;
+      within = omega (arith, within);
+      problem = takes.problem ∙ stage.problem;
+      state = takes.step.is
+          ∙ ap (λ (s : State). state_entered s (one ∷ [])) stage.state
+          ∙ state_entered_twice given.state (take count batch) (one ∷ [])
+          ∙ ap (state_entered given.state) more;
+      entries = omega (arith, so_far, journal, joined);
     }
 
-rules_of-append : (lines more : List Line) → rules_of (lines ++ more) ≡ rules_of lines ++ rules_of more
-rules_of-append [] more = refl
-rules_of-append (line ∷ lines) more = ap (λ (rules : List Pair). rule_of line ∷ rules) (rules_of-append lines more)
+-- the stage is kept where nothing changed
+pub stage_same : (given before after : Course) (batch : List Found) (count : ℕ)
+    → IsStageOf given batch (record { course = before; entered = count }) → after ≡ before
+    → IsStageOf given batch (record { course = after; entered = count })
+stage_same given before after batch count stage same =
+    subst (λ (c : Course). IsStageOf given batch (record { course = c; entered = count })) (sym same) stage
 
--- lines keep their numbers at later stages
-still_numbered : (given now : Course) (k : ℕ) (rule : Pair) → IsLater given now
-    → numbered (rules_of given.state.lines) k ≡ Some rule → numbered (rules_of now.state.lines) k ≡ Some rule
-still_numbered given now k rule later is =
-    let rules = ap rules_of later.lines ∙ rules_of-append given.state.lines later.made in
-    ap (λ (l : List Pair). numbered l k) rules
-    ∙ numbered-more (rules_of given.state.lines) (rules_of later.made) k rule is
-
--- what is no overlap at a later stage was none
-pub no_overlap_before : (given now : Course) (one : Found) → IsLater given now → IsNoOverlap now one → IsNoOverlap given one
-no_overlap_before given now one later none has =
-    let overlap = has.2 in
-    none (
-      has.0,
-      has.1,
-      record {
-        is_first = still_numbered given now one.first has.0 later overlap.is_first;
-        is_second = still_numbered given now one.second has.1 later overlap.is_second;
-        overlaps = overlap.overlaps;
-        proper = overlap.proper;
-      },
-    )
-
--- the same stage
-stage_same : (given before after : Course) (entered entered' : ℕ)
-    → IsStageOf given (record { course = before; entered = entered }) → after ≡ before → entered' ≡ entered
-    → IsStageOf given (record { course = after; entered = entered' })
-stage_same given before after entered entered' stage same count =
-    subst (λ (n : ℕ). IsStageOf given (record { course = after; entered = n })) (sym count)
-    (subst (λ (c : Course). IsStageOf given (record { course = c; entered = entered })) (sym same) stage)
-
-counted_one : (entered entered' told told' : ℕ) → entered' + told ≡ entered + told' → told' ≡ told + 1 → entered' ≡ entered + 1
-counted_one entered entered' told told' counted more = omega (arith, counted, more)
-
-counted_none : (entered entered' told told' : ℕ) → entered' + told ≡ entered + told' → told' ≡ told → entered' ≡ entered
-counted_none entered entered' told told' counted same = omega (arith, counted, same)
-
--- whatever entering an overlap answers
-pub stage_after_enter : (given before after : Course) (entered entered' : ℕ) (pass later : PassParts) (one : Found)
-    (answer : Result (Unit {0}) ShareFault)
-    → IsStageOf given (record { course = before; entered = entered }) → EnterSays before after pass later one answer
-    → entered' + pass.entered ≡ entered + later.entered → IsStageOf given (record { course = after; entered = entered' })
-stage_after_enter given before after entered entered' pass later one (Ok done) stage says counted =
-    let more = counted_one entered entered' pass.entered later.entered counted (ap (λ (p : PassParts). p.entered) says.1) in
-    subst (λ (n : ℕ). IsStageOf given (record { course = after; entered = n })) (sym more)
-    (stage_entered pass.worker one given before after entered stage says.0)
-stage_after_enter given before after entered entered' pass later one (Err faults.NotOverlap) stage says counted =
-    let same = counted_none entered entered' pass.entered later.entered counted (ap (λ (p : PassParts). p.entered) says.2) in
-    stage_same given before after entered entered' stage says.1 same
-stage_after_enter given before after entered entered' pass later one (Err faults.Memory) stage says counted =
-    let same = counted_none entered entered' pass.entered later.entered counted (ap (λ (p : PassParts). p.entered) says.1) in
-    stage_same given before after entered entered' stage says.0 same
-
--- what is no overlap now was none in what was given
-pub no_overlap_given : (given before after : Course) (entered : ℕ) (pass later : PassParts) (one : Found)
-    (answer : Result (Unit {0}) ShareFault)
-    → IsStageOf given (record { course = before; entered = entered }) → EnterSays before after pass later one answer
-    → IfErr answer (λ (fault : ShareFault). fault ≡ faults.NotOverlap → IsNoOverlap given one)
-no_overlap_given given before after entered pass later one (Ok done) stage says = tt
-no_overlap_given given before after entered pass later one (Err faults.NotOverlap) stage says =
-    λ is. no_overlap_before given before one (only_later given before stage.only) says.0
-no_overlap_given given before after entered pass later one (Err faults.Memory) stage says = λ is. cc (is)
+-- where the rest of the batch is entered, all of it is
+pub batch_entered : (worker : ℕ) (given before after : Course) (batch read : List Found) (count : ℕ) → read ≡ batch
+    → IsStageOf given batch (record { course = before; entered = count })
+    → after ≡ after_entries worker before (take (length read - count) (drop count read)) → EntersBatch given batch after
+batch_entered worker given before after batch read count same stage is =
+    let rest : take (length read - count) (drop count read) ≡ drop count batch = rest_of count read ∙ ap (drop count) same in
+    record {
+      problem = ap (λ (c : Course). c.problem) is ∙ stage.problem;
+      state = ap (λ (c : Course). c.state) is
+          ∙ ap (λ (s : State). state_entered s (take (length read - count) (drop count read))) stage.state
+          ∙ ap (state_entered (state_entered given.state (take count batch))) rest
+          ∙ state_entered_twice given.state (take count batch) (drop count batch)
+          ∙ ap (state_entered given.state) (take-append-drop count batch);
+    }

@@ -1,27 +1,29 @@
 //! A completion that workers share.
 
-ghost use Rattle.std.specs.Prelude.{◌≡◌, ◌+◌, ◌≤◌, ◌<◌, length, All, IfOk, IfErr, OnOk, OnErr};
-ghost use Rattle.kb_share.specs.Later.{OnlyEnters, entries};
-ghost use Rattle.kb_threads.specs.Shared.{AreNumbered, IsNoOverlap, entered_by};
-ghost use Rattle.kb_threads.specs.declared.answers.ShareFault.TheVariants.{NotOverlap};
+ghost use Rattle.std.specs.Prelude.{◌≡◌, ◌≤◌, ◌<◌, length, All, IfErr, IfOk};
+ghost use Rattle.kb_threads.specs.Shared.{AreNumbered, AreOverlaps, CountsEntry, EntersBatch, entered_by};
 
-use crate::answers::ShareFault;
 use crate::locked::Locked;
 use crate::pass::Pass;
 use crate::sharing::Sharing;
 use kb_book::Book;
 use kb_rules::Reducer;
-use kb_share::Found;
+use kb_share::{Found, enter_all};
 use kb_word::Memory;
 use std::alloc::Global;
 use std::sync::ledger::{Blank, Share};
 use std::sync::{Mutex, Wait};
 
-/// A book under a lock. Whenever the lock is got, nothing but entries happened to the completion that was given, and
-/// there are as many more as the workers were told that they made.
+/// The number that stands for whoever takes the book back.
+const OWNER: u8 = 1;
+
+/// A book under a lock, and a batch of overlaps to enter into it. Whenever the lock is got, nothing happened to the
+/// completion that was given but that the first overlaps of the batch were entered, as many as the workers were told.
 #[derive(Drop)]
 pub struct Shared<R: Reducer, S: Sharing> {
     locked: Mutex<Locked<R, S>>,
+    batch: Vec<Found>,
+    ghost own: { batch.items ≡ S.batch },
 }
 
 impl<R: Reducer, S: Sharing> Shared<R, S> {
@@ -30,12 +32,15 @@ impl<R: Reducer, S: Sharing> Shared<R, S> {
     pub fn new(
         alloc: Global,
         book: Book<R>,
+        batch: Vec<Found>,
         blank: Blank,
         workers: u8,
     ) -> Result<(Shared<R, S>, Vec<Pass<S>>), Book<R>>
         requires name { blank.name ≡ S.name }
         requires parts { (blank.parts ≡ S.parts) × (blank.parts ≡ workers) × (1 ≤ workers) }
         requires given { book.course ≡ S.given }
+        requires batch { batch.items ≡ S.batch }
+        requires overlaps { AreOverlaps S.given S.batch }
         ensures count { IfOk result (λ made. length made.1.items ≡ S.parts) }
         ensures none { IfOk result (λ made. All (λ pass. pass.entered ≡ 0) made.1.items) }
         ensures numbers { IfOk result (λ made. AreNumbered made.1.items) }
@@ -46,28 +51,28 @@ impl<R: Reducer, S: Sharing> Shared<R, S> {
             return Err(book);
         };
         let locked = Mutex::new(Locked::new(book, entered));
-        Ok((Shared { locked }, passes))
+        Ok((Shared { locked, batch }, passes))
     }
 
-    /// Enters an overlap of two lines for a worker.
-    pub fn enter<T: Wait>(&self, rt: &T, pass: &mut Pass<S>, one: &Found) -> Result<(), ShareFault>
-        ensures worker { pass.new.worker ≡ pass.old.worker }
-        ensures ok { OnOk result (pass.new.entered ≡ pass.old.entered + 1) }
-        ensures err { OnErr result (pass.new.entered ≡ pass.old.entered) }
-        ensures no_overlap { IfErr result (λ fault. fault ≡ NotOverlap → IsNoOverlap S.given one.now) }
+    /// Enters the next overlap of the batch for a worker, and tells whether one was left.
+    pub fn enter<T: Wait>(&self, rt: &T, pass: &mut Pass<S>) -> Result<bool, Memory>
+        ensures { CountsEntry pass.old pass.new result }
     {
-        self.locked.lock(rt).enter(pass, one)
+        self.locked.lock(rt).enter(pass, &self.batch)
     }
 
-    /// The book that was shared, by all its passes.
-    pub fn finish(self, passes: Vec<Pass<S>>) -> Book<R>
+    /// The book that was shared, by all its passes, with the whole batch entered: what no worker came to is entered
+    /// now.
+    pub fn finish(self, passes: Vec<Pass<S>>) -> Result<Book<R>, Memory>
         requires { (length passes.items ≡ S.parts) × (0 < S.parts) }
-        ensures only { OnlyEnters S.given result.course }
-        ensures entries { entries result.course.journal ≡ entries S.given.journal + entered_by passes.items }
+        ensures enters { IfOk result (λ after. EntersBatch S.given S.batch after.course) }
+        ensures counted { entered_by passes.items ≤ length S.batch }
     {
         let mut all = gathered(passes);
-        let Shared { locked } = self;
-        locked.into_inner().into_book(&mut all)
+        let Shared { locked, batch } = self;
+        let (mut book, entered) = locked.into_inner().into_book(&mut all);
+        enter_all(&mut book, OWNER, &batch[entered..])?;
+        Ok(book)
     }
 }
 

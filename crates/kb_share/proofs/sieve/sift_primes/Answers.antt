@@ -7,10 +7,10 @@ use Rattle.kb_share.proofs.sieve.sift_primes.Goals as goal
 use Rattle.kb_share.proofs.sieve.sift_primes.Goals.{in-Some+in_ok-push, in_default}
 
 pub loop-overlap-init : goal.loop-overlap-init
-loop-overlap-init g c = nothing_sifted c.args.version.now c.args.index c.args.overlaps.now c.clear.new.self.items c.clear.ensures.items
+loop-overlap-init g c = nothing_sifted c.args.version.now c.args.from c.args.index c.args.overlaps.now c.clear.new.self.items c.clear.ensures.items
 
-pub sift_prime-requires : goal.sift_prime-requires
-sift_prime-requires g c =
+pub sift_late-requires : goal.sift_late-requires
+sift_late-requires g c =
     let overlaps = c.args.overlaps.now in
     let next = c.loop-overlap.overlap-index in
     let none : Overlap = record { rule = 0; place = 0 } in
@@ -21,6 +21,7 @@ sift_prime-requires g c =
 pub loop-overlap-preserved : goal.loop-overlap-preserved
 loop-overlap-preserved g c =
     let version = c.args.version.now in
+    let from = c.args.from in
     let index = c.args.index in
     let overlaps = c.args.overlaps.now in
     let next = c.loop-overlap.overlap-index in
@@ -28,22 +29,22 @@ loop-overlap-preserved g c =
     let at = get_or overlaps next none in
     let is_at = get_or_default overlaps next none at c.loop-overlap-test.true in
     let before = c.loop-overlap.found.items in
-    let Goes : List Apart → Type 0 = λ found. SiftedUpTo version index overlaps (next + 1) found in
+    let Goes : List Apart → Type 0 = λ found. SiftedUpTo version from index overlaps (next + 1) found in
     elim c.match-branch-2.branch [
       | in-Some+in_ok-push w ↦
           let one = w.in-Some.one in
-          let it = something_found version index at c.in_ok-one.field-0 one w.in-Some.is c.in_ok-one.ensures in
+          let it = something_found version from index at c.in_ok-one.field-0 one w.in-Some.is c.in_ok-one.ensures in
           let same : c.match-branch-2.found.items ≡ before ++ one ∷ [] =
           ap (λ (v : Vec Apart Global). v.items) w.found-is ∙ w.in_ok-push.ensures.items in
           let prime = is_prime version.rules index overlaps next at c.requires c.loop-overlap-test.true is_at in
-          subst Goes (sym same) (next_apart version index overlaps next at before one c.loop-overlap-test.true is_at prime it c.loop-overlap.invariant)
+          subst Goes (sym same) (next_apart version from index overlaps next at before one c.loop-overlap-test.true is_at prime it c.loop-overlap.invariant)
       | in_default w ↦
-          let joined = nothing_found version index at c.in_ok-one.field-0 (sym w.in_default.is) c.in_ok-one.ensures in
+          let joined = nothing_found version from index at c.in_ok-one.field-0 (sym w.in_default.is) c.in_ok-one.ensures in
           let same : c.match-branch-2.found.items ≡ before = ap (λ (v : Vec Apart Global). v.items) w.found-is in
-          subst Goes (sym same) (next_joined version index overlaps next at before c.loop-overlap-test.true is_at joined c.loop-overlap.invariant)
+          subst Goes (sym same) (next_joined version from index overlaps next at before c.loop-overlap-test.true is_at joined c.loop-overlap.invariant)
     ]
 
 pub returns : goal.returns
 returns g c =
-    all_sifted c.args.version.now c.args.index c.args.overlaps.now c.loop-overlap.overlap-index c.loop-overlap.found.items c.requires
+    all_sifted c.args.version.now c.args.from c.args.index c.args.overlaps.now c.loop-overlap.overlap-index c.loop-overlap.found.items c.requires
     c.loop-overlap-test.false c.loop-overlap.invariant

@@ -1,4 +1,4 @@
-use Rattle.std.proofs.Common.{refl, sym, ◌≡◌, arith}
+use Rattle.std.proofs.Common.{refl, sym, arith}
 use Rattle.kb_threads.proofs.pass.Pass.of.Goals as goal
 
 pub split_off-share-requires : goal.split_off-share-requires

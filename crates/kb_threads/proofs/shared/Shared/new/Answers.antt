@@ -8,7 +8,8 @@ passes_of-requires g c =
     (all.parts ∙ (sym parts.0 ∙ parts.1), all.amount)
 
 pub new-requires : goal.new-requires
-new-requires g c = record { given = c.requires.given; none = c.open-entered.ensures.total }
+new-requires g c =
+    record { given = c.requires.given; overlaps = c.requires.overlaps; none = c.open-entered.ensures.total }
 
 pub returns : goal.returns
 returns g c =
