@@ -1,5 +1,6 @@
 -- Automata that are checked for a group that is presented.
 use Rattle.std.proofs.Common.{◌≡◌, ℕ, List, ap, sym, ◌∙◌, subst}
+use Rattle.std.specs.Prelude.{Bool}
 use Rattle.kb_word.specs.Relations.{IsOver, relations_of}
 use Rattle.kb_word.specs.declared.presentation.Presentation.{Presentation}
 use Rattle.kb_word.specs.declared.word_order.WordOrder.{WordOrder}
@@ -12,12 +13,24 @@ use Rattle.kb_structure.specs.StructureOf.{FitTogether, structure_of}
 use Rattle.kb_structure.specs.Certificates.{IsTrueToGroup, PairOfDifferentElements}
 use Rattle.kb_certificates.specs.First.{IsFirstPair}
 use Rattle.kb_relations.specs.Acts.{AreOver}
-use Rattle.kb_axioms.specs.Answered.{IsFirstOfAll, checked_in}
+use Rattle.kb_axioms.specs.Answered.{IsFirstOfAll, IsFoundBy, checked_in}
 use Rattle.kb_axioms.specs.Answered.IsFirstOfAll.{of_elements}
-use Rattle.kb_axioms.specs.Checked.{PassesRelations, own_structure}
+use Rattle.kb_axioms.specs.Checked.{Checked, IsFirstCertificate, PassesRelations, own_structure}
+use Rattle.kb_axioms.specs.Checked.IsFirstCertificate.{n1, n2, n4, n5, n6, n7, n8}
 use Rattle.kb_axioms.specs.Truth.{AreMultipliers, IsFirstDifferent}
+use Rattle.kb_structure.specs.declared.cert.Cert.{Cert}
 use Rattle.kb_structure.specs.declared.cert.Cert.TheVariants.{N3}
 use Rattle.kb_axioms.proofs.Own.{passing_is_own}
+
+-- what automata show by themselves is found by any rules
+pub found_by_any : {checked : Checked} {cert : Cert} (confluent : Bool) → IsFirstCertificate checked cert → IsFoundBy confluent cert
+found_by_any confluent (n1 least) = tt
+found_by_any confluent (n2 passes first) = tt
+found_by_any confluent (n4 passes first few) = tt
+found_by_any confluent (n5 passes first) = tt
+found_by_any confluent (n6 passes first) = tt
+found_by_any confluent (n7 passes first) = tt
+found_by_any confluent (n8 passes at) = tt
 
 module _ (presentation : Presentation) (acceptor : Automaton) (multipliers : List Automaton)
     (plain : acceptor.alphabet ≡ Plain presentation.n) where

@@ -27,6 +27,11 @@ abbrev pub checked_in : Presentation → Automaton → List Automaton → ℕ �
 checked_in presentation acceptor multipliers limit =
     checked_of acceptor multipliers (relations_of presentation.inv presentation.eqs) limit
 
+-- a certificate of the kind N3 is found only by rules that are known to be confluent; the others need no rules
+abbrev pub IsFoundBy : Bool → Cert → Type 0
+IsFoundBy confluent (N3 x u v) = IsTrue confluent
+IsFoundBy confluent _ = Unit {0}
+
 -- what each answer says, by rules that may be known to be confluent
 abbrev pub AxiomsSay : Presentation → List Sides → Bool → Automaton → List Automaton → ℕ → Axioms
     → Type 0
@@ -34,7 +39,7 @@ AxiomsSay presentation rules confluent acceptor multipliers limit Yes =
     PassesRelations (checked_in presentation acceptor multipliers limit)
     × AgreeUpTo presentation rules multipliers (length multipliers)
 AxiomsSay presentation rules confluent acceptor multipliers limit (No cert) =
-    IsFirstOfAll (checked_in presentation acceptor multipliers limit) cert
+    IsFirstOfAll (checked_in presentation acceptor multipliers limit) cert × IsFoundBy confluent cert
 AxiomsSay presentation rules confluent acceptor multipliers limit (Unresolved x state label other) =
     PassesRelations (checked_in presentation acceptor multipliers limit) × (¬ IsTrue confluent)
     × IsFirstUnresolved presentation rules multipliers x state label other

@@ -9,9 +9,9 @@
 //! [`check`] answers for automata and the presentation of a group, with rules of the group that may be known to be
 //! confluent. `AxiomsSay` of `specs/Answered.antt` says what each answer means. By [`Axioms::Yes`] the automata are
 //! the group's own, if both sides of each rule are the same element (the clause `own`). [`Axioms::No`] has the first
-//! certificate, N3 being looked for after all other kinds. [`Axioms::TooManyStates`] says that a count is above the
-//! limit and no certificate comes before it. [`Axioms::Unresolved`] comes only by rules that aren't known to be
-//! confluent.
+//! certificate, N3 being looked for after all other kinds, and only by rules that are known to be confluent.
+//! [`Axioms::TooManyStates`] says that a count is above the limit and no certificate comes before it.
+//! [`Axioms::Unresolved`] comes only by rules that aren't known to be confluent.
 //!
 //! It has two parts. [`check_automata`] looks for certificates of all kinds but N3, which need no rules of the group,
 //! in the order N1, N2, N4 to N8; within a kind, in the order of the generators or relations, and of words.

@@ -10,9 +10,10 @@ use Rattle.kb_word.specs.declared.presentation.Presentation.{Presentation}
 use Rattle.kb_fsa.specs.Language.{Automaton}
 use Rattle.kb_structure.specs.Structure.{IsAutomaticStructure}
 use Rattle.kb_structure.specs.declared.cert.Cert.{Cert}
+use Rattle.kb_structure.specs.declared.cert.Cert.TheVariants.{N3}
 use Rattle.kb_proof.specs.declared.log.Log.{Log}
 use Rattle.kb_bylog.specs.LogLines.{AreJoined, Settles, lines_of, relations}
-use Rattle.kb_axioms.specs.Answered.{AxiomsSay, checked_in}
+use Rattle.kb_axioms.specs.Answered.{AxiomsSay, IsFoundBy, checked_in}
 use Rattle.kb_axioms.specs.Checked.{own_structure}
 use Rattle.kb_axioms.specs.Truth.{AgreeUpTo, AreConfluentRulesOf, IsFirstUnresolved}
 use Rattle.kb_axioms.specs.declared.answers.Axioms.{Axioms}
@@ -28,7 +29,7 @@ use Rattle.kb_task.specs.declared.status.Refusal.TheVariants.{File}
 use Rattle.kb_task.specs.declared.status.Status.{Status}
 use Rattle.kb_task.specs.declared.status.Status.TheVariants.{Yes, No, Refused, Undecided}
 use Rattle.kb_evidence.specs.Files.{log_file}
-use Rattle.kb_cmd_structures.specs.ByLog.{FindsByLog, own_by_log, refuted_by_log, too_many_by_log, unresolved_by_log}
+use Rattle.kb_cmd_structures.specs.ByLog.{FindsByLog, IsSettledFor, own_by_log, refuted_by_log, too_many_by_log, unresolved_by_log}
 use Rattle.kb_cmd_structures.specs.Findings.{HasParts}
 use Rattle.kb_cmd_structures.specs.Given.{CheckGiven}
 use Rattle.kb_cmd_structures.specs.Gpaxioms.{construction_of}
@@ -56,6 +57,12 @@ module _ (given : CheckGiven) (presentation : Presentation) (log : Log) (accepto
       let Of : List Pair → Type 0 = λ r. Settles r (relations (parts_of presentation)) in
       undecided (says_settled.1 (subst Of (sym is) settles))
 
+  settled_for : (cert : Cert) → IsFoundBy settled cert → IsSettledFor presentation log cert
+  settled_for (N3 x u v) known =
+      let Of : List Pair → Type 0 = λ r. Settles r (relations (parts_of presentation)) in
+      subst Of is (says_settled.0 known)
+  settled_for _ known = tt
+
   says_of : (axioms : Axioms)
       → AxiomsSay presentation rules settled acceptor multipliers given.limits.states axioms
       → (axioms ≡ answers.Yes → IsAutomaticStructure (own_structure (checked_in presentation acceptor multipliers given.limits.states)))
@@ -63,7 +70,7 @@ module _ (given : CheckGiven) (presentation : Presentation) (log : Log) (accepto
   says_of answers.Yes says own =
       let Agree : List Pair → Type 0 = λ r. AgreeUpTo presentation r multipliers (length multipliers) in
       (says.0, own refl, subst Agree is says.1)
-  says_of (answers.No cert) says own = says
+  says_of (answers.No cert) says own = (says.0, settled_for cert says.1)
   says_of (answers.TooManyStates which) says own = says
   says_of (answers.Unresolved x state label other) says own =
       let First : List Pair → Type 0 = λ r. IsFirstUnresolved presentation r multipliers x state label other in
@@ -95,7 +102,7 @@ module _ (given : CheckGiven) (presentation : Presentation) (log : Log) (accepto
 
   pub lines-refuted : (cert : Cert) → HasParts (No (Structure cert)) [] (certificate_line presentation.names cert) finding
       → LinesSay given presentation log acceptor multipliers (answers.No cert) → IsFoundByLog given presentation log acceptor multipliers finding
-  lines-refuted cert parts says = found_as parts (refuted_by_log says)
+  lines-refuted cert parts says = found_as parts (refuted_by_log says.0 says.1)
 
   pub lines-too_many : (which : Construction)
       → HasParts (Undecided (States (construction_of which))) [] (undecided_line presentation.names (States (construction_of which))) finding

@@ -41,7 +41,7 @@ module _ {given : CheckGiven} {presentation : Presentation} {log : Log} {accepto
   lines_faultless : {status : Status} {texts : List Text} {line : List ℕ}
       → FindsByLog given presentation log acceptor multipliers status texts line → IsFaultless status
   lines_faultless (own_by_log passes is_own agree) = refl
-  lines_faultless (refuted_by_log first) = refl
+  lines_faultless (refuted_by_log first settled) = refl
   lines_faultless (too_many_by_log first) = refl
   lines_faultless (unresolved_by_log is) = refl
 
@@ -49,7 +49,7 @@ module _ {given : CheckGiven} {presentation : Presentation} {log : Log} {accepto
   lines_texts : {status : Status} {texts : List Text} {line : List ℕ}
       → FindsByLog given presentation log acceptor multipliers status texts line → texts ≡ []
   lines_texts (own_by_log passes is_own agree) = refl
-  lines_texts (refuted_by_log first) = refl
+  lines_texts (refuted_by_log first settled) = refl
   lines_texts (too_many_by_log first) = refl
   lines_texts (unresolved_by_log is) = refl
 

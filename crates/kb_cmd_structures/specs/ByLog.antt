@@ -7,6 +7,7 @@ use Rattle.kb_word.specs.declared.presentation.Presentation.{Presentation}
 use Rattle.kb_fsa.specs.Language.{Automaton}
 use Rattle.kb_structure.specs.Structure.{IsAutomaticStructure}
 use Rattle.kb_structure.specs.declared.cert.Cert.{Cert as StructureCert}
+use Rattle.kb_structure.specs.declared.cert.Cert.TheVariants.{N3}
 use Rattle.kb_proof.specs.declared.log.Log.{Log}
 use Rattle.kb_proof.specs.declared.verified.Why.{Why}
 use Rattle.kb_bylog.specs.LogLines.{IsJustifiedBy, IsUnjustifiedAt, Settles, lines_of, relations}
@@ -67,22 +68,6 @@ pub data EndsAtLogged (files : Files) (file : List ℕ) (status : Status) : Type
       → EndsAtAutomata files file presentation status
       → EndsAtLogged files file status
 
--- The file of the group has a fault; or, where it holds one, that of the log has; or, where the log is justified,
--- that of one of the automata. That the lines of the log leave open what the automata are is no fault that its file
--- has as it is loaded: it is said of the automata and the lines, and is refused only where it is so
--- (`IsUnresolvedFault`).
-pub data IsLoggedRefused (files : Files) (file name : List ℕ) (fault : FileFault) : Type 0 where
-  refused_logged_group : IsRefusedFor (IsGroupFault files file) file name fault
-      → IsLoggedRefused files file name fault
-  refused_log : {presentation : Presentation} → HoldsGroup files file presentation
-      → IsRefusedFor (IsLogFaultBeside files file presentation) (log_file file) name fault
-      → IsLoggedRefused files file name fault
-  refused_logged_automata : {presentation : Presentation} {log : Log}
-      → HoldLogged files file presentation log
-      → IsJustifiedBy (parts_of presentation) log
-      → IsAutomatonRefused files file presentation name fault
-      → IsLoggedRefused files file name fault
-
 -- ---- what is found
 
 -- There is no certificate but perhaps of the last kind, and the lines don't settle that: they leave a relation or an
@@ -106,6 +91,12 @@ pub record IsUnresolvedFault (given : CheckGiven) (presentation : Presentation) 
       ≡ LogUnresolved (letter_name presentation.names x) (text_of_word presentation.names label)
       (text_of_word presentation.names other)
 
+-- a certificate of the last kind is found only where the lines settle the relations; the others need no lines
+abbrev pub IsSettledFor : Presentation → Log → StructureCert → Type 0
+IsSettledFor presentation log (N3 x u v) =
+    Settles (lines_of log) (relations (parts_of presentation))
+IsSettledFor presentation log _ = Unit {0}
+
 -- What is found of the automata by the lines of a justified log: the status, the files that are stored, and the line
 -- that is written. They are the group's own, and the lines show it; or the first certificate shows that they aren't;
 -- or a count is above the limit, and no certificate comes before it; or the lines don't settle it, and nothing is
@@ -120,6 +111,7 @@ pub data FindsByLog (given : CheckGiven) (presentation : Presentation) (log : Lo
       → FindsByLog given presentation log acceptor multipliers Yes [] (codes "yes\n")
   refuted_by_log : {cert : StructureCert}
       → IsFirstOfAll (checked_by given presentation acceptor multipliers) cert
+      → IsSettledFor presentation log cert
       → FindsByLog given presentation log acceptor multipliers (No (Structure cert)) []
       (certificate_line presentation.names cert)
   too_many_by_log : {which : Counted}
@@ -139,6 +131,38 @@ pub data FindsUnjustified (presentation : Presentation) (log : Log)
       → IsUnjustifiedAt (parts_of presentation) log number why
       → FindsUnjustified presentation log (No (NotJustified number why)) []
       (unjustified_line number why)
+
+-- ---- what is refused
+
+-- The files hold a group, a log that is justified, and automata; and the lines of the log leave open what these are.
+pub record IsLogUnresolved (given : CheckGiven) (files : Files) (fault : FileFault) : Type 0 where
+  pub presentation : Presentation
+  pub log : Log
+  pub acceptor : Automaton
+  pub multipliers : List Automaton
+  pub held : HoldStructure files given.file presentation acceptor multipliers
+  pub log_is : HoldsLogBeside files given.file presentation log
+  pub justified : IsJustifiedBy (parts_of presentation) log
+  pub unresolved : IsUnresolvedFault given presentation log acceptor multipliers fault
+
+-- The file of the group has a fault; or, where it holds one, that of the log has; or, where the log is justified,
+-- that of one of the automata; or, where all of them are held, the lines of the log leave open what the automata are,
+-- and the file of the log is refused for that.
+pub data IsLoggedRefused (given : CheckGiven) (files : Files) (name : List ℕ) (fault : FileFault)
+    : Type 0 where
+  refused_logged_group : IsRefusedFor (IsGroupFault files given.file) given.file name fault
+      → IsLoggedRefused given files name fault
+  refused_log : {presentation : Presentation} → HoldsGroup files given.file presentation
+      → IsRefusedFor (IsLogFaultBeside files given.file presentation) (log_file given.file) name
+      fault
+      → IsLoggedRefused given files name fault
+  refused_logged_automata : {presentation : Presentation} {log : Log}
+      → HoldLogged files given.file presentation log
+      → IsJustifiedBy (parts_of presentation) log
+      → IsAutomatonRefused files given.file presentation name fault
+      → IsLoggedRefused given files name fault
+  refused_unresolved : IsRefusedFor (IsLogUnresolved given files) (log_file given.file) name fault
+      → IsLoggedRefused given files name fault
 
 -- ---- a run
 

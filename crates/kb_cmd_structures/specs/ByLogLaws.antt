@@ -1,5 +1,5 @@
 -- The laws of what the statuses of `gpaxioms` by the lines of a log mean.
-use Rattle.std.proofs.Common.{◌≡◌, ◌∙◌, inl, inr, ℕ, List, [], ◌++◌, codes, refl, sym, ap, subst}
+use Rattle.std.proofs.Common.{◌≡◌, ◌∙◌, inl, inr, ℕ, suc, List, [], ◌++◌, length, codes, refl, sym, ap, subst}
 use Rattle.std.specs.Prelude.{true}
 use Rattle.kb_io.specs.Outside.{Outside}
 use Rattle.kb_word.specs.Presentations.{PresentationParts, parts_of}
@@ -29,13 +29,14 @@ use Rattle.kb_task.proofs.HeldLogs.{one_log_held}
 use Rattle.kb_task.proofs.LoadEnds.{load_inconclusive, memory_at_load, one_presentation_held}
 use Rattle.kb_task.proofs.StoredLogs.{names_apart}
 use Rattle.kb_evidence.specs.Files.{acceptor_file, log_file, multiplier_file}
-use Rattle.kb_cmd_structures.specs.ByLog.{ByLogMeans, at_logged, log_refuted, log_read, EndsAtLogged, at_logged_group, at_log, at_logged_automata, FindsByLog, own_by_log, refuted_by_log, too_many_by_log, unresolved_by_log, FindsUnjustified, unjustified, HoldLogged, IsLogFaultBeside, IsUnresolvedFault}
+use Rattle.kb_cmd_structures.specs.ByLog.{ByLogMeans, at_logged, log_refuted, log_read, EndsAtLogged, at_logged_group, at_log, at_logged_automata, FindsByLog, own_by_log, refuted_by_log, too_many_by_log, unresolved_by_log, FindsUnjustified, unjustified, HoldLogged, IsLogFaultBeside, refused_log, refused_logged_automata, refused_logged_group, refused_unresolved, IsUnresolvedFault}
 use Rattle.kb_cmd_structures.specs.Given.{CheckGiven}
 use Rattle.kb_cmd_structures.specs.Gpaxioms.{checked_by, reads_acceptor, reads_group, reads_multiplier}
 use Rattle.kb_cmd_structures.specs.GpaxiomsPromise.{IsByLogUnrefused, ReadsBy}
+use Rattle.kb_cmd_structures.specs.Loaded.{EndsAtAutomata, IsAcceptorFault, IsMultiplierFault, at_acceptor, at_multiplier, refused_acceptor, refused_multiplier}
 use Rattle.kb_cmd_structures.specs.LoadedLaws.{automata_inconclusive, held_over, one_checked}
 use Rattle.kb_cmd_structures.specs.Shown.{Found, ShowMeans, shown, output_failed, store_failed, no_memory_stored, no_memory}
-use Rattle.kb_cmd_structures.specs.ShownLaws.{Answered, answered_own, answered_no, answered_count, WroteYes, automata_answer, one_answer, wrote_yes}
+use Rattle.kb_cmd_structures.specs.ShownLaws.{Answered, answered_own, answered_no, answered_count, WroteYes, one_answer, wrote_yes}
 
 -- ---- what is found
 
@@ -47,7 +48,7 @@ module _ {given : CheckGiven} {presentation : Presentation} {log : Log} {accepts
       → IsUnrefused (IsUnresolvedFault given presentation log accepts multipliers)
       → IsAnswer status
   found_answers (own_by_log passes is_own agree) unrefused = tt
-  found_answers (refuted_by_log first) unrefused = tt
+  found_answers (refuted_by_log first settled) unrefused = tt
   found_answers (too_many_by_log first) unrefused = tt
   found_answers (unresolved_by_log {fault = fault} is) unrefused = absurd (unrefused fault is)
 
@@ -57,7 +58,7 @@ module _ {given : CheckGiven} {presentation : Presentation} {log : Log} {accepts
       → IsConclusive status
       → Answered (checked_by given presentation accepts multipliers) status
   found_says (own_by_log passes is_own agree) answers = answered_own passes is_own
-  found_says (refuted_by_log first) answers = answered_no first
+  found_says (refuted_by_log first settled) answers = answered_no first
   found_says (too_many_by_log first) answers = answered_count first
   found_says (unresolved_by_log is) answers = absurd answers
 
@@ -66,7 +67,7 @@ module _ {given : CheckGiven} {presentation : Presentation} {log : Log} {accepts
       → FindsByLog given presentation log accepts multipliers status texts line → IsYes status
       → (texts ≡ []) × (line ≡ codes "yes\n")
   found_yes (own_by_log passes is_own agree) is_yes = (refl, refl)
-  found_yes (refuted_by_log first) is_yes = absurd is_yes
+  found_yes (refuted_by_log first settled) is_yes = absurd is_yes
   found_yes (too_many_by_log first) is_yes = absurd is_yes
   found_yes (unresolved_by_log is) is_yes = absurd is_yes
 
@@ -93,25 +94,52 @@ shown_answers (store_failed finds stops) faultless answers = cc
 shown_answers (no_memory_stored finds first) faultless answers = tt
 shown_answers (no_memory unchanged) faultless answers = tt
 
-ends_answer : (given : CheckGiven) (before : Outside) (status : Status)
-    → EndsAtLogged before.shelf.holds given.file status → IsByLogUnrefused given before
-    → IsFaultless status → status ≡ Memory
-ends_answer given before status (at_logged_group ends) unrefused faultless =
-    memory_at_load (IsGroupFault before.shelf.holds given.file) given.file status
-    unrefused.files.group faultless ends
-ends_answer given before status (at_log {presentation = presentation} group ends) unrefused
-    faultless =
-    memory_at_load (IsLogFaultBeside before.shelf.holds given.file presentation)
-    (log_file given.file) status (unrefused.log_is presentation group) faultless ends
-ends_answer given before status
-    (at_logged_automata {presentation = presentation} held justified ends) unrefused faultless =
-    automata_answer given before presentation status unrefused.files held.group ends faultless
+-- where nothing is refused, a run ends at a load for want of memory only
+module _ (given : CheckGiven) (before : Outside) (unrefused : IsByLogUnrefused given before) where
+  abbrev files : Files
+  files = before.shelf.holds
+
+  automata_answer : {presentation : Presentation} {log : Log} (status : Status)
+      → HoldLogged files given.file presentation log → IsJustifiedBy (parts_of presentation) log
+      → EndsAtAutomata files given.file presentation status → IsFaultless status
+      → status ≡ Memory
+  automata_answer {presentation = presentation} status held justified (at_acceptor ends) faultless =
+      let name = acceptor_file given.file in
+      memory_at_load (IsAcceptorFault files given.file presentation) name status
+      (λ fault is. unrefused name fault (refused_logged_automata held justified
+      (refused_acceptor (record { is = refl; has = is })))) faultless ends
+  automata_answer {presentation = presentation} status held justified (at_multiplier accepts ends)
+      faultless =
+      let x = suc (length ends.earlier) in
+      let name = multiplier_file given.file x in
+      memory_at_load (IsMultiplierFault files given.file presentation x) name status
+      (λ fault is. unrefused name fault (refused_logged_automata held justified
+      (refused_multiplier accepts (record {
+        earlier = ends.earlier;
+        held = ends.held;
+        within = ends.within;
+        refused = record { is = refl; has = is };
+      })))) faultless ends.ends
+
+  ends_answer : (status : Status) → EndsAtLogged files given.file status → IsFaultless status
+      → status ≡ Memory
+  ends_answer status (at_logged_group ends) faultless =
+      memory_at_load (IsGroupFault files given.file) given.file status
+      (λ fault is. unrefused given.file fault
+      (refused_logged_group (record { is = refl; has = is }))) faultless ends
+  ends_answer status (at_log {presentation = presentation} group ends) faultless =
+      let name = log_file given.file in
+      memory_at_load (IsLogFaultBeside files given.file presentation) name status
+      (λ fault is. unrefused name fault
+      (refused_log group (record { is = refl; has = is }))) faultless ends
+  ends_answer status (at_logged_automata held justified ends) faultless =
+      automata_answer status held justified ends faultless
 
 pub by_log_complete : (given : CheckGiven) (before after : Outside) (status : Status)
     → ByLogMeans given before after status → IsByLogUnrefused given before
     → IsFaultless status → IsAnswer status
 by_log_complete given before after status (at_logged ends unchanged) unrefused faultless =
-    subst IsAnswer (sym (ends_answer given before status ends unrefused faultless)) tt
+    subst IsAnswer (sym (ends_answer given before unrefused status ends faultless)) tt
 by_log_complete given before after status (log_refuted held means) unrefused faultless =
     shown_answers means faultless (λ ends texts line finds. refuted_answers finds)
 by_log_complete given before after status
@@ -119,7 +147,19 @@ by_log_complete given before after status
     {log = log} held log_is justified means) unrefused faultless =
     shown_answers means faultless
     (λ ends texts line finds. found_answers finds
-    (unrefused.resolved presentation log accepts multipliers held log_is justified))
+    (λ fault is. unrefused (log_file given.file) fault (refused_unresolved (record {
+      is = refl;
+      has = record {
+        presentation = presentation;
+        log = log;
+        acceptor = accepts;
+        multipliers = multipliers;
+        held = held;
+        log_is = log_is;
+        justified = justified;
+        unresolved = is;
+      };
+    }))))
 
 -- ---- settled
 
@@ -170,10 +210,10 @@ module _ {files others : Files} {file : List ℕ} {one other : Presentation} {lo
     (held : HoldLogged files file one log) (also : HoldLogged others file other again)
     (same_group : files file ≡ others file)
     (same_log : files (log_file file) ≡ others (log_file file)) where
-  one_parts : parts_of one ≡ parts_of other
+  pub one_parts : parts_of one ≡ parts_of other
   one_parts = one_presentation_held same_group held.group.presents also.group.presents
 
-  same_logs : AreSameLogs log again
+  pub same_logs : AreSameLogs log again
   same_logs =
       let Holds : PresentationParts → Type 0 = λ p. HoldsLog files (log_file file) p.names log in
       one_log_held (names_apart other.names also.group.presents.says.holds.names) same_log

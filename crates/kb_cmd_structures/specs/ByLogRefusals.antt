@@ -1,5 +1,5 @@
 -- Of the files that `gpaxioms` reads by the lines of a log: what is refused is the first that has a fault, and where
--- one has, it is refused.
+-- one has, it is refused. That the lines leave open what the automata are is the last of the faults.
 use Rattle.std.proofs.Common.{◌≡◌, inr, ℕ, List, refl, subst}
 use Rattle.kb_io.specs.Outside.{Outside}
 use Rattle.kb_word.specs.Presentations.{PresentationParts, parts_of}
@@ -10,7 +10,7 @@ use Rattle.kb_bylog.specs.LogLines.{IsJustifiedBy}
 use Rattle.kb_task.specs.Loads.{Files}
 use Rattle.kb_task.specs.Logs.{HoldsDerivations, IsDerivationsFault}
 use Rattle.kb_task.specs.OneReason.{HaveOneReason, HasOneReason}
-use Rattle.kb_task.specs.Refusals.{IsLoadFault, IsRefusalOrMemory, IsRefusedFor, RefusesNone}
+use Rattle.kb_task.specs.Refusals.{IsRefusalOrMemory, IsRefusedFor}
 use Rattle.kb_task.specs.Statuses.{IsFaultless}
 use Rattle.kb_task.specs.Stores.{Text}
 use Rattle.kb_task.specs.declared.status.FileFault.{FileFault}
@@ -19,56 +19,82 @@ use Rattle.kb_task.specs.declared.status.Status.{Status}
 use Rattle.kb_task.specs.declared.status.Status.TheVariants.{Refused}
 use Rattle.kb_task.proofs.RefusalLemmas.{exact_at_load, held_none, memory_or, refused_at_load}
 use Rattle.kb_evidence.specs.Files.{log_file}
-use Rattle.kb_cmd_structures.specs.ByLog.{ByLogMeans, at_logged, log_refuted, log_read, EndsAtLogged, at_logged_group, at_log, at_logged_automata, FindsByLog, own_by_log, refuted_by_log, too_many_by_log, unresolved_by_log, FindsUnjustified, HoldLogged, HoldsLogBeside, IsLogFaultBeside, IsLoggedRefused, refused_log, refused_logged_automata, refused_logged_group}
+use Rattle.kb_cmd_structures.specs.ByLog.{ByLogMeans, at_logged, log_refuted, log_read, EndsAtLogged, at_logged_group, at_log, at_logged_automata, FindsByLog, own_by_log, refuted_by_log, too_many_by_log, unresolved_by_log, FindsUnjustified, HoldLogged, HoldsLogBeside, IsLogFaultBeside, IsLoggedRefused, IsLogUnresolved, IsUnresolvedFault, refused_log, refused_logged_automata, refused_logged_group, refused_unresolved}
 use Rattle.kb_cmd_structures.specs.ByLogLaws.{is_refuted, not_justified, refuted_answers}
+use Rattle.kb_cmd_structures.specs.UnresolvedLaws.{fault_moved, shown_exact}
 use Rattle.kb_cmd_structures.specs.Given.{CheckGiven}
 use Rattle.kb_cmd_structures.specs.Loaded.{HoldsGroup, IsAutomatonRefused}
-use Rattle.kb_cmd_structures.specs.RefusalLaws.{answer_refuses_none, automata_exact, automata_held, automata_refused, group_held, group_parts, refused_moved, same_presentation, shown_refuses_none}
+use Rattle.kb_cmd_structures.specs.RefusalLaws.{answers_refuse_none, automata_exact, automata_held, automata_memory, automata_refused, group_held, group_parts, refused_moved, same_presentation, shown_refusal, structure_moved}
 use Rattle.kb_cmd_structures.specs.Shown.{ShowMeans, shown, output_failed, store_failed, no_memory_stored, no_memory}
 
 -- ---- what is refused
 
-logged_refused : (files : Files) (file name : List ℕ) (fault : FileFault)
-    → EndsAtLogged files file (Refused (File name fault))
-    → IsLoggedRefused files file name fault
-logged_refused files file name fault (at_logged_group ends) =
+logged_refused : (given : CheckGiven) (files : Files) (name : List ℕ) (fault : FileFault)
+    → EndsAtLogged files given.file (Refused (File name fault))
+    → IsLoggedRefused given files name fault
+logged_refused given files name fault (at_logged_group ends) =
     refused_logged_group (refused_at_load name fault ends)
-logged_refused files file name fault (at_log group ends) =
+logged_refused given files name fault (at_log group ends) =
     refused_log group (refused_at_load name fault ends)
-logged_refused files file name fault
+logged_refused given files name fault
     (at_logged_automata {presentation = presentation} held justified ends) =
     refused_logged_automata held justified
-    (automata_refused files file presentation name fault ends)
+    (automata_refused files given.file presentation name fault ends)
 
--- What is found of automata by the lines of a log refuses no file for a fault that it has as it is loaded: where the
--- lines leave open what the automata are, that is the fault.
-found_refuses_none : {given : CheckGiven} {presentation : Presentation} {log : Log}
-    {accepts : Automaton} {multipliers : List Automaton} (status : Status) (texts : List Text)
-    (line : List ℕ)
-    → FindsByLog given presentation log accepts multipliers status texts line
-    → RefusesNone status
-found_refuses_none status texts line (own_by_log passes is_own agree) = tt
-found_refuses_none status texts line (refuted_by_log first) = tt
-found_refuses_none status texts line (too_many_by_log first) = tt
-found_refuses_none status texts line (unresolved_by_log {fault = fault} is) =
-    λ at_load. subst IsLoadFault is.is at_load
+module _ {given : CheckGiven} {presentation : Presentation} {log : Log} {accepts : Automaton}
+    {multipliers : List Automaton} where
+  -- the one refusal among what is found is that the lines leave open what the automata are
+  found_unresolved : {name : List ℕ} {fault : FileFault} (status : Status) (texts : List Text)
+      (line : List ℕ)
+      → FindsByLog given presentation log accepts multipliers status texts line
+      → status ≡ Refused (File name fault)
+      → IsRefusedFor (IsUnresolvedFault given presentation log accepts multipliers)
+      (log_file given.file) name fault
+  found_unresolved status texts line (own_by_log passes is_own agree) refuses = cc
+  found_unresolved status texts line (refuted_by_log first settled) refuses = cc
+  found_unresolved status texts line (too_many_by_log first) refuses = cc
+  found_unresolved {name} {fault} status texts line (unresolved_by_log {fault = other} is) refuses =
+      let named : name ≡ log_file given.file = cc in
+      let same : other ≡ fault = cc in
+      let IsFault : FileFault → Type 0 =
+      λ f. IsUnresolvedFault given presentation log accepts multipliers f in
+      record { is = named; has = subst IsFault same is }
 
 pub by_log_refused : (given : CheckGiven) (before after : Outside) (name : List ℕ)
     (fault : FileFault)
-    → ByLogMeans given before after (Refused (File name fault)) → IsLoadFault fault
-    → IsLoggedRefused before.shelf.holds given.file name fault
-by_log_refused given before after name fault (at_logged ends unchanged) at_load =
-    logged_refused before.shelf.holds given.file name fault ends
-by_log_refused given before after name fault (log_refuted held means) at_load =
-    absurd (shown_refuses_none means
-    (λ ends texts line finds. answer_refuses_none ends (refuted_answers finds)) at_load)
-by_log_refused given before after name fault (log_read held log_is justified means) at_load =
-    absurd (shown_refuses_none means
-    (λ ends texts line finds. found_refuses_none ends texts line finds) at_load)
+    → ByLogMeans given before after (Refused (File name fault))
+    → IsLoggedRefused given before.shelf.holds name fault
+by_log_refused given before after name fault (at_logged ends unchanged) =
+    logged_refused given before.shelf.holds name fault ends
+by_log_refused given before after name fault (log_refuted held means) =
+    absurd (answers_refuse_none means (λ ends texts line finds. refuted_answers finds) refl)
+by_log_refused given before after name fault
+    (log_read {presentation = presentation} {acceptor = accepts} {multipliers = multipliers}
+    {log = log} held log_is justified means) =
+    shown_refusal means refl (IsLoggedRefused given before.shelf.holds name fault)
+    (λ ends texts line finds refuses.
+    let refused = found_unresolved ends texts line finds refuses in
+    refused_unresolved (record {
+      is = refused.is;
+      has = record {
+        presentation = presentation;
+        log = log;
+        acceptor = accepts;
+        multipliers = multipliers;
+        held = held;
+        log_is = log_is;
+        justified = justified;
+        unresolved = refused.has;
+      };
+    }))
 
 -- ---- exactly
 
-module _ (have : HaveOneReason) (files : Files) (file name : List ℕ) (fault : FileFault) where
+module _ (have : HaveOneReason) (given : CheckGiven) (files : Files) (name : List ℕ)
+    (fault : FileFault) where
+  abbrev file : List ℕ
+  file = given.file
+
   -- the file of the log beside a group is refused for one reason, and for none where it holds a log
   log_reason : {presentation : Presentation} → HoldsGroup files file presentation
       → HasOneReason ((log : Log) × HoldsLogBeside files file presentation log)
@@ -91,24 +117,28 @@ module _ (have : HaveOneReason) (files : Files) (file name : List ℕ) (fault : 
       λ p. HoldsDerivations files (log_file file) p.names log in
       subst Held_by same held
 
-  -- where the files hold a group and a log, what is refused is a file of the automata
+  -- Where the files hold a group and a log, what is refused is a file of the automata; or the lines leave open what
+  -- these are.
   both_held : {presentation : Presentation} {log : Log} → HoldLogged files file presentation log
-      → IsLoggedRefused files file name fault → (P : Type 0)
+      → IsLoggedRefused given files name fault → (P : Type 0)
       → ((other : Presentation) (also : Log) → HoldLogged files file other also
       → IsJustifiedBy (parts_of other) also → IsAutomatonRefused files file other name fault → P)
+      → (IsRefusedFor (IsLogUnresolved given files) (log_file file) name fault → P)
       → P
-  both_held held (refused_logged_group refused) P so =
+  both_held held (refused_logged_group refused) P so open_so =
       absurd (group_held have files file name fault held.group refused)
   both_held {presentation = presentation} {log = log} held
-      (refused_log {presentation = other} group refused) P so =
+      (refused_log {presentation = other} group refused) P so open_so =
       absurd (held_none (log_reason held.group) name fault (log, held.log_is)
       (log_moved other presentation (same_presentation group held.group) refused))
   both_held held
-      (refused_logged_automata {presentation = other} {log = also} again justified refused) P so =
+      (refused_logged_automata {presentation = other} {log = also} again justified refused) P so
+      open_so =
       so other also again justified refused
+  both_held held (refused_unresolved refused) P so open_so = open_so refused
 
   logged_exact : (status : Status) → EndsAtLogged files file status
-      → IsLoggedRefused files file name fault → IsFaultless status
+      → IsLoggedRefused given files name fault → IsFaultless status
       → IsRefusalOrMemory name fault status
   logged_exact status (at_logged_group ends) (refused_logged_group refused) faultless =
       exact_at_load (have.group files file) status name fault ends refused faultless
@@ -117,6 +147,9 @@ module _ (have : HaveOneReason) (files : Files) (file name : List ℕ) (fault : 
   logged_exact status (at_logged_group ends) (refused_logged_automata held justified refused)
       faultless =
       memory_or (have.group files file) status name fault (group_parts held.group) ends faultless
+  logged_exact status (at_logged_group ends) (refused_unresolved refused) faultless =
+      memory_or (have.group files file) status name fault (group_parts refused.has.held.group) ends
+      faultless
   logged_exact status (at_log group ends) (refused_logged_group refused) faultless =
       absurd (group_held have files file name fault group refused)
   logged_exact status (at_log {presentation = presentation} group ends)
@@ -129,11 +162,22 @@ module _ (have : HaveOneReason) (files : Files) (file name : List ℕ) (fault : 
       memory_or (log_reason group) status name fault
       (log, held_moved other presentation log (same_presentation held.group group) held.log_is)
       ends faultless
+  logged_exact status (at_log {presentation = presentation} group ends)
+      (refused_unresolved refused) faultless =
+      let all = refused.has in
+      memory_or (log_reason group) status name fault (
+        all.log,
+        held_moved all.presentation presentation all.log
+            (same_presentation all.held.group group) all.log_is,
+      ) ends faultless
   logged_exact status (at_logged_automata {presentation = presentation} held justified ends)
       refuses faultless =
       both_held held refuses (IsRefusalOrMemory name fault status)
       (λ other log again also refused. automata_exact have files file presentation name fault
       status ends (refused_moved (same_presentation again.group held.group) refused) faultless)
+      (λ refused. let all = structure_moved held.group refused.has.held in
+      automata_memory have files file presentation name fault refused.has.acceptor
+      refused.has.multipliers status all.accepts all.multiply all.one_each ends faultless)
 
   -- where a log is justified, that it isn't is shown only where memory runs out before
   refuted_memory : {presentation other : Presentation} {log also : Log} {before after : Outside}
@@ -151,23 +195,30 @@ module _ (have : HaveOneReason) (files : Files) (file name : List ℕ) (fault : 
 pub by_log_exact : (given : CheckGiven) → HaveOneReason → (before after : Outside)
     (status : Status) (name : List ℕ) (fault : FileFault)
     → ByLogMeans given before after status
-    → IsLoggedRefused before.shelf.holds given.file name fault → IsFaultless status
+    → IsLoggedRefused given before.shelf.holds name fault → IsFaultless status
     → IsRefusalOrMemory name fault status
 by_log_exact given have before after status name fault (at_logged ends unchanged) refuses
     faultless =
-    logged_exact have before.shelf.holds given.file name fault status ends refuses faultless
+    logged_exact have given before.shelf.holds name fault status ends refuses faultless
 by_log_exact given have before after status name fault (log_refuted held means) refuses
     faultless =
     let files = before.shelf.holds in
-    both_held have files given.file name fault held refuses (IsRefusalOrMemory name fault status)
-    (λ other log again justified refused. refuted_memory have files given.file name fault held
-    again justified means faultless)
+    both_held have given files name fault held refuses (IsRefusalOrMemory name fault status)
+    (λ other log again justified refused. refuted_memory have given files name fault held again
+    justified means faultless)
+    (λ refused. let all = refused.has in
+    refuted_memory have given files name fault held
+    (record { group = all.held.group; log_is = all.log_is }) all.justified means faultless)
 by_log_exact given have before after status name fault
     (log_read {presentation = presentation} {acceptor = accepts} {multipliers = multipliers} held
     log_is justified means) refuses faultless =
     let files = before.shelf.holds in
-    both_held have files given.file name fault
+    both_held have given files name fault
     (record { group = held.group; log_is = log_is }) refuses (IsRefusalOrMemory name fault status)
-    (λ other log again also refused. absurd (automata_held have files given.file presentation name fault
-    accepts multipliers held.accepts held.multiply held.one_each
+    (λ other log again also refused. absurd (automata_held have files given.file presentation name
+    fault accepts multipliers held.accepts held.multiply held.one_each
     (refused_moved (same_presentation again.group held.group) refused)))
+    (λ refused. let all = refused.has in
+    shown_exact means
+    (record { is = refused.is; has = fault_moved given all.held all.log_is held log_is all.unresolved })
+    faultless)

@@ -15,7 +15,7 @@ use Rattle.kb_relations.specs.Acts.{AtNumber, IsFirstBroken}
 use Rattle.kb_relations.specs.Images.{HasUniqueImages}
 use Rattle.kb_relations.proofs.UniqueImages.{leads_to_one}
 use Rattle.kb_axioms.specs.Answered.{IsFirstOfAll, of_automata, of_elements}
-use Rattle.kb_axioms.specs.Checked.{Checked, PassesPrefixes, PassesPairs, PassesImages, PassesSingle, PassesExtensions, PassesLeast, PassesRelations, own_structure}
+use Rattle.kb_axioms.specs.Checked.{Checked, IsFirstCertificate, PassesPrefixes, PassesPairs, PassesImages, PassesSingle, PassesExtensions, PassesLeast, PassesRelations, own_structure}
 use Rattle.kb_axioms.specs.Checked.IsFirstCertificate.{n1, n2, n4, n5, n6, n7, n8}
 
 -- ---- what is least or first is one
@@ -357,6 +357,25 @@ module _ (checked : Checked) where
       (neither_lower (place cert) (place other) (not_before cert other one also)
       (not_before other cert also one))
       (says cert one) (says other also)
+
+  -- ---- automata that pass
+
+  place_early : (cert : Cert) → IsFirstCertificate checked cert → place cert ≤ 6
+  place_early cert (n1 least) = omega arith
+  place_early cert (n2 passes first) = omega arith
+  place_early cert (n4 passes first few) = omega arith
+  place_early cert (n5 passes first) = omega arith
+  place_early cert (n6 passes first) = omega arith
+  place_early cert (n7 passes first) = omega arith
+  place_early cert (n8 passes at) = omega arith
+
+  -- against automata that pass there is no certificate but perhaps of the last kind
+  pub none_by_themselves : PassesRelations checked → (cert : Cert)
+      → ¬ IsFirstCertificate checked cert
+  none_by_themselves passes cert first =
+      let early = place_early cert first in
+      not_passed cert (of_automata first) (omega (arith, early))
+      (passed_below 6 (place cert) early passes)
 
   -- ---- the group's own automata
 

@@ -8,7 +8,7 @@ use Rattle.kb_system.specs.declared.ending.Reached.{Reached}
 use Rattle.kb_system.specs.declared.ending.Reached.TheVariants.{Lines, Letters}
 use Rattle.kb_task.specs.OneReason.{HaveOneReason}
 use Rattle.kb_task.specs.Promises.{IsLawful}
-use Rattle.kb_task.specs.Refusals.{IsLoadFault, IsRefusalOrMemory}
+use Rattle.kb_task.specs.Refusals.{IsRefusalOrMemory}
 use Rattle.kb_task.specs.Runs.{HasSameEffect, ReadsSame}
 use Rattle.kb_task.specs.Statuses.{IsAnswer, IsConclusive, IsFaultless, IsYes}
 use Rattle.kb_task.specs.Stores.{Text}
@@ -91,12 +91,12 @@ all_answer false check before after status means unrefused faultless =
 
 all_refused : (by_log : Bool) (check : CheckGiven) (before after : Outside) (name : List ℕ)
     (fault : FileFault)
-    → MeansBy by_log check before after (Refused (File name fault)) → IsLoadFault fault
+    → MeansBy by_log check before after (Refused (File name fault))
     → RefusesBy by_log check before name fault
-all_refused true check before after name fault means at_load =
-    by_log_refused check before after name fault means at_load
-all_refused false check before after name fault means at_load =
-    structure_refused (are_answers check) check before after name fault means at_load
+all_refused true check before after name fault means =
+    by_log_refused check before after name fault means
+all_refused false check before after name fault means =
+    structure_refused (are_answers check) check before after name fault means
 
 all_exact : (by_log : Bool) (check : CheckGiven) → HaveOneReason → (before after : Outside)
     (status : Status) (name : List ℕ) (fault : FileFault)
@@ -157,7 +157,8 @@ pub gpaxioms_lawful : (given : GpaxiomsGiven)
 gpaxioms_lawful given = record {
   complete = all_answer given.by_log given.check;
   memory = tt;
-  refused = all_refused given.by_log given.check;
+  refused = λ before after name fault means at_load.
+      all_refused given.by_log given.check before after name fault means;
   exact = all_exact given.by_log given.check;
   settled = all_settled given.by_log given.check;
   conclusive = all_conclusive given.by_log;

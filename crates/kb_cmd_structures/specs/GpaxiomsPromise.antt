@@ -1,21 +1,15 @@
 -- What a run of `gpaxioms` means by its status, by a completion or by the lines of a log.
 use Rattle.std.specs.Prelude.{◌≡◌, ◌⊎◌, ℕ, Bool, true, false, List}
 use Rattle.kb_io.specs.Outside.{Outside}
-use Rattle.kb_word.specs.Presentations.{parts_of}
-use Rattle.kb_word.specs.declared.presentation.Presentation.{Presentation}
-use Rattle.kb_fsa.specs.Language.{Automaton}
-use Rattle.kb_proof.specs.declared.log.Log.{Log}
-use Rattle.kb_bylog.specs.LogLines.{IsJustifiedBy}
-use Rattle.kb_task.specs.Automata.{IsUnrefused}
 use Rattle.kb_task.specs.Promises.{Promise}
 use Rattle.kb_task.specs.Statuses.{IsAnswer, IsConclusive}
 use Rattle.kb_task.specs.declared.status.FileFault.{FileFault}
 use Rattle.kb_task.specs.declared.status.Status.{Status}
 use Rattle.kb_evidence.specs.Files.{log_file}
-use Rattle.kb_cmd_structures.specs.ByLog.{ByLogMeans, HoldsLogBeside, IsLogFaultBeside, IsLoggedRefused, IsUnresolvedFault}
+use Rattle.kb_cmd_structures.specs.ByLog.{ByLogMeans, IsLoggedRefused}
 use Rattle.kb_cmd_structures.specs.Given.{CheckGiven, GpaxiomsGiven}
 use Rattle.kb_cmd_structures.specs.Gpaxioms.{Finds, GpaxiomsMayStore, GpaxiomsReads, GpaxiomsSettles, IsGpaxiomsUnrefused}
-use Rattle.kb_cmd_structures.specs.Loaded.{HoldsGroup, HoldStructure, IsStructureRefused}
+use Rattle.kb_cmd_structures.specs.Loaded.{IsStructureRefused}
 use Rattle.kb_cmd_structures.specs.Shown.{StructureMeans}
 
 -- what each status means, where the lines of the log decide or a completion
@@ -33,24 +27,15 @@ abbrev pub ReadsBy : Bool → CheckGiven → List ℕ → Type 0
 ReadsBy true check name = (name ≡ log_file check.file) ⊎ GpaxiomsReads check name
 ReadsBy false check name = GpaxiomsReads check name
 
--- the first of the files that has a fault
+-- The first of the files that has a fault; by the log, that its lines leave open what the automata are comes last.
 abbrev pub RefusesBy : Bool → CheckGiven → Outside → List ℕ → FileFault → Type 0
-RefusesBy true check before = IsLoggedRefused before.shelf.holds check.file
+RefusesBy true check before = IsLoggedRefused check before.shelf.holds
 RefusesBy false check before = IsStructureRefused before.shelf.holds check.file
 
--- None of the files is refused, nor that of the log: neither as it is loaded, nor because its lines don't settle what
--- the automata are.
-pub record IsByLogUnrefused (check : CheckGiven) (before : Outside) : Type 0 where
-  pub files : IsGpaxiomsUnrefused check before
-  pub log_is : (presentation : Presentation)
-      → HoldsGroup before.shelf.holds check.file presentation
-      → IsUnrefused (IsLogFaultBeside before.shelf.holds check.file presentation)
-  pub resolved : (presentation : Presentation) (log : Log) (acceptor : Automaton)
-      (multipliers : List Automaton)
-      → HoldStructure before.shelf.holds check.file presentation acceptor multipliers
-      → HoldsLogBeside before.shelf.holds check.file presentation log
-      → IsJustifiedBy (parts_of presentation) log
-      → IsUnrefused (IsUnresolvedFault check presentation log acceptor multipliers)
+-- by the log none of the files is refused, for whatever fault
+abbrev pub IsByLogUnrefused : CheckGiven → Outside → Type 0
+IsByLogUnrefused check before = (name : List ℕ) (fault : FileFault)
+    → ¬ IsLoggedRefused check before.shelf.holds name fault
 
 abbrev pub IsUnrefusedBy : Bool → CheckGiven → Outside → Type 0
 IsUnrefusedBy true check before = IsByLogUnrefused check before

@@ -240,7 +240,8 @@ pub gpminkb_lawful : (given : CheckGiven) → IsLawful gpminkb_promise (gpminkb_
 gpminkb_lawful given = record {
   complete = complete (are_answers given) given;
   memory = tt;
-  refused = structure_refused (are_answers given) given;
+  refused = λ before after name fault means at_load.
+      structure_refused (are_answers given) given before after name fault means;
   exact = structure_exact (are_answers given) given;
   settled = settled (are_settled given);
   conclusive = conclusive;

@@ -17,7 +17,9 @@ pub mod ShownLaws
 pub mod ByLog
 pub mod GpaxiomsPromise
 pub mod RefusalLaws
+pub mod FirstUnresolved
 pub mod ByLogLaws
+pub mod UnresolvedLaws
 pub mod ByLogRefusals
 pub mod GpaxiomsLaws
 pub mod Findings

@@ -17,7 +17,7 @@ use Rattle.kb_task.specs.Reasons.{unjustified_line}
 use Rattle.kb_task.specs.Stores.{texts_of}
 use Rattle.kb_task.specs.declared.status.Cert.TheVariants.{NotJustified}
 use Rattle.kb_task.specs.declared.status.Status.TheVariants.{No}
-use Rattle.kb_cmd_structures.specs.ByLog.{FindsByLog, HoldLogged, HoldsLogBeside, IsUnresolvedBy}
+use Rattle.kb_cmd_structures.specs.ByLog.{FindsByLog, HoldLogged, HoldsLogBeside, IsSettledFor, IsUnresolvedBy}
 use Rattle.kb_cmd_structures.specs.Findings.{HasParts}
 use Rattle.kb_cmd_structures.specs.Given.{CheckGiven}
 use Rattle.kb_cmd_structures.specs.Gpaxioms.{checked_by}
@@ -54,7 +54,8 @@ AreReadyIn (Justified loaded log) =
 AreReadyIn (Unjustified number why) = Unit {0}
 
 -- What the check by the lines answers: the automata are the group's own, and the lines show it; the first
--- certificate; the first count above the limit; or that the lines don't settle it.
+-- certificate, which the lines settle where it is of the last kind; the first count above the limit; or that the
+-- lines don't settle it.
 abbrev pub LinesSay : CheckGiven → Presentation → Log → Automaton → List Automaton → Axioms → Type 0
 LinesSay given presentation log acceptor multipliers answers.Yes =
     PassesRelations (checked_by given presentation acceptor multipliers)
@@ -62,6 +63,7 @@ LinesSay given presentation log acceptor multipliers answers.Yes =
     × AgreeUpTo presentation (lines_of log) multipliers (length multipliers)
 LinesSay given presentation log acceptor multipliers (answers.No cert) =
     IsFirstOfAll (checked_by given presentation acceptor multipliers) cert
+    × IsSettledFor presentation log cert
 LinesSay given presentation log acceptor multipliers (answers.TooManyStates which) =
     IsFirstCount (checked_by given presentation acceptor multipliers) which
 LinesSay given presentation log acceptor multipliers (answers.Unresolved x state label other) =

@@ -13,7 +13,7 @@ use Rattle.kb_task.specs.Automata.{HoldsAutomaton, IsSecondFault}
 use Rattle.kb_task.specs.Loads.{Files}
 use Rattle.kb_task.specs.OneReason.{HaveOneReason, HoldsOver}
 use Rattle.kb_task.specs.Presentations.{HoldsGroup as HoldsGroupOf, IsGroupFault}
-use Rattle.kb_task.specs.Refusals.{IsLoadFault, IsRefusalOrMemory, IsRefusedFor, RefusesNone}
+use Rattle.kb_task.specs.Refusals.{IsRefusalOrMemory, IsRefusedFor}
 use Rattle.kb_task.specs.Statuses.{IsAnswer, IsFaultless}
 use Rattle.kb_task.specs.Stores.{Text}
 use Rattle.kb_task.specs.declared.loading.automata.Kind.TheVariants.{Words, Pairs}
@@ -30,24 +30,31 @@ use Rattle.kb_cmd_structures.specs.Loaded.{EndsAtAutomata, EndsAtFile, HoldMulti
 use Rattle.kb_cmd_structures.specs.Shown.{Found, FoundOf, ShowMeans, shown, output_failed, store_failed, no_memory_stored, no_memory, StructureMeans, at_file, loaded}
 use Rattle.kb_cmd_structures.specs.ShownLaws.{AreAnswers}
 
--- ---- what is shown refuses no file
+-- ---- what is shown
 
-pub answer_refuses_none : (status : Status) → IsAnswer status → RefusesNone status
-answer_refuses_none (Refused refusal) answers = absurd answers
-answer_refuses_none _ answers = tt
-
-pub shown_refuses_none : {found : Found} {before after : Outside} {status : Status}
-    → ShowMeans found before after status
+-- what is shown refuses a file where it was found so
+pub shown_refusal : {found : Found} {before after : Outside} {status : Status} {name : List ℕ}
+    {fault : FileFault}
+    → ShowMeans found before after status → status ≡ Refused (File name fault) → (P : Type 0)
     → ((ends : Status) (texts : List Text) (line : List ℕ) → found ends texts line
-    → RefusesNone ends)
-    → RefusesNone status
-shown_refuses_none
-    (shown {status = status} {texts = texts} {line = line} finds holds unread written) none =
-    none status texts line finds
-shown_refuses_none (output_failed finds holds unread front) none = tt
-shown_refuses_none (store_failed finds stops) none = tt
-shown_refuses_none (no_memory_stored finds first) none = tt
-shown_refuses_none (no_memory unchanged) none = tt
+    → ends ≡ Refused (File name fault) → P)
+    → P
+shown_refusal (shown {status = status} {texts = texts} {line = line} finds holds unread written)
+    refuses P so = so status texts line finds refuses
+shown_refusal (output_failed finds holds unread front) refuses P so = cc
+shown_refusal (store_failed finds stops) refuses P so = cc
+shown_refusal (no_memory_stored finds first) refuses P so = cc
+shown_refusal (no_memory unchanged) refuses P so = cc
+
+-- and where all that may be found are answers it refuses none
+pub answers_refuse_none : {found : Found} {before after : Outside} {status : Status}
+    {name : List ℕ} {fault : FileFault}
+    → ShowMeans found before after status
+    → ((ends : Status) (texts : List Text) (line : List ℕ) → found ends texts line → IsAnswer ends)
+    → ¬ (status ≡ Refused (File name fault))
+answers_refuse_none means answers refuses =
+    shown_refusal means refuses ⊥
+    (λ ends texts line finds same. subst IsAnswer same (answers ends texts line finds))
 
 -- ---- one presentation
 
@@ -99,6 +106,27 @@ refused_moved {files = files} {file = file} {one = one} {other = other} {name = 
           multiplier.refused;
     })
 
+-- the automata that files hold by one presentation they hold by the same one
+pub structure_moved : {files : Files} {file : List ℕ} {one other : Presentation}
+    {acceptor : Automaton} {multipliers : List Automaton} → HoldsGroup files file other
+    → HoldStructure files file one acceptor multipliers
+    → HoldStructure files file other acceptor multipliers
+structure_moved {files = files} {file = file} {one = one} {other = other} {acceptor = accepts}
+    {multipliers = multipliers} group held =
+    let same = same_presentation held.group group in
+    record {
+      group = group;
+      accepts = moved one other same
+          (λ names n. HoldsAutomaton files (acceptor_file file) names accepts
+          × (accepts.alphabet ≡ Plain n)) held.accepts;
+      multiply = moved one other same
+          (λ names n. (x : ℕ) (multiplies : Automaton)
+          → multiplier_of multipliers x ≡ Some multiplies
+          → HoldsAutomaton files (multiplier_file file x) names multiplies
+          × (multiplies.alphabet ≡ Pair n)) held.multiply;
+      one_each = moved one other same (λ names n. length multipliers ≡ n) held.one_each;
+    }
+
 -- ---- automata
 
 module _ (have : HaveOneReason) (files : Files) (file : List ℕ) (presentation : Presentation)
@@ -145,6 +173,27 @@ module _ (have : HaveOneReason) (files : Files) (file : List ℕ) (presentation 
       (multiplier_file file (suc place))) name fault
       (held_at multipliers accepts place multiply (omega (arith, within, one_each)))
       multiplier.refused
+
+  -- where all of them are held, a run ends at one of them for want of memory
+  pub automata_memory : (accepts : Automaton) (multipliers : List Automaton) (status : Status)
+      → HoldsAcceptor files file presentation accepts
+      → HoldMultipliers files file presentation multipliers
+      → length multipliers ≡ presentation.n
+      → EndsAtAutomata files file presentation status → IsFaultless status
+      → IsRefusalOrMemory name fault status
+  automata_memory accepts multipliers status held multiply one_each (at_acceptor ends) faultless =
+      memory_or
+      (have.second Words presentation.names (Plain presentation.n) files (acceptor_file file))
+      status name fault (accepts, acceptor_over accepts held) ends faultless
+  automata_memory accepts multipliers status held multiply one_each
+      (at_multiplier {acceptor = also} again ends) faultless =
+      let place = length ends.earlier in
+      let within = ends.within in
+      memory_or
+      (have.second Pairs presentation.names (Pair presentation.n) files
+      (multiplier_file file (suc place))) status name fault
+      (held_at multipliers accepts place multiply (omega (arith, within, one_each))) ends.ends
+      faultless
 
   -- where one has a fault, a run that ends at one of them refuses the first that has
   pub automata_exact : (status : Status) → EndsAtAutomata files file presentation status
@@ -254,15 +303,13 @@ module _ {found : FoundOf} (are : AreAnswers found) (given : CheckGiven) where
   -- a file that is refused is the first that has a fault
   pub structure_refused : (before after : Outside) (name : List ℕ) (fault : FileFault)
       → StructureMeans found given.file before after (Refused (File name fault))
-      → IsLoadFault fault
       → IsStructureRefused before.shelf.holds given.file name fault
-  structure_refused before after name fault (at_file ends unchanged) at_load =
+  structure_refused before after name fault (at_file ends unchanged) =
       files_refused before.shelf.holds given.file name fault ends
   structure_refused before after name fault
       (loaded {presentation = presentation} {acceptor = accepts} {multipliers = multipliers} held
-      means) at_load =
-      absurd (shown_refuses_none means (λ ends texts line finds. answer_refuses_none ends
-      (are.answers presentation accepts multipliers ends texts line finds)) at_load)
+      means) =
+      absurd (answers_refuse_none means (are.answers presentation accepts multipliers) refl)
 
   -- and where one has a fault it is refused for that
   pub structure_exact : HaveOneReason → (before after : Outside) (status : Status)

@@ -62,7 +62,7 @@ pub record AreSettled (given : CheckGiven) (found : FoundOf) (Says : Checked →
 -- ---- complete
 
 -- a run ends at the automata for want of memory only
-pub automata_answer : (given : CheckGiven) (before : Outside) (presentation : Presentation)
+automata_answer : (given : CheckGiven) (before : Outside) (presentation : Presentation)
     (status : Status) → IsGpaxiomsUnrefused given before
     → HoldsGroup before.shelf.holds given.file presentation
     → EndsAtAutomata before.shelf.holds given.file presentation status

@@ -28,7 +28,9 @@
 //!
 //! With `--log` nothing is completed and no file is stored: the lines of the log beside the group's file decide, once
 //! it is justified (`specs/ByLog.antt`). A log that isn't is a no, with its first line that doesn't follow; one whose
-//! lines don't settle what the automata are is refused.
+//! lines don't settle what the automata are is refused. The files settle that, too: there is one first state whose
+//! label words have different normal forms by the lines (`specs/FirstUnresolved.antt`), and nothing else is found
+//! where there is one (`specs/UnresolvedLaws.antt`).
 //!
 //! # What `gpminkb` promises
 //!
@@ -53,7 +55,8 @@
 //! - `specs/Shown.antt` and `specs/ShownLaws.antt` have what a run means that loads automata and shows what is found of
 //!   them, and its laws, for `gpaxioms` and `gpminkb`.
 //!
-//! Below are `kb_auto`, which searches and decides, `kb_bylog` with the lines of a log, `kb_answering`, which stores
+//! Below are `kb_auto`, which searches and decides, `kb_bylog` with the lines of a log, `kb_labels` with what the label
+//! words of a multiplier are by rules, `kb_answering`, which stores
 //! and answers, `kb_evidence`, with what shows a limit, `kb_kept`, with where word differences were first seen,
 //! `kb_reduce` with least words, `kb_progress`, which shows how far a completion has come, and `kb_task`.
 #![tactic(auto)]

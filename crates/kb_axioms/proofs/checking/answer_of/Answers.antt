@@ -8,7 +8,7 @@ returns-in-True-clause-says c presentation rules confluent acceptor multipliers 
 pub returns-in-Different-clause-says : goal.returns-in-Different-clause-says
 returns-in-Different-clause-says c presentation rules confluent acceptor multipliers limit shortlex plain passes says =
     let different = rw c.in-Different.is at says in
-    first_of_all presentation acceptor multipliers plain limit shortlex passes c.in-Different.x c.in-Different.u c.in-Different.v different.1
+    (first_of_all presentation acceptor multipliers plain limit shortlex passes c.in-Different.x c.in-Different.u c.in-Different.v different.1, different.0)
 
 pub returns-in-Unresolved-clause-says : goal.returns-in-Unresolved-clause-says
 returns-in-Unresolved-clause-says c presentation rules confluent acceptor multipliers limit shortlex plain passes says =

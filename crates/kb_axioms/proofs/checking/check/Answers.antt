@@ -3,7 +3,7 @@ use Rattle.kb_word.specs.Words.{Pair}
 use Rattle.kb_relations.specs.Acts.{AreOver}
 use Rattle.kb_axioms.specs.Answered.IsFirstOfAll.{of_automata}
 use Rattle.kb_axioms.specs.Checked.{IsFirstCertificate, PassesRelations, checked_of}
-use Rattle.kb_axioms.proofs.Presented.{over, own}
+use Rattle.kb_axioms.proofs.Presented.{found_by_any, over, own}
 use Rattle.kb_axioms.proofs.checking.check.Goals as goal
 
 pub check_automata-requires-clause-over : goal.check_automata-requires-clause-over
@@ -36,4 +36,5 @@ pub returns-in-No-clause-says : goal.returns-in-No-clause-says
 returns-in-No-clause-says g c =
     let P : List Pair → Type 0 =
     λ relations. IsFirstCertificate (checked_of c.args.acceptor.now c.args.multipliers.now relations c.args.limit) c.in-No.cert in
-    of_automata (subst P (c.deref.ensures.value ∙ c.in_ok-relations.ensures) (rw c.in-No.is at c.in_ok-check_automata.ensures))
+    let first = subst P (c.deref.ensures.value ∙ c.in_ok-relations.ensures) (rw c.in-No.is at c.in_ok-check_automata.ensures) in
+    (of_automata first, found_by_any c.args.confluent first)
