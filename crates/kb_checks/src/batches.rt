@@ -1,15 +1,20 @@
 //! Words that are answered together, by two workers who meet before they draw a word.
 
-ghost use Rattle.std.specs.Prelude.{IfOk};
+ghost use Rattle.std.specs.Prelude.{[], IfOk, IsTrue};
 ghost use Rattle.kb_word.specs.Relations.{IsOver};
-ghost use Rattle.kb_fsa.specs.Language.{generators};
+ghost use Rattle.kb_fsa.specs.Language.{Accepts, generators};
 ghost use Rattle.kb_structure.specs.StructureOf.{FitTogether};
+ghost use Rattle.kb_relations.specs.Images.{CanBeFollowed};
 
 use crate::meeting::Meeting;
-use kb_axioms::{Automata, check_automata, fit_together};
+use kb_axioms::fit_together;
+use kb_certificates::{
+    Images, check_images, pair_outside_acceptor, prefix_not_accepted, two_images,
+};
 use kb_draw::Crew;
 use kb_fsa::Fsa;
 use kb_fsafile::read;
+use kb_io::OpenGate;
 use kb_reduce::{batch_multipliers, batch_rules};
 use kb_relations::{automata_without_certificates_can_be_followed, by_multipliers};
 use kb_rules::Reducer;
@@ -96,19 +101,44 @@ fn lead_alike<T: Threads + Wait + Sync>(
     requires first { IsOver (generators acceptor.now.alphabet) first }
     requires second { IsOver (generators acceptor.now.alphabet) second }
 {
-    automata_without_certificates_can_be_followed();
+    if !can_be_followed(rt, alloc, acceptor, multipliers)? {
+        return Ok(false);
+    }
     let meeting = Meeting::new();
     let crew = Crew::new(2, &meeting);
-    match check_automata(rt, alloc, acceptor, multipliers, &[], 100, &crew.first())? {
-        Automata::Pass => {
-            let one = by_multipliers(alloc, acceptor, multipliers, &first)?;
-            let other = by_multipliers(alloc, acceptor, multipliers, &second)?;
-            let words = [first, second];
-            let ends = batch_multipliers(rt, alloc, acceptor, multipliers, &words, &crew)?;
-            let is_generator = one.letters() == [Letter::new(1)].as_slice();
-            let alike = ends.as_slice() == [one, other].as_slice();
-            Ok(alike && is_generator && !meeting.was_missed())
-        }
-        _ => Ok(false),
-    }
+    let one = by_multipliers(alloc, acceptor, multipliers, &first)?;
+    let other = by_multipliers(alloc, acceptor, multipliers, &second)?;
+    let words = [first, second];
+    let ends = batch_multipliers(rt, alloc, acceptor, multipliers, &words, &crew)?;
+    let is_generator = one.letters() == [Letter::new(1)].as_slice();
+    let alike = ends.as_slice() == [one, other].as_slice();
+    Ok(alike && is_generator && !meeting.was_missed())
+}
+
+/// Whether there is none of the certificates by which words can't be followed by automata that fit together.
+fn can_be_followed<T: Threads + Wait + Sync>(
+    rt: &T,
+    alloc: Global,
+    acceptor: &Fsa,
+    multipliers: &[Fsa],
+) -> Result<bool, Memory>
+    requires { FitTogether acceptor.now multipliers.now }
+    ensures { IfOk result (λ answer. IsTrue answer
+        → CanBeFollowed acceptor.now multipliers.now × Accepts acceptor.now []) }
+{
+    automata_without_certificates_can_be_followed();
+    let crew = Crew::new(1, &OpenGate);
+    let None = prefix_not_accepted(alloc, acceptor)? else {
+        return Ok(false);
+    };
+    let None = pair_outside_acceptor(rt, alloc, acceptor, multipliers, &crew)? else {
+        return Ok(false);
+    };
+    let Images::Given = check_images(rt, alloc, acceptor, multipliers, 100, &crew)? else {
+        return Ok(false);
+    };
+    let None = two_images(rt, alloc, acceptor, multipliers, &crew)? else {
+        return Ok(false);
+    };
+    Ok(true)
 }
