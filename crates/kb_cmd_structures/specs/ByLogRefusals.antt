@@ -207,18 +207,23 @@ by_log_exact given have before after status name fault (log_refuted held means) 
     (λ other log again justified refused. refuted_memory have given files name fault held again
     justified means faultless)
     (λ refused. let all = refused.has in
-    refuted_memory have given files name fault held
-    (record { group = all.held.group; log_is = all.log_is }) all.justified means faultless)
+    let logged : HoldLogged files given.file all.presentation all.log =
+    record { group = all.held.group; log_is = all.log_is } in
+    refuted_memory have given files name fault held logged all.justified means faultless)
 by_log_exact given have before after status name fault
-    (log_read {presentation = presentation} {acceptor = accepts} {multipliers = multipliers} held
-    log_is justified means) refuses faultless =
+    (log_read {presentation = presentation} {acceptor = accepts} {multipliers = multipliers}
+    {log = log} held log_is justified means) refuses faultless =
     let files = before.shelf.holds in
-    both_held have given files name fault
-    (record { group = held.group; log_is = log_is }) refuses (IsRefusalOrMemory name fault status)
-    (λ other log again also refused. absurd (automata_held have files given.file presentation name
+    let logged : HoldLogged files given.file presentation log =
+    record { group = held.group; log_is = log_is } in
+    both_held have given files name fault logged refuses (IsRefusalOrMemory name fault status)
+    (λ other more again also refused. absurd (automata_held have files given.file presentation name
     fault accepts multipliers held.accepts held.multiply held.one_each
     (refused_moved (same_presentation again.group held.group) refused)))
     (λ refused. let all = refused.has in
-    shown_exact means
-    (record { is = refused.is; has = fault_moved given all.held all.log_is held log_is all.unresolved })
-    faultless)
+    let here : IsRefusedFor (IsUnresolvedFault given presentation log accepts multipliers)
+    (log_file given.file) name fault = record {
+      is = refused.is;
+      has = fault_moved given all.held all.log_is held log_is all.unresolved;
+    } in
+    shown_exact given presentation log accepts multipliers means here faultless)
