@@ -41,24 +41,22 @@ logged_refused given files name fault
     refused_logged_automata held justified
     (automata_refused files given.file presentation name fault ends)
 
-module _ {given : CheckGiven} {presentation : Presentation} {log : Log} {accepts : Automaton}
-    {multipliers : List Automaton} where
-  -- the one refusal among what is found is that the lines leave open what the automata are
-  found_unresolved : {name : List ℕ} {fault : FileFault} (status : Status) (texts : List Text)
-      (line : List ℕ)
-      → FindsByLog given presentation log accepts multipliers status texts line
-      → status ≡ Refused (File name fault)
-      → IsRefusedFor (IsUnresolvedFault given presentation log accepts multipliers)
-      (log_file given.file) name fault
-  found_unresolved status texts line (own_by_log passes is_own agree) refuses = cc
-  found_unresolved status texts line (refuted_by_log first settled) refuses = cc
-  found_unresolved status texts line (too_many_by_log first) refuses = cc
-  found_unresolved {name} {fault} status texts line (unresolved_by_log {fault = other} is) refuses =
-      let named : name ≡ log_file given.file = cc in
-      let same : other ≡ fault = cc in
-      let IsFault : FileFault → Type 0 =
-      λ f. IsUnresolvedFault given presentation log accepts multipliers f in
-      record { is = named; has = subst IsFault same is }
+-- a file that is refused is this one, and has such a fault
+abbrev RefusesFor : (FileFault → Type 0) → List ℕ → Status → Type 0
+RefusesFor IsFault file (Refused (File name fault)) = IsRefusedFor IsFault file name fault
+RefusesFor IsFault file _ = Unit {0}
+
+-- the one refusal among what is found is that the lines leave open what the automata are
+found_unresolved : {given : CheckGiven} {presentation : Presentation} {log : Log}
+    {accepts : Automaton} {multipliers : List Automaton} (status : Status) (texts : List Text)
+    (line : List ℕ)
+    → FindsByLog given presentation log accepts multipliers status texts line
+    → RefusesFor (IsUnresolvedFault given presentation log accepts multipliers)
+    (log_file given.file) status
+found_unresolved status texts line (own_by_log passes is_own agree) = tt
+found_unresolved status texts line (refuted_by_log first settled) = tt
+found_unresolved status texts line (too_many_by_log first) = tt
+found_unresolved status texts line (unresolved_by_log is) = record { is = refl; has = is }
 
 pub by_log_refused : (given : CheckGiven) (before after : Outside) (name : List ℕ)
     (fault : FileFault)
@@ -73,7 +71,12 @@ by_log_refused given before after name fault
     {log = log} held log_is justified means) =
     shown_refusal means refl (IsLoggedRefused given before.shelf.holds name fault)
     (λ ends texts line finds refuses.
-    let refused = found_unresolved ends texts line finds refuses in
+    let Refuses : Status → Type 0 = λ s.
+    RefusesFor (IsUnresolvedFault given presentation log accepts multipliers)
+    (log_file given.file) s in
+    let refused : IsRefusedFor (IsUnresolvedFault given presentation log accepts multipliers)
+    (log_file given.file) name fault =
+    subst Refuses refuses (found_unresolved ends texts line finds) in
     refused_unresolved (record {
       is = refused.is;
       has = record {
@@ -207,18 +210,23 @@ by_log_exact given have before after status name fault (log_refuted held means) 
     (λ other log again justified refused. refuted_memory have given files name fault held again
     justified means faultless)
     (λ refused. let all = refused.has in
-    refuted_memory have given files name fault held
-    (record { group = all.held.group; log_is = all.log_is }) all.justified means faultless)
+    let logged : HoldLogged files given.file all.presentation all.log =
+    record { group = all.held.group; log_is = all.log_is } in
+    refuted_memory have given files name fault held logged all.justified means faultless)
 by_log_exact given have before after status name fault
-    (log_read {presentation = presentation} {acceptor = accepts} {multipliers = multipliers} held
-    log_is justified means) refuses faultless =
+    (log_read {presentation = presentation} {acceptor = accepts} {multipliers = multipliers}
+    {log = log} held log_is justified means) refuses faultless =
     let files = before.shelf.holds in
-    both_held have given files name fault
-    (record { group = held.group; log_is = log_is }) refuses (IsRefusalOrMemory name fault status)
-    (λ other log again also refused. absurd (automata_held have files given.file presentation name
+    let logged : HoldLogged files given.file presentation log =
+    record { group = held.group; log_is = log_is } in
+    both_held have given files name fault logged refuses (IsRefusalOrMemory name fault status)
+    (λ other more again also refused. absurd (automata_held have files given.file presentation name
     fault accepts multipliers held.accepts held.multiply held.one_each
     (refused_moved (same_presentation again.group held.group) refused)))
     (λ refused. let all = refused.has in
-    shown_exact means
-    (record { is = refused.is; has = fault_moved given all.held all.log_is held log_is all.unresolved })
-    faultless)
+    let here : IsRefusedFor (IsUnresolvedFault given presentation log accepts multipliers)
+    (log_file given.file) name fault = record {
+      is = refused.is;
+      has = fault_moved given all.held all.log_is held log_is all.unresolved;
+    } in
+    shown_exact given presentation log accepts multipliers means here faultless)

@@ -26,7 +26,7 @@ use Rattle.kb_cmd_structures.specs.RefusalLaws.{moved}
 
 -- ---- one multiplier
 
-module _ {group : Group} {presentation : Presentation} {x : ℕ} {multiplier : Automaton} where
+module _ (group : Group) (presentation : Presentation) (x : ℕ) (multiplier : Automaton) where
   abbrev Labelled : (ℕ → List ℕ) → Labelling
   Labelled label = labelling_of presentation x multiplier label
 
@@ -149,7 +149,7 @@ module _ {group : Group} {presentation : Presentation} {x : ℕ} {multiplier : A
 
 -- ---- all multipliers
 
-module _ {presentation : Presentation} {rules : List Sides} {multipliers : List Automaton} where
+module _ (presentation : Presentation) (rules : List Sides) (multipliers : List Automaton) where
   abbrev IsFirst : ℕ → ℕ → List ℕ → List ℕ → Type 0
   IsFirst = IsFirstUnresolved presentation rules multipliers
 
@@ -158,7 +158,7 @@ module _ {presentation : Presentation} {rules : List Sides} {multipliers : List 
       → AgreeUpTo presentation rules multipliers (length multipliers)
       → ¬ IsFirst x state label other
   none_unresolved {x} agree first =
-      agreeing
+      agreeing (group_of presentation rules) presentation x first.multiplier
       (agree x first.multiplier
       (multiplier_within multipliers x first.multiplier first.is_multiplier) first.is_multiplier)
       first.answered
@@ -166,7 +166,9 @@ module _ {presentation : Presentation} {rules : List Sides} {multipliers : List 
   module _ {x y state second : ℕ} {label other again also : List ℕ}
       (one : IsFirst x state label other) (two : IsFirst y second again also) where
     not_lower : ¬ (x < y)
-    not_lower lower = agreeing (two.earlier x one.multiplier lower one.is_multiplier) one.answered
+    not_lower lower =
+        agreeing (group_of presentation rules) presentation x one.multiplier
+        (two.earlier x one.multiplier lower one.is_multiplier) one.answered
 
   module _ {x y state second : ℕ} {label other again also : List ℕ}
       (one : IsFirst x state label other) (two : IsFirst y second again also) where
@@ -189,14 +191,18 @@ module _ {presentation : Presentation} {rules : List Sides} {multipliers : List 
         subst Of one_multiplier (subst At one_generator one.answered)
 
     pub one_unresolved_label : label ≡ again
-    one_unresolved_label = one_own_label answered_there two.answered
+    one_unresolved_label =
+        one_own_label (group_of presentation rules) presentation y two.multiplier answered_there
+        two.answered
 
     pub one_unresolved_other : other ≡ also
-    one_unresolved_other = one_other answered_there two.answered
+    one_unresolved_other =
+        one_other (group_of presentation rules) presentation y two.multiplier answered_there
+        two.answered
 
 -- ---- one presentation
 
-module _ {one other : Presentation} (same : parts_of one ≡ parts_of other) (rules : List Sides) where
+module _ (one other : Presentation) (same : parts_of one ≡ parts_of other) (rules : List Sides) where
   abbrev group_by : ℕ → PresentationParts → Group
   group_by n parts =
       record {

@@ -34,8 +34,8 @@ use Rattle.kb_cmd_structures.specs.Loaded.{HoldStructure}
 use Rattle.kb_cmd_structures.specs.LoadedLaws.{one_checked}
 use Rattle.kb_cmd_structures.specs.Shown.{ShowMeans, shown, output_failed, store_failed, no_memory_stored, no_memory}
 
-module _ {given : CheckGiven} {presentation : Presentation} {log : Log} {accepts : Automaton}
-    {multipliers : List Automaton} where
+module _ (given : CheckGiven) (presentation : Presentation) (log : Log) (accepts : Automaton)
+    (multipliers : List Automaton) where
   abbrev checked : Checked
   checked = checked_by given presentation accepts multipliers
 
@@ -56,11 +56,11 @@ module _ {given : CheckGiven} {presentation : Presentation} {log : Log} {accepts
       let second = two.unresolved.first in
       one.is
       ∙ (ap (λ (x : ℕ). LogUnresolved (letter_name names x) (text_of_word names one.label)
-      (text_of_word names one.other)) (one_generator first second)
+      (text_of_word names one.other)) (one_generator presentation (lines_of log) multipliers first second)
       ∙ (ap (λ (w : List ℕ). LogUnresolved (letter_name names two.x) (text_of_word names w)
-      (text_of_word names one.other)) (one_unresolved_label first second)
+      (text_of_word names one.other)) (one_unresolved_label presentation (lines_of log) multipliers first second)
       ∙ (ap (λ (w : List ℕ). LogUnresolved (letter_name names two.x)
-      (text_of_word names two.label) (text_of_word names w)) (one_unresolved_other first second)
+      (text_of_word names two.label) (text_of_word names w)) (one_unresolved_other presentation (lines_of log) multipliers first second)
       ∙ sym two.is)))
 
   -- where they do, that is what is found
@@ -69,7 +69,7 @@ module _ {given : CheckGiven} {presentation : Presentation} {log : Log} {accepts
       → IsUnresolvedFault given presentation log accepts multipliers fault
       → status ≡ Refused (File (log_file given.file) fault)
   found_exact status texts line (own_by_log passes is_own agree) is =
-      absurd (none_unresolved agree is.unresolved.first)
+      absurd (none_unresolved presentation (lines_of log) multipliers agree is.unresolved.first)
   found_exact status texts line (refuted_by_log {cert = cert} first settled) is =
       absurd (is.unresolved.unsettled
       (settles_passed cert first settled is.unresolved.passes))
@@ -140,7 +140,7 @@ module _ (given : CheckGiven) {files : Files} {one other : Presentation} {log ag
         unsettled = λ settles. unresolved.unsettled (settles_back settles);
         state = state;
         first = subst Of same_multipliers
-            (subst By same_lines (first_moved same_parts (lines_of log) unresolved.first));
+            (subst By same_lines (first_moved one other same_parts (lines_of log) unresolved.first));
       }
 
   pub fault_moved : {fault : FileFault} → IsUnresolvedFault given one log accepts multipliers fault
