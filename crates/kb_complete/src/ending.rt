@@ -3,7 +3,7 @@
 ghost use Rattle.std.specs.Prelude.{◌≡◌, IfOk, IfNone, IfSome};
 ghost use Rattle.kb_word.specs.Overlap.{IsConfluent};
 ghost use Rattle.kb_machine.specs.States.{live_rules as rules_that_live};
-ghost use Rattle.kb_machine.specs.Course.{Course, Takes};
+ghost use Rattle.kb_machine.specs.Course.{Takes};
 ghost use Rattle.kb_machine.specs.declared.event.Event.TheVariants.{Made};
 ghost use Rattle.kb_share.specs.Finding.{Knows};
 ghost use Rattle.kb_share.specs.declared.finding.Finder.{Finder as FinderParts};
@@ -13,6 +13,9 @@ ghost use Rattle.kb_complete.specs.Working.{FirstIsApart, IsSettled};
 use crate::answers::Grown;
 use crate::publishing::{Standing, settle_and_publish};
 use kb_book::{Book, Make};
+use kb_draw::Crew;
+use kb_index::HasAutomaton;
+use kb_io::Gate;
 use kb_reduced::{
     reduced_by_the_same_congruence, reduced_complete, rules_that_cover_are_confluent,
 };
@@ -20,6 +23,8 @@ use kb_rules::Reducer;
 use kb_share::{Finder, Watch, book_is_sound, line_made};
 use kb_word::Memory;
 use std::alloc::Global;
+use std::sync::Wait;
+use std::thread::Threads;
 
 /// The end, where the live rules are confluent.
 pub(crate) fn completed<R: Reducer>(alloc: Global, book: Book<R>) -> Result<Grown<R>, Memory>
@@ -39,10 +44,17 @@ pub(crate) fn completed<R: Reducer>(alloc: Global, book: Book<R>) -> Result<Grow
 }
 
 /// Makes a line of the first pending pair, whose words have different normal forms, and settles the book, or halts.
-pub(crate) fn grow_by_first<R: Reducer, W: Watch>(
+pub(crate) fn grow_by_first<
+    R: HasAutomaton + Send + Sync,
+    G: Gate,
+    W: Watch,
+    T: Threads + Wait + Sync,
+>(
+    rt: &T,
     alloc: Global,
     mut book: Book<R>,
     finder: &mut Finder,
+    crew: &Crew<'_, G>,
     watch: &mut W,
 ) -> Result<Grown<R>, Memory>
     requires apart { FirstIsApart book.course }
@@ -53,7 +65,12 @@ pub(crate) fn grow_by_first<R: Reducer, W: Watch>(
     let Some(k) = make_line(alloc, &mut book)? else {
         return Ok(Grown::Halted(book));
     };
-    Ok(grow_by_line(alloc, book, k, finder, watch)?)
+    line_made(alloc, &mut book, k, finder, watch)?;
+    let (settled, standing) = settle_and_publish(rt, alloc, book, finder, crew, watch)?;
+    match standing {
+        Standing::Published => Ok(Grown::More(settled)),
+        Standing::Halted => Ok(Grown::Halted(settled)),
+    }
 }
 
 /// Makes a line of the first pending pair, whose words have different normal forms, unless the book halts.
@@ -71,25 +88,5 @@ fn make_line<R: Reducer>(alloc: Global, book: &mut Book<R>) -> Result<Option<u32
         Make::Halted(_) => Ok(None),
         Make::Dropped => unreachable!(),
         Make::Idle => unreachable!(),
-    }
-}
-
-/// Goes on after line k was made, and settles the book, or halts.
-fn grow_by_line<R: Reducer, W: Watch>(
-    alloc: Global,
-    mut book: Book<R>,
-    k: u32,
-    finder: &mut Finder,
-    watch: &mut W,
-) -> Result<Grown<R>, Memory>
-    requires { Knows finder.old book.course.state }
-    ensures says { (start : Course) → Takes (Made k) start book.course
-        → IfOk result (GrowSays start) }
-    ensures known { IfOk result (KnowsGrown finder.new) }
-{
-    line_made(alloc, &mut book, k, finder, watch)?;
-    match settle_and_publish(alloc, &mut book, finder, watch)? {
-        Standing::Published => Ok(Grown::More(book)),
-        Standing::Halted => Ok(Grown::Halted(book)),
     }
 }

@@ -1,6 +1,6 @@
 //! Rounds of completion.
 
-ghost use Rattle.std.specs.Prelude.{IfOk};
+ghost use Rattle.std.specs.Prelude.{IfOk, length};
 ghost use Rattle.kb_share.specs.Finding.{Knows};
 ghost use Rattle.kb_complete.specs.Completing.{GrowSays, KnowsGrown};
 ghost use Rattle.kb_complete.specs.Working.{IsSettled, AdvanceSays, KnowsRound};
@@ -44,8 +44,7 @@ pub fn grow<R: HasAutomaton + Send + Sync, G: Gate, W: Watch, T: Threads + Wait 
     ensures says { IfOk result (GrowSays book.course) }
     ensures known { IfOk result (KnowsGrown finder.new) }
 {
-    let given = book.lines().len();
-    match advance(alloc, book, given, finder, watch)? {
+    match advance(rt, alloc, book, finder, crew, watch)? {
         Round::Over(grown) => Ok(grown),
         Round::Open(settled) => Ok(look_for_more(rt, alloc, settled, finder, crew, watch)?),
     }
@@ -73,28 +72,31 @@ fn look_for_more<R: HasAutomaton + Send + Sync, G: Gate, W: Watch, T: Threads + 
             *finder = Finder::new(alloc);
             Ok(completed(alloc, same)?)
         }
-        Passed::Entered(passed) => Ok(grow_by_first(alloc, passed, finder, watch)?),
+        Passed::Entered(passed) => Ok(grow_by_first(rt, alloc, passed, finder, crew, watch)?),
     }
 }
 
 /// Settles the book and publishes its live lines. The round is over where there are more lines than
 /// were given, or at a halt.
-fn advance<R: Reducer, W: Watch>(
+fn advance<R: HasAutomaton + Send + Sync, G: Gate, W: Watch, T: Threads + Wait + Sync>(
+    rt: &T,
     alloc: Global,
-    mut book: Book<R>,
-    given: usize,
+    book: Book<R>,
     finder: &mut Finder,
+    crew: &Crew<'_, G>,
     watch: &mut W,
 ) -> Result<Round<R>, Memory>
     requires { Knows finder.old book.course.state }
-    ensures says { IfOk result (AdvanceSays given book.course) }
+    ensures says { IfOk result (AdvanceSays (length book.course.state.lines) book.course) }
     ensures known { IfOk result (KnowsRound finder.new) }
 {
-    if let Standing::Halted = settle_and_publish(alloc, &mut book, finder, watch)? {
-        return Ok(Round::Over(Grown::Halted(book)));
+    let given = book.lines().len();
+    let (settled, standing) = settle_and_publish(rt, alloc, book, finder, crew, watch)?;
+    if let Standing::Halted = standing {
+        return Ok(Round::Over(Grown::Halted(settled)));
     }
-    if book.lines().len() > given {
-        return Ok(Round::Over(Grown::More(book)));
+    if settled.lines().len() > given {
+        return Ok(Round::Over(Grown::More(settled)));
     }
-    Ok(Round::Open(book))
+    Ok(Round::Open(settled))
 }

@@ -1,3 +1,4 @@
 pub mod Lists
 pub mod Entering
 pub mod Steps
+pub mod Changing

@@ -4,3 +4,4 @@ pub mod Publishing
 pub mod Looking
 pub mod Notes
 pub mod Readers
+pub mod Editions

@@ -45,6 +45,10 @@
 //! Below is `kb_word`, for want of memory.
 #![tactic(auto)]
 
+mod book_publisher;
+mod change;
+mod changes;
+mod edition;
 mod glass;
 mod in_place;
 mod notes;
@@ -52,6 +56,9 @@ mod publisher;
 mod reader;
 mod versions;
 
+pub use book_publisher::{BookPublisher, EditionReader};
+pub use change::{Change, LiveLine, Ordered};
+pub use edition::{Edition, Lines};
 pub use glass::{Glass, RuledGlass, RuledReading};
 pub use publisher::Publisher;
 pub use reader::{Look, VersionReader};

@@ -77,7 +77,7 @@ pub use live::live_rules;
 pub use one_by_one::OneByOne;
 pub use row::apart_in_row;
 pub use settled::Settled;
-pub use settling::{line_made, settle};
+pub use settling::{line_made, settle, settle_part};
 pub use sieve::{Sieve, SieveSpace};
 pub use sound::book_is_sound;
 pub use version::Version;

@@ -1,6 +1,7 @@
 //! Passes by one worker.
 
-ghost use Rattle.std.specs.Prelude.{◌≡◌, ◌≤◌, IfOk};
+ghost use Rattle.std.specs.Prelude.{◌≡◌, ◌≤◌, ◌<◌, IfOk};
+ghost use Rattle.std.specs.List.{AllPairs};
 ghost use Rattle.kb_share.specs.Versions.{IsPublished};
 ghost use Rattle.kb_share.specs.Passes.{AreAllApart, EntersSoMany};
 ghost use Rattle.kb_word.specs.Overlap.{IsConfluent};
@@ -39,9 +40,10 @@ impl OneByOne {
 
 /// The overlaps of the version's lines that are apart, in their order.
 fn all_apart<R: Reducer>(alloc: Global, version: &Version<'_, R>) -> Result<Vec<Found>, Memory>
+    requires { AllPairs (λ one other. one < other) version.now.numbers }
     ensures { IfOk result (λ found. AreAllApart version.now found.items) }
 {
-    // A use of the numbers brings that they ascend.
+    // A use of the numbers brings that there is one for each rule.
     let _numbers = version.numbers();
     let rules = version.rules().as_slice();
     let left_sides = LeftSides::of(alloc, rules)?;

@@ -69,6 +69,29 @@ fn make_all<R: Reducer, W: Watch>(
     }
 }
 
+/// Settles a book in part: until nothing is pending, a limit is reached, or it has so many lines. The answer is how it is
+/// settled, if it is.
+pub fn settle_part<R: Reducer, W: Watch>(
+    alloc: Global,
+    book: &mut Book<R>,
+    finder: &mut Finder,
+    watch: &mut W,
+    lines: usize,
+) -> Result<Option<Settled>, Memory>
+    requires known { Knows finder.old book.old.course.state }
+    ensures settles { Settles book.old.course book.new.course }
+    ensures ends { IfOk result (λ end. IfSome end (EndsAt book.new.course)) }
+    ensures known { OnOk result (Knows finder.new book.new.course.state) }
+    ensures reduced { OnOk result (StaysReduced book.old.course book.new.course) }
+{
+    'making: while book.lines().len() < lines {
+        if let Some(end) = make_next(alloc, book, finder, watch)? {
+            return Ok(Some(end));
+        }
+    }
+    Ok(None)
+}
+
 /// Looks at the first pending pair, and answers how the book is settled, if it is.
 fn make_next<R: Reducer, W: Watch>(
     alloc: Global,

@@ -1,27 +1,35 @@
 //! Versions of a book.
 
-ghost use Rattle.std.specs.Prelude.{◌≡◌, ◌<◌, length};
-ghost use Rattle.std.specs.List.{AllPairs};
+ghost use Rattle.std.specs.Prelude.{◌≡◌, length};
 ghost use Rattle.kb_share.specs.Versions.{IsPublished, version_of};
 
-use crate::sound::book_is_sound;
 use kb_book::Book;
 use kb_rules::{Reducer, Rules};
 use std::marker::Model;
 
-/// The live lines of a book as they were published last, and the reducer by their rules. It borrows the book, which so
-/// stays as it is, and nothing is copied.
+/// The live lines of a book as they were published, and the reducer by their rules. Both are borrowed, from the book
+/// itself or from a copy that follows it, and so stay as they are.
 #[derive(Drop)]
 pub struct Version<'b, R: Reducer> {
-    book: &'b Book<R>,
+    number: u64,
+    numbers: &'b [u32],
+    reducer: &'b R,
 }
 
 impl<'b, R: Reducer> Model for Version<'b, R> {
-    ghost use Rattle.kb_share.specs.Versions.{VersionParts, version_of};
+    ghost use Rattle.std.specs.Prelude.{◌≡◌, length};
+    ghost use Rattle.kb_share.specs.Versions.{VersionParts};
 
     ghost Value = { VersionParts };
 
-    ghost view = { λ version. version_of version.book.now.course.state };
+    ghost view = { λ version. record {
+      number = version.number;
+      numbers = version.numbers.now;
+      rules = R.rules version.reducer.now;
+    } };
+
+    ghost invariant = { λ version.
+        length version.numbers.now ≡ length (R.rules version.reducer.now) };
 }
 
 impl<'b, R: Reducer> Version<'b, R> {
@@ -30,37 +38,53 @@ impl<'b, R: Reducer> Version<'b, R> {
         requires { IsPublished book.now.course.state }
         ensures { result ≡ version_of book.now.course.state }
     {
-        Version { book }
+        Version {
+            number: book.versions().len() as u64,
+            numbers: book.live(),
+            reducer: book.reducer(),
+        }
+    }
+
+    /// A version by the numbers of its lines and the reducer by their rules.
+    pub fn lent(number: u64, numbers: &'b [u32], reducer: &'b R) -> Version<'b, R>
+        requires { length numbers.now ≡ length (R.rules reducer.now) }
+        ensures number { result.number ≡ number }
+        ensures numbers { result.numbers ≡ numbers.now }
+        ensures rules { result.rules ≡ R.rules reducer.now }
+    {
+        Version {
+            number,
+            numbers,
+            reducer,
+        }
     }
 
     /// Its number, from 1 on.
     pub fn number(&self) -> u64
         ensures { result ≡ self.now.number }
     {
-        self.book.versions().len() as u64
+        self.number
     }
 
-    /// The numbers of its lines, ascending.
+    /// The numbers of its lines.
     pub fn numbers(&self) -> &'b [u32]
         ensures numbers { result.now ≡ self.now.numbers }
-        ensures ascending { AllPairs (λ one other. one < other) self.now.numbers }
         ensures one_each { length self.now.numbers ≡ length self.now.rules }
     {
-        book_is_sound(self.book);
-        self.book.live()
+        self.numbers
     }
 
     /// The rules of its lines, in line order.
     pub fn rules(&self) -> &'b Rules
         ensures { result.now.rules ≡ self.now.rules }
     {
-        self.book.reducer().list()
+        self.reducer.list()
     }
 
     /// The reducer by its rules.
     pub fn reducer(&self) -> &'b R
         ensures { R.rules result.now ≡ self.now.rules }
     {
-        self.book.reducer()
+        self.reducer
     }
 }

@@ -1,3 +1,4 @@
 pub mod Shared
 pub mod Passes
 pub mod Sweeps
+pub mod Settling

@@ -41,19 +41,24 @@
 #![tactic(auto)]
 
 mod alone;
+mod beside;
+mod desk;
 mod entering;
 mod locked;
 mod pass;
 mod passed;
 mod passes;
+mod settling;
 mod shared;
 mod sharing;
+mod sweeper;
 mod sweeping;
 mod threads;
 
 pub use pass::Pass;
 pub use passed::Passed;
 pub use passes::make_pass;
+pub use settling::settle_by;
 pub use shared::Shared;
 pub use sharing::Sharing;
 pub use threads::Threads;

@@ -33,7 +33,7 @@ loop-index-preserved g c =
     let picks : Picks (IsApartAt version.rules index) (found_at version.numbers index) overlaps row =
     subst (λ (o : List Overlap). Picks (IsApartAt version.rules index) (found_at version.numbers index) o row)
     c.deref.ensures.value c.in_ok-apart_in_row.ensures in
-    let more = row_more version.rules version.numbers c.numbers-numbers.ensures.one_each c.numbers-numbers.ensures.ascending index
+    let more = row_more version.rules version.numbers c.numbers-numbers.ensures.one_each c.requires index
     first overlaps before row is_first are picks c.loop-index.invariant in
     let same : c.extend_from_slice.new.self.items ≡ before ++ row =
     c.in_ok-extend_from_slice.ensures.items ∙ ap (λ (l : List Found). before ++ l) c.deref-in-loop-index.ensures.value in
@@ -46,4 +46,4 @@ returns g c =
     let count = ap length is_rules in
     let all : c.loop-index.index ≡ length version.rules = omega arith in
     all_found version c.loop-index.index c.loop-index.found.items c.numbers-numbers.ensures.one_each
-    c.numbers-numbers.ensures.ascending all c.loop-index.invariant
+    c.requires all c.loop-index.invariant
