@@ -1,9 +1,10 @@
 -- What changes make of lines.
-use Rattle.std.proofs.Common.{◌≡◌, ℕ, ◌+◌, ◌-◌, ◌<◌, ◌≤◌, suc, List, [], ◌∷◌, ◌++◌, Some, fold, length, map, take, drop, get_or, slice_get, refl, sym, ◌∙◌, ap, subst, arith, append_assoc, length-map}
+use Rattle.std.proofs.Common.{◌≡◌, ℕ, ◌+◌, ◌-◌, ◌<◌, ◌≤◌, suc, List, [], ◌∷◌, ◌++◌, Some, fold, length, map, take, drop, get_or, slice_get, refl, sym, ◌∙◌, ap, subst, arith, append_assoc}
 use Rattle.std.specs.List.{All, remove}
+use Rattle.std.proofs.Math.ListN.{drop_of_length-le}
 use Rattle.std.proofs.Math.Nat.{sub_self}
 use Rattle.std.proofs.Math.Seq.{take-suc}
-use Rattle.std.proofs.lemmas.List.{length-take-le, map-append, take-map, get_or-map}
+use Rattle.std.proofs.lemmas.List.{append-nil, length-map, map-append, take_all}
 use Rattle.std.proofs.lemmas.List.Edits.{remove-append_right}
 use Rattle.std.proofs.lemmas.List.Sums.{fold-append}
 use Rattle.std.proofs.lemmas.Option.{slice_get_within, get_or_from_slice_get}
@@ -11,7 +12,15 @@ use Rattle.kb_word.specs.Words.{Pair}
 use Rattle.kb_publish.specs.declared.edition.Lines.{Lines}
 use Rattle.kb_publish.specs.declared.change.Change.{Change}
 use Rattle.kb_publish.specs.declared.change.Change.TheVariants.{Gone, Live}
-use Rattle.kb_publish.specs.Editions.{NumberedRule, changed, lines_by}
+use Rattle.kb_publish.specs.LiveLines.{NumberedRule}
+use Rattle.kb_publish.specs.Editions.{changed, lines_by}
+
+-- where there is nothing at the place, nothing goes
+pub past_end : {X : Type 0} (xs : List X) (place : ℕ) → length xs ≤ place → xs ≡ remove xs place
+past_end xs place past =
+    let all : take place xs ≡ xs = take_all place xs past in
+    let none : drop (suc place) xs ≡ [] = drop_of_length-le xs {i = suc place} (omega (arith, past)) in
+    sym (append-nil xs) ∙ ap (λ (l : List _). xs ++ l) (sym none) ∙ ap (λ (l : List _). l ++ drop (suc place) xs) (sym all)
 
 -- what stands at the place goes
 pub gone_at : {X : Type 0} (first : List X) (x : X) (rest : List X) (place : ℕ) → length first ≡ place
@@ -50,14 +59,14 @@ module _ {N : Type 0} where
       ap (λ (l : List Pair). remove l place) split
       ∙ gone_at (map rule first) (rule number) (map rule rest) place (length-map first rule ∙ is)
       ∙ sym (map-append rule first rest) in
-      let after : changed (lines_by rule version (first ++ number ∷ rest)) (Gone {N = N} place) ≡ lines_by rule version (first ++ rest) =
+      let after : changed {N = N} (lines_by rule version (first ++ number ∷ rest)) (Gone place) ≡ lines_by rule version (first ++ rest) =
       ap (λ (l : List ℕ). record {
         version = version;
         numbers = l;
         rules = remove (map rule (first ++ number ∷ rest)) place;
       }) numbers
       ∙ ap (λ (r : List Pair). record { version = version; numbers = first ++ rest; rules = r }) rules in
-      changed_then start changes (Gone place) ∙ ap (λ (l : Lines). changed l (Gone {N = N} place)) before ∙ after
+      changed_then start changes (Gone place) ∙ ap (λ (l : Lines). changed {N = N} l (Gone place)) before ∙ after
 
   -- the next line is added
   pub live_more : (start : Lines) (changes : List (Change N)) (rule : ℕ → Pair) (version : ℕ) (live : List ℕ) (place : ℕ)
@@ -70,7 +79,7 @@ module _ {N : Type 0} where
       take-suc live place 0 within ∙ ap (λ (n : ℕ). take place live ++ n ∷ []) (sym number) in
       let rules : map rule (take place live) ++ line.rule ∷ [] ≡ map rule (take place live ++ line.number ∷ []) =
       ap (λ (r : Pair). map rule (take place live) ++ r ∷ []) own ∙ sym (map-append rule (take place live) (line.number ∷ [])) in
-      let after : changed (lines_by rule version (take place live)) (Live {N = N} line) ≡ lines_by rule version (take place live ++ line.number ∷ []) =
+      let after : changed {N = N} (lines_by rule version (take place live)) (Live line) ≡ lines_by rule version (take place live ++ line.number ∷ []) =
       ap (λ (r : List Pair). record { version = version; numbers = take place live ++ line.number ∷ []; rules = r }) rules in
-      changed_then start changes (Live line) ∙ ap (λ (l : Lines). changed l (Live {N = N} line)) before ∙ after
+      changed_then start changes (Live line) ∙ ap (λ (l : Lines). changed {N = N} l (Live line)) before ∙ after
       ∙ ap (λ (l : List ℕ). lines_by rule version l) (sym more ∙ ap (λ (n : ℕ). take n live) next)

@@ -1,19 +1,12 @@
 -- Versions of a book by their lines, and what changes from one to the next.
-use Rattle.std.specs.Prelude.{◌≡◌, ℕ, ◌<◌, ◌≤◌, List, [], ◌∷◌, ◌++◌, Some, All, length, map}
+use Rattle.std.specs.Prelude.{ℕ, List, [], ◌∷◌, ◌++◌, length, map}
 use Rattle.std.specs.List.{remove}
 use Rattle.kb_word.specs.Words.{Pair}
-use Rattle.kb_machine.specs.declared.line.Line.{Line}
 use Rattle.kb_machine.specs.States.{State, rule_numbered}
-use Rattle.kb_publish.specs.Versions.{counted, last}
+use Rattle.kb_publish.specs.Versions.{counted}
 use Rattle.kb_publish.specs.declared.edition.Lines.{Lines}
-use Rattle.kb_publish.specs.declared.book_publisher.BookPublisher.{BookPublisher}
 use Rattle.kb_publish.specs.declared.change.Change.{Change}
 use Rattle.kb_publish.specs.declared.change.Change.TheVariants.{Gone, Live, Published}
-
--- a line's number and its rule
-pub record NumberedRule : Type 0 where
-  pub number : ℕ
-  pub rule : Pair
 
 -- the version with this number of the lines with these numbers, each of which has its rule
 abbrev pub lines_by : (ℕ → Pair) → ℕ → List ℕ → Lines
@@ -42,16 +35,3 @@ changed lines (Live line) = record {
 }
 changed lines Published =
     record { version = counted lines.version; numbers = lines.numbers; rules = lines.rules }
-
--- a state whose live lines are among its lines, and one that has the same lines, or more
-pub record LeadsTo (earlier later : State) : Type 0 where
-  pub numbers : All (λ k. (0 < k) × (k ≤ length earlier.lines)) earlier.live
-  pub made : List Line
-  pub lines : later.lines ≡ earlier.lines ++ made
-
--- the version that was published last has the live lines of a state, under this number, and no change is pending
-pub record Shows {R N : Type 0} (publisher : BookPublisher R N) (number : ℕ)
-    (state : State) : Type 0 where
-  pub shown : last publisher.publisher.published ≡ Some (version_of number state)
-  pub told : publisher.publisher.pending ≡ []
-  pub numbers : publisher.numbers.items ≡ state.live

@@ -4,4 +4,6 @@ pub mod Publishing
 pub mod Looking
 pub mod Notes
 pub mod Readers
+pub mod LiveLines
 pub mod Editions
+pub mod Books

@@ -2,7 +2,7 @@
 
 ghost use Rattle.std.specs.Prelude.{◌≡◌, ◌≤◌, ◌++◌, ℕ, IfOk, OnOk, length};
 ghost use Rattle.kb_machine.specs.States.{State};
-ghost use Rattle.kb_publish.specs.Editions.{LeadsTo, Shows};
+ghost use Rattle.kb_publish.specs.Books.{LeadsTo, Shows};
 ghost use Rattle.kb_publish.specs.Readers.{seen_through};
 ghost use Rattle.kb_publish.specs.Versions.{counted};
 

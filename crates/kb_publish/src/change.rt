@@ -30,7 +30,7 @@ pub struct LiveLine<N: Ordered> {
 
 impl<N: Ordered> Model for LiveLine<N> {
     ghost use Rattle.kb_word.specs.WordOrders.{Below};
-    ghost use Rattle.kb_publish.specs.Editions.{NumberedRule};
+    ghost use Rattle.kb_publish.specs.LiveLines.{NumberedRule};
 
     ghost Value = { NumberedRule };
 

@@ -1,7 +1,7 @@
 //! A version of a book as a value of its own, which follows the book.
 
-ghost use Rattle.std.specs.Prelude.{◌≡◌, IfOk, OnErr, OnOk};
-ghost use Rattle.kb_publish.specs.declared.change.Change.TheVariants.{Gone, Live};
+ghost use Rattle.std.specs.Prelude.{◌≡◌, [], ◌∷◌, ◌++◌, IfOk, OnErr, OnOk};
+ghost use Rattle.std.specs.List.{remove};
 ghost use Rattle.kb_publish.specs.Editions.{changed, edition_of};
 
 use crate::change::{Change, LiveLine, Ordered};
@@ -91,7 +91,10 @@ impl<R: Reducer, N: Ordered> Edition<R, N> {
 
     /// Takes the line at a place out, if there is one.
     fn take_out(&mut self, place: usize) -> Result<(), Memory>
-        ensures ok { OnOk result (self.new ≡ changed self.old (Gone place)) }
+        ensures ok { OnOk result (self.new ≡ record self.old {
+          numbers = remove self.old.numbers place;
+          rules = remove self.old.rules place;
+        }) }
         ensures err { OnErr result (self.new ≡ self.old) }
     {
         if place >= self.numbers.len() {
@@ -104,7 +107,10 @@ impl<R: Reducer, N: Ordered> Edition<R, N> {
 
     /// Adds a line at the end.
     fn add(&mut self, line: &LiveLine<N>) -> Result<(), Memory>
-        ensures ok { OnOk result (self.new ≡ changed self.old (Live line.now)) }
+        ensures ok { OnOk result (self.new ≡ record self.old {
+          numbers = self.old.numbers ++ line.now.number ∷ [];
+          rules = self.old.rules ++ line.now.rule ∷ [];
+        }) }
         ensures err { OnErr result (self.new ≡ self.old) }
     {
         self.numbers.reserve(1)?;
