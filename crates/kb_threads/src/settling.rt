@@ -69,6 +69,9 @@ pub fn settle_by<R: HasAutomaton + Send + Sync, G: Gate, W: Watch, T: Threads + 
     ensures settles { IfOk result (λ done. SettlesAs book.course done.0.course done.1) }
     ensures known { IfOk result (λ done. Knows finder.new done.0.course.state) }
 {
+    if crew.count() > 1 {
+        finder.inverses.balance(true);
+    }
     if crew.count() == 1 || is_idle(&book) {
         let settled = settle(alloc, &mut book, finder, watch)?;
         return Ok((book, settled));
@@ -105,7 +108,7 @@ fn settle_in_parts<
     crew: &Crew<'_, G>,
 ) -> Result<(Settling<'w, R, W>, Settled), Memory>
     requires { Knows settling.finder settling.book.course.state }
-    ensures { IfOk result (EndsFrom settling.book.course) }
+    ensures { IfOk result (EndsFrom settling.entry.book.course) }
 {
     match settling.part()? {
         Some(settled) => Ok((settling, settled)),
@@ -128,7 +131,7 @@ fn settle_beside<
 ) -> Result<(Settling<'w, R, W>, Settled), Memory>
     requires order { settling.book.course.problem.order ≡ N.order }
     requires known { Knows settling.finder settling.book.course.state }
-    ensures { IfOk result (EndsFrom settling.book.course) }
+    ensures { IfOk result (EndsFrom settling.entry.book.course) }
 {
     let (mut publisher, readers) =
         BookPublisher::<R, N>::new(rt, settling.alloc, &settling.book, crew.count())?;
@@ -152,10 +155,10 @@ fn settle_and_sweep<
     publisher: &mut BookPublisher<R, N>,
     readers: Vec<EditionReader<R, N>>,
 ) -> Result<(Settling<'w, R, W>, Settled), Memory>
-    requires readers { 1 ≤ length readers.items }
+    requires readers { (1 ≤ length readers.items) × (length readers.items ≤ 64) }
     requires order { settling.book.course.problem.order ≡ N.order }
     requires known { Knows settling.finder settling.book.course.state }
-    ensures { IfOk result (EndsFrom settling.book.course) }
+    ensures { IfOk result (EndsFrom settling.entry.book.course) }
 {
     let alloc = settling.alloc;
     let gate = crew.gate();
@@ -177,7 +180,7 @@ fn settle_and_sweep<
         || -> Result<(Settling<'_, R, W>, Settled), Memory>
             requires order { settling.book.course.problem.order ≡ N.order }
             requires known { Knows settling.finder settling.book.course.state }
-            ensures { IfOk result (EndsFrom settling.book.course) }
+            ensures { IfOk result (EndsFrom settling.entry.book.course) }
         { settle_to_end(rt, settling, side) },
     );
     done
@@ -191,7 +194,7 @@ fn settle_to_end<'w, N: Ordered, R: HasAutomaton, G: Gate, W: Watch, T: Wait>(
 ) -> Result<(Settling<'w, R, W>, Settled), Memory>
     requires order { settling.book.course.problem.order ≡ N.order }
     requires known { Knows settling.finder settling.book.course.state }
-    ensures { IfOk result (EndsFrom settling.book.course) }
+    ensures { IfOk result (EndsFrom settling.entry.book.course) }
 {
     let done = settle_parts(rt, settling, &mut side);
     side.close(rt);
@@ -206,7 +209,7 @@ fn settle_parts<'w, N: Ordered, R: HasAutomaton, G: Gate, W: Watch, T: Wait>(
 ) -> Result<(Settling<'w, R, W>, Settled), Memory>
     requires order { settling.book.course.problem.order ≡ N.order }
     requires known { Knows settling.finder settling.book.course.state }
-    ensures { IfOk result (EndsFrom settling.book.course) }
+    ensures { IfOk result (EndsFrom settling.entry.book.course) }
 {
     for _ in rt.forever() {
         let swept = settling.book.lines().len();

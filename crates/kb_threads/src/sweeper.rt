@@ -1,6 +1,6 @@
 //! Workers sweep the versions of a book that another one settles meanwhile.
 
-ghost use Rattle.std.specs.Prelude.{◌≡◌, IfOk, length};
+ghost use Rattle.std.specs.Prelude.{◌≡◌, ◌≤◌, IfOk, length};
 
 use crate::desk::{Desk, Rows};
 use kb_index::HasAutomaton;
@@ -119,6 +119,7 @@ pub(crate) fn sweepers_of<R: HasAutomaton, N: Ordered>(
     alloc: Global,
     readers: Vec<EditionReader<R, N>>,
 ) -> Result<Vec<Sweeper<R, N>>, Memory>
+    requires { length readers.items ≤ 64 }
     ensures { IfOk result (λ sweepers. length sweepers.items ≡ length readers.items) }
 {
     let mut sweepers = Vec::with_capacity(alloc, readers.len())?;
