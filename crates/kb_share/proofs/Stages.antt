@@ -18,7 +18,7 @@ use Rattle.kb_book.specs.declared.answers.Shorten.TheVariants as shortens
 use Rattle.kb_machine.specs.declared.event.Event.{Event}
 use Rattle.kb_share.specs.Later.{IsLater, entries}
 use Rattle.kb_share.specs.Settling.{Settles, GivesHalt}
-use Rattle.kb_share.specs.Work.{GoesOn, work}
+use Rattle.kb_share.specs.Work.{GoesOn, GoesOnBy, work}
 
 pub later_itself : (course : Course) → IsLater course course
 later_itself course = record { problem = refl; made = []; lines = sym (append-nil course.state.lines) }
@@ -31,14 +31,13 @@ later_then one two three a b = record {
 }
 
 pub settles_itself : (course : Course) → Settles course course
-settles_itself course = record { later = later_itself course; versions = refl; entries = refl }
+settles_itself course = record { later = later_itself course; versions = refl }
 
 pub settles_then : (one two three : Course) → Settles one two → Settles two three → Settles one three
 settles_then one two three a b =
     record {
       later = later_then one two three a.later b.later;
       versions = b.versions ∙ a.versions;
-      entries = b.entries ∙ a.entries;
     }
 
 pub goes_on_itself : (course : Course) → GoesOn course course
@@ -71,46 +70,36 @@ entries-append (events.Killed k ∷ earlier) later = entries-append earlier late
 entries-append (events.Shortened line new ∷ earlier) later = entries-append earlier later
 entries-append (events.Published ∷ earlier) later = entries-append earlier later
 
--- an event that enters nothing
-enters_nothing : (event : Event) (before after : Course) → Takes event before after → entries (event ∷ []) ≡ 0
-    → entries after.journal ≡ entries before.journal
-enters_nothing event before after takes none =
-    let joined = entries-append before.journal (event ∷ []) in
-    let is = ap entries takes.journal in
-    omega (arith, is, joined, none)
-
 -- with the same lines
-same_lines : (event : Event) (before after : Course) → Takes event before after → entries (event ∷ []) ≡ 0
+same_lines : (event : Event) (before after : Course) → Takes event before after
     → after.state.lines ≡ before.state.lines → after.state.versions ≡ before.state.versions → Settles before after
-same_lines event before after takes none lines versions = record {
+same_lines event before after takes lines versions = record {
   later = record { problem = takes.problem; made = []; lines = lines ∙ sym (append-nil before.state.lines) };
   versions = versions;
-  entries = enters_nothing event before after takes none;
 }
 
 -- with one line more
-one_line : (event : Event) (before after : Course) (line : Line) → Takes event before after → entries (event ∷ []) ≡ 0
+one_line : (event : Event) (before after : Course) (line : Line) → Takes event before after
     → after.state.lines ≡ before.state.lines ++ line ∷ [] → after.state.versions ≡ before.state.versions → Settles before after
-one_line event before after line takes none lines versions = record {
+one_line event before after line takes lines versions = record {
   later = record { problem = takes.problem; made = line ∷ []; lines = lines };
   versions = versions;
-  entries = enters_nothing event before after takes none;
 }
 
 killed_work : (m n a p m' n' a' p' : ℕ) → m' ≡ m → n' ≡ n → a' + 1 ≡ a → p' ≡ p + 1
-    → 2 * (m' - n') + a' + p' ≤ 2 * (m - n) + a + p
+    → 4 * (m' - n') + a' + p' ≤ 4 * (m - n) + a + p
 killed_work m n a p m' n' a' p' em en ea ep = omega (arith, em, en, ea, ep)
 
 shortened_work : (m n a p m' n' a' p' : ℕ) → m' ≡ m → n' ≡ n + 1 → a' ≡ a → p' ≡ p
-    → 2 * (m' - n') + a' + p' ≤ 2 * (m - n) + a + p
+    → 4 * (m' - n') + a' + p' ≤ 4 * (m - n) + a + p
 shortened_work m n a p m' n' a' p' em en ea ep = omega (arith, em, en, ea, ep)
 
 made_work : (m n a p m' n' a' p' : ℕ) → m' ≡ m → n < m → n' ≡ n + 1 → a' ≡ a + 1 → p ≡ p' + 1
-    → 2 * (m' - n') + a' + p' < 2 * (m - n) + a + p
+    → 4 * (m' - n') + a' + p' + 4 ≤ 4 * (m - n) + a + p
 made_work m n a p m' n' a' p' em room en ea ep = omega (arith, em, room, en, ea, ep)
 
 dropped_work : (m n a p m' n' a' p' : ℕ) → m' ≡ m → n' ≡ n → a' ≡ a → p ≡ p' + 1
-    → 2 * (m' - n') + a' + p' < 2 * (m - n) + a + p
+    → 4 * (m' - n') + a' + p' < 4 * (m - n) + a + p
 dropped_work m n a p m' n' a' p' em en ea ep = omega (arith, em, en, ea, ep)
 
 length_more : {X : Type 0} (xs : List X) (x : X) → length (xs ++ x ∷ []) ≡ length xs + 1
@@ -137,7 +126,7 @@ kill_taken k before after takes =
     let live = ap (λ (t : State). t.live) s.is in
     let pending = ap (λ (t : State). t.pending) s.is in
     record {
-      settles = same_lines (events.Killed k) before after takes refl lines (ap (λ (t : State). t.versions) s.is);
+      settles = same_lines (events.Killed k) before after takes lines (ap (λ (t : State). t.versions) s.is);
       less = killed_work before.problem.most_lines (length before.state.lines) (length before.state.live) (length before.state.pending)
           after.problem.most_lines (length after.state.lines) (length after.state.live) (length after.state.pending)
           (ap (λ (p : Problem). p.most_lines) takes.problem) (ap length lines)
@@ -152,7 +141,7 @@ shorten_taken k new before after takes =
     let live = ap (λ (t : State). t.live) s.is in
     let pending = ap (λ (t : State). t.pending) s.is in
     record {
-      settles = one_line (events.Shortened k new) before after s.line takes refl lines (ap (λ (t : State). t.versions) s.is);
+      settles = one_line (events.Shortened k new) before after s.line takes lines (ap (λ (t : State). t.versions) s.is);
       less = shortened_work before.problem.most_lines (length before.state.lines) (length before.state.live) (length before.state.pending)
           after.problem.most_lines (length after.state.lines) (length after.state.live) (length after.state.pending)
           (ap (λ (p : Problem). p.most_lines) takes.problem) (ap length lines ∙ length_more before.state.lines s.line)
@@ -178,9 +167,10 @@ shorten_goes_on k before after (Err memory) says = same_goes_on before after say
 pub made_settles : (k : ℕ) (before after : Course) → Takes (events.Made k) before after → Settles before after
 made_settles k before after takes =
     let s = takes.step in
-    one_line (events.Made k) before after s.line takes refl (ap (λ (t : State). t.lines) s.is) (ap (λ (t : State). t.versions) s.is)
+    one_line (events.Made k) before after s.line takes (ap (λ (t : State). t.lines) s.is) (ap (λ (t : State). t.versions) s.is)
 
-pub made_falls : (k : ℕ) (before after : Course) → Takes (events.Made k) before after → work after < work before
+-- and leaves four less work
+pub made_falls : (k : ℕ) (before after : Course) → Takes (events.Made k) before after → work after + 4 ≤ work before
 made_falls k before after takes =
     let s = takes.step in
     let lines = ap (λ (t : State). t.lines) s.is in
@@ -199,7 +189,7 @@ made_falls k before after takes =
 pub dropped_settles : (before after : Course) → Takes events.Dropped before after → Settles before after
 dropped_settles before after takes =
     let s = takes.step in
-    same_lines events.Dropped before after takes refl (ap (λ (t : State). t.lines) s.is) (ap (λ (t : State). t.versions) s.is)
+    same_lines events.Dropped before after takes (ap (λ (t : State). t.lines) s.is) (ap (λ (t : State). t.versions) s.is)
 
 pub dropped_falls : (before after : Course) → Takes events.Dropped before after → work after < work before
 dropped_falls before after takes =
@@ -218,7 +208,7 @@ dropped_falls before after takes =
 halted_settles : (before after : Course) → Takes events.Halted before after → Settles before after
 halted_settles before after takes =
     let s = takes.step in
-    same_lines events.Halted before after takes refl (ap (λ (t : State). t.lines) s.is) (ap (λ (t : State). t.versions) s.is)
+    same_lines events.Halted before after takes (ap (λ (t : State). t.lines) s.is) (ap (λ (t : State). t.versions) s.is)
 
 same_settles : (before after : Course) → after ≡ before → Settles before after
 same_settles before after same = subst (λ (c : Course). Settles before c) (sym same) (settles_itself before)
@@ -246,15 +236,15 @@ pub make_said : (before after : Course) (given answer : Make) → given ≡ answ
     → MakeSays before after (Ok answer)
 make_said before after given answer same says = subst (λ (m : Make). MakeSays before after (Ok m)) same says
 
--- what is done after a line is made leaves less work than there was
-pub made_then_falls : (k : ℕ) (before middle after : Course) → Takes (events.Made k) before middle → GoesOn middle after
+-- what is done after a line is made, with two pairs more than its own, leaves less work than there was
+pub made_then_falls : (k : ℕ) (before middle after : Course) → Takes (events.Made k) before middle → GoesOnBy 2 middle after
     → work after < work before
 made_then_falls k before middle after takes goes =
-    let first : work middle < work before = made_falls k before middle takes in
-    let second : work after ≤ work middle = goes.less in
+    let first : work middle + 4 ≤ work before = made_falls k before middle takes in
+    let second : work after ≤ work middle + 2 = goes.most in
     less_then (work before) (work middle) (work after) first second
   where
-    less_then : (a b c : ℕ) → b < a → c ≤ b → c < a
+    less_then : (a b c : ℕ) → b + 4 ≤ a → c ≤ b + 2 → c < a
     less_then a b c first second = omega (arith, first, second)
 
 -- a line was made, and more may have been made since

@@ -1,6 +1,7 @@
 pub mod Later
 pub mod Settling
 pub mod Work
+pub mod Balancing
 pub mod Versions
 pub mod Passes
 pub mod Rows

@@ -3,15 +3,14 @@ use Rattle.std.specs.Prelude.{◌≡◌, ◌≢◌, [], Some, None}
 use Rattle.kb_machine.specs.Course.{Course}
 use Rattle.kb_machine.specs.declared.halt.Halt.{Halt}
 use Rattle.kb_book.specs.Answers.{IsCopyOf}
-use Rattle.kb_share.specs.Later.{IsLater, entries}
+use Rattle.kb_share.specs.Later.{IsLater}
 use Rattle.kb_share.specs.declared.settled.Settled.{Settled}
 use Rattle.kb_share.specs.declared.settled.Settled.TheVariants as settled
 
--- a later stage at which no further version is published and no further overlap is entered
+-- a later stage at which no further version is published; overlaps may have been entered, to balance new lines
 pub record Settles (before after : Course) : Type 0 where
   pub later : IsLater before after
   pub versions : after.state.versions ≡ before.state.versions
-  pub entries : entries after.journal ≡ entries before.journal
 
 -- the course is halted, and this is a copy of its halt
 pub record GivesHalt (course : Course) (halt : Halt) : Type 0 where

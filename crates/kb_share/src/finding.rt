@@ -9,6 +9,7 @@ ghost use Rattle.kb_share.specs.declared.finding.Side.TheVariants as side;
 ghost use Rattle.kb_share.specs.Finding.{AgreesWith, FindsAll, HasAt, FindsLines, HasFactorAt, Knows, KnowsLines, PicksAll, row_of, side_of};
 ghost use Rattle.kb_share.specs.Signatures.{HasMarks, IsSignature, AreWithin};
 
+use crate::balancing::Inverses;
 use crate::signature::Signature;
 use crate::sound::book_is_sound;
 use crate::waiting::Waiting;
@@ -33,6 +34,8 @@ pub struct Finder {
     likely: Vec<u32>,
     /// The overlaps that wait to be entered, which a finder keeps beside, since it serves a book as long as it lives.
     pub waiting: Waiting,
+    /// The lines of inverses, by which new lines are balanced where that is wanted.
+    pub inverses: Inverses,
 }
 
 /// The lines that are kept. The signatures of one side stand in a row, which is searched in one
@@ -63,6 +66,7 @@ impl Finder {
             found: Vec::new(alloc),
             likely: Vec::new(alloc),
             waiting: Waiting::new(alloc),
+            inverses: Inverses::new(alloc),
         }
     }
 

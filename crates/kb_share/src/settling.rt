@@ -6,8 +6,9 @@ ghost use Rattle.kb_machine.specs.declared.event.Event.TheVariants.{Made};
 ghost use Rattle.kb_share.specs.Finding.{Knows};
 ghost use Rattle.kb_share.specs.Interreduced.{StaysReduced};
 ghost use Rattle.kb_share.specs.Settling.{Settles, SettleSays};
-ghost use Rattle.kb_share.specs.Work.{EndsAt, GoesOn, work};
+ghost use Rattle.kb_share.specs.Work.{EndsAt, GoesOnBy, work};
 
+use crate::balancing::balance;
 use crate::finding::Finder;
 use crate::settled::Settled;
 use crate::simplifying::simplify;
@@ -20,8 +21,8 @@ use std::alloc::Global;
 
 /// Makes lines until nothing is pending or a limit is reached. After each line the other lines are
 /// taken away whose left sides have its left side as a factor, and those are replaced whose right
-/// sides it reduces. The finder knows the book's live lines, or is new, and knows them afterwards. After
-/// want of memory the events that were made stand.
+/// sides it reduces, and where the finder was told to, the line is balanced. The finder knows the book's
+/// live lines, or is new, and knows them afterwards. After want of memory the events that were made stand.
 pub fn settle<R: Reducer, W: Watch>(
     alloc: Global,
     book: &mut Book<R>,
@@ -116,7 +117,8 @@ fn make_next<R: Reducer, W: Watch>(
 }
 
 /// Goes on after line k was made. Where the live rules were interreduced before it was made, they
-/// are so afterwards: left sides always, and right sides unless the log is full.
+/// are so afterwards: left sides always, and right sides unless the log is full. At most two overlaps are
+/// entered, if the finder was told to balance, and there is no other work than before but these.
 pub fn line_made<R: Reducer, W: Watch>(
     alloc: Global,
     book: &mut Book<R>,
@@ -125,7 +127,7 @@ pub fn line_made<R: Reducer, W: Watch>(
     watch: &mut W,
 ) -> Result<Option<Settled>, Memory>
     requires known { Knows finder.old book.old.course.state }
-    ensures goes_on { GoesOn book.old.course book.new.course }
+    ensures goes_on { GoesOnBy 2 book.old.course book.new.course }
     ensures none { IfOk result (λ end. end ≡ None) }
     ensures known { OnOk result (Knows finder.new book.new.course.state) }
     ensures reduced { (start : Course) → Takes (Made k) start book.old.course
@@ -133,5 +135,6 @@ pub fn line_made<R: Reducer, W: Watch>(
 {
     watch.line_made(book);
     simplify(alloc, book, k, finder)?;
+    balance(book, k, &mut finder.inverses)?;
     Ok(None)
 }
