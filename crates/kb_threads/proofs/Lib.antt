@@ -1,3 +1,4 @@
 pub mod Numbers
 pub mod Stages
 mod NothingFound
+pub mod Settled

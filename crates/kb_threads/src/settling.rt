@@ -17,10 +17,9 @@ use kb_share::{Finder, Settled, Watch, settle, settle_part};
 use kb_word::Memory;
 use std::alloc::Global;
 use std::marker::Brand;
-use std::mem;
 use std::sync::Wait;
-use std::thread;
 use std::thread::Threads;
+use std::{mem, thread};
 
 /// So many lines are a part, after which the live lines are published. Fewer are made sooner than the live ones are
 /// copied and threads begin.
@@ -60,7 +59,7 @@ impl<'w, R: Reducer, W: Watch> Settling<'w, R, W> {
 pub fn settle_by<R: HasAutomaton + Send + Sync, G: Gate, W: Watch, T: Threads + Wait + Sync>(
     rt: &T,
     alloc: Global,
-    mut book: Book<R>,
+    book: Book<R>,
     finder: &mut Finder,
     crew: &Crew<'_, G>,
     watch: &mut W,
@@ -69,12 +68,12 @@ pub fn settle_by<R: HasAutomaton + Send + Sync, G: Gate, W: Watch, T: Threads + 
     ensures settles { IfOk result (λ done. SettlesAs book.course done.0.course done.1) }
     ensures known { IfOk result (λ done. Knows finder.new done.0.course.state) }
 {
-    if crew.count() > 1 {
-        finder.inverses.balance(true);
+    if crew.count() == 1 {
+        return settle_alone(alloc, book, finder, watch);
     }
-    if crew.count() == 1 || is_idle(&book) {
-        let settled = settle(alloc, &mut book, finder, watch)?;
-        return Ok((book, settled));
+    finder.inverses.balance(true);
+    if is_idle(&book) {
+        return settle_alone(alloc, book, finder, watch);
     }
     let finder_of_book = mem::replace(finder, Finder::new(alloc));
     let settling = Settling {
@@ -88,6 +87,21 @@ pub fn settle_by<R: HasAutomaton + Send + Sync, G: Gate, W: Watch, T: Threads + 
     Ok((settling.book, settled))
 }
 
+/// Settles a book by one worker.
+fn settle_alone<R: Reducer, W: Watch>(
+    alloc: Global,
+    mut book: Book<R>,
+    finder: &mut Finder,
+    watch: &mut W,
+) -> Result<(Book<R>, Settled), Memory>
+    requires { Knows finder.old book.course.state }
+    ensures settles { IfOk result (λ done. SettlesAs book.course done.0.course done.1) }
+    ensures known { IfOk result (λ done. Knows finder.new done.0.course.state) }
+{
+    let settled = settle(alloc, &mut book, finder, watch)?;
+    Ok((book, settled))
+}
+
 /// Whether nothing is pending.
 fn is_idle<R: Reducer>(book: &Book<R>) -> bool
     ensures { IsTrue result ↔ (book.now.course.state.pending ≡ []) }
@@ -96,13 +110,7 @@ fn is_idle<R: Reducer>(book: &Book<R>) -> bool
 }
 
 /// Settles a book by one worker alone, if a part is enough, or else while others sweep.
-fn settle_in_parts<
-    'w,
-    R: HasAutomaton + Send + Sync,
-    G: Gate,
-    W: Watch,
-    T: Threads + Wait + Sync,
->(
+fn settle_in_parts<'w, R: HasAutomaton + Send + Sync, G: Gate, W: Watch, T: Threads + Wait + Sync>(
     rt: &T,
     mut settling: Settling<'w, R, W>,
     crew: &Crew<'_, G>,
@@ -133,8 +141,12 @@ fn settle_beside<
     requires known { Knows settling.finder settling.book.course.state }
     ensures { IfOk result (EndsFrom settling.entry.book.course) }
 {
-    let (mut publisher, readers) =
-        BookPublisher::<R, N>::new(rt, settling.alloc, &settling.book, crew.count())?;
+    let (mut publisher, readers) = BookPublisher::<R, N>::new(
+        rt,
+        settling.alloc,
+        &settling.book,
+        crew.count(),
+    )?;
     let done = settle_and_sweep(rt, settling, crew, &mut publisher, readers);
     publisher.close(rt);
     done
@@ -213,7 +225,11 @@ fn settle_parts<'w, N: Ordered, R: HasAutomaton, G: Gate, W: Watch, T: Wait>(
 {
     for _ in rt.forever() {
         let swept = settling.book.lines().len();
-        side.begin(rt, settling.book.live().len(), settling.finder.waiting.from());
+        side.begin(
+            rt,
+            settling.book.live().len(),
+            settling.finder.waiting.from(),
+        );
         let end = settling.part()?;
         side.finish(rt, &mut settling.finder.waiting, swept)?;
         if let Some(settled) = end {

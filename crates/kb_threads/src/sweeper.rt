@@ -137,13 +137,7 @@ pub(crate) fn sweep_all<
     N: Ordered + Send + Sync,
     G: Gate,
     T: Threads + Wait + Sync,
->(
-    rt: &T,
-    alloc: Global,
-    desk: &Desk,
-    gate: &G,
-    sweepers: Vec<Sweeper<R, N>>,
-) {
+>(rt: &T, alloc: Global, desk: &Desk, gate: &G, sweepers: Vec<Sweeper<R, N>>) {
     let each = |mut sweeper: Sweeper<R, N>| sweeper.sweep_to_end(rt, alloc, desk, gate);
     let _done = thread::map_vec(rt, sweepers, &each);
 }

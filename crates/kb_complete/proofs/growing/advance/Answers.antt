@@ -7,30 +7,30 @@ use Rattle.kb_complete.proofs.growing.advance.Goals as goal
 
 pub returns-in-Halted-clause-says : goal.returns-in-Halted-clause-says
 returns-in-Halted-clause-says g c = (
-  c.in_ok-settle_and_publish.ensures.continues,
-  subst (λ (s : Standing). StandsAs c.settle_and_publish.new.book.course s) c.in-Halted.is c.in_ok-settle_and_publish.ensures.stands,
+  c.in_ok-settled.ensures.continues,
+  subst (λ (s : Standing). StandsAs c.in_ok-settled.settled.course s) c.in-Halted.is c.in_ok-settled.ensures.stands,
 )
 
 pub returns-then-lines-given-clause-says : goal.returns-then-lines-given-clause-says
 returns-then-lines-given-clause-says g c = (
-  c.in_ok-settle_and_publish.ensures.continues,
-  stands_published c.settle_and_publish.new.book.course c.in_ok-settle_and_publish.field-0 c.in_default.not-Halted
-      c.in_ok-settle_and_publish.ensures.stands,
-  subst (λ (lines : List Line). c.args.given < length lines) c.lines.ensures c.if-lines-given.true,
+  c.in_ok-settled.ensures.continues,
+  stands_published c.in_ok-settled.settled.course c.in_ok-settled.standing c.in_default.not-Halted
+      c.in_ok-settled.ensures.stands,
+  subst (λ (lines : List Line). length c.args.book.course.state.lines < length lines) c.lines.ensures c.if-lines-given.true,
 )
 
 pub returns-clause-says : goal.returns-clause-says
 returns-clause-says g c = (
-  c.in_ok-settle_and_publish.ensures.continues,
-  stands_published c.settle_and_publish.new.book.course c.in_ok-settle_and_publish.field-0 c.in_default.not-Halted
-      c.in_ok-settle_and_publish.ensures.stands,
+  c.in_ok-settled.ensures.continues,
+  stands_published c.in_ok-settled.settled.course c.in_ok-settled.standing c.in_default.not-Halted
+      c.in_ok-settled.ensures.stands,
 )
 
 pub returns-in-Halted-clause-known : goal.returns-in-Halted-clause-known
-returns-in-Halted-clause-known g c = c.in_ok-settle_and_publish.ensures.known
+returns-in-Halted-clause-known g c = c.in_ok-settled.ensures.known
 
 pub returns-then-lines-given-clause-known : goal.returns-then-lines-given-clause-known
-returns-then-lines-given-clause-known g c = c.in_ok-settle_and_publish.ensures.known
+returns-then-lines-given-clause-known g c = c.in_ok-settled.ensures.known
 
 pub returns-clause-known : goal.returns-clause-known
-returns-clause-known g c = c.in_ok-settle_and_publish.ensures.known
+returns-clause-known g c = c.in_ok-settled.ensures.known

@@ -1,11 +1,11 @@
-use Rattle.std.proofs.Common.{sym, ap, length}
+use Rattle.std.proofs.Common.{refl}
 use Rattle.kb_complete.proofs.Rounds.{continues_itself, round_over, round_open, grow_later, known_over}
 use Rattle.kb_complete.proofs.growing.grow.Goals as goal
 
 pub returns-in-Over-clause-says : goal.returns-in-Over-clause-says
 returns-in-Over-clause-says g c =
     let course = c.args.book.course in
-    round_over course course _ c.in_ok-grown.field-0 c.in-Over.grown (continues_itself course) (ap length (sym c.lines-given.ensures))
+    round_over course course _ c.in_ok-grown.field-0 c.in-Over.grown (continues_itself course) refl
     c.in-Over.is c.in_ok-grown.ensures.says
 
 pub returns-in_ok-look_for_more-in-Open-clause-says : goal.returns-in_ok-look_for_more-in-Open-clause-says

@@ -30,7 +30,7 @@ returns-in_ok-completed-in-Confluent-clause-known g c =
     c.in_ok-completed-in-Confluent.ensures.known _ (c.new.ensures c.in-Confluent.same.course.state)
 
 pub grow_by_first-requires : goal.grow_by_first-requires
-grow_by_first-requires g c =
+grow_by_first-requires g c κs within =
     let before = c.args.book.course in
     let after = c.in-Entered.passed.course in
     let enters = pass_entered before c.in_ok-same.field-0 c.in-Entered.passed c.in-Entered.is c.in_ok-same.ensures in

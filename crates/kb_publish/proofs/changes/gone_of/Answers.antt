@@ -23,8 +23,8 @@ loop-number-preserved g c =
     let split : drop at numbers ≡ number ∷ rest =
     drop-cons numbers at 0 c.loop-number-test.true ∙ ap (λ (n : ℕ). number ∷ drop n numbers) next in
     let Goes : ℕ → List (Change g.row.N.Denot) → Type 0 = λ k changes. (k ≤ length live)
-        × ((version : ℕ) (rule : ℕ → Pair) → fold changed (lines_by rule version numbers) changes
-        ≡ lines_by rule version (take k live ++ rest)) in
+    × ((version : ℕ) (rule : ℕ → Pair) → fold changed (lines_by rule version numbers) changes
+    ≡ lines_by rule version (take k live ++ rest)) in
     elim c.if-stands_at.branch [
       | then-stands_at w ↦
           let stands = c.stands_at.ensures w.if-stands_at.true in
