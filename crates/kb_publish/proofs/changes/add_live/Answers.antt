@@ -1,9 +1,8 @@
-use Rattle.std.proofs.Common.{◌≡◌, ◌≤◌, ◌<◌, ℕ, ◌+◌, List, [], ◌∷◌, ◌++◌, fold, length, map, take, get_or, sym, ◌∙◌, ap, subst, arith}
+use Rattle.std.proofs.Common.{◌≡◌, ◌≤◌, ◌<◌, ℕ, List, fold, length, get_or, sym, ◌∙◌, ap, arith}
 use Rattle.std.proofs.lemmas.List.{get_or-map, take_all}
 use Rattle.kb_word.specs.Words.{Pair}
 use Rattle.kb_publish.specs.LiveLines.{NumberedRule}
 use Rattle.kb_publish.specs.declared.change.Change.{Change}
-use Rattle.kb_publish.specs.declared.edition.Lines.{Lines}
 use Rattle.kb_publish.specs.Editions.{changed, lines_by}
 use Rattle.kb_publish.proofs.Changing.{live_more}
 use Rattle.kb_publish.proofs.changes.add_live.Goals as goal

@@ -1,6 +1,5 @@
 use Rattle.std.proofs.Common.{◌≡◌, ℕ, List, [], ◌∷◌, ◌++◌, fold, map, sym, ◌∙◌, ap}
-use Rattle.kb_word.specs.Words.{Pair}
-use Rattle.kb_machine.specs.States.{live_rules, rule_numbered}
+use Rattle.kb_machine.specs.States.{rule_numbered}
 use Rattle.kb_publish.specs.declared.change.Change.{Change}
 use Rattle.kb_publish.specs.declared.change.Change.TheVariants.{Published}
 use Rattle.kb_publish.specs.declared.edition.Lines.{Lines}
