@@ -14,8 +14,8 @@ returns-in_default-clause-says g c = none_is c.in_ok-k.field-0 c.in_default.is c
 pub line_made-requires : goal.line_made-requires
 line_made-requires g c = record { known = c.in_ok-k.ensures.known c.args.finder.now c.requires.known }
 
-pub settle_and_publish-requires : goal.settle_and_publish-requires
-settle_and_publish-requires g c κs within = c.in_ok-line_made.ensures.known
+pub settle_and_publish-requires-after_bounds : goal.settle_and_publish-requires-after_bounds
+settle_and_publish-requires-after_bounds g c κs within = c.in_ok-line_made.ensures.known
 
 pub returns-in-Published-clause-says : goal.returns-in-Published-clause-says
 returns-in-Published-clause-says g c =

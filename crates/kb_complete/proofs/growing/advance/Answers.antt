@@ -16,7 +16,8 @@ returns-then-lines-given-clause-says g c = (
   c.in_ok-settled.ensures.continues,
   stands_published c.in_ok-settled.settled.course c.in_ok-settled.standing c.in_default.not-Halted
       c.in_ok-settled.ensures.stands,
-  subst (λ (lines : List Line). length c.args.book.course.state.lines < length lines) c.lines.ensures c.if-lines-given.true,
+  subst (λ (given : List Line). length given < length c.in_ok-settled.settled.course.state.lines) c.lines-given.ensures
+      (subst (λ (lines : List Line). length c.lines-given.result.now < length lines) c.lines.ensures c.if-lines-given.true),
 )
 
 pub returns-clause-says : goal.returns-clause-says

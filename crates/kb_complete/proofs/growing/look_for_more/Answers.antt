@@ -29,16 +29,19 @@ pub returns-in_ok-completed-in-Confluent-clause-known : goal.returns-in_ok-compl
 returns-in_ok-completed-in-Confluent-clause-known g c =
     c.in_ok-completed-in-Confluent.ensures.known _ (c.new.ensures c.in-Confluent.same.course.state)
 
-pub grow_by_first-requires : goal.grow_by_first-requires
-grow_by_first-requires g c κs within =
+pub grow_by_first-requires-clause-apart : goal.grow_by_first-requires-clause-apart
+grow_by_first-requires-clause-apart g c κs within =
     let before = c.args.book.course in
     let after = c.in-Entered.passed.course in
     let enters = pass_entered before c.in_ok-same.field-0 c.in-Entered.passed c.in-Entered.is c.in_ok-same.ensures in
-    record {
-      apart = first_is_apart before after c.book_is_sound.ensures c.requires.settled.settled enters;
-      known = known_waiting c.args.finder.now _ after.state
-          (known_entered c.args.finder.now before after enters c.requires.known);
-    }
+    first_is_apart before after c.book_is_sound.ensures c.requires.settled.settled enters
+
+pub grow_by_first-requires-clause-known : goal.grow_by_first-requires-clause-known
+grow_by_first-requires-clause-known g c κs within =
+    let before = c.args.book.course in
+    let after = c.in-Entered.passed.course in
+    let enters = pass_entered before c.in_ok-same.field-0 c.in-Entered.passed c.in-Entered.is c.in_ok-same.ensures in
+    known_waiting c.args.finder.now _ after.state (known_entered c.args.finder.now before after enters c.requires.known)
 
 pub returns-in_ok-grow_by_first-in-Entered-clause-known : goal.returns-in_ok-grow_by_first-in-Entered-clause-known
 returns-in_ok-grow_by_first-in-Entered-clause-known g c = c.in_ok-grow_by_first-in-Entered.ensures.known
