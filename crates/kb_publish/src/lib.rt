@@ -1,4 +1,5 @@
-//! Values that one thread publishes and others read without a lock, never an older one than they have seen.
+//! Versions that one thread publishes and others read without a lock, never an older one than they have seen: values of
+//! any kind, and the live lines of a book.
 //!
 //! # The public contract
 //!
@@ -21,6 +22,17 @@
 //! [`Glass`], a trait with what is seen, shown and refused. The glass of a publisher is [`RuledGlass`]; a test may
 //! have one of its own.
 //!
+//! # Versions of a book
+//!
+//! A [`BookPublisher`] publishes the live lines of a book while the book goes on. [`BookPublisher::new`] publishes those
+//! that it has, and [`BookPublisher::advance`] those that it has by then, under the next number (`Shows` of
+//! `specs/Books.antt`): what changed since is told as a [`Change`] each, a line that is no longer live or one that
+//! became so. A version is an [`Edition`]: the numbers of the lines, and a reducer by their rules. It lends itself as a
+//! `kb_share::Version`, whose overlaps are sifted. The rules decrease along the order of the book, which is named by a
+//! type ([`Ordered`]).
+//!
+//! # What is left open
+//!
 //! It is not proved that a look is given rather than refused, nor that the wait of `publish` and `close` ends. What
 //! two readers of one publisher saw is not compared, nor what a reader had seen before it was told with what it is
 //! told: that of two such lists one begins the other is known to the rule alone, and nothing but its list ties a reader
@@ -42,7 +54,10 @@
 //! free, which may happen where more readers are told than were made, the glass has a note of what was published
 //! instead: it refuses each look until it is told again. `src/notes.rt` has the notes, which are for contracts alone.
 //!
-//! Below is `kb_word`, for want of memory.
+//! `specs/Editions.antt` has versions of a book and what changes from one to the next, and `proofs/Changing.antt` and
+//! `proofs/Showing.antt` show that the changes lead to the live lines.
+//!
+//! Below are `kb_book` and `kb_share`.
 #![tactic(auto)]
 
 mod book_publisher;

@@ -1,4 +1,4 @@
-//! Workers that are threads: passes over one book.
+//! Workers that are threads: settling a book, and passes over it.
 //!
 //! # The public contract
 //!
@@ -10,6 +10,17 @@
 //!   is no memory for the passes, [`Shared::new`] gives the book back. [`Shared::enter`] enters the next overlap of the
 //!   batch, and says so only where it did: the pass counts it. [`Shared::finish`] takes all passes back: the book is the
 //!   one that was given, with the batch entered in its order, and nothing else happened.
+//!
+//! - [`settle_by`] settles a book by a crew. What it says of the book is what `kb_share::settle` says (`SettlesAs` of
+//!   `specs/Settling.antt`), over every interleaving.
+//!
+//! # How a book is settled
+//!
+//! One worker makes lines. Where it makes more than a part, it publishes the live ones part by part
+//! (`kb_publish::BookPublisher`), and hands out the rows of what was published at a desk (`desk`). The others take rows
+//! there, look at the version without a lock, and sift them (`sweeper`), while the next part is settled; who settles
+//! sweeps what is left, and then publishes that part (`settling`). So each row is sifted by the version that has it, and
+//! what is found doesn't depend on who is first. What is apart waits, and nothing is promised of it.
 //!
 //! # How a pass goes
 //!
