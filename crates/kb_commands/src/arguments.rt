@@ -236,12 +236,9 @@ pub fn lengths_given(matches: &ArgMatches<'_>) -> Option<Option<u16>>
     ensures none { result ≡ None → (lengths : Option ℕ)
         → ¬ GivesLengths (rows_of (found_of matches.now)) lengths }
 {
-    if text_given(matches, "lengths").is_none() {
-        return Some(None);
-    }
-    match length_given(matches, "lengths") {
-        Some(most) => Some(Some(most)),
-        None => None,
+    match text_given(matches, "lengths") {
+        Some(_) => Some(Some(length_given(matches, "lengths")?)),
+        None => Some(None),
     }
 }
 
