@@ -8,7 +8,7 @@ use Rattle.clap.specs.declared.builder.command.Command.{Command}
 use Rattle.clap.specs.declared.builder.command.Command.TheViews.{out-Command}
 use Rattle.clap.specs.declared.parser.matches.ArgMatches.{ArgMatches}
 use Rattle.clap.specs.declared.parser.matches.ArgMatches.TheViews.{out-ArgMatches}
-use Rattle.kb_commands.specs.Arguments.{Entered, GivesFlag, GivesLengths, GivesNumber, GivesOption, GivesText, IsEntered, option_most, option_name}
+use Rattle.kb_commands.specs.Arguments.{Entered, GivesFlag, GivesNumber, GivesOption, GivesText, IsEntered, option_most, option_name}
 use Rattle.kb_commands.specs.declared.arguments.NumberOption.{NumberOption}
 
 -- ---- what is given under a name
@@ -52,12 +52,6 @@ flag-some rows name text flag given is =
 pub flag-none : (rows : List Row) (name : Text) → first_of name rows ≡ None → GivesFlag rows name false
 flag-none rows name none =
     (λ holds. let bad : false ≡ true = holds in cc, λ so. absurd (none-some (codes "true") (sym none ∙ so)))
-
--- where no number is given under the name of the option `--lengths`, but something is, it gives nothing
-pub no_lengths-given : (rows : List Row) (found : Text) → first_of (codes "lengths") rows ≡ Some found
-    → ((n : ℕ) → ¬ GivesNumber rows (codes "lengths") 0 65535 n) → (lengths : Option ℕ) → ¬ GivesLengths rows lengths
-no_lengths-given rows found is none None absent = none-some found (sym absent ∙ is)
-no_lengths-given rows found is none (Some most) gives = none most gives
 
 -- ---- the subcommand that was entered
 
