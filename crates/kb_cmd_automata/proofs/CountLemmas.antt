@@ -28,7 +28,7 @@ one-line_more numbers place lines more within is =
     let rest = lines_of_numbers (drop (suc place) numbers) in
     let split : drop place numbers ≡ number ∷ drop (suc place) numbers = drop-cons numbers place 0 within in
     let joined : (lines ++ decimal_text number ++ newline ∷ []) ++ rest
-        ≡ lines ++ (decimal_text number ++ newline ∷ [] ++ rest) = simp append_assoc in
+    ≡ lines ++ (decimal_text number ++ newline ∷ [] ++ rest) = simp append_assoc in
     ap (λ k. more ++ lines_of_numbers (drop k numbers)) (add-one place)
     ∙ ap (λ t. t ++ rest) is
     ∙ joined

@@ -8,7 +8,9 @@ ghost use Rattle.kb_commands.specs.Automata.{command_app};
 ghost use Rattle.kb_commands.specs.declared.automata.name.Name.TheVariants as names;
 
 use super::name::{Name, Unlimited};
-use crate::arguments::{NumberOption, length_argument, lengths_option, needed_argument, number_option};
+use crate::arguments::{
+    NumberOption, length_argument, lengths_option, needed_argument, number_option,
+};
 use crate::label::labelled;
 use clap::{Arg, Command};
 use kb_cmd_automata::{Combination, Transformation};

@@ -159,10 +159,7 @@ fn enumerate_given(alloc: Global, matches: &ArgMatches<'_>) -> Result<Option<Aut
 }
 
 /// The command that the matches of `fsacount` give.
-fn count_given(
-    alloc: Global,
-    matches: &ArgMatches<'_>,
-) -> Result<Option<AutomataTask>, Memory>
+fn count_given(alloc: Global, matches: &ArgMatches<'_>) -> Result<Option<AutomataTask>, Memory>
     ensures { IfOk result (IsRead names.CountAccepted (rows_of (found_of matches.now))) }
 {
     let Some(file) = text_given(matches, "first") else {
