@@ -129,7 +129,8 @@ fn lines_of(alloc: Global, numbers: &[Natural]) -> Result<Vec<u8>, Memory>
 
 /// Adds a line with the number.
 fn add_line(number: &Natural, lines: &mut Vec<u8>) -> Result<(), Memory>
-    ensures { OnOk result (lines.new.items ≡ lines.old.items ++ decimal_text number.now ++ newline ∷ []) }
+    ensures { OnOk result
+        (lines.new.items ≡ lines.old.items ++ decimal_text number.now ++ newline ∷ []) }
 {
     number.append_to(lines)?;
     lines.push(b'\n')?;

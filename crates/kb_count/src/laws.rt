@@ -19,7 +19,8 @@ pub fn there_is_one_count()
 
 /// A text is that of one pair of words alone, and as long as the longer of them.
 pub fn texts_of_pairs_stand_for_pairs()
-    ensures one_pair { (n : ℕ) (u v w x : List ℕ) → IsOver n u → IsOver n v → IsOver n w → IsOver n x
+    ensures one_pair { (n : ℕ) (u v w x : List ℕ)
+        → IsOver n u → IsOver n v → IsOver n w → IsOver n x
         → padded n u v ≡ padded n w x → (u ≡ w) × (v ≡ x) }
     ensures length { (n : ℕ) (u v : List ℕ) → length (padded n u v) ≡ max (length u) (length v) }
 {}

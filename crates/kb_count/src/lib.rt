@@ -2,9 +2,9 @@
 //!
 //! # The public contract
 //!
-//! [`count_accepted`] says how many texts an automaton accepts: so many, where they are finitely many, and else `Infinite`.
-//! [`counts_by_length`] says for each length up to the one that is asked for how many accepted texts have it.
-//! That a number is that of some texts means that a list which has exactly those texts, each once, is so long
+//! [`count_accepted`] says how many texts an automaton accepts: so many, where they are finitely many, and else
+//! `Infinite`. [`counts_by_length`] says for each length up to the one that is asked for how many accepted texts have
+//! it. That a number is that of some texts means that a list which has exactly those texts, each once, is so long
 //! (`AreSoMany` of `specs/Counts.antt`); infinitely many are texts of which one is longer than each bound. By the law
 //! [`there_is_one_count`] only one answer is right.
 //!
@@ -27,7 +27,8 @@
 //!
 //! In `specs/`, `Counts` has what is counted, `Decimal` the digits of a number, `Limbs` how one is kept, and `Totals`
 //! how far a count has come. In `proofs/`: `Sums` and `Digits` of numbers; `Listings` of lists that have exactly some
-//! texts, each once; `Moves` of texts that go along the moves of a state, and `Endless` of those that never end.
+//! texts, each once; `Moves` of texts that go along the moves of a state, `Endless` of those that go on for ever, and
+//! `Settling` of states that are settled one after another.
 #![tactic(auto)]
 
 mod counting;

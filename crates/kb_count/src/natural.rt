@@ -69,7 +69,8 @@ fn sum_of(alloc: Global, one: &[u64], other: &[u64]) -> Result<Vec<u64>, Memory>
     requires one { All (λ limb. limb < 10 ^ 18) one.now }
     requires other { All (λ limb. limb < 10 ^ 18) other.now }
     ensures limbs { IfOk result (λ sum. All (λ limb. limb < 10 ^ 18) sum.items) }
-    ensures value { IfOk result (λ sum. value_of sum.items ≡ value_of one.now + value_of other.now) }
+    ensures value { IfOk result (λ sum.
+        value_of sum.items ≡ value_of one.now + value_of other.now) }
 {
     let mut limbs = Vec::new(alloc);
     let mut carry = 0;

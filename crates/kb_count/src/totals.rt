@@ -23,7 +23,8 @@ pub(crate) struct Totals {
 impl Totals {
     /// No state is settled.
     fn none(alloc: Global, table: &Table) -> Result<Totals, Memory>
-        ensures { IfOk result (λ totals. AreTotals table.now totals.settled.items totals.numbers.items) }
+        ensures { IfOk result (λ totals.
+            AreTotals table.now totals.settled.items totals.numbers.items) }
     {
         let mut settled = Vec::new(alloc);
         let mut numbers = Vec::new(alloc);
