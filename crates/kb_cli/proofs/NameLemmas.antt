@@ -75,6 +75,7 @@ automata_family (automata.Transform task) = transformed task task.operation
 automata_family (automata.Minimise task) = refl
 automata_family (automata.Compare task) = refl
 automata_family (automata.Enumerate task) = refl
+automata_family (automata.CountAccepted task) = refl
 
 pub family_by_name : (command : Command) → family_named (command_name command) ≡ family command
 unfolding family_named is_among

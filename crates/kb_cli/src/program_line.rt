@@ -76,7 +76,7 @@ Words and completion: wordreduce, kbprog, logread
 Automatic structures: autgroup, gpaxioms, gpminkb
 Elements:             ball, kbcos
 Proofs by logs:       kbverify, kbcertify
-Automata:             fsaand to fsaenumerate
+Automata:             fsaand to fsacount
 The program itself:   selftest, help
 
 `kb COMMAND --help` names the files that a command stores, and says how input ends.

@@ -1,3 +1,4 @@
+pub mod CountLemmas
 pub mod MakeLemmas
 pub mod PrintLemmas
 pub mod RunLemmas

@@ -6,5 +6,7 @@ pub mod Compare
 pub mod CompareLaws
 pub mod Enumerate
 pub mod EnumerateLaws
+pub mod Counted
+pub mod CountedLaws
 pub mod Tasks
 pub mod TaskLaws

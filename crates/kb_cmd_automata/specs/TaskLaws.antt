@@ -2,6 +2,7 @@
 use Rattle.kb_task.specs.PromiseLaws.{in_family-lawful}
 use Rattle.kb_task.specs.Promises.{IsLawful}
 use Rattle.kb_cmd_automata.specs.CompareLaws.{compare_lawful}
+use Rattle.kb_cmd_automata.specs.CountedLaws.{count_lawful}
 use Rattle.kb_cmd_automata.specs.EnumerateLaws.{enumerate_lawful}
 use Rattle.kb_cmd_automata.specs.MakeLaws.{combine_lawful, transform_lawful, minimise_lawful}
 use Rattle.kb_cmd_automata.specs.Tasks.{automata_promise}
@@ -19,3 +20,5 @@ automata_lawful (tasks.Compare task) =
     in_family-lawful tasks.Compare (λ t b a s means. means) (compare_lawful task)
 automata_lawful (tasks.Enumerate task) =
     in_family-lawful tasks.Enumerate (λ t b a s means. means) (enumerate_lawful task)
+automata_lawful (tasks.CountAccepted task) =
+    in_family-lawful tasks.CountAccepted (λ t b a s means. means) (count_lawful task)

@@ -1,7 +1,8 @@
-//! The ten commands in one type.
+//! The eleven commands in one type.
 
 use crate::combine::Combine;
 use crate::compare::Compare;
+use crate::counting::CountAccepted;
 use crate::enumerate::Enumerate;
 use crate::minimise::Minimise;
 use crate::transform::Transform;
@@ -22,6 +23,8 @@ pub enum AutomataTask {
     Compare(Compare),
     /// `fsaenumerate`
     Enumerate(Enumerate),
+    /// `fsacount`
+    CountAccepted(CountAccepted),
 }
 
 impl Task for AutomataTask {
@@ -56,6 +59,7 @@ impl AutomataTask {
             AutomataTask::Minimise(task) => task.run(alloc, shelf, input, out),
             AutomataTask::Compare(task) => task.run(alloc, shelf, input, out),
             AutomataTask::Enumerate(task) => task.run(alloc, shelf, input, out),
+            AutomataTask::CountAccepted(task) => task.run(alloc, shelf, input, out),
         }
     }
 }

@@ -6,14 +6,15 @@ use Rattle.std.specs.Str.{bytes_eq}
 use Rattle.clap.specs.Words.{AddsSubcommand, App, Row, Text, app_of, with_subcommand}
 use Rattle.clap.specs.declared.builder.command.Command.{Command}
 use Rattle.clap.specs.declared.builder.command.Command.TheViews.{out-Command}
-use Rattle.kb_commands.specs.Arguments.{Entered, GivesNumber, GivesOption, ReadsAs}
+use Rattle.kb_commands.specs.Arguments.{Entered, GivesLengths, GivesNumber, GivesOption, ReadsAs}
 use Rattle.kb_commands.specs.declared.arguments.NumberOption.TheVariants.{MaxStates}
 use Rattle.kb_commands.proofs.ArgumentLemmas.{added, text_given-at, number_given-at, option_given-at, own_name, own_rows}
-use Rattle.kb_commands.specs.Automata.{name_text, command_app, with_commands, all_names, name_of_task, GivesTask, GivesCombine, GivesTransform, GivesFiles, GivesCompare, GivesEnumerate, IsAutomataTask, IsRead}
+use Rattle.kb_commands.specs.Automata.{name_text, command_app, with_commands, all_names, name_of_task, GivesTask, GivesCombine, GivesTransform, GivesFiles, GivesCompare, GivesCount, GivesEnumerate, IsAutomataTask, IsRead}
 use Rattle.kb_cmd_automata.specs.declared.combine.Combination.{Combination}
 use Rattle.kb_cmd_automata.specs.declared.combine.Combination.TheVariants.{And, Or, Concat}
 use Rattle.kb_cmd_automata.specs.declared.combine.Combine.{Combine}
 use Rattle.kb_cmd_automata.specs.declared.compare.Compare.{Compare}
+use Rattle.kb_cmd_automata.specs.declared.counting.CountAccepted.{CountAccepted}
 use Rattle.kb_cmd_automata.specs.declared.enumerate.Enumerate.{Enumerate}
 use Rattle.kb_cmd_automata.specs.declared.files.FileToOut.{FileToOut}
 use Rattle.kb_commands.specs.declared.automata.name.Name.{Name}
@@ -47,6 +48,7 @@ named_by_name (names.Transform Reverse) = refl
 named_by_name (names.Unlimited Minimise) = refl
 named_by_name names.Compare = refl
 named_by_name names.Enumerate = refl
+named_by_name names.CountAccepted = refl
 
 -- two commands have two names
 pub one_name : (name other : Name) → name_text name ≡ name_text other → name ≡ other
@@ -97,6 +99,19 @@ same_enumerate rows task other a b =
     let files : task.file ≡ other.file = text_given-at rows (codes "first") task.file a.file ∙ sym (text_given-at rows (codes "first") other.file b.file) in
     λ i. record { min = leasts i; max = mosts i; file = files i }
 
+same_lengths : (rows : List Row) (lengths other : Option ℕ) → GivesLengths rows lengths → GivesLengths rows other → lengths ≡ other
+same_lengths rows None None a b = refl
+same_lengths rows None (Some most) a b = let no = sym a ∙ b.given in cc
+same_lengths rows (Some most) None a b = let no = sym b ∙ a.given in cc
+same_lengths rows (Some most) (Some other) a b =
+    ap Some (number_given-at rows (codes "lengths") 0 65535 most a ∙ sym (number_given-at rows (codes "lengths") 0 65535 other b))
+
+same_count : (rows : List Row) (task other : CountAccepted) → GivesCount rows task → GivesCount rows other → task ≡ other
+same_count rows task other a b =
+    let files : task.file ≡ other.file = text_given-at rows (codes "first") task.file a.file ∙ sym (text_given-at rows (codes "first") other.file b.file) in
+    let lengths : task.lengths ≡ other.lengths = same_lengths rows task.lengths other.lengths a.lengths b.lengths in
+    λ i. record { file = files i; lengths = lengths i }
+
 same_operation : (task other : Combine) → names.Combine task.operation ≡ names.Combine other.operation → task.operation ≡ other.operation
 same_operation task other is = cc
 
@@ -110,6 +125,7 @@ same_task rows (tasks.Transform task) (tasks.Transform other) is a b =
 same_task rows (tasks.Minimise task) (tasks.Minimise other) is a b = ap (λ f. tasks.Minimise (record { files = f })) (same_files rows task.files other.files a b)
 same_task rows (tasks.Compare task) (tasks.Compare other) is a b = ap tasks.Compare (same_compare rows task other a b)
 same_task rows (tasks.Enumerate task) (tasks.Enumerate other) is a b = ap tasks.Enumerate (same_enumerate rows task other a b)
+same_task rows (tasks.CountAccepted task) (tasks.CountAccepted other) is a b = ap tasks.CountAccepted (same_count rows task other a b)
 same_task rows _ _ is a b = cc
 
 -- one command at most is entered
@@ -157,6 +173,11 @@ pub no_most : (rows : List Row) → ((n : ℕ) → ¬ GivesNumber rows (codes "m
     → (task : AutomataTask) → name_of_task task ≡ names.Enumerate → ¬ GivesTask task rows
 no_most rows none (tasks.Enumerate task) is gives = none task.max gives.max
 no_most rows none _ is gives = cc
+
+pub no_lengths : (rows : List Row) → ((lengths : Option ℕ) → ¬ GivesLengths rows lengths)
+    → (task : AutomataTask) → name_of_task task ≡ names.CountAccepted → ¬ GivesTask task rows
+no_lengths rows none (tasks.CountAccepted task) is gives = none task.lengths gives.lengths
+no_lengths rows none _ is gives = cc
 
 -- ---- commands that are added one after another
 

@@ -54,6 +54,15 @@ flag_rule name = record (new_rule name) { long = Some name; action = Some SetTru
 abbrev pub length_rule : Text → Rule
 length_rule name = record (needed_rule name) { parser = Some (Signed (pos 0) (pos 65535)) }
 
+-- the option `--lengths`, which takes such a length and may be absent
+abbrev pub lengths_rule : Rule
+lengths_rule = record (new_rule (codes "lengths")) {
+  long = Some (codes "lengths");
+  value_names = 1;
+  action = Some Set;
+  parser = Some (Signed (pos 0) (pos 65535));
+}
+
 -- a number as the command line takes it: decimal digits, no sign, no zero before another digit
 pub record IsNumber (text : Text) (n : ℕ) : Type 0 where
   pub digits : IsNumeral 10 text
@@ -83,6 +92,11 @@ GivesFlag rows name flag = IsTrue flag ↔ (first_of name rows ≡ Some (codes "
 -- the option gives this number
 abbrev pub GivesOption : List Row → NumberOption → ℕ → Type 0
 GivesOption rows option n = GivesNumber rows (option_name option) 1 (option_most option) n
+
+-- the option `--lengths` gives this length, or none is given
+abbrev pub GivesLengths : List Row → Option ℕ → Type 0
+GivesLengths rows None = first_of (codes "lengths") rows ≡ None
+GivesLengths rows (Some most) = GivesNumber rows (codes "lengths") 0 65535 most
 
 -- the subcommand that clap entered, with what its arguments and options give
 abbrev pub Entered : Type 0

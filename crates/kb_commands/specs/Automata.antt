@@ -1,11 +1,12 @@
 -- The commands on automata on the command line, by clap's own definition of what a command takes.
 use Rattle.std.specs.Prelude.{◌≡◌, List, [], ◌∷◌, Option, Some, None, codes}
 use Rattle.clap.specs.Words.{App, Row, Text, new_app, with_rule, with_subcommand}
-use Rattle.kb_commands.specs.Arguments.{Entered, IsEntered, GivesNumber, GivesOption, GivesText, needed_rule, length_rule, option_rule}
+use Rattle.kb_commands.specs.Arguments.{Entered, IsEntered, GivesLengths, GivesNumber, GivesOption, GivesText, needed_rule, length_rule, lengths_rule, option_rule}
 use Rattle.kb_commands.specs.declared.arguments.NumberOption.TheVariants.{MaxStates}
 use Rattle.kb_cmd_automata.specs.declared.combine.Combination.TheVariants.{And, Or, Concat}
 use Rattle.kb_cmd_automata.specs.declared.combine.Combine.{Combine}
 use Rattle.kb_cmd_automata.specs.declared.compare.Compare.{Compare}
+use Rattle.kb_cmd_automata.specs.declared.counting.CountAccepted.{CountAccepted}
 use Rattle.kb_cmd_automata.specs.declared.enumerate.Enumerate.{Enumerate}
 use Rattle.kb_cmd_automata.specs.declared.files.FileToOut.{FileToOut}
 use Rattle.kb_commands.specs.declared.automata.name.Name.{Name}
@@ -29,13 +30,14 @@ name_text (names.Transform Reverse) = codes "fsareverse"
 name_text (names.Unlimited Minimise) = codes "fsamin"
 name_text names.Compare = codes "fsalequal"
 name_text names.Enumerate = codes "fsaenumerate"
+name_text names.CountAccepted = codes "fsacount"
 
 -- the commands, in the order in which the program lists them
 abbrev pub all_names : List Name
 all_names =
     names.Combine And ∷ names.Combine Or ∷ names.Transform Not ∷ names.Unlimited Minimise
     ∷ names.Compare ∷ names.Transform Exists ∷ names.Combine Concat ∷ names.Transform Star
-    ∷ names.Transform Reverse ∷ names.Enumerate ∷ []
+    ∷ names.Transform Reverse ∷ names.Enumerate ∷ names.CountAccepted ∷ []
 
 -- ---- what the commands take
 
@@ -49,8 +51,8 @@ with_second app = with_rule app (needed_rule (codes "second"))
 abbrev pub with_out : App → App
 with_out app = with_rule app (needed_rule (codes "out"))
 
--- `fsaand A B OUT`, `fsanot A OUT`, `fsamin A OUT`, `fsalequal A B` and `fsaenumerate MIN MAX A`,
--- and those that take the same
+-- `fsaand A B OUT`, `fsanot A OUT`, `fsamin A OUT`, `fsalequal A B`, `fsaenumerate MIN MAX A` and
+-- `fsacount A`, and those that take the same
 abbrev pub command_app : Name → App
 command_app (names.Combine operation) =
     with_rule (with_out (with_second (with_first (new_app (name_text (names.Combine operation))))))
@@ -67,6 +69,8 @@ command_app names.Enumerate =
     with_first (with_rule
     (with_rule (new_app (name_text names.Enumerate)) (length_rule (codes "min")))
     (length_rule (codes "max")))
+command_app names.CountAccepted =
+    with_rule (with_first (new_app (name_text names.CountAccepted))) lengths_rule
 
 -- a program with commands added
 abbrev pub with_commands : App → List Name → App
@@ -107,6 +111,10 @@ pub record GivesEnumerate (rows : List Row) (task : Enumerate) : Type 0 where
   pub max : GivesNumber rows (codes "max") 0 65535 task.max
   pub file : GivesText rows (codes "first") task.file
 
+pub record GivesCount (rows : List Row) (task : CountAccepted) : Type 0 where
+  pub file : GivesText rows (codes "first") task.file
+  pub lengths : GivesLengths rows task.lengths
+
 -- the name of a command, and what its arguments and options give
 abbrev pub name_of_task : AutomataTask → Name
 name_of_task (tasks.Combine task) = names.Combine task.operation
@@ -114,6 +122,7 @@ name_of_task (tasks.Transform task) = names.Transform task.operation
 name_of_task (tasks.Minimise task) = names.Unlimited Minimise
 name_of_task (tasks.Compare task) = names.Compare
 name_of_task (tasks.Enumerate task) = names.Enumerate
+name_of_task (tasks.CountAccepted task) = names.CountAccepted
 
 abbrev pub GivesTask : AutomataTask → List Row → Type 0
 GivesTask (tasks.Combine task) rows = GivesCombine rows task
@@ -121,6 +130,7 @@ GivesTask (tasks.Transform task) rows = GivesTransform rows task
 GivesTask (tasks.Minimise task) rows = GivesFiles rows task.files
 GivesTask (tasks.Compare task) rows = GivesCompare rows task
 GivesTask (tasks.Enumerate task) rows = GivesEnumerate rows task
+GivesTask (tasks.CountAccepted task) rows = GivesCount rows task
 
 -- the subcommand that clap entered, with its arguments and options, is the command
 abbrev pub IsAutomataTask : Entered → AutomataTask → Type 0

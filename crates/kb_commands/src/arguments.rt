@@ -1,8 +1,8 @@
 //! Arguments and options that commands take, and what is given for them.
 
-ghost use Rattle.std.specs.Prelude.{◌≡◌, ◌↔◌, ◌<◌, ◌^◌, ℕ, IfSome, IsTrue, None, option_map, codes, false};
+ghost use Rattle.std.specs.Prelude.{◌≡◌, ◌↔◌, ◌<◌, ◌^◌, ℕ, IfSome, IsTrue, Option, None, option_map, codes, false};
 ghost use Rattle.clap.specs.Words.{first_of, found_of, rows_of, rule_of};
-ghost use Rattle.kb_commands.specs.Arguments.{GivesFlag, GivesNumber, GivesOption, IsNumber, IsNumberWithin, flag_rule, needed_rule, length_rule, option_rule};
+ghost use Rattle.kb_commands.specs.Arguments.{GivesFlag, GivesLengths, GivesNumber, GivesOption, IsNumber, IsNumberWithin, flag_rule, needed_rule, length_rule, lengths_rule, option_rule};
 
 use clap::{Arg, ArgAction, ArgMatches, value_parser};
 use std::alloc::Global;
@@ -178,6 +178,19 @@ pub fn number_option<'a>(alloc: Global, option: NumberOption) -> Arg<'a>
         .help(label.help)
 }
 
+/// The option `--lengths N`, without which things are counted in all.
+pub fn lengths_option<'a>(alloc: Global) -> Arg<'a>
+    ensures rule { rule_of result ≡ lengths_rule }
+    ensures local { result.global ≡ false }
+{
+    Arg::new(alloc, "lengths")
+        .long("lengths")
+        .value_name("N")
+        .action(ArgAction::Set)
+        .value_parser(value_parser!(u16))
+        .help("Counts for each length from 0 to N, 0 to 65535")
+}
+
 /// The text that is given under the name.
 pub fn text_given<'a>(matches: &ArgMatches<'a>, name: &str) -> Option<&'a str>
     ensures { option_map (λ text. text.now) result
@@ -215,6 +228,18 @@ pub fn length_given(matches: &ArgMatches<'_>, name: &str) -> Option<u16>
 {
     let length = number_given(matches, name, 0, 65_535)?;
     u16::try_from(length).ok()
+}
+
+/// The length that the option `--lengths` gives, if it is given; `None` where what is given is no length.
+pub fn lengths_given(matches: &ArgMatches<'_>) -> Option<Option<u16>>
+    ensures some { IfSome result (GivesLengths (rows_of (found_of matches.now))) }
+    ensures none { result ≡ None → (lengths : Option ℕ)
+        → ¬ GivesLengths (rows_of (found_of matches.now)) lengths }
+{
+    match text_given(matches, "lengths") {
+        Some(_) => Some(Some(length_given(matches, "lengths")?)),
+        None => Some(None),
+    }
 }
 
 /// The number from `least` to `most` that a text writes.

@@ -8,7 +8,9 @@ ghost use Rattle.kb_commands.specs.Automata.{command_app};
 ghost use Rattle.kb_commands.specs.declared.automata.name.Name.TheVariants as names;
 
 use super::name::{Name, Unlimited};
-use crate::arguments::{NumberOption, length_argument, needed_argument, number_option};
+use crate::arguments::{
+    NumberOption, length_argument, lengths_option, needed_argument, number_option,
+};
 use crate::label::labelled;
 use clap::{Arg, Command};
 use kb_cmd_automata::{Combination, Transformation};
@@ -25,6 +27,7 @@ pub(super) fn definition<'a>(alloc: Global, name: Name) -> Result<Command<'a>, A
         Name::Unlimited(command) => unlimited_definition(alloc, command),
         Name::Compare => compare_definition(alloc),
         Name::Enumerate => enumerate_definition(alloc),
+        Name::CountAccepted => count_definition(alloc),
     }
 }
 
@@ -85,6 +88,16 @@ fn enumerate_definition<'a>(alloc: Global) -> Result<Command<'a>, AllocError>
         .arg(length_argument(alloc, "min", "MIN", "The least length, 0 to 65535"))?
         .arg(length_argument(alloc, "max", "MAX", "The greatest length, 0 to 65535"))?
         .arg(first_argument(alloc))
+}
+
+/// `fsacount A`.
+fn count_definition<'a>(alloc: Global) -> Result<Command<'a>, AllocError>
+    ensures app { IfOk result (λ command. app_of command ≡ command_app names.CountAccepted) }
+    ensures local { IfOk result (λ command. (fields_of command).has_globals ≡ false) }
+{
+    labelled(alloc, Name::CountAccepted.label())
+        .arg(first_argument(alloc))?
+        .arg(lengths_option(alloc))
 }
 
 /// The argument that names the file of an automaton, the first where there are two.

@@ -41,6 +41,8 @@ pub(crate) enum Name {
     Compare,
     /// `fsaenumerate`
     Enumerate,
+    /// `fsacount`
+    CountAccepted,
 }
 
 /// A command that takes A and OUT alone, and so has no limit.
@@ -51,7 +53,7 @@ pub(crate) enum Unlimited {
 }
 
 /// The commands, in the order in which the program lists them.
-pub(crate) const NAMES: [Name; 10] = [
+pub(crate) const NAMES: [Name; 11] = [
     Name::Combine(Combination::And),
     Name::Combine(Combination::Or),
     Name::Transform(Transformation::Not),
@@ -62,6 +64,7 @@ pub(crate) const NAMES: [Name; 10] = [
     Name::Transform(Transformation::Star),
     Name::Transform(Transformation::Reverse),
     Name::Enumerate,
+    Name::CountAccepted,
 ];
 
 impl Name {
@@ -81,6 +84,7 @@ impl Name {
             "fsamin" => Some(Name::Unlimited(Unlimited::Minimise)),
             "fsalequal" => Some(Name::Compare),
             "fsaenumerate" => Some(Name::Enumerate),
+            "fsacount" => Some(Name::CountAccepted),
             _ => None,
         }
     }
@@ -104,6 +108,11 @@ impl Name {
                 text: "fsaenumerate",
                 about: "Prints the words of MIN to MAX letters that A accepts, in the shortlex order",
                 after_help: stores_nothing!("Example: kb fsaenumerate 0 5 examples/dihedral-4.wa"),
+            },
+            Name::CountAccepted => Label {
+                text: "fsacount",
+                about: "Prints how many words or pairs of words A accepts, or `infinite`",
+                after_help: stores_nothing!("Example: kb fsacount examples/dihedral-4.wa"),
             },
         }
     }

@@ -6,11 +6,11 @@ ghost use Rattle.kb_commands.specs.Automata.{GivesFiles, GivesTask, IsRead, name
 ghost use Rattle.kb_commands.specs.declared.automata.name.Name.TheVariants as names;
 
 use super::name::{Name, Unlimited};
-use crate::arguments::{NumberOption, length_given, option_given, text_given};
+use crate::arguments::{NumberOption, length_given, lengths_given, option_given, text_given};
 use clap::ArgMatches;
 use kb_cmd_automata::{
-    AutomataTask, Combination, Combine, Compare, Enumerate, FileToOut, Minimise, Transform,
-    Transformation,
+    AutomataTask, Combination, Combine, Compare, CountAccepted, Enumerate, FileToOut, Minimise,
+    Transform, Transformation,
 };
 use kb_word::{Memory, OwnedText};
 use std::alloc::Global;
@@ -29,6 +29,7 @@ pub(super) fn task_given(
         Name::Unlimited(command) => unlimited_given(alloc, command, matches),
         Name::Compare => compare_given(alloc, matches),
         Name::Enumerate => enumerate_given(alloc, matches),
+        Name::CountAccepted => count_given(alloc, matches),
     }
 }
 
@@ -154,5 +155,21 @@ fn enumerate_given(alloc: Global, matches: &ArgMatches<'_>) -> Result<Option<Aut
         min,
         max,
         file: OwnedText::from_str(alloc, file)?,
+    })))
+}
+
+/// The command that the matches of `fsacount` give.
+fn count_given(alloc: Global, matches: &ArgMatches<'_>) -> Result<Option<AutomataTask>, Memory>
+    ensures { IfOk result (IsRead names.CountAccepted (rows_of (found_of matches.now))) }
+{
+    let Some(file) = text_given(matches, "first") else {
+        return Ok(None);
+    };
+    let Some(lengths) = lengths_given(matches) else {
+        return Ok(None);
+    };
+    Ok(Some(AutomataTask::CountAccepted(CountAccepted {
+        file: OwnedText::from_str(alloc, file)?,
+        lengths,
     })))
 }

@@ -1,0 +1,4 @@
+pub mod Decimal
+pub mod Limbs
+pub mod Counts
+pub mod Totals
