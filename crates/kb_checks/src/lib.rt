@@ -1,6 +1,8 @@
 //! Tests of what no clause says and no run of the program shows, in one crate, so that no other crate is proved twice.
 //!
 //! - `workers`: a pass by workers who sift and enter side by side, and what it enters.
+//! - `parts`: a book that is settled part by part, while another worker sweeps the part before.
+//! - `versions`: what a look at the versions of a book shows.
 //! - `calls`: calls that no command makes. That a call succeeds where there is memory is stated by no contract, since
 //!   want of memory is an answer that is free.
 //! - `outside`: the adapter over real files.
@@ -21,5 +23,9 @@ mod calls;
 mod meeting;
 #[cfg(test)]
 mod outside;
+#[cfg(test)]
+mod parts;
+#[cfg(test)]
+mod versions;
 #[cfg(test)]
 mod workers;
