@@ -15,9 +15,9 @@ pub count-printed : (automaton : Automaton) (lengths : Option ℕ) (text : List 
     → IsCountText automaton lengths text → LineIsWritten text Yes before after result
     → CountIsPrinted automaton lengths before.written after.written result
 count-printed automaton lengths text before after result is_text (inl said) =
-    subst (CountIsPrinted automaton lengths before.written after.written) (sym said.0) (printed is_text said.1)
+    subst (CountIsPrinted automaton lengths before.written after.written) (sym said.0) (printed text is_text said.1)
 count-printed automaton lengths text before after result is_text (inr front) =
-    subst (CountIsPrinted automaton lengths before.written after.written) (sym front.0) (failed is_text front.1)
+    subst (CountIsPrinted automaton lengths before.written after.written) (sym front.0) (failed text is_text front.1)
 
 -- a line more
 pub one-line_more : (numbers : List ℕ) (place : ℕ) (lines more : List ℕ) → place < length numbers

@@ -45,9 +45,9 @@ IsCountText automaton (Some most) text = AreNumberLines automaton most text
 -- the text was written; or the output failed in it, or memory ran out before
 pub data CountIsPrinted (automaton : Automaton) (lengths : Option ℕ)
     (before after : List ℕ) : Status → Type 0 where
-  printed : {text : List ℕ} → IsCountText automaton lengths text → after ≡ before ++ text
+  printed : (text : List ℕ) → IsCountText automaton lengths text → after ≡ before ++ text
       → CountIsPrinted automaton lengths before after Yes
-  failed : {text : List ℕ} → IsCountText automaton lengths text → AppendsPrefix before after text
+  failed : (text : List ℕ) → IsCountText automaton lengths text → AppendsPrefix before after text
       → CountIsPrinted automaton lengths before after (Fault Output)
   no_memory : after ≡ before → CountIsPrinted automaton lengths before after Memory
 

@@ -51,21 +51,21 @@ one_count_text automaton (Some most) text other one two =
 module _ (automaton : Automaton) (lengths : Option ℕ) where
   count_answers : (before after : List ℕ) (status : Status) → IsFaultless status
       → CountIsPrinted automaton lengths before after status → AnswersYes status
-  count_answers before after status faultless (printed is_text is) = tt
-  count_answers before after status faultless (failed is_text front) = cc
+  count_answers before after status faultless (printed text is_text is) = tt
+  count_answers before after status faultless (failed text is_text front) = cc
   count_answers before after status faultless (no_memory unwritten) = tt
 
   -- printing refuses no file
   count_refuses_none : (before after : List ℕ) (status : Status)
       → CountIsPrinted automaton lengths before after status → RefusesNone status
-  count_refuses_none before after status (printed is_text is) = tt
-  count_refuses_none before after status (failed is_text front) = tt
+  count_refuses_none before after status (printed text is_text is) = tt
+  count_refuses_none before after status (failed text is_text front) = tt
   count_refuses_none before after status (no_memory unwritten) = tt
 
   count_yes : (before after : List ℕ) (status : Status) → IsConclusive status
       → CountIsPrinted automaton lengths before after status → status ≡ Yes
-  count_yes before after status conclusive (printed is_text is) = refl
-  count_yes before after status conclusive (failed is_text front) = absurd conclusive
+  count_yes before after status conclusive (printed text is_text is) = refl
+  count_yes before after status conclusive (failed text is_text front) = absurd conclusive
   count_yes before after status conclusive (no_memory unwritten) = absurd conclusive
 
   -- the text that a yes wrote
@@ -76,9 +76,9 @@ module _ (automaton : Automaton) (lengths : Option ℕ) where
 
   wrote_text : (before after : List ℕ) (status : Status) → IsYes status
       → CountIsPrinted automaton lengths before after status → WroteText before after
-  wrote_text before after status is_yes (printed {text = text} is_text is) =
+  wrote_text before after status is_yes (printed text is_text is) =
       record { text = text; is_text = is_text; written = is }
-  wrote_text before after status is_yes (failed is_text front) = absurd is_yes
+  wrote_text before after status is_yes (failed text is_text front) = absurd is_yes
   wrote_text before after status is_yes (no_memory unwritten) = absurd is_yes
 
   one_effect : (before after other_before other_after : Outside)
