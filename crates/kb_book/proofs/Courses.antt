@@ -1,5 +1,5 @@
 -- What is kept along every course, and a book after one more event.
-use Rattle.std.proofs.Common.{◌≡◌, ℕ, ◌<◌, ◌≤◌, ◌+◌, List, [], ◌∷◌, ◌++◌, length, All, refl, sym, ap, ◌∙◌, subst, arith, length-append, inl, inr}
+use Rattle.std.proofs.Common.{◌≡◌, ℕ, ◌<◌, ◌≤◌, ◌+◌, ◌^◌, List, [], ◌∷◌, ◌++◌, length, All, refl, sym, ap, ◌∙◌, subst, arith, length-append, inl, inr}
 use Rattle.std.specs.List.{AllPairs, remove, Contains}
 use Rattle.std.proofs.lemmas.Option.{none-some}
 use Rattle.std.proofs.lemmas.List.Elements.{All-append, Contains-append_cases, Contains-append_right}
@@ -15,13 +15,13 @@ use Rattle.kb_rules.proofs.Reducts.{replaced_below, IsAtMost}
 use Rattle.kb_rules.proofs.Listed.{AreDecreasing-push}
 use Rattle.kb_machine.specs.declared.line.Line.{Line}
 use Rattle.kb_machine.specs.declared.line.LogStep.{LogStep}
-use Rattle.kb_machine.specs.Lines.{rule_of, rules_of}
+use Rattle.kb_machine.specs.Lines.{rule_of, rules_of, OverlapOfNumbers}
 use Rattle.kb_machine.specs.Derivations.{IsStepBy, Derives}
 use Rattle.kb_machine.specs.States.{Problem, State, below, start, live_rules, relation_origins}
 use Rattle.kb_machine.specs.Machine.{Step, Run, Shortens}
 use Rattle.kb_machine.specs.Course.{Course, IsCourse, Takes}
 use Rattle.kb_machine.specs.declared.event.Event.{Event}
-use Rattle.kb_machine.specs.declared.event.Event.TheVariants.{Entered, Dropped, Made, Halted, Killed, Shortened, Published}
+use Rattle.kb_machine.specs.declared.event.Event.TheVariants.{Entered, Balanced, Dropped, Made, Halted, Killed, Shortened, Published}
 use Rattle.kb_book.specs.Books.{IsBook}
 use Rattle.kb_book.specs.Lives.{VersionsParts}
 use Rattle.kb_book.specs.Normal.{HasPair}
@@ -161,6 +161,22 @@ with_origin {problem = problem} {lines = lines} {pending = pending} origin kept 
   ];
 }
 
+-- an origin more in front
+with_first : {problem : Problem} {lines : List Line} {live : List ℕ} {pending : List Origin} (origin : Origin)
+    → Kept problem lines live pending → HasPair problem.relations (rules_of lines) origin
+    → Kept problem lines live (origin ∷ pending)
+with_first {problem = problem} {lines = lines} {pending = pending} origin kept named = record {
+  falling = kept.falling;
+  short = kept.short;
+  ascending = kept.ascending;
+  numbers = kept.numbers;
+  few = kept.few;
+  pairs = λ other contained. elim (Contains-append_cases (origin ∷ []) pending other contained) [
+    | inl first ↦ let P : Origin → Type 0 = HasPair problem.relations (rules_of lines) in subst P (only origin other first) named
+    | inr later ↦ kept.pairs other later
+  ];
+}
+
 -- without the first origin
 without_first : {problem : Problem} {lines : List Line} {live : List ℕ} {pending : List Origin} (origin : Origin) (rest : List Origin)
     → Kept problem lines live pending → pending ≡ origin ∷ rest → Kept problem lines live rest
@@ -183,6 +199,12 @@ step_keeps problem before (Entered worker place i j) after step kept =
     let named : HasPair problem.relations (rules_of before.lines) (origins.Overlap i j place) =
     (pair, record { first = step.first; second = step.second; overlap = step.overlap; is = refl }) in
     subst P (sym step.is) (with_origin (origins.Overlap i j place) kept named)
+step_keeps problem before (Balanced place i j) after step kept =
+    let P : State → Type 0 = λ s. Kept problem s.lines s.live s.pending in
+    let pair = critical_pair step.first step.second place in
+    let named : HasPair problem.relations (rules_of before.lines) (origins.Overlap i j place) =
+    (pair, record { first = step.first; second = step.second; overlap = step.overlap; is = refl }) in
+    subst P (sym step.is) (with_first (origins.Overlap i j place) kept named)
 step_keeps problem before Dropped after step kept =
     let P : State → Type 0 = λ s. Kept problem s.lines s.live s.pending in
     subst P (sym step.is) (without_first step.origin step.rest kept step.pending.is)
@@ -222,6 +244,14 @@ kept_at_start problem = record {
 pub course_keeps : (course : Course) → IsCourse course → Kept course.problem course.state.lines course.state.live course.state.pending
 course_keeps course is =
     kept_along course.problem (start course.problem) course.journal course.state is (kept_at_start course.problem)
+
+-- lines overlap at places that 16 bits hold
+pub place_is_short : (course : Course) → IsCourse course → course.problem.most_letters ≤ 65535 → (i j place : ℕ)
+    (first second : Pair) → OverlapOfNumbers (rules_of course.state.lines) i j place first second → place < 2 ^ 16
+place_is_short course is most i j place first second overlap =
+    let one = numbered_one (rules_of course.state.lines) i first overlap.is_first in
+    let short : length first.0 ≤ course.problem.most_letters = (course_keeps course is).short first one in
+    let within : place < length first.0 = overlap.overlaps.within in omega arith
 
 -- a book after one more event, whose reducer has the rules that are live then
 pub book_after : {event : Event} {before after : Course} {rules rules' : List Pair} {order order' : WordOrder}

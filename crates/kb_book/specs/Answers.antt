@@ -11,13 +11,15 @@ use Rattle.kb_machine.specs.Machine.{IsLive}
 use Rattle.kb_machine.specs.Course.{Course, Takes}
 use Rattle.kb_book.specs.declared.answers.EnterFault.{EnterFault}
 use Rattle.kb_book.specs.declared.answers.EnterFault.TheVariants as enter_faults
+use Rattle.kb_book.specs.declared.answers.Balance.{Balance}
+use Rattle.kb_book.specs.declared.answers.Balance.TheVariants as balances
 use Rattle.kb_book.specs.declared.answers.Make.{Make}
 use Rattle.kb_book.specs.declared.answers.Make.TheVariants as makes
 use Rattle.kb_book.specs.declared.answers.Kill.{Kill}
 use Rattle.kb_book.specs.declared.answers.Kill.TheVariants as kills
 use Rattle.kb_book.specs.declared.answers.Shorten.{Shorten}
 use Rattle.kb_book.specs.declared.answers.Shorten.TheVariants as shortens
-use Rattle.kb_machine.specs.declared.event.Event.TheVariants.{Entered, Dropped, Made, Halted, Killed, Shortened, Published}
+use Rattle.kb_machine.specs.declared.event.Event.TheVariants.{Entered, Balanced, Dropped, Made, Halted, Killed, Shortened, Published}
 use Rattle.kb_machine.specs.declared.halt.Halt.{Halt}
 use Rattle.kb_machine.specs.declared.halt.Halt.TheVariants.{Rules, Length}
 
@@ -108,6 +110,13 @@ EnterSays worker i j place before after (Ok done) = Takes (Entered worker place 
 EnterSays worker i j place before after (Err enter_faults.NotOverlap) =
     (after ≡ before) × (¬ HasOverlap before.state i j place)
 EnterSays worker i j place before after (Err enter_faults.Memory) = after ≡ before
+
+-- what `balance` answers
+abbrev pub BalanceSays : ℕ → ℕ → ℕ → Course → Course → Result Balance Memory → Type 0
+BalanceSays i j place before after (Ok balances.Balanced) = Takes (Balanced place i j) before after
+BalanceSays i j place before after (Ok balances.Stays) =
+    (after ≡ before) × ((before.state.halt ≢ None) ⊎ (¬ HasOverlap before.state i j place))
+BalanceSays i j place before after (Err memory) = after ≡ before
 
 -- line k is live, and another live left side is a factor of its left side
 pub record CanBeKilled (state : State) (k : ℕ) : Type 0 where

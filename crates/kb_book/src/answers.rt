@@ -12,6 +12,15 @@ pub enum EnterFault {
     Memory,
 }
 
+/// Whether an overlap became the first pending pair.
+#[derive(Clone, Copy, Debug, PartialEq, Eq)]
+pub enum Balance {
+    /// It did.
+    Balanced,
+    /// The book has no two lines with these numbers that overlap at the place, or is halted.
+    Stays,
+}
+
 /// What was made of the first pending pair.
 #[derive(Debug, Drop)]
 pub enum Make {

@@ -1,14 +1,14 @@
-//! Overlaps that workers find become pending.
+//! Overlaps become pending: those that workers find, and those by which new lines are balanced.
 
 ghost use Rattle.std.specs.Prelude.{◌≡◌, ◌≢◌, ◌↔◌, ◌+◌, ◌≤◌, ◌<◌, Err, IsTrue, OnOk};
 ghost use Rattle.kb_word.specs.Words.{Pair};
 ghost use Rattle.kb_machine.specs.Lines.{rules_of, OverlapOfNumbers};
-ghost use Rattle.kb_book.specs.Answers.{EnterSays};
+ghost use Rattle.kb_book.specs.Answers.{BalanceSays, EnterSays};
 
-use crate::answers::EnterFault;
+use crate::answers::{Balance, EnterFault};
 use crate::book::Book;
 use crate::numbers::line_at;
-use crate::room::{add, append, make_room};
+use crate::room::{add, append, make_room, prepend};
 use kb_machine::{Event, Line, Origin};
 use kb_overlap::meets;
 use kb_rules::Reducer;
@@ -40,6 +40,30 @@ impl<R: Reducer> Book<R> {
         append(&mut self.pending, origin);
         add(&mut self.journal, event);
         Ok(())
+    }
+
+    /// Makes the overlap of two lines at a place of the first one's left side the first pending pair, so that a new line
+    /// is balanced before anything else is looked at. In a halted book the pair that waits stays the first one.
+    pub fn balance(&mut self, i: u32, j: u32, place: u64) -> Result<Balance, Memory>
+        ensures { BalanceSays i j place self.old.course self.new.course result }
+    {
+        if self.halt.is_some() || !overlap(&self.lines, i, j, place) {
+            return Ok(Balance::Stays);
+        }
+        make_room(&mut self.journal, &mut self.pending, 1)?;
+        let origin = Origin::Overlap {
+            first: i,
+            second: j,
+            place: place as u32,
+        };
+        let event = Event::Balanced {
+            place: place as u16,
+            first: i,
+            second: j,
+        };
+        prepend(&mut self.pending, origin);
+        add(&mut self.journal, event);
+        Ok(Balance::Balanced)
     }
 
     /// Makes room for at least n overlaps to be entered without taking memory.

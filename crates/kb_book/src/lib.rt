@@ -11,6 +11,7 @@
 //! - `Book::new` begins a completion, with all relations pending.
 //! - `make` makes a line of the first pending pair, or drops the pair, or halts at a limit.
 //! - `enter` makes an overlap pending that a worker found; `reserve` makes room for overlaps beforehand.
+//! - `balance` makes an overlap the first pending pair, by which a new line is balanced.
 //! - `kill` takes a line away whose left side has another live one as a factor.
 //! - `shorten` replaces a line whose right side the other live rules reduce.
 //! - `publish` publishes the live lines as a version; `reserve_publish` makes room for that beforehand.
@@ -55,7 +56,7 @@ mod starting;
 mod steps;
 mod versions;
 
-pub use answers::{EnterFault, Kill, Make, Shorten};
+pub use answers::{Balance, EnterFault, Kill, Make, Shorten};
 pub use book::Book;
 pub use limits::Limits;
 pub use versions::Versions;

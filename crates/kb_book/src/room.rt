@@ -105,3 +105,13 @@ pub(crate) fn append(pending: &mut VecDeque<Origin>, origin: Origin)
 {
     let _ = pending.push_back(origin);
 }
+
+/// Adds an origin in front of a queue that has room for it.
+pub(crate) fn prepend(pending: &mut VecDeque<Origin>, origin: Origin)
+    requires { deque_len pending.old < deque_capacity pending.old }
+    ensures items { pending.new.items ≡ origin ∷ pending.old.items }
+    ensures len { deque_len pending.new ≡ deque_len pending.old + 1 }
+    ensures capacity { deque_capacity pending.new ≡ deque_capacity pending.old }
+{
+    let _ = pending.push_front(origin);
+}

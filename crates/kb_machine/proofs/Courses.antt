@@ -4,9 +4,9 @@ use Rattle.kb_rules.specs.Steps.{Leads}
 use Rattle.kb_machine.specs.States.{Problem, State}
 use Rattle.kb_machine.specs.Machine.{Step}
 use Rattle.kb_machine.specs.declared.event.Event.{Event}
-use Rattle.kb_machine.specs.declared.event.Event.TheVariants.{Entered, Dropped, Made, Halted, Killed, Shortened, Published}
+use Rattle.kb_machine.specs.declared.event.Event.TheVariants.{Entered, Balanced, Dropped, Made, Halted, Killed, Shortened, Published}
 use Rattle.kb_machine.proofs.Invariant.{Invariant}
-use Rattle.kb_machine.proofs.Pending.{enters_kept, drops_kept, publishes_kept}
+use Rattle.kb_machine.proofs.Pending.{enters_kept, balances_kept, drops_kept, publishes_kept}
 use Rattle.kb_machine.proofs.Making.{makes_kept}
 use Rattle.kb_machine.proofs.Halting.{halts_kept}
 use Rattle.kb_machine.proofs.Killing.{kills_kept}
@@ -16,6 +16,7 @@ step_kept : (problem : Problem) (before after : State) (event : Event) → Invar
     → Step problem before event after
     → Invariant problem after
 step_kept problem before after (Entered worker place i j) inv step = enters_kept i j place inv step
+step_kept problem before after (Balanced place i j) inv step = balances_kept i j place inv step
 step_kept problem before after Dropped inv step = drops_kept inv step
 step_kept problem before after (Made k) inv step = makes_kept k inv step
 step_kept problem before after Halted inv step = halts_kept inv step

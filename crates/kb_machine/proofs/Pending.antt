@@ -1,5 +1,5 @@
--- Events that change what is pending, or nothing that counts here: an overlap is entered, the first pair is dropped, a
--- version is published.
+-- Events that change what is pending, or nothing that counts here: an overlap is entered, at the end or in front, the first
+-- pair is dropped, a version is published.
 use Rattle.std.proofs.Common.{◌≡◌, ℕ, List, [], ◌∷◌, ◌++◌, Some, sym, ap, ◌∙◌, subst, inl, inr}
 use Rattle.std.specs.Prelude.{map}
 use Rattle.std.specs.List.{AllPairs, Contains}
@@ -13,10 +13,10 @@ use Rattle.kb_machine.specs.declared.line.Line.{Line}
 use Rattle.kb_machine.specs.declared.origin.Origin.{Origin}
 use Rattle.kb_machine.specs.declared.origin.Origin.TheVariants as names
 use Rattle.kb_machine.specs.States.{Problem, State, IsLiveRule}
-use Rattle.kb_machine.specs.Machine.{Enters, Drops}
+use Rattle.kb_machine.specs.Machine.{Enters, Balances, Drops}
 use Rattle.kb_machine.specs.Course.{HaltSays}
-use Rattle.kb_machine.proofs.Lists.{contains_around, pairs_around}
-use Rattle.kb_machine.proofs.Invariant.{IsKnown, IsKept, AreApart, origins, IsGone, Invariant, known_kept, kept_through}
+use Rattle.kb_machine.proofs.Lists.{contains_around, contains_middle_cases, contains_cons_cases, contains_tail, pairs_around, pairs_middle}
+use Rattle.kb_machine.proofs.Invariant.{IsKnown, IsKept, AreApart, MayBePending, origins, IsGone, Invariant, known_kept, kept_through}
 use Rattle.kb_machine.proofs.Origins.{rest_pending, pending_cases, apart_push, origin_push_cases, waiting_push, keeps_first_push, halted_kept, running_halted}
 
 apart_overlap : (other : Origin) (i j place : ℕ) → AreApart other (names.Overlap i j place)
@@ -63,6 +63,64 @@ pub enters_kept : {problem : Problem} {before after : State} (i j place : ℕ) �
     → Enters before after i j place → Invariant problem after
 enters_kept {problem = problem} i j place inv step =
     subst (Invariant problem) (sym step.is) (entered_kept inv i j place)
+
+apart_from_overlap : (i j place : ℕ) (other : Origin) → AreApart (names.Overlap i j place) other
+apart_from_overlap i j place other (k, inl both) = absurd (cc both.0)
+apart_from_overlap i j place other (k, inr both) = absurd (cc both.0)
+
+module _ {problem : Problem} {before after : State} (inv : Invariant problem before) (i j place : ℕ)
+    (step : Balances before after i j place) where
+  abbrev origin : Origin
+  origin = names.Overlap i j place
+
+  abbrev balanced : State
+  balanced = record before { pending = origin ∷ before.pending }
+
+  -- the origins of lines
+  abbrev of_lines : List Origin
+  of_lines = map (λ (line : Line). line.origin) before.lines
+
+  known_balanced : (pair : Pair) → IsKnown problem before pair → IsKnown problem balanced pair
+  known_balanced pair (inl live) = inl live
+  known_balanced pair (inr (other, has, is)) = inr (other, contains_tail origin before.pending other has, is)
+
+  balanced_gone : (other : Origin) (k : ℕ) → Contains (origins before.lines balanced.pending) other
+      → replaced other ≡ Some k
+      → IsGone before.lines before.live k
+  balanced_gone other k has is =
+      elim (contains_middle_cases of_lines origin before.pending other has) [
+        | inl earlier ↦ inv.gone other k earlier is
+        | inr same ↦ absurd (let none : replaced origin ≡ Some k = ap replaced same ∙ is in cc none)
+      ]
+
+  balanced_waiting : (other : Origin) → Contains balanced.pending other → MayBePending (rules_of before.lines) other
+  balanced_waiting other has =
+      elim (contains_cons_cases origin before.pending other has) [
+        | inl same ↦ subst (MayBePending (rules_of before.lines)) same tt
+        | inr later ↦ inv.waiting other later
+      ]
+
+  balanced_kept : Invariant problem balanced
+  balanced_kept = record {
+    kept = λ pair one. kept_through problem before balanced
+        (λ other known. known_kept problem balanced other (known_balanced other known)) pair (inv.kept pair one);
+    justified = inv.justified;
+    factors = inv.factors;
+    few = inv.few;
+    ascending = inv.ascending;
+    numbers = inv.numbers;
+    waiting = balanced_waiting;
+    apart = pairs_middle AreApart of_lines origin before.pending inv.apart
+        (λ other has. apart_overlap other i j place) (λ other has. apart_from_overlap i j place other);
+    gone = balanced_gone;
+    halted = running_halted before.halt (HaltSays problem balanced) step.running;
+  }
+
+-- what is kept stays where an overlap becomes the first pending pair
+pub balances_kept : {problem : Problem} {before after : State} (i j place : ℕ) → Invariant problem before
+    → Balances before after i j place → Invariant problem after
+balances_kept {problem = problem} i j place inv step =
+    subst (Invariant problem) (sym step.is) (balanced_kept inv i j place step)
 
 module _ {problem : Problem} {before after : State} (inv : Invariant problem before)
     (step : Drops problem before after) where

@@ -16,7 +16,7 @@ use Rattle.kb_machine.specs.declared.origin.Origin.{Origin}
 use Rattle.kb_machine.specs.declared.origin.Origin.TheVariants as origins
 use Rattle.kb_machine.specs.States.{Problem, State, below, start, IsLiveRule}
 use Rattle.kb_machine.specs.declared.event.Event.{Event}
-use Rattle.kb_machine.specs.declared.event.Event.TheVariants.{Entered, Dropped, Made, Halted, Killed, Shortened, Published}
+use Rattle.kb_machine.specs.declared.event.Event.TheVariants.{Entered, Balanced, Dropped, Made, Halted, Killed, Shortened, Published}
 use Rattle.kb_machine.specs.declared.halt.Halt.{Halt}
 use Rattle.kb_machine.specs.declared.halt.Halt.TheVariants.{Rules, Length}
 
@@ -46,6 +46,14 @@ pub record Enters (before after : State) (i j place : ℕ) : Type 0 where
   pub second : Pair
   pub overlap : OverlapOfNumbers (rules_of before.lines) i j place first second
   pub is : after ≡ record before { pending = before.pending ++ origins.Overlap i j place ∷ [] }
+
+-- an overlap of two lines becomes the first pending pair, to balance a new line; not where a pair waits
+pub record Balances (before after : State) (i j place : ℕ) : Type 0 where
+  pub running : before.halt ≡ None
+  pub first : Pair
+  pub second : Pair
+  pub overlap : OverlapOfNumbers (rules_of before.lines) i j place first second
+  pub is : after ≡ record before { pending = origins.Overlap i j place ∷ before.pending }
 
 -- the first pending pair, whose words have a common reduct by live rules, goes
 pub record Drops (problem : Problem) (before after : State) : Type 0 where
@@ -133,6 +141,7 @@ pub record Shortens (problem : Problem) (before after : State) (k new : ℕ) : T
 -- the event leads from one state to another
 abbrev pub Step : Problem → State → Event → State → Type 0
 Step problem before (Entered worker place i j) after = Enters before after i j place
+Step problem before (Balanced place i j) after = Balances before after i j place
 Step problem before Dropped after = Drops problem before after
 Step problem before (Made k) after = Makes problem before after k
 Step problem before Halted after = Halts problem before after

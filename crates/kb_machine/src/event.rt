@@ -13,6 +13,12 @@ pub enum Event {
         first: u32,
         second: u32,
     },
+    /// The overlap of two lines at a place of the first one's left side became the first pending pair.
+    Balanced {
+        place: u16,
+        first: u32,
+        second: u32,
+    },
     /// The first pending pair joined, and went.
     Dropped,
     /// A line with this number was made of the first pending pair.

@@ -1,4 +1,4 @@
-use Rattle.std.proofs.Common.{◌≡◌, map, take}
+use Rattle.std.proofs.Common.{take}
 use Rattle.kb_book.specs.Normal.{AreByLines}
 use Rattle.kb_book.proofs.steps.log_steps.Given as goal
 

@@ -1,22 +1,12 @@
-use Rattle.std.proofs.Common.{◌≡◌, ℕ, ◌<◌, ◌≤◌, ◌^◌, List, [], ◌∷◌, ◌++◌, length, refl, ap, ◌∙◌, arith, rules}
+use Rattle.std.proofs.Common.{List, [], ◌∷◌, ◌++◌, refl, ap, ◌∙◌, arith, rules}
 use Rattle.kb_word.specs.Words.{Pair}
 use Rattle.kb_machine.specs.Lines.{rules_of, OverlapOfNumbers}
 use Rattle.kb_machine.specs.declared.event.Event.{Event}
 use Rattle.kb_machine.specs.declared.event.Event.TheVariants.{Entered}
 use Rattle.kb_machine.specs.declared.origin.Origin.{Origin}
 use Rattle.kb_machine.specs.declared.origin.Origin.TheVariants.{Overlap}
-use Rattle.kb_machine.specs.Course.{Course, IsCourse}
-use Rattle.kb_book.proofs.Courses.{book_after, course_keeps}
-use Rattle.kb_book.proofs.Lists.{numbered_one}
+use Rattle.kb_book.proofs.Courses.{book_after, place_is_short}
 use Rattle.kb_book.proofs.book.Book.enter.Goals as goal
-
--- lines overlap at places that 16 bits hold
-place_is_short : (course : Course) → IsCourse course → course.problem.most_letters ≤ 65535 → (i j place : ℕ) (first second : Pair)
-    → OverlapOfNumbers (rules_of course.state.lines) i j place first second → place < 2 ^ 16
-place_is_short course is most i j place first second overlap =
-    let one = numbered_one (rules_of course.state.lines) i first overlap.is_first in
-    let short : length first.0 ≤ course.problem.most_letters = (course_keeps course is).short first one in
-    let within : place < length first.0 = overlap.overlaps.within in omega arith
 
 pub overflow_cast-origin : goal.overflow_cast-origin
 overflow_cast-origin g c =
