@@ -1,5 +1,5 @@
 -- Overlaps that are entered, one after another.
-use Rattle.std.proofs.Common.{◌≡◌, ◌≢◌, ℕ, ◌+◌, ◌<◌, List, [], ◌∷◌, ◌++◌, length, take, get_or, map, refl, sym, ◌∙◌, ap, append_assoc}
+use Rattle.std.proofs.Common.{◌≡◌, ◌≢◌, ℕ, ◌+◌, ◌<◌, List, [], ◌∷◌, ◌++◌, length, take, get_or, map, sym, ◌∙◌, ap, append_assoc}
 use Rattle.std.proofs.lemmas.List.{map-append, append-nil, take_more}
 use Rattle.kb_machine.specs.declared.origin.Origin.{Origin}
 use Rattle.kb_machine.specs.States.{Problem, State}
@@ -7,7 +7,7 @@ use Rattle.kb_machine.specs.Course.{Course, Takes}
 use Rattle.kb_machine.specs.declared.event.Event.{Event}
 use Rattle.kb_share.specs.declared.found.Found.{Found}
 use Rattle.kb_share.specs.Versions.{version_of}
-use Rattle.kb_share.specs.Passes.{AreAllApart, entered, entry_of, origin_of, state_entered, EntersAllApart, EntersApart, EntersSoMany}
+use Rattle.kb_share.specs.Passes.{AreAllApart, entered, entry_of, origin_of, state_entered, EntersApart, EntersSoMany}
 
 -- a completion with these pending origins and events in place of its own
 abbrev with : Course → List Origin → List Event → Course

@@ -16,4 +16,4 @@ pub mod SideLemmas
 pub mod LineSteps
 pub mod Rests
 pub mod Staying
-pub mod FewEntered
+pub mod Balanced

@@ -63,6 +63,7 @@ pub entries-append : (earlier later : List Event) → entries (earlier ++ later)
 entries-append [] later = sym (zero-add (entries later))
 entries-append (events.Entered worker place first second ∷ earlier) later =
     one_more (entries earlier) (entries later) (entries (earlier ++ later)) (entries-append earlier later)
+entries-append (events.Balanced place first second ∷ earlier) later = entries-append earlier later
 entries-append (events.Dropped ∷ earlier) later = entries-append earlier later
 entries-append (events.Made k ∷ earlier) later = entries-append earlier later
 entries-append (events.Halted ∷ earlier) later = entries-append earlier later

@@ -7,7 +7,7 @@ use Rattle.kb_share.specs.Later.{IsLater}
 use Rattle.kb_share.specs.declared.settled.Settled.{Settled}
 use Rattle.kb_share.specs.declared.settled.Settled.TheVariants as settled
 
--- a later stage at which no further version is published; overlaps may have been entered, to balance new lines
+-- a later stage at which no further version is published; overlaps may have become pending, to balance new lines
 pub record Settles (before after : Course) : Type 0 where
   pub later : IsLater before after
   pub versions : after.state.versions ≡ before.state.versions

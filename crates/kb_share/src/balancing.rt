@@ -1,9 +1,9 @@
 //! New lines are balanced by the rules of inverses.
 
-ghost use Rattle.kb_share.specs.Balancing.{EntersAtMost};
+ghost use Rattle.kb_share.specs.Balancing.{BalancesAtMost};
 
 use crate::found::Found;
-use kb_book::{Book, EnterFault};
+use kb_book::Book;
 use kb_machine::Line;
 use kb_rules::Reducer;
 use kb_word::{Letter, Memory};
@@ -107,14 +107,14 @@ impl Inverses {
     }
 }
 
-/// Where new lines are balanced, and the left side of line k is much longer than its right side, enters its overlaps
-/// with the rules of inverses at both its ends, as far as they are known.
+/// Where new lines are balanced, and the left side of line k is much longer than its right side, its overlaps with the
+/// rules of inverses at both its ends become the first pending pairs, as far as such rules are known.
 pub(crate) fn balance<R: Reducer>(
     book: &mut Book<R>,
     k: u32,
     inverses: &mut Inverses,
 ) -> Result<(), Memory>
-    ensures { EntersAtMost 2 book.old.course book.new.course }
+    ensures { BalancesAtMost 2 book.old.course book.new.course }
 {
     if !inverses.balances {
         return Ok(());
@@ -123,22 +123,18 @@ pub(crate) fn balance<R: Reducer>(
     let Some(ends) = inverses.ends(book.lines(), book.live(), k) else {
         return Ok(());
     };
-    enter_likely(book, ends.before)?;
-    enter_likely(book, ends.after)
+    balance_by(book, ends.after)?;
+    balance_by(book, ends.before)
 }
 
-/// Enters this, if it is an overlap.
-fn enter_likely<R: Reducer>(book: &mut Book<R>, likely: Option<Found>) -> Result<(), Memory>
-    ensures { EntersAtMost 1 book.old.course book.new.course }
+/// Makes this the first pending pair, if it is an overlap.
+fn balance_by<R: Reducer>(book: &mut Book<R>, likely: Option<Found>) -> Result<(), Memory>
+    ensures { BalancesAtMost 1 book.old.course book.new.course }
 {
-    let Some(one) = likely else {
-        return Ok(());
-    };
-    match book.enter(1, one.first, one.second, one.place) {
-        Ok(()) => Ok(()),
-        Err(EnterFault::NotOverlap) => Ok(()),
-        Err(EnterFault::Memory) => Err(Memory),
+    if let Some(one) = likely {
+        book.balance(one.first, one.second, one.place)?;
     }
+    Ok(())
 }
 
 /// The left side of line k, if it is live, and that side much longer than the right one.

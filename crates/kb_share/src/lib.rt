@@ -13,8 +13,8 @@
 //! - [`line_made`] is what follows on each line that is made: other lines are simplified by it. A [`Finder`] finds at
 //!   least all of them, where it knows the book (`Knows` of `specs/Finding.antt`). One finder serves a book as long
 //!   as it lives, so that each line is met once.
-//! - Where the finder's [`Inverses`] were told to, `line_made` balances the new line: it enters at most two overlaps
-//!   (`EntersAtMost` of `specs/Balancing.antt`). Those of a new finder weren't told to.
+//! - Where the finder's [`Inverses`] were told to, `line_made` balances the new line: at most two overlaps become the
+//!   first pending pairs (`BalancesAtMost` of `specs/Balancing.antt`). Those of a new finder weren't told to.
 //! - Both keep the live rules interreduced (`StaysReduced` of `specs/Interreduced.antt`): where no live left side has
 //!   another one as a factor, none has afterwards; where no live right side is reducible, none is afterwards, unless
 //!   the log is full, with as many lines as it may have. A halt at the length of a word excuses nothing.
@@ -30,9 +30,9 @@
 //! Balancing serves completions of groups. Where the left side of a new rule xu -> r is longer than its right side by
 //! two letters or more, a letter is to change sides: the overlap with a rule of inverses Xx -> 1 has the critical pair of
 //! u and Xr, and there is such an overlap at the other end too. Knuth-Bendix completion would come to these overlaps in
-//! some later pass; balancing enters them at once, and lines that come of them are balanced in turn, until the two sides
+//! some later pass; balancing looks at them next, and lines that come of them are balanced in turn, until the two sides
 //! of the equation are about equally long. So short rules come early, and take long ones away. Nothing is promised of
-//! which overlaps are entered: where a rule of inverses isn't known, or isn't live any more, none is.
+//! which overlaps these are: where a rule of inverses isn't known, or isn't live any more, there is none.
 //!
 //! # Sifting
 //!

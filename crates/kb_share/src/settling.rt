@@ -117,8 +117,8 @@ fn make_next<R: Reducer, W: Watch>(
 }
 
 /// Goes on after line k was made. Where the live rules were interreduced before it was made, they
-/// are so afterwards: left sides always, and right sides unless the log is full. At most two overlaps are
-/// entered, if the finder was told to balance, and there is no other work than before but these.
+/// are so afterwards: left sides always, and right sides unless the log is full. At most two overlaps become
+/// pending, if the finder was told to balance, and there is no other work than before but these.
 pub fn line_made<R: Reducer, W: Watch>(
     alloc: Global,
     book: &mut Book<R>,

@@ -1,10 +1,10 @@
-use Rattle.kb_share.proofs.FewEntered.{enters_fewer, enters_then}
+use Rattle.kb_share.proofs.Balanced.{balances_fewer, balances_then}
 use Rattle.kb_share.proofs.balancing.balance.Goals as goal
 
-pub returns-in_err-enter_likely : goal.returns-in_err-enter_likely
-returns-in_err-enter_likely g c = enters_fewer c.args.book.now.course c.enter_likely.new.book.course c.enter_likely.ensures
+pub returns-in_err-balance_by : goal.returns-in_err-balance_by
+returns-in_err-balance_by g c = balances_fewer c.args.book.now.course c.balance_by.new.book.course c.balance_by.ensures
 
 pub returns : goal.returns
 returns g c =
-    enters_then c.args.book.now.course c.enter_likely.new.book.course c.enter_likely-2.new.book.course c.enter_likely.ensures
-    c.enter_likely-2.ensures
+    balances_then c.args.book.now.course c.balance_by.new.book.course c.balance_by-2.new.book.course c.balance_by.ensures
+    c.balance_by-2.ensures

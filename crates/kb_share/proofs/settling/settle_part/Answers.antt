@@ -1,6 +1,6 @@
 use Rattle.kb_share.proofs.Stages.{settles_itself, settles_then}
 use Rattle.kb_share.proofs.Staying.{stays_itself, stays_then}
-use Rattle.kb_share.proofs.Halting.{none_is, some_is, if_some}
+use Rattle.kb_share.proofs.Halting.{none_is, some_is}
 use Rattle.kb_share.proofs.settling.settle_part.Goals as goal
 use Rattle.kb_share.specs.Work.{EndsAt}
 
