@@ -11,6 +11,7 @@ use kb_overlap::{Joinability, Overlap, PairWorkspace, PrimeOverlaps};
 use kb_rules::Reducer;
 use kb_word::Memory;
 use std::alloc::Global;
+use std::marker::Model;
 
 /// A version whose prime overlaps are sifted row by row. The row of an index has those in which the line at that index
 /// begins first.
@@ -18,7 +19,18 @@ use std::alloc::Global;
 pub struct Sieve<'b, R: Reducer> {
     version: Version<'b, R>,
     primes: PrimeOverlaps<'b>,
-    ghost primes_of: { primes ≡ version.rules },
+}
+
+/// The version.
+impl<'b, R: Reducer> Model for Sieve<'b, R> {
+    ghost use Rattle.std.specs.Prelude.{◌≡◌};
+    ghost use Rattle.kb_share.specs.Versions.{VersionParts};
+
+    ghost Value = { VersionParts };
+
+    ghost view = { λ sieve. sieve.version };
+
+    ghost invariant = { λ sieve. sieve.primes ≡ sieve.version.rules };
 }
 
 /// The memory that rows are sifted in, kept from one to the next. What it holds before and after counts for nothing.
@@ -41,7 +53,7 @@ impl SieveSpace {
 impl<'b, R: HasAutomaton> Sieve<'b, R> {
     /// The sieve of a version. Its reducer lends the automaton of its rules.
     pub fn of(alloc: Global, version: Version<'b, R>) -> Result<Sieve<'b, R>, Memory>
-        ensures { IfOk result (λ sieve. sieve.version ≡ version.entry) }
+        ensures { IfOk result (λ sieve. sieve ≡ version.entry) }
     {
         let Some(automaton) = version.reducer().automaton() else {
             return Err(Memory);
@@ -59,8 +71,8 @@ impl<'b, R: HasAutomaton> Sieve<'b, R> {
         space: &mut SieveSpace,
         found: &mut Vec<Apart>,
     ) -> Result<(), Memory>
-        requires { index < length self.now.version.rules }
-        ensures { OnOk result (SiftsRow self.now.version from index found.new.items) }
+        requires { index < length self.now.rules }
+        ensures { OnOk result (SiftsRow self.now from index found.new.items) }
     {
         let SieveSpace { overlaps, pair } = space;
         self.primes.of_rule(index, overlaps)?;

@@ -20,7 +20,7 @@ struct Rows<'b, R: HasAutomaton, G: Gate> {
     rows: u64,
     from: u64,
     gate: &'b G,
-    ghost all: { rows ≡ length sieve.version.rules },
+    ghost all: { rows ≡ length sieve.rules },
     ghost few: { rows ≤ 2 ^ 62 },
 }
 
@@ -45,7 +45,7 @@ impl<'b, R: HasAutomaton, G: Gate> Work for Rows<'b, R, G> {
     ghost sound = { λ rows share. Unit {0} };
 
     ghost done = { λ rows share row. rows.from ≡ 0 → share.found.items ≡ []
-        → PrimesOfRowAreJoined rows.sieve.version.rules row };
+        → PrimesOfRowAreJoined rows.sieve.rules row };
 
     fn parts(&self) -> u64 {
         self.rows

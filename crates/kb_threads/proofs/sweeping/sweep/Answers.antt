@@ -8,7 +8,7 @@ use Rattle.kb_threads.proofs.sweeping.sweep.Goals as goal
 pub returns : goal.returns
 returns g c = λ all none.
     let version = c.args.version in
-    let sieved = c.in_ok-sieve.sieve.version in
+    let sieved = c.in_ok-sieve.sieve in
     let shares = c.in_ok-shares.shares.items in
     let numbers : length c.numbers.result.now ≡ length version.numbers = ap length c.numbers.ensures.numbers in
     let count : length c.numbers.result.now ≡ length version.rules = numbers ∙ c.numbers.ensures.one_each in

@@ -9,5 +9,5 @@ returns-clause-done g c = λ all none.
     let row = c.sift_row.new.found.items in
     let added : c.extend_from_slice.new.self.items ≡ before ++ row =
     c.in_ok-extend_from_slice.ensures.items ∙ ap (λ (xs : List Apart). before ++ xs) c.deref.ensures.value in
-    row_joined c.args.self.now.sieve.version c.args.self.now.from c.args.row before row c.extend_from_slice.new.self.items
+    row_joined c.args.self.now.sieve c.args.self.now.from c.args.row before row c.extend_from_slice.new.self.items
     c.in_ok-sift_row.ensures added all none
