@@ -1,5 +1,5 @@
 -- What settling a book by a crew comes to.
-use Rattle.std.specs.Prelude.{◌≡◌, Option, IfSome}
+use Rattle.std.specs.Prelude.{Option, IfSome}
 use Rattle.kb_machine.specs.Course.{Course}
 use Rattle.kb_share.specs.Finding.{Knows}
 use Rattle.kb_share.specs.Interreduced.{StaysReduced}

@@ -21,9 +21,8 @@ use std::sync::Wait;
 use std::thread::Threads;
 use std::{mem, thread};
 
-/// So many lines are a part, after which the live lines are published. Fewer are made sooner than the live ones are
-/// copied and threads begin.
-const PART: usize = 256;
+/// A part has so many lines at least. Fewer are made sooner than the live ones are copied and threads begin.
+const FEWEST: usize = 256;
 
 /// A book that is being settled, the finder that knows it, and who watches.
 #[derive(Drop)]
@@ -35,12 +34,14 @@ pub(crate) struct Settling<'w, R: Reducer, W: Watch> {
 }
 
 impl<'w, R: Reducer, W: Watch> Settling<'w, R, W> {
-    /// Settles one part more, or what is left. The answer is how the book is settled, if it is.
+    /// Settles one part more, or what is left. The answer is how the book is settled, if it is. A part has as many lines
+    /// as are live: to sweep it costs about as much as to walk along all of them.
     fn part(&mut self) -> Result<Option<Settled>, Memory>
         requires { Knows self.old.finder self.old.book.course.state }
         ensures { IfOk result (GoesOnBy self.old self.new) }
     {
-        let lines = self.book.lines().len().saturating_add(PART);
+        let part = self.book.live().len().max(FEWEST);
+        let lines = self.book.lines().len().saturating_add(part);
         settle_part(
             self.alloc,
             &mut self.book,

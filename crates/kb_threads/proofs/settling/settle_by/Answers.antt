@@ -1,7 +1,7 @@
 use Rattle.std.proofs.Common.{rules, sym, subst}
 use Rattle.kb_share.specs.Finding.{Knows}
 use Rattle.kb_share.specs.declared.finding.Finder.{Finder}
-use Rattle.kb_share.proofs.FewEntered.{known_inverses}
+use Rattle.kb_share.proofs.Balanced.{known_inverses}
 use Rattle.kb_threads.proofs.Settled.{settled_so}
 use Rattle.kb_threads.proofs.settling.settle_by.Goals as goal
 
