@@ -80,8 +80,8 @@ KbMarked := function( system, options )
   local limits, names, marked, fsa, rows;
   limits := ShallowCopy( options );
   Unbind( limits.maxStates );
-  system.reducing := Concatenation( [ "kbcos", "P" ], KbArguments( limits ) );
-  KbAnswered( KbRun( system.folder, system.reducing, "" ), rec( file := Concatenation( system.file, ".sub" ) ) );
+  KbAnswered( KbRun( system.folder, Concatenation( [ "kbcos", "P" ], KbArguments( limits ) ), "" ),
+              rec( file := Concatenation( system.file, ".sub" ) ) );
   marked := Concatenation( system.file, ".sub.kbprog" );
   KbAnswered( KbRun( system.folder, Concatenation( [ "kbprog", "P.sub.kbprog" ], KbArguments( options ) ), "" ),
               rec( file := marked ) );
@@ -100,10 +100,12 @@ KbCosets := function( G, H, given... )
   system := KbGroupSystem( G, options );
   FileString( Concatenation( system.file, ".sub" ), KbSubgroupText( system, H ) );
   marked := KbMarked( system, options );
+  system.reducing := Concatenation( [ "wordreduce", "P.sub.kbprog" ], KbWorkers( options ) );
+  system.marker := Concatenation( KbMarker, "*" );
   system.index := KbCountFrom( marked.rows, marked.begin, Length( system.letters ) );
   if system.index = infinity then
     ErrorNoReturn( "kb: the subgroup has infinitely many cosets" );
   fi;
   system.words := KbWordsFrom( system, marked.rows, marked.begin );
-  return system;
+  return KbAsSystem( system );
 end;

@@ -36,6 +36,7 @@ KbReadBeside := function( name )
   Read( name );
 end;
 
+KbReadBeside( "systems.g" );
 KbReadBeside( "running.g" );
 KbReadBeside( "presentations.g" );
 KbReadBeside( "files.g" );
@@ -58,8 +59,8 @@ KbComplete := function( G, given... )
   system.wordsOfRules := read.equations;
   system.isConfluent := read.isConfluent;
   system.wordAcceptor := KbReadAutomaton( system, ".wa" );
-  system.reducing := [ "wordreduce", "P.kbprog" ];
-  return system;
+  system.reducing := Concatenation( [ "wordreduce", "P.kbprog" ], KbWorkers( options ) );
+  return KbAsSystem( system );
 end;
 
 # Makes the automatic structure by shortlex: `wordAcceptor`, and `multipliers`
@@ -73,48 +74,50 @@ KbAutomaticStructure := function( G, given... )
   system.multipliers := List( [ 1 .. Length( system.names ) ],
                               at -> KbReadAutomaton( system, Concatenation( ".m", String( at ) ) ) );
   system.reducing := Concatenation( [ "autgroup", "P" ], KbArguments( options ) );
-  return system;
-end;
-
-# Refuses a system that has no word acceptor, and what is none.
-KbNeedAcceptor := function( system )
-  KbNeedSystem( system, [ "presented", "letters", "folder", "wordAcceptor" ], "KbComplete or KbAutomaticStructure" );
+  return KbAsSystem( system );
 end;
 
 # The word acceptor of a system, or of a group or monoid that is completed.
 KbWordAcceptor := function( G, given... )
-  if IsRecord( G ) then
+  if IsRecord( G ) or IsKbSystem( G ) then
     KbNeedAcceptor( G );
     return G.wordAcceptor;
   fi;
   return CallFuncList( KbComplete, Concatenation( [ G ], given ) ).wordAcceptor;
 end;
 
+# The least words of words of the free group or monoid below, by one run.
+KbLeast := function( system, words )
+  local lines, came;
+  lines := List( words, word -> Concatenation( system.marker, KbWord( system, word ), "\n" ) );
+  came := KbAnswered( KbRun( system.folder, system.reducing, Concatenation( lines ) ), system );
+  return List( KbLines( came.out ), line -> KbElement( system, KbUnmarked( system, line ) ) );
+end;
+
+# A word of the free group or monoid as what was given: an element of the
+# presented one for an element of that.
+KbAsGiven := function( system, word, given )
+  if not KbIsElement( given ) then
+    return word;
+  elif system.isGroup then
+    return ElementOfFpGroup( FamilyObj( given ), word );
+  fi;
+  return ElementOfFpMonoid( FamilyObj( given ), word );
+end;
+
 # The least words of one word or of a list of words. Elements of the presented
 # group or monoid give elements, and words of the free one give words.
 KbReducedForm := function( system, words )
-  local single, elements, free, came, forms;
-  KbNeedSystem( system, [ "presented", "letters", "folder", "reducing" ],
-                "KbComplete, KbAutomaticStructure or KbCosets" );
+  local single, forms;
+  KbNeedSystem( system, [ "reducing" ], "KbComplete, KbAutomaticStructure or KbCosets" );
   single := not IsList( words ) or IsAssocWord( words );
   if single then
     words := [ words ];
   elif not IsDenseList( words ) then
     ErrorNoReturn( "kb: a list without holes is needed" );
   fi;
-  elements := List( words, KbIsElement );
-  free := List( words, word -> KbFreeWord( system, word ) );
-  came := KbAnswered( KbRun( system.folder, system.reducing,
-    Concatenation( List( free, word -> Concatenation( KbWord( system, word ), "\n" ) ) ) ), system );
-  forms := List( KbLines( came.out ), line -> KbElement( system, line ) );
-  forms := List( [ 1 .. Length( forms ) ], function( at )
-    if not elements[at] then
-      return forms[at];
-    elif system.isGroup then
-      return ElementOfFpGroup( FamilyObj( words[at] ), forms[at] );
-    fi;
-    return ElementOfFpMonoid( FamilyObj( words[at] ), forms[at] );
-  end );
+  forms := KbLeast( system, List( words, word -> KbFreeWord( system, word ) ) );
+  forms := List( [ 1 .. Length( words ) ], at -> KbAsGiven( system, forms[at], words[at] ) );
   if single then
     return forms[1];
   fi;

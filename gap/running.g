@@ -99,6 +99,14 @@ KbArguments := function( options )
   return arguments;
 end;
 
+# The one option of wordreduce.
+KbWorkers := function( options )
+  if IsBound( options.workers ) then
+    return KbArguments( rec( workers := options.workers ) );
+  fi;
+  return [];
+end;
+
 # A number as the program takes it.
 KbIsNumber := number -> IsInt( number ) and number >= 0;
 

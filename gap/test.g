@@ -428,6 +428,8 @@ KbTryForeignFiles := function()
   KbTry( "a relative path", KbAbsolute( "../kb" ){ [ 1, 2 ] } <> "..", true );
 end;
 
+KbReadBeside( "test-systems.g" );
+
 KbTryForeignElements();
 KbTryForeignGroups();
 KbTryForeignSystems();
@@ -435,6 +437,7 @@ KbTryForeignOptions();
 KbTryForeignFiles();
 KbTryAll();
 KbTryAllCosets();
+KbTryAllSystems();
 Print( KbTried, " tried, ", KbWrong, " wrong\n" );
 if KbWrong > 0 then
   FORCE_QUIT_GAP( 1 );

@@ -1,0 +1,63 @@
+#############################################################################
+##
+##  test-systems.g: how systems print, and that they answer by what is stored.
+##  test.g reads it
+##
+#############################################################################
+
+# How a thing prints, without the breaks of long lines.
+KbPrinted := function( print, thing )
+  local printed, stream;
+  printed := "";
+  stream := OutputTextString( printed, true );
+  SetPrintFormattingStatus( stream, false );
+  CallFuncList( print, [ stream, thing ] );
+  CloseStream( stream );
+  return printed;
+end;
+
+# A system prints as one line, however it is printed.
+KbTryLine := function( name, system, wanted )
+  KbTry( Concatenation( name, ": printed" ), KbPrinted( PrintTo, system ), wanted );
+  KbTry( Concatenation( name, ": as a string" ), String( system ), wanted );
+  KbTry( Concatenation( name, ": viewed" ), ViewString( system ), wanted );
+end;
+
+KbTryLines := function()
+  local F, G, M, system;
+  F := FreeGroup( "a", "b" );
+  G := F / [ F.1^2, F.2^3, ( F.1 * F.2 )^4 ];
+  system := KbComplete( G );
+  KbTryLine( "a complete system", system, "<kb: complete system of the group on [ a, b ], 11 rules>" );
+  KbTryLine( "an automatic structure", KbAutomaticStructure( G ),
+             "<kb: automatic structure of the group on [ a, b ], 10 states>" );
+  KbTryLine( "cosets", KbCosets( G, [ G.2 ] ), "<kb: 8 right cosets in the group on [ a, b ]>" );
+  M := FreeMonoid( "a", "b" );
+  KbTryLine( "a monoid", KbComplete( M / [ [ M.1^2, M.1 ] ] ),
+             "<kb: complete system of the monoid on [ a, b ], 1 rule>" );
+  KbTryLine( "many generators", KbComplete( FreeMonoid( 20 ) ), "<kb: complete system of the monoid on 20 generators, 0 rules>" );
+  KbTry( "a field that is there", [ IsBound( system.rules ), IsBound( system.multipliers ) ], [ true, false ] );
+  KbTryRefused( "a field that isn't there", given -> given.multipliers, [ system ], "the system has no field multipliers" );
+end;
+
+# Without its presentation a system answers as before, by what is stored.
+KbTryStored := function( name, system, word, wanted )
+  RemoveFile( system.file );
+  KbTry( Concatenation( name, ": answers by the stored rules" ), KbReducedForm( system, word ), wanted );
+end;
+
+KbTryAllStored := function()
+  local F, G, cosets;
+  F := FreeGroup( "a", "b" );
+  G := F / [ F.1^2, F.2^3, ( F.1 * F.2 )^4 ];
+  KbTryStored( "a complete system", KbComplete( G ), F.1 * F.2^5 * F.1, F.1 * F.2^-1 * F.1 );
+  KbTryStored( "a complete system by one thread", KbComplete( G, rec( workers := 1 ) ), F.2^5, F.2^-1 );
+  cosets := KbCosets( G, [ F.2 ], rec( workers := 1 ) );
+  RemoveFile( Concatenation( cosets.file, ".sub" ) );
+  KbTryStored( "cosets", cosets, [ F.2 * F.1, F.2^4, One( F ) ], [ F.1, One( F ), One( F ) ] );
+end;
+
+KbTryAllSystems := function()
+  KbTryLines();
+  KbTryAllStored();
+end;
