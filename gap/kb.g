@@ -41,6 +41,7 @@ KbReadBeside( "running.g" );
 KbReadBeside( "presentations.g" );
 KbReadBeside( "files.g" );
 KbReadBeside( "cosets.g" );
+KbReadBeside( "counting.g" );
 
 # Completes the presentation: `rules` are the pairs of words of its reduced
 # complete system, and `wordAcceptor` accepts the least words. In `rules` a word

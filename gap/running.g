@@ -46,10 +46,21 @@ end;
 
 KbLines := text -> Filtered( SplitString( text, "\n" ), line -> line <> "" );
 
+# A printed word as errors have it: of a long one its two ends.
+KbShortened := function( word )
+  local length;
+  length := Length( word );
+  if length <= 80 then
+    return word;
+  fi;
+  return Concatenation( word{ [ 1 .. 50 ] }, " .. ", word{ [ length - 19 .. length ] },
+                        " (", String( Number( word, byte -> byte = '*' ) + 1 ), " letters)" );
+end;
+
 # What a line of status 2 says, in words.
 KbUndecided := function( line, system )
   local parts, evidence, counted;
-  parts := SplitString( line, " " );
+  parts := List( SplitString( line, " " ), KbShortened );
   evidence := Concatenation( "; the evidence is in ", system.file, ".kblog and ", system.file, ".kbprog" );
   if parts[2] = "rules" then
     return Concatenation( "the limit of lines (maxRules) is reached, and ", parts[3], " = ", parts[4],

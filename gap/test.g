@@ -429,6 +429,7 @@ KbTryForeignFiles := function()
 end;
 
 KbReadBeside( "test-systems.g" );
+KbReadBeside( "test-counting.g" );
 
 KbTryForeignElements();
 KbTryForeignGroups();
@@ -438,6 +439,7 @@ KbTryForeignFiles();
 KbTryAll();
 KbTryAllCosets();
 KbTryAllSystems();
+KbTryAllCounts();
 Print( KbTried, " tried, ", KbWrong, " wrong\n" );
 if KbWrong > 0 then
   FORCE_QUIT_GAP( 1 );
