@@ -10,8 +10,13 @@
 ##      KbAutomaticStructure( G [, options] )    word acceptor and multipliers
 ##      KbWordAcceptor( system )                 the word acceptor, a record
 ##      KbReducedForm( system, words )           least words
+##      KbIsReduced( system, word )              whether a word is a least one
 ##      KbElements( system, least, most )        least words by their length
 ##      KbCosets( G, H [, options] )             least words of right cosets
+##      KbSize( system )                         how many elements
+##      KbIsFinite( system )                     whether there are finitely many
+##      KbGrowthSeries( system )                 how many of each length
+##      KbOrder( system, word [, options] )      the order of an element
 ##      KbAutomaton( record )                    an automaton of the package automata
 ##      KbRead( file, names, values )            any file that kb writes
 ##
@@ -41,7 +46,6 @@ KbReadBeside( "running.g" );
 KbReadBeside( "presentations.g" );
 KbReadBeside( "files.g" );
 KbReadBeside( "cosets.g" );
-KbReadBeside( "counting.g" );
 
 # Completes the presentation: `rules` are the pairs of words of its reduced
 # complete system, and `wordAcceptor` accepts the least words. In `rules` a word
@@ -125,6 +129,26 @@ KbReducedForm := function( system, words )
   return forms;
 end;
 
+# Whether a word is a least one, as KbReducedForm gives them: whether it is written
+# by the letters, without the inverse of one that is its own, and the word acceptor
+# that is stored accepts it. Stops with an error where the system has none, or the
+# word isn't its own.
+KbIsReduced := function( system, word )
+  local rows, state, places, place;
+  KbNeedAcceptor( system );
+  word := KbFreeWord( system, word );
+  places := KbPlaces( system, word );
+  rows := KbDenseRows( system.wordAcceptor );
+  state := Concatenation( system.wordAcceptor.initial, [ 0 ] )[1];
+  for place in places do
+    if state <> 0 then
+      state := rows[state][place];
+    fi;
+  od;
+  return state in system.wordAcceptor.accepting and
+         word = Product( system.letters{ places }, letter -> letter.element, One( system.free ) );
+end;
+
 # The least words of length `least` to `most`, in the shortlex order.
 KbElements := function( system, least, most )
   local came;
@@ -136,3 +160,7 @@ KbElements := function( system, least, most )
                       system );
   return List( KbLines( came.out ), line -> KbElement( system, line ) );
 end;
+
+# What goes by these functions.
+KbReadBeside( "counting.g" );
+KbReadBeside( "orders.g" );

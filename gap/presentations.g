@@ -192,6 +192,18 @@ KbWord := function( system, word )
   return JoinStringsWithSeparator( factors, "*" );
 end;
 
+# The places of a word's letters among the letters of the system.
+KbPlaces := function( system, word )
+  return List( LetterRepAssocWord( word ), function( number )
+    local place;
+    place := system.placeOfGenerator[AbsInt( number )];
+    if number < 0 then
+      return system.letters[place].inverse;
+    fi;
+    return place;
+  end );
+end;
+
 # The element of the free group or monoid that a printed word names.
 KbElement := function( system, text )
   local element, name;

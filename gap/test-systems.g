@@ -57,7 +57,34 @@ KbTryAllStored := function()
   KbTryStored( "cosets", cosets, [ F.2 * F.1, F.2^4, One( F ) ], [ F.1, One( F ), One( F ) ] );
 end;
 
+# Whether words are least, against their least words.
+KbTryReduced := function( name, system )
+  local words, least;
+  words := List( [ 1 .. 50 ], n -> KbRandomWord( system, Random( [ 0 .. 4 ] ) ) );
+  least := KbReducedForm( system, words );
+  KbTry( Concatenation( name, ": whether words are least" ), List( words, word -> KbIsReduced( system, word ) ),
+         List( [ 1 .. 50 ], n -> least[n] = words[n] ) );
+end;
+
+KbTryAllReduced := function()
+  local F, G, M, system;
+  F := FreeGroup( "a", "b" );
+  G := F / [ F.1^2, F.2^3, ( F.1 * F.2 )^4 ];
+  system := KbComplete( G );
+  KbTryReduced( "symmetric 4", system );
+  KbTryReduced( "the plane by multipliers", KbAutomaticStructure( F / [ Comm( F.1, F.2 ) ] ) );
+  M := FreeMonoid( "a", "b" );
+  KbTryReduced( "bicyclic", KbComplete( M / [ [ M.1 * M.2, One( M ) ] ] ) );
+  KbTry( "whether elements are least", List( [ G.1, G.1^-1, G.2^2, One( G ) ], g -> KbIsReduced( system, g ) ),
+         [ true, false, false, true ] );
+  KbTryRefused( "whether words are least by cosets", KbIsReduced, [ KbCosets( G, G ), F.1 ],
+                "a system of KbComplete or KbAutomaticStructure is needed\n" );
+  KbTryForeign( "whether it is least", system, given -> KbIsReduced( system, Flat( [ given ] )[Length( Flat( [ given ] ) )] ),
+                KbForeign( F, G, [ F.1^2, F.2^3, ( F.1 * F.2 )^4 ] ) );
+end;
+
 KbTryAllSystems := function()
+  KbTryAllReduced();
   KbTryLines();
   KbTryAllStored();
 end;

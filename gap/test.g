@@ -430,6 +430,7 @@ end;
 
 KbReadBeside( "test-systems.g" );
 KbReadBeside( "test-counting.g" );
+KbReadBeside( "test-orders.g" );
 
 KbTryForeignElements();
 KbTryForeignGroups();
@@ -440,6 +441,7 @@ KbTryAll();
 KbTryAllCosets();
 KbTryAllSystems();
 KbTryAllCounts();
+KbTryAllOrders();
 Print( KbTried, " tried, ", KbWrong, " wrong\n" );
 if KbWrong > 0 then
   FORCE_QUIT_GAP( 1 );
