@@ -47,14 +47,14 @@ KbReadBeside( "presentations.g" );
 KbReadBeside( "files.g" );
 KbReadBeside( "cosets.g" );
 
-# Completes the presentation: `rules` are the pairs of words of its reduced
-# complete system, and `wordAcceptor` accepts the least words. In `rules` a word
-# and its inverse cancel, so the rules that say no more than that are left out.
-KbComplete := function( G, given... )
-  local options, system, words, read;
-  options := KbOptions( given );
+# As KbComplete, with options that are checked. `answered` is given what came of the
+# run, and the system: where it returns `fail`, so does this.
+KbCompleteBy := function( G, options, answered )
+  local system, words, read;
   system := KbSystem( G, options );
-  KbAnswered( KbRun( system.folder, Concatenation( [ "kbprog", "P" ], KbArguments( options ) ), "" ), system );
+  if answered( KbRun( system.folder, Concatenation( [ "kbprog", "P" ], KbArguments( options ) ), "" ), system ) = fail then
+    return fail;
+  fi;
   words := FreeMonoid( system.names );
   read := KbRead( Concatenation( system.file, ".kbprog" ), system.names,
                   Concatenation( GeneratorsOfMonoid( words ), [ One( words ) ] ) );
@@ -68,19 +68,30 @@ KbComplete := function( G, given... )
   return KbAsSystem( system );
 end;
 
-# Makes the automatic structure by shortlex: `wordAcceptor`, and `multipliers`
-# with one for each letter of `names`.
-KbAutomaticStructure := function( G, given... )
-  local options, system;
-  options := KbOptions( given );
+# Completes the presentation: `rules` are the pairs of words of its reduced
+# complete system, and `wordAcceptor` accepts the least words. In `rules` a word
+# and its inverse cancel, so the rules that say no more than that are left out.
+# Stops with an error where the program has no answer.
+KbComplete := { G, given... } -> KbCompleteBy( G, KbOptions( given ), KbAnswered );
+
+# As KbAutomaticStructure, with options that are checked, and `answered` as above.
+KbStructureBy := function( G, options, answered )
+  local system;
   system := KbGroupSystem( G, options );
-  KbAnswered( KbRun( system.folder, Concatenation( [ "autgroup", "P" ], KbArguments( options ) ), "" ), system );
+  system.reducing := Concatenation( [ "autgroup", "P" ], KbArguments( options ) );
+  if answered( KbRun( system.folder, system.reducing, "" ), system ) = fail then
+    return fail;
+  fi;
   system.wordAcceptor := KbReadAutomaton( system, ".wa" );
   system.multipliers := List( [ 1 .. Length( system.names ) ],
                               at -> KbReadAutomaton( system, Concatenation( ".m", String( at ) ) ) );
-  system.reducing := Concatenation( [ "autgroup", "P" ], KbArguments( options ) );
   return KbAsSystem( system );
 end;
+
+# Makes the automatic structure by shortlex: `wordAcceptor`, and `multipliers`
+# with one for each letter of `names`. Stops with an error where the program has no
+# answer.
+KbAutomaticStructure := { G, given... } -> KbStructureBy( G, KbOptions( given ), KbAnswered );
 
 # The word acceptor of a system, or of a group or monoid that is completed.
 KbWordAcceptor := function( G, given... )

@@ -80,16 +80,19 @@ KbExtent := function( system )
   return Concatenation( ", ", KbCounted( Length( system.wordsOfRules ), "rule" ) );
 end;
 
-# A system as one line. More than six generators are only counted.
-KbLine := function( system )
-  local generators;
-  generators := String( system.generators );
-  if Length( system.generators ) > 6 then
-    generators := Concatenation( String( Length( system.generators ) ), " generators" );
+# A system's group or monoid as one line has it. More than six generators are only
+# counted.
+KbOn := function( system )
+  local count;
+  count := Length( system.generators );
+  if count > 6 then
+    return Concatenation( KbKind( system ), " on ", String( count ), " generators" );
   fi;
-  return Concatenation( "<kb: ", KbTitle( system ), " the ", KbKind( system ), " on ", generators,
-                        KbExtent( system ), ">" );
+  return Concatenation( KbKind( system ), " on ", String( system.generators ) );
 end;
+
+# A system as one line.
+KbLine := system -> Concatenation( "<kb: ", KbTitle( system ), " the ", KbOn( system ), KbExtent( system ), ">" );
 
 InstallMethod( String, "for a system of kb", [ IsKbSystem ], KbLine );
 
