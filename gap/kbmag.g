@@ -15,6 +15,11 @@
 ##      IsReducedWord( rws, word ), IsReducedForm( rws, word )
 ##      Size( rws ), Order( rws, word ), EnumerateReducedWords( rws, least, most )
 ##      WordAcceptor( rws ), GrowthFSA( fsa )
+##      SubgroupOfKBMAGRewritingSystem( rws, H )
+##      KnuthBendixOnCosets( rws, subgroup ), Index( rws, subgroup )
+##      ReducedCosetRepresentative( rws, subgroup, word )
+##      IsReducedCosetRepresentative( rws, subgroup, word )
+##      EnumerateReducedCosetRepresentatives( rws, subgroup, least, most )
 ##
 ##  docs/gap.md says where a meaning differs.
 ##
@@ -28,13 +33,14 @@ if not IsBound( KbReadBeside ) then
   Read( ReplacedString( INPUT_FILENAME(), "kbmag.g", "kb.g" ) );
 fi;
 
-# The filter of rewriting systems, made once.
+# The filter of rewriting systems, made once. They are mutable, so that GAP keeps no
+# property of one, as IsConfluent, which changes.
 if not IsBound( IsKBMAGRewritingSystemRep ) then
   IsKBMAGRewritingSystemRep := NewCategory( "IsKBMAGRewritingSystemRep", IsObject );
 fi;
 if not IsBound( KbmagType ) then
   KbmagType := NewType( NewFamily( "KbmagSystemsFamily", IsKBMAGRewritingSystemRep ),
-                        IsKBMAGRewritingSystemRep and IsComponentObjectRep );
+                        IsKBMAGRewritingSystemRep and IsComponentObjectRep and IsMutable );
 fi;
 
 # Which limit was reached is told from level 1 on.
@@ -58,6 +64,7 @@ end;
 KBMAGRewritingSystem := function( G )
   local parts;
   parts := KbParts( G );
+  parts.presented := G;
   return Objectify( KbmagType, rec( presented := G, parts := parts, letters := KbLetters( parts ),
     ordering := "shortlex", weights := fail, options := rec(), complete := fail, structure := fail ) );
 end;
@@ -109,8 +116,8 @@ KbmagOptions := function( rws )
   for name in Difference( RecNames( rws!.options ), KbmagIgnored ) do
     if IsBound( KbmagOptionNames.( name ) ) then
       options.( KbmagOptionNames.( name ) ) := rws!.options.( name );
-    elif name in [ "order", "weights" ] then
-      ErrorNoReturn( "kb: there is no option ", name );
+    elif name = "weights" then
+      ErrorNoReturn( "kb: weights are set by SetOrderingOfKBMAGRewritingSystem" );
     else
       options.( name ) := rws!.options.( name );
     fi;
@@ -222,6 +229,85 @@ InstallOtherMethod( FreeStructureOfRewritingSystem, "for a rewriting system of k
   rws -> rws!.parts.free );
 
 #############################################################################
+##  Cosets
+
+# The filter of subgroups, made once.
+if not IsBound( IsKbmagSubgroup ) then
+  IsKbmagSubgroup := NewCategory( "IsKbmagSubgroup", IsObject );
+fi;
+if not IsBound( KbmagSubgroupType ) then
+  KbmagSubgroupType := NewType( NewFamily( "KbmagSubgroupsFamily", IsKbmagSubgroup ),
+                                IsKbmagSubgroup and IsComponentObjectRep );
+fi;
+
+# A subgroup of the group of a rewriting system, given as KbCosets takes it. Stops
+# with an error where it is none of that group.
+SubgroupOfKBMAGRewritingSystem := function( rws, H )
+  local generators;
+  KbmagNeed( rws );
+  if not rws!.parts.isGroup then
+    ErrorNoReturn( "kb: a rewriting system of a group is needed" );
+  fi;
+  generators := List( KbSubgroupGenerators( rws!.parts, H ), element -> KbFreeWord( rws!.parts, element ) );
+  return Objectify( KbmagSubgroupType, rec( over := rws, generators := generators, cosets := fail ) );
+end;
+
+# Refuses what is no subgroup of this rewriting system.
+KbmagNeedSubgroup := function( rws, subgroup )
+  KbmagNeed( rws );
+  if not IsKbmagSubgroup( subgroup ) or not IsIdenticalObj( subgroup!.over, rws ) then
+    ErrorNoReturn( "kb: a subgroup of SubgroupOfKBMAGRewritingSystem for this rewriting system is needed" );
+  fi;
+end;
+
+# Completes the presentation with a marker for the subgroup's cosets, once. Whether that
+# is done: false where a limit was reached. Stops with an error where the ordering isn't
+# shortlex.
+KnuthBendixOnCosets := function( rws, subgroup )
+  KbmagNeedSubgroup( rws, subgroup );
+  if rws!.ordering <> "shortlex" then
+    ErrorNoReturn( "kb: cosets need the ordering shortlex" );
+  elif subgroup!.cosets = fail then
+    subgroup!.cosets := KbCosetsBy( rws!.presented, subgroup!.generators, KbmagOptions( rws ), KbmagAnswered );
+  fi;
+  return subgroup!.cosets <> fail;
+end;
+
+# The system of the cosets. Stops with an error where they aren't known yet.
+KbmagCosets := function( rws, subgroup )
+  KbmagNeedSubgroup( rws, subgroup );
+  if subgroup!.cosets = fail then
+    ErrorNoReturn( "kb: no cosets are known yet: KnuthBendixOnCosets must return true before" );
+  fi;
+  return subgroup!.cosets;
+end;
+
+# The least word of the right coset of a word, or the list of those of a list.
+ReducedCosetRepresentative := { rws, subgroup, word } -> KbReducedForm( KbmagCosets( rws, subgroup ), word );
+
+# Whether a word is the least one of its right coset.
+IsReducedCosetRepresentative := function( rws, subgroup, word )
+  local cosets;
+  cosets := KbmagCosets( rws, subgroup );
+  word := KbFreeWord( cosets, word );
+  return KbReducedForm( cosets, word ) = word;
+end;
+
+# The least words of right cosets that have `least` to `most` letters, in the shortlex
+# order.
+EnumerateReducedCosetRepresentatives := function( rws, subgroup, least, most )
+  local cosets;
+  cosets := KbmagCosets( rws, subgroup );
+  if not ForAll( [ least, most ], KbIsNumber ) then
+    ErrorNoReturn( "kb: two numbers of letters, from 0, are needed" );
+  fi;
+  return KbWordsFrom( cosets, cosets.marked.rows, cosets.marked.begin, least, most );
+end;
+
+InstallOtherMethod( Index, "for a rewriting system of kbmag.g and a subgroup", [ IsKBMAGRewritingSystemRep, IsKbmagSubgroup ],
+  { rws, subgroup } -> KbmagCosets( rws, subgroup ).index );
+
+#############################################################################
 ##  Printing
 
 # What is known of a rewriting system, in words.
@@ -258,4 +344,10 @@ end );
 
 InstallMethod( Display, "for a rewriting system of kbmag.g", [ IsKBMAGRewritingSystemRep ], function( rws )
   Print( KbmagLine( rws ), "\n" );
+end );
+
+# A subgroup as one line.
+InstallMethod( PrintObj, "for a subgroup of kbmag.g", [ IsKbmagSubgroup ], function( subgroup )
+  Print( "<subgroup of the ", KbOn( subgroup!.over!.parts ), ", ",
+         KbCounted( Length( subgroup!.generators ), "generator" ), ">" );
 end );

@@ -65,7 +65,8 @@ KbTitle := function( system )
   if IsBound( system.multipliers ) then
     return "automatic structure of";
   elif IsBound( system.index ) then
-    return Concatenation( KbCounted( system.index, "right coset" ), " in" );
+    return ReplacedString( Concatenation( KbCounted( system.index, "right coset" ), " in" ),
+                           "infinity", "infinitely many" );
   fi;
   return "complete system of";
 end;

@@ -431,6 +431,7 @@ end;
 KbReadBeside( "test-systems.g" );
 KbReadBeside( "test-counting.g" );
 KbReadBeside( "test-orders.g" );
+KbReadBeside( "test-kbmag.g" );
 
 KbTryForeignElements();
 KbTryForeignGroups();
@@ -442,6 +443,7 @@ KbTryAllCosets();
 KbTryAllSystems();
 KbTryAllCounts();
 KbTryAllOrders();
+KbTryKbmag();
 Print( KbTried, " tried, ", KbWrong, " wrong\n" );
 if KbWrong > 0 then
   FORCE_QUIT_GAP( 1 );
