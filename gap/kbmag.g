@@ -30,7 +30,7 @@ if IsPackageLoaded( "kbmag" ) then
 fi;
 
 if not IsBound( KbReadBeside ) then
-  Read( ReplacedString( INPUT_FILENAME(), "kbmag.g", "kb.g" ) );
+  Read( Concatenation( INPUT_FILENAME(){ [ 1 .. Length( INPUT_FILENAME() ) - Length( "kbmag.g" ) ] }, "kb.g" ) );
 fi;
 
 # The filter of rewriting systems, made once. They are mutable, so that GAP keeps no
