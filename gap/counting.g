@@ -67,16 +67,28 @@ KbTransfer := function( fsa )
     end ) );
 end;
 
+# The rows r_0 = e, the unit row of the initial class, r_1 = e A, r_2 = e A^2 and so
+# on, A being the matrix: so many that one is a combination of those before it.
+KbRowsReached := function( transfer )
+  local rows, count;
+  rows := [ IdentityMat( Length( transfer.matrix ) )[transfer.initial] ];
+  repeat
+    for count in [ 1 .. Length( rows ) ] do
+      Add( rows, rows[Length( rows )] * transfer.matrix );
+    od;
+  until RankMat( rows ) < Length( rows );
+  return rows;
+end;
+
 # The sum over n of c_n z^n, where c_n is the number of texts of n symbols that an
 # automaton accepts, as a rational function in the indeterminate "z".
 #
-# With the rows r_0 = e, the unit row of the initial state, and r_(n+1) = r_n A, A
-# the matrix of KbTransfer, and the column v of what accepts, c_n = r_n v: the sum
-# is e (1 - zA)^-1 v. Let d be the first for which r_d is a combination of the rows
-# before it, r_d = s_0 r_0 + .. + s_(d-1) r_(d-1). Multiplied by A^n v from the
-# right that is c_(n+d) = s_0 c_n + .. + s_(d-1) c_(n+d-1) for each n. So the
-# series times 1 - s_(d-1) z - .. - s_0 z^d has no term from z^d on, and those
-# before that are numbers which are known.
+# By the column v of the classes that accept, c_n = r_n v, and the sum is
+# e (1 - zA)^-1 v. Let r_d be the first row that is a combination of those before
+# it, r_d = s_0 r_0 + .. + s_(d-1) r_(d-1). Then so is each later row, and d is
+# the rank. Multiplied by A^n v from the right the equation is c_(n+d) = s_0 c_n
+# + .. + s_(d-1) c_(n+d-1), for each n. So the series times 1 - s_(d-1) z - .. -
+# s_0 z^d has no term from z^d on, and the terms before are computed.
 KbGrowthOf := function( fsa )
   local z, transfer, rows, degree, combined, below, counts, above;
   KbNeedAutomaton( fsa );
@@ -85,10 +97,7 @@ KbGrowthOf := function( fsa )
     return UnivariatePolynomial( Rationals, [], z );
   fi;
   transfer := KbTransfer( fsa );
-  rows := [ IdentityMat( Length( transfer.matrix ) )[transfer.initial] ];
-  while Length( rows ) <= Length( transfer.matrix ) do
-    Add( rows, rows[Length( rows )] * transfer.matrix );
-  od;
+  rows := KbRowsReached( transfer );
   degree := RankMat( rows );
   combined := SolutionMat( rows{ [ 1 .. degree ] }, rows[degree + 1] );
   below := Concatenation( [ 1 ], -Reversed( combined ) );

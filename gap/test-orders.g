@@ -45,6 +45,24 @@ KbTryInfiniteOrders := function()
                [ 2, infinity, 2, infinity ] );
 end;
 
+# The orders of words at random in the modular group, by their matrices: where that
+# isn't 1 or -1 an element is of order two for the trace 0, of order three for 1 and
+# -1, and else of infinite order.
+KbTryTraces := function()
+  local F, system, image, known, words;
+  F := FreeGroup( "a", "b" );
+  image := word -> MappedWord( word, GeneratorsOfGroup( F ), [ [ [ 0, -1 ], [ 1, 0 ] ], [ [ 0, -1 ], [ 1, 1 ] ] ] );
+  known := function( matrix )
+    if matrix in [ matrix^0, -matrix^0 ] then
+      return 1;
+    fi;
+    return [ 2, 3, infinity ][Minimum( AbsInt( Trace( matrix ) ), 2 ) + 1];
+  end;
+  system := KbComplete( F / [ F.1^2, F.2^3 ] );
+  words := List( [ 1 .. 40 ], n -> KbRandomWord( system, Random( [ 0 .. 12 ] ) ) );
+  KbTryOrders( "the modular group by traces", system, words, List( words, word -> known( image( word ) ) ) );
+end;
+
 # Orders of elements of monoids: invertible ones, straight ones, and those without.
 KbTryMonoidOrders := function()
   local M, Q, F, system;
@@ -94,6 +112,7 @@ KbTryAllOrders := function()
   KbTryFiniteOrders( "SL(2,3)", F / [ a^3 * b^-3, a^3 * ( a * b )^-2 ], KbComplete, 20 );
   KbTryFiniteOrders( "PSL(2,7)", F / [ a^2, b^3, ( a * b )^7, ( a * b * a * b^-1 )^4 ], KbComplete, 20 );
   KbTryInfiniteOrders();
+  KbTryTraces();
   KbTryMonoidOrders();
   KbTryOrderLimits();
 end;

@@ -36,6 +36,8 @@ KbTryLines := function()
   KbTryLine( "a monoid", KbComplete( M / [ [ M.1^2, M.1 ] ] ),
              "<kb: complete system of the monoid on [ a, b ], 1 rule>" );
   KbTryLine( "many generators", KbComplete( FreeMonoid( 20 ) ), "<kb: complete system of the monoid on 20 generators, 0 rules>" );
+  KbReadBeside( "kb.g" );
+  KbTry( "the files are read again", KbElements( system, 0, 0 ), [ One( F ) ] );
   KbTry( "a field that is there", [ IsBound( system.rules ), IsBound( system.multipliers ) ], [ true, false ] );
   KbTryRefused( "a field that isn't there", given -> given.multipliers, [ system ], "the system has no field multipliers" );
 end;
