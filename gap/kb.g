@@ -46,6 +46,7 @@ KbReadBeside( "running.g" );
 KbReadBeside( "presentations.g" );
 KbReadBeside( "files.g" );
 KbReadBeside( "cosets.g" );
+KbReadBeside( "answering.g" );
 
 # As KbComplete, with options that are checked. `answered` is given what came of the
 # run, and the system: where it returns `fail`, so does this.
@@ -102,12 +103,11 @@ KbWordAcceptor := function( G, given... )
   return CallFuncList( KbComplete, Concatenation( [ G ], given ) ).wordAcceptor;
 end;
 
-# The least words of words of the free group or monoid below, by one run.
+# The least words of words of the free group or monoid below.
 KbLeast := function( system, words )
-  local lines, came;
-  lines := List( words, word -> Concatenation( system.marker, KbWord( system, word ), "\n" ) );
-  came := KbAnswered( KbRun( system.folder, system.reducing, Concatenation( lines ) ), system );
-  return List( KbLines( came.out ), line -> KbElement( system, KbUnmarked( system, line ) ) );
+  local lines;
+  lines := List( words, word -> Concatenation( system.marker, KbWord( system, word ) ) );
+  return List( KbAnswers( system, lines ), line -> KbElement( system, KbUnmarked( system, line ) ) );
 end;
 
 # A word of the free group or monoid as what was given: an element of the

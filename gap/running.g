@@ -77,14 +77,16 @@ KbUndecided := function( line, system )
   return Concatenation( "an automaton has more states than the limit (maxStates): ", counted, evidence );
 end;
 
-# Ends with an error in words where the program hasn't answered.
+# Ends with an error in words where the program hasn't answered. What a long run
+# tells of itself stands before its message.
 KbAnswered := function( came, system )
   local lines, said;
   if came.status = 0 then
     return came;
   fi;
   lines := KbLines( came.out );
-  said := Concatenation( KbLines( came.messages ), [ "" ] )[1];
+  said := Concatenation( [ "" ], KbLines( came.messages ) );
+  said := said[Length( said )];
   if came.status = 1 then
     ErrorNoReturn( "kb: refused: ", said );
   elif came.status = 2 then

@@ -59,6 +59,32 @@ KbTryAllStored := function()
   KbTryStored( "cosets", cosets, [ F.2 * F.1, F.2^4, One( F ) ], [ F.1, One( F ), One( F ) ] );
 end;
 
+# The program that answers the words of a system stays, and is started again where
+# it ended, where it may still have an answer, and where too many run.
+KbTryAnswering := function()
+  local F, systems, system;
+  F := FreeGroup( "a", "b" );
+  system := KbAutomaticStructure( F / [ F.1^2, F.2^3, ( F.1 * F.2 )^4 ] );
+  KbTry( "the first answer", KbReducedForm( system, F.2^4 ), F.2 );
+  RemoveFile( system.file );
+  KbTry( "answers without a second structure", KbReducedForm( system, [ F.2^5, One( F ) ] ), [ F.2^-1, One( F ) ] );
+  KbStop( system );
+  KbTryRefused( "a program that can't be started again", KbReducedForm, [ system, F.2 ], "refused: kb: P: E3 Missing" );
+  system := KbAutomaticStructure( F / [ F.1 * F.2 * F.1 * F.2^-1 * F.1^-1 * F.2^-1 ] );
+  KbTryRefused( "a word that is too long", KbReducedForm, [ system, [ F.1, F.2^70000 ] ], "refused: kb: line 2: E13 WordTooLong" );
+  KbTry( "an answer after that", KbReducedForm( system, F.2 * F.1 * F.2 ), F.1 * F.2 * F.1 );
+  WriteLine( system!.stream, "a*a" );
+  system!.asked := true;
+  KbTry( "an answer that waits isn't taken for another", KbReducedForm( system, F.2 ), F.2 );
+  KbStop( system );
+  system!.reducing := Concatenation( system.reducing, [ "--max-rules", "3" ] );
+  KbTryRefused( "a limit when it is made again", KbReducedForm, [ system, F.2 ], "undecided: the limit of lines" );
+  systems := List( [ 2 .. 12 ], n -> KbComplete( F / [ F.1^n, F.2 ] ) );
+  KbTry( "more systems than programs", List( Concatenation( systems, systems ), s -> KbReducedForm( s, F.1^25 ) ),
+         List( Concatenation( [ 2 .. 12 ], [ 2 .. 12 ] ), n -> KbReducedForm( systems[n - 1], F.1^( 25 mod n ) ) ) );
+  KbTry( "so many programs run", Length( KbAnswering ), KbMostAnswering );
+end;
+
 # Whether words are least, against their least words.
 KbTryReduced := function( name, system )
   local words, least;
@@ -86,6 +112,7 @@ KbTryAllReduced := function()
 end;
 
 KbTryAllSystems := function()
+  KbTryAnswering();
   KbTryAllReduced();
   KbTryLines();
   KbTryAllStored();
