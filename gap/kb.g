@@ -174,4 +174,5 @@ end;
 
 # What goes by these functions.
 KbReadBeside( "counting.g" );
+KbReadBeside( "families.g" );
 KbReadBeside( "orders.g" );

@@ -147,12 +147,18 @@ KbOrderByPowers := function( system, word, limit )
   repeat
     shown := KbOrderShown( system, powers, seen );
     seen := Length( powers );
-    if shown <> fail or seen = limit or ForAny( powers, power -> Length( power ) > KbLongest ) then
+    if shown <> fail then
       return shown;
+    elif seen = limit or ForAny( powers, power -> Length( power ) > KbLongest ) then
+      break;
     fi;
     count := Minimum( seen, limit - seen );
     Append( powers, KbLeast( system, powers{ [ 1 .. count ] } * powers[seen] ) );
   until false;
+  if system.isGroup and KbIsInfiniteByFamily( system, powers ) then
+    return infinity;
+  fi;
+  return fail;
 end;
 
 # The order of a word or an element: the least N > 0 for which its N-th power is

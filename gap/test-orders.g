@@ -63,6 +63,26 @@ KbTryTraces := function()
   KbTryOrders( "the modular group by traces", system, words, List( words, word -> known( image( word ) ) ) );
 end;
 
+# The orders of words at random in the groups of rotations of the plane about the
+# corners of a triangle. A rotation by a part of the full turn is of finite order,
+# and a translation that isn't the identity of infinite order.
+KbTryRotations := function( turns, corners )
+  local F, system, words, least;
+  F := FreeGroup( "a", "b" );
+  system := KbAutomaticStructure( F / [ F.1^corners[1], F.2^corners[2], ( F.1 * F.2 )^corners[3] ] );
+  words := List( [ 1 .. 25 ], n -> KbRandomWord( system, Random( [ 1 .. 20 ] ) ) );
+  least := KbReducedForm( system, words );
+  KbTryOrders( Concatenation( "rotations about triangles ", String( corners ) ), system, words,
+               List( [ 1 .. 25 ], function( n )
+    local turn;
+    turn := ExponentSums( words[n] ) * [ turns / corners[1], turns / corners[2] ] mod turns;
+    if turn = 0 and not IsOne( least[n] ) then
+      return infinity;
+    fi;
+    return turns / Gcd( turn, turns );
+  end ) );
+end;
+
 # Orders of elements of monoids: invertible ones, straight ones, and those without.
 KbTryMonoidOrders := function()
   local M, Q, F, system;
@@ -113,6 +133,9 @@ KbTryAllOrders := function()
   KbTryFiniteOrders( "PSL(2,7)", F / [ a^2, b^3, ( a * b )^7, ( a * b * a * b^-1 )^4 ], KbComplete, 20 );
   KbTryInfiniteOrders();
   KbTryTraces();
+  KbTryRotations( 3, [ 3, 3, 3 ] );
+  KbTryRotations( 4, [ 2, 4, 4 ] );
+  KbTryRotations( 6, [ 2, 3, 6 ] );
   KbTryMonoidOrders();
   KbTryOrderLimits();
 end;
