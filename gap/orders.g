@@ -5,13 +5,13 @@
 #############################################################################
 
 # How many powers are looked at where no more is asked for.
-KbPowers := 100;
+KbMostPowers := 100;
 
 # The most powers to look at, by the options that are given. Stops with an error
 # where they are no record with at most maxPower, a number from 1.
 KbMaxPower := function( given )
   if given = [] or given = [ rec() ] then
-    return KbPowers;
+    return KbMostPowers;
   elif Length( given ) > 1 or not IsRecord( given[1] ) then
     ErrorNoReturn( "kb: the options are one record" );
   elif RecNames( given[1] ) <> [ "maxPower" ] or not IsPosInt( given[1].maxPower ) then
