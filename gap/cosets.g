@@ -52,13 +52,17 @@ KbCountFrom := function( rows, begin, letters )
   return count;
 end;
 
-# These texts as words, in the shortlex order.
-KbWordsFrom := function( system, rows, begin )
-  local words, level, longer, at, letter;
+# Those of these texts that have `least` to `most` letters as words, in the shortlex
+# order. Where there are infinitely many, `most` is a number.
+KbWordsFrom := function( system, rows, begin, least, most )
+  local words, level, longer, length, at, letter;
   words := [];
   level := [ [ One( system.free ), begin ] ];
-  while level <> [] do
-    Append( words, List( level, at -> at[1] ) );
+  length := 0;
+  while level <> [] and length <= most do
+    if length >= least then
+      Append( words, List( level, at -> at[1] ) );
+    fi;
     longer := [];
     for at in level do
       for letter in [ 1 .. Length( system.letters ) ] do
@@ -68,6 +72,7 @@ KbWordsFrom := function( system, rows, begin )
       od;
     od;
     level := longer;
+    length := length + 1;
   od;
   return words;
 end;
@@ -75,35 +80,56 @@ end;
 # The presentation with the marker, completed: the rows of its word acceptor,
 # and the state behind the marker. Irreducible words have irreducible prefixes,
 # so each state accepts; and what comes from that state on are the least words
-# of the cosets.
-KbMarked := function( system, options )
+# of the cosets. Where `answered` returns `fail` for one of the two runs, so does
+# this.
+KbMarked := function( system, options, answered )
   local limits, names, marked, fsa, rows;
   limits := ShallowCopy( options );
   Unbind( limits.maxStates );
-  system.reducing := Concatenation( [ "kbcos", "P" ], KbArguments( limits ) );
-  KbAnswered( KbRun( system.folder, system.reducing, "" ), rec( file := Concatenation( system.file, ".sub" ) ) );
-  marked := Concatenation( system.file, ".sub.kbprog" );
-  KbAnswered( KbRun( system.folder, Concatenation( [ "kbprog", "P.sub.kbprog" ], KbArguments( options ) ), "" ),
-              rec( file := marked ) );
+  marked := Concatenation( system.file, ".sub" );
+  if answered( KbRun( system.folder, Concatenation( [ "kbcos", "P" ], KbArguments( limits ) ), "" ),
+               rec( file := marked ) ) = fail then
+    return fail;
+  fi;
+  marked := Concatenation( marked, ".kbprog" );
+  if answered( KbRun( system.folder, Concatenation( [ "kbprog", "P.sub.kbprog" ], KbArguments( options ) ), "" ),
+               rec( file := marked ) ) = fail then
+    return fail;
+  fi;
   names := Concatenation( system.names, [ KbMarker ] );
   fsa := KbRead( Concatenation( marked, ".wa" ), names, Concatenation( names, [ "IdWord" ] ) );
   rows := KbDenseRows( fsa );
   return rec( rows := rows, begin := rows[fsa.initial[1]][Length( names )] );
 end;
 
-# The right cosets of a subgroup of finite index: `words` are their shortlex
-# least words, in the shortlex order, and `index` is their number. By this system
-# KbReducedForm gives the least words of the cosets of words.
-KbCosets := function( G, H, given... )
-  local options, system, marked;
-  options := KbOptions( given );
+# As KbCosets, with options that are checked, and also where there are infinitely
+# many cosets, when `words` isn't there. `answered` is as in KbCompleteBy.
+KbCosetsBy := function( G, H, options, answered )
+  local system;
   system := KbGroupSystem( G, options );
   FileString( Concatenation( system.file, ".sub" ), KbSubgroupText( system, H ) );
-  marked := KbMarked( system, options );
-  system.index := KbCountFrom( marked.rows, marked.begin, Length( system.letters ) );
+  system.marked := KbMarked( system, options, answered );
+  if system.marked = fail then
+    return fail;
+  fi;
+  system.reducing := Concatenation( [ "wordreduce", "P.sub.kbprog" ], KbWorkers( options ) );
+  system.marker := Concatenation( KbMarker, "*" );
+  system.index := KbCountFrom( system.marked.rows, system.marked.begin, Length( system.letters ) );
+  if system.index <> infinity then
+    system.words := KbWordsFrom( system, system.marked.rows, system.marked.begin, 0, infinity );
+  fi;
+  return KbAsSystem( system );
+end;
+
+# The right cosets of a subgroup of finite index: `words` are their shortlex
+# least words, in the shortlex order, and `index` is their number. By this system
+# KbReducedForm gives the least words of the cosets of words. Stops with an error
+# where the index is infinite, and where the program has no answer.
+KbCosets := function( G, H, given... )
+  local system;
+  system := KbCosetsBy( G, H, KbOptions( given ), KbAnswered );
   if system.index = infinity then
     ErrorNoReturn( "kb: the subgroup has infinitely many cosets" );
   fi;
-  system.words := KbWordsFrom( system, marked.rows, marked.begin );
   return system;
 end;

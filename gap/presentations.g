@@ -192,6 +192,18 @@ KbWord := function( system, word )
   return JoinStringsWithSeparator( factors, "*" );
 end;
 
+# The places of a word's letters among the letters of the system.
+KbPlaces := function( system, word )
+  return List( LetterRepAssocWord( word ), function( number )
+    local place;
+    place := system.placeOfGenerator[AbsInt( number )];
+    if number < 0 then
+      return system.letters[place].inverse;
+    fi;
+    return place;
+  end );
+end;
+
 # The element of the free group or monoid that a printed word names.
 KbElement := function( system, text )
   local element, name;
@@ -204,12 +216,17 @@ KbElement := function( system, text )
   return element;
 end;
 
-# The group or monoid of a system in the words of an error.
-KbDescribed := function( system )
-  if system.isGroup then
-    return Concatenation( "the group on the generators ", String( system.generators ) );
+# A printed word without what stands before a word of the system: the marker, of
+# which the identity's coset has nothing else.
+KbUnmarked := function( system, text )
+  local length;
+  length := Length( system.marker );
+  if length = 0 then
+    return text;
+  elif Length( text ) < length then
+    return "IdWord";
   fi;
-  return Concatenation( "the monoid on the generators ", String( system.generators ) );
+  return text{ [ length + 1 .. Length( text ) ] };
 end;
 
 KbHasFamilyOf := function( element, domain )
@@ -257,14 +274,6 @@ KbPresentationText := function( system, options )
   return text;
 end;
 
-# Refuses what is no system of these functions: a system that these made has
-# these fields.
-KbNeedSystem := function( system, fields, makers )
-  if not IsRecord( system ) or ForAny( fields, field -> not IsBound( system.( field ) ) ) then
-    ErrorNoReturn( "kb: a system of ", makers, " is needed" );
-  fi;
-end;
-
 # The presentation of a group or monoid, written to a folder of its own.
 KbSystem := function( G, options )
   local system, letters;
@@ -274,6 +283,7 @@ KbSystem := function( G, options )
     letters := KbOrdered( letters, options.order );
   fi;
   system.presented := G;
+  system.marker := "";
   system.letters := letters;
   system.names := List( letters, letter -> letter.name );
   system.placeOfGenerator := List( system.generators,

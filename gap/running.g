@@ -46,10 +46,21 @@ end;
 
 KbLines := text -> Filtered( SplitString( text, "\n" ), line -> line <> "" );
 
+# A printed word as errors have it: of a long one its two ends.
+KbShortened := function( word )
+  local length;
+  length := Length( word );
+  if length <= 80 then
+    return word;
+  fi;
+  return Concatenation( word{ [ 1 .. 50 ] }, " .. ", word{ [ length - 19 .. length ] },
+                        " (", String( Number( word, byte -> byte = '*' ) + 1 ), " letters)" );
+end;
+
 # What a line of status 2 says, in words.
 KbUndecided := function( line, system )
   local parts, evidence, counted;
-  parts := SplitString( line, " " );
+  parts := List( SplitString( line, " " ), KbShortened );
   evidence := Concatenation( "; the evidence is in ", system.file, ".kblog and ", system.file, ".kbprog" );
   if parts[2] = "rules" then
     return Concatenation( "the limit of lines (maxRules) is reached, and ", parts[3], " = ", parts[4],
@@ -66,14 +77,16 @@ KbUndecided := function( line, system )
   return Concatenation( "an automaton has more states than the limit (maxStates): ", counted, evidence );
 end;
 
-# Ends with an error in words where the program hasn't answered.
+# Ends with an error in words where the program hasn't answered. What a long run
+# tells of itself stands before its message.
 KbAnswered := function( came, system )
   local lines, said;
   if came.status = 0 then
     return came;
   fi;
   lines := KbLines( came.out );
-  said := Concatenation( KbLines( came.messages ), [ "" ] )[1];
+  said := Concatenation( [ "" ], KbLines( came.messages ) );
+  said := said[Length( said )];
   if came.status = 1 then
     ErrorNoReturn( "kb: refused: ", said );
   elif came.status = 2 then
@@ -97,6 +110,14 @@ KbArguments := function( options )
     fi;
   od;
   return arguments;
+end;
+
+# The one option of wordreduce.
+KbWorkers := function( options )
+  if IsBound( options.workers ) then
+    return KbArguments( rec( workers := options.workers ) );
+  fi;
+  return [];
 end;
 
 # A number as the program takes it.

@@ -428,6 +428,11 @@ KbTryForeignFiles := function()
   KbTry( "a relative path", KbAbsolute( "../kb" ){ [ 1, 2 ] } <> "..", true );
 end;
 
+KbReadBeside( "test-systems.g" );
+KbReadBeside( "test-counting.g" );
+KbReadBeside( "test-orders.g" );
+KbReadBeside( "test-kbmag.g" );
+
 KbTryForeignElements();
 KbTryForeignGroups();
 KbTryForeignSystems();
@@ -435,6 +440,10 @@ KbTryForeignOptions();
 KbTryForeignFiles();
 KbTryAll();
 KbTryAllCosets();
+KbTryAllSystems();
+KbTryAllCounts();
+KbTryAllOrders();
+KbTryKbmag();
 Print( KbTried, " tried, ", KbWrong, " wrong\n" );
 if KbWrong > 0 then
   FORCE_QUIT_GAP( 1 );
