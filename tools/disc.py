@@ -57,3 +57,9 @@ class Disc:
         ends = [self.canvas.place(self.place(it)) for it in (one, other)]
         rim = f"A{self.radius} {self.radius} 0 0 1 {ends[0]}" if self.radius * (1 - math.cos(angle)) > 0.4 else ""
         return f"M{ends[0]}{self.canvas.arc_step(self.place(one), self.place(other), centre)}{rim}z"
+
+    def whole(self):
+        """The path around the disc."""
+        left, right = (self.canvas.place(self.place(it)) for it in (-1 + 0j, 1 + 0j))
+        way = f"A{self.radius} {self.radius} 0 0 1 "
+        return f"M{left}{way}{right}{way}{left}z"

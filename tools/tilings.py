@@ -58,7 +58,7 @@ def nearest(wall):
 
 
 def tiling_picture(names, acceptor, reflections):
-    """The text of the picture: triangles light and dark, and over them the tree."""
+    """The text of the picture: triangles light and dark, that of the identity light, and over them the tree."""
     if reflections is None or reflections.kind != DISC:
         raise Refused("a tiling is drawn of a group of three reflections in the sides of a hyperbolic triangle, as examples/triangle-2-3-7")
     tiling = Tiling(acceptor, reflections)
@@ -66,16 +66,22 @@ def tiling_picture(names, acceptor, reflections):
     canvas = Canvas(side, side + FOOT)
     disc = Disc(canvas, (side / 2, side / 2 + FOOT), RADIUS)
     canvas.circle(disc.middle, RADIUS, LIGHT)
-    # A point is dark where it is behind an odd number of mirrors, which is what evenodd says.
-    canvas.add(f'fill="{DARK}" fill-rule="evenodd"', "".join(disc.half(wall) for wall in sorted(tiling.mirrors)))
+    canvas.add(f'fill="{DARK}" fill-rule="evenodd"', dark_triangles(disc, sorted(tiling.mirrors), reflections.first.point))
     for width, from_middle in tree_by_width(tiling.steps):
         for letter in range(3):
             for one, other in from_middle.get(letter, []):
                 disc.line(f'{stroke(COLOURS[letter], width)} stroke-linecap="round"', one, other)
     canvas.circle(disc.middle, RADIUS, "none", "#222222", 1.2)
     canvas.circle(disc.place(in_disc(reflections.first.point)), 5, "#000000")
-    legend_at(canvas, [("each triangle is an element; its least word by lines", None, None), *swatches(names, range(3), ())])
+    legend_at(canvas, [("each triangle is an element; its least word by lines", None, False), *swatches(names, range(3), ())])
     return canvas.svg()
+
+
+def dark_triangles(disc, mirrors, point):
+    """A path that is filled, by the rule evenodd, where an odd number of mirrors is between a place and this point."""
+    x, y, height = point
+    behind = sum(a * x + b * y > c * height for a, b, c in mirrors)
+    return "".join(disc.half(mirror) for mirror in mirrors) + disc.whole() * (behind % 2)
 
 
 def tree_by_width(steps):
