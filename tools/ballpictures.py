@@ -5,7 +5,7 @@ import math
 from canvas import Canvas, legend_at, stroke
 from disc import Disc, in_disc, moved
 from eigenvectors import spectral_places
-from labels import label_places
+from labels import Labels, box_around
 from radial_trees import tree_places
 from reflections import DISC, PLANE, SPHERE, reflections_of
 from views import best_seen
@@ -83,10 +83,10 @@ class BallPicture:
         """Writes least words beside the dots where they are few."""
         if len(on) > MOST_WORDS:
             return
-        words = [self.ball.label(at) for at in range(len(on))]
         lines = [(on[one], on[other]) for _, one, other in self.ball.edges]
-        for point, word in zip(label_places(on, lines, words, WORD_SIZE), words):
-            self.canvas.text(point, word, WORD_SIZE, extra=' stroke="#FFFFFF" stroke-width="3" paint-order="stroke"')
+        labels = Labels(self.canvas, WORD_SIZE, lines, [box_around(it, self.dot_size + 1) for it in on])
+        for at, place in enumerate(on):
+            labels.write(place, self.ball.label(at))
 
     def in_plane(self, places):
         """Draws elements at places in the plane."""

@@ -48,21 +48,24 @@ class AutomatonPicture:
         lines = [
             "digraph automaton {",
             "  rankdir=LR; nodesep=0.35; ranksep=0.6;",
-            f'  graph [{FONT}, fontsize=13, labelloc=b, label="{self.caption(all_accept)}"];',
+            f'  graph [{FONT}, fontsize=13, labelloc=b, label="{self.caption()}"];',
             f'  node [{FONT}, fontsize=14, shape=circle, width=0.45, fixedsize=true, style=filled, fillcolor="#E8F1F8", color="#0072B2"];',
             f'  edge [{FONT}, fontsize=13, color="#555555", fontcolor="#222222", arrowsize=0.7];',
         ]
         if automaton.initial is not None:
-            lines += ['  start [shape=point, width=0.08, color="#555555"];', f"  start -> {automaton.initial};"]
+            lines += ['  start [shape=point, width=0.08, fillcolor="#555555", color="#555555"];', f"  start -> {automaton.initial};"]
         for state in range(1, automaton.size + 1):
             accepts = not all_accept and state in automaton.accepting
             lines.append(f"  {state} [shape=doublecircle, width=0.4];" if accepts else f"  {state};")
         lines += [f"  {a} -> {b} [label={self.label(names)}];" for (a, b), names in self.arrows.items()]
         return "\n".join([*lines, "}", ""])
 
-    def caption(self, all_accept):
-        said = "each state accepts" if all_accept else "double rims accept"
-        return said + (r"; u|v reads u and v side by side, · is the padding" if self.automaton.is_pairs else "")
+    def caption(self):
+        """What the picture doesn't say by itself."""
+        if not self.automaton.size:
+            return "no state"
+        said = "each state accepts" if len(self.automaton.accepting) == self.automaton.size else "double rims accept"
+        return said + ("; u|v reads u and v side by side, · is the padding" if self.automaton.is_pairs else "")
 
 
 def ball_dot(ball):

@@ -1,4 +1,4 @@
-"""Where words stand beside dots, so that they hide as little as can be."""
+"""Where words stand beside points, so that they hide as little as can be."""
 
 import math
 
@@ -6,15 +6,21 @@ from canvas import text_width
 from views import distance_to_line
 
 WAYS = 24
-GAPS = (9, 13)
+GAPS = (8, 12)
+NEAR, APART, A_POINT_NEAR, A_PIXEL_OUT = 2.5, 4, 5, 20
 
 
 def box_at(point, way, gap, width, size):
-    """The lower left and the upper right corner of a text in a direction from a point."""
+    """The box of a text in a direction from a point: its lower left and its upper right corner."""
     x, y = point[0] + gap * math.cos(way), point[1] + gap * math.sin(way)
     left = x - width / 2 + math.cos(way) * width / 2
     low = y - size * 0.36 + math.sin(way) * size * 0.36
     return left, low, left + width, low + size * 0.72
+
+
+def box_around(point, size):
+    """The box around a round thing."""
+    return point[0] - size, point[1] - size, point[0] + size, point[1] + size
 
 
 def overlap(one, other):
@@ -24,25 +30,32 @@ def overlap(one, other):
     return wide * high if wide > 0 and high > 0 else 0
 
 
-def nearness(box, line):
-    """How much of a box a line is in, by points of the box that are near it."""
-    steps = max(2, round((box[2] - box[0]) / 6))
-    points = [(box[0] + (box[2] - box[0]) * at / steps, box[1] + (box[3] - box[1]) * level) for at in range(steps + 1) for level in (0, 0.5, 1)]
-    return sum(distance_to_line(point, *line) < 2.5 for point in points)
+def points_of(box):
+    """Points of a box, a few pixels apart."""
+    steps = max(2, round((box[2] - box[0]) / 3))
+    wide, high = box[2] - box[0], box[3] - box[1]
+    return [(box[0] + wide * at / steps, box[1] + high * level) for at in range(steps + 1) for level in (0, 0.5, 1)]
 
 
-def label_places(points, lines, words, size):
-    """For each point the lower left corner of its word. Words are placed one by one, each where it hides least."""
-    dots = [(x - 6, y - 6, x + 6, y + 6) for x, y in points]
-    boxes = []
-    for at, (point, word) in enumerate(zip(points, words)):
-        width = text_width(word, size)
-        near = [line for line in lines if distance_to_line(point, *line) < width + 30]
+class Labels:
+    """Words on a canvas, placed one by one, each where it hides least of what is there: lines, and boxes of other things."""
 
-        def cost(box):
-            others = sum(overlap(box, it) for it in boxes) + sum(overlap(box, it) for number, it in enumerate(dots) if number != at)
-            return others + 8 * sum(nearness(box, line) for line in near)
+    def __init__(self, canvas, size, lines, boxes):
+        self.canvas, self.size = canvas, size
+        self.lines, self.boxes = lines, list(boxes)
 
-        tries = [box_at(point, 2 * math.pi * way / WAYS, gap, width, size) for gap in GAPS for way in range(WAYS)]
-        boxes.append(min(tries, key=cost))
-    return [box[:2] for box in boxes]
+    def cost(self, box, lines):
+        """How much a word in a box would hide, or be hidden."""
+        out = sum(max(0, it) for it in (-box[0], -box[1], box[2] - self.canvas.width, box[3] - self.canvas.height))
+        hidden = sum(distance_to_line(point, *line) < NEAR for point in points_of(box) for line in lines)
+        return sum(overlap(box, it) for it in self.boxes) + A_POINT_NEAR * hidden + A_PIXEL_OUT * out
+
+    def write(self, point, word, middle=0, spread=math.pi):
+        """Writes a word beside a point, in a direction that isn't more than a spread from a middle."""
+        width = text_width(word, self.size)
+        lines = [line for line in self.lines if distance_to_line(point, *line) < width + 2 * self.size]
+        ways = [middle + spread * (2 * way / WAYS - 1) for way in range(WAYS + 1)]
+        tries = [box_at(point, way, gap, width, self.size) for gap in GAPS for way in sorted(ways, key=lambda it: abs(it - middle))]
+        box = min(tries, key=lambda it: self.cost(it, lines))
+        self.boxes.append((box[0] - APART, box[1] - APART, box[2] + APART, box[3] + APART))
+        self.canvas.text(box[:2], word, self.size, extra=' stroke="#FFFFFF" stroke-width="3" paint-order="stroke"')
