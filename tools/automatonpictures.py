@@ -12,8 +12,10 @@ CIRCLE, RIM, FILL, DARK = 17, "#0072B2", "#E8F1F8", "#555555"
 SIZE, BEND, START, LOOP, HEAD = 14, 17, 62, 13, 8
 MOST_SYMBOLS = 6
 
-# The middle of a loop and of its symbols is so far from the state's, and needs no more room than so much around it.
+# The middle of a loop and of its symbols is so far from the state's, and needs no more room than so much around it. Loops are best
+# above, else below, aside, or elsewhere.
 ROOM_AT, ENOUGH = 36, 24
+WAYS = [math.pi / 2 + turn * math.pi / 8 for turn in (0, 8, -4, 4, 1, -1, 2, -2, 3, -3, 5, -5, 6, -6, 7, -7)]
 
 
 def bent(one, other, bend, count=60):
@@ -78,7 +80,7 @@ class Drawing:
         neck = [a - HEAD * u for a, u in zip(tip, along)]
         kept = [it for it in seen if math.dist(it, tip) > HEAD]
         self.canvas.add(stroke(DARK, 1.3), f"M{'L'.join(map(self.canvas.place, thinned(kept)))}L{self.canvas.place(neck)}")
-        self.canvas.polygon([tip, *([n + side * 3.6 * t for n, t in zip(neck, (-along[1], along[0]))] for side in (1, -1))], DARK)
+        self.canvas.triangle(tip, along, HEAD, 3.6, DARK)
         return seen[len(seen) // 2]
 
     def loop(self, at, symbols):
@@ -90,13 +92,14 @@ class Drawing:
         self.symbols.append((symbols, tuple(a + LOOP * u for a, u in zip(centre, unit)), way, 1))
 
     def free_way(self, at):
-        """The direction from a state in which lines and other states leave most room: of those the most upright one."""
+        """The direction from a state in which lines and other states leave most room: of several the first of WAYS."""
+
         def room(way):
             middle = tuple(a + ROOM_AT * u for a, u in zip(self.on[at], (math.cos(way), math.sin(way))))
             states = [math.dist(middle, it) - CIRCLE for number, it in enumerate(self.on) if number not in (0, at)]
             return min([distance_to_line(middle, *line) for line in self.lines] + states + [ENOUGH])
 
-        return max((math.pi / 2 + turn * math.pi / 8 for turn in (0, 8, -4, 4, 1, -1, 2, -2, 3, -3, 5, -5, 6, -6, 7, -7)), key=room)
+        return max(WAYS, key=room)
 
     def states(self):
         """Draws the states with their numbers; with two rims where not all accept and this one does."""

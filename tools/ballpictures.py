@@ -11,8 +11,7 @@ from reflections import DISC, PLANE, SPHERE, reflections_of
 from views import best_seen
 
 SIDE, MARGIN, FOOT = 640, 40, 34
-MOST_WORDS = 60
-WORD_SIZE = 13
+MOST_WORDS, MOST_WORDS_IN_SPACE, WORD_SIZE = 60, 30, 13
 GREY, RIM, BLACK, WHITE = "#BBBBBB", "#444444", "#000000", "#FFFFFF"
 
 # A dot is drawn over the lines that lead to it, though their middles may be somewhat nearer.
@@ -32,7 +31,7 @@ class BallPicture:
         self.ball = ball
         self.canvas = Canvas(SIDE, SIDE + FOOT)
         self.dot_size = 4 if len(ball.words) <= MOST_WORDS else 3
-        self.colour = {letter: ball.colour(letter) for letter in ball.used()}
+        self.colour = {letter: ball.colour(letter) for letter in ball.letters}
 
     def finished(self):
         """The text of the picture, with its legend."""
@@ -77,11 +76,11 @@ class BallPicture:
                 self.canvas.line(on[one], on[other], WHITE, width + 3)
                 self.canvas.line(on[one], on[other], mixed(self.colour[letter], share), width)
                 self.direction(letter, on[one], on[other], width, mixed(self.colour[letter], share))
-        self.words_beside(on)
+        self.words_beside(on, MOST_WORDS_IN_SPACE)
 
-    def words_beside(self, on):
+    def words_beside(self, on, most):
         """Writes least words beside the dots where they are few."""
-        if len(on) > MOST_WORDS:
+        if len(on) > most:
             return
         lines = [(on[one], on[other]) for _, one, other in self.ball.edges]
         labels = Labels(self.canvas, WORD_SIZE, lines, [box_around(it, self.dot_size + 1) for it in on])
@@ -97,7 +96,7 @@ class BallPicture:
         self.edges(on, 2.2)
         self.canvas.dots(on[1:], self.dot_size, GREY, RIM)
         self.canvas.dots(on[:1], self.dot_size + 1, BLACK)
-        self.words_beside(on)
+        self.words_beside(on, MOST_WORDS)
 
     def in_disc(self, points):
         """Draws elements in Poincaré's disc, the identity in the middle, smaller towards the rim."""

@@ -14,6 +14,7 @@ def number(value):
 
 
 def escaped(text):
+    """A text as it stands between the marks of SVG."""
     return text.replace("&", "&amp;").replace("<", "&lt;").replace(">", "&gt;")
 
 
@@ -48,9 +49,9 @@ class Canvas:
             self.path_style = style
         self.path.append(steps)
 
-    def line(self, one, other, colour, width, dashes=""):
+    def line(self, one, other, colour, width):
         """A straight line."""
-        self.add(stroke(colour, width, dashes), f"M{self.place(one)}L{self.place(other)}")
+        self.add(stroke(colour, width), f"M{self.place(one)}L{self.place(other)}")
 
     def arc_step(self, one, other, centre):
         """The step of a path along the shorter arc to a point around a centre; straight where the eye sees no difference."""
@@ -71,8 +72,12 @@ class Canvas:
         length = math.dist(one, other) or 1
         along = [(b - a) / length for a, b in zip(one, other)]
         tip = [a + (b - a) * 0.5 + u * size for a, b, u in zip(one, other, along)]
-        sides = [[tip[0] - 2 * size * along[0] + turn * along[1], tip[1] - 2 * size * along[1] - turn * along[0]] for turn in (0.8 * size, -0.8 * size)]
-        self.polygon([tip, *sides], colour)
+        self.triangle(tip, along, 2 * size, 0.8 * size, colour)
+
+    def triangle(self, tip, along, length, half, colour):
+        """A triangle with a tip that points along a direction, so long and half so wide."""
+        back, aside = [a - length * u for a, u in zip(tip, along)], (-along[1], along[0])
+        self.polygon([tip, *([b + turn * half * n for b, n in zip(back, aside)] for turn in (1, -1))], colour)
 
     def dots(self, points, radius, fill, rim=None):
         """Round dots, as lines of no length with round ends, which are short to write."""
@@ -96,13 +101,14 @@ class Canvas:
     def svg(self):
         """The text of the picture."""
         self.close_path()
-        head = f'<svg xmlns="http://www.w3.org/2000/svg" width="{self.width}" height="{self.height}" viewBox="0 0 {self.width} {self.height}" font-family="{FONT}">'
-        return "\n".join([head, f'<rect width="{self.width}" height="{self.height}" fill="white"/>', *self.parts, "</svg>", ""])
+        size = f'width="{self.width}" height="{self.height}"'
+        head = f'<svg xmlns="http://www.w3.org/2000/svg" {size} viewBox="0 0 {self.width} {self.height}" font-family="{FONT}">'
+        return "\n".join([head, f'<rect {size} fill="white"/>', *self.parts, "</svg>", ""])
 
 
-def stroke(colour, width, dashes=""):
+def stroke(colour, width):
     """The style of a line."""
-    return f'fill="none" stroke="{colour}" stroke-width="{width:.1f}"' + (f' stroke-dasharray="{dashes}"' if dashes else "")
+    return f'fill="none" stroke="{colour}" stroke-width="{width:.1f}"'
 
 
 def swatches(names, letters, with_way):

@@ -10,6 +10,7 @@ FONT = 'fontname="Helvetica"'
 
 
 def quoted(text):
+    """A text as a string of DOT."""
     return '"' + text.replace("\\", "\\\\").replace('"', '\\"') + '"'
 
 
@@ -43,6 +44,7 @@ class AutomatonPicture:
         return '"' + "\\n".join(quoted(line)[1:-1] for line in lines) + '"'
 
     def dot(self):
+        """The text for Graphviz."""
         automaton = self.automaton
         all_accept = len(automaton.accepting) == automaton.size
         lines = [

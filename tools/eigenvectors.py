@@ -4,16 +4,14 @@ import itertools
 import math
 import random
 
+from reflections import inner
+
 NOTHING = 1e-9
 MOST_POINTS = 400
 APART = 0.02
 
 # How many vectors are followed, how many of them are looked at, and by how many powers, a few at a time.
 FOLLOWED, LOOKED_AT, TIMES, AT_A_TIME = 18, 9, 40, 8
-
-
-def inner(one, other):
-    return sum(a * b for a, b in zip(one, other))
 
 
 def multiplied(vector, beside):

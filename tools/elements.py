@@ -60,7 +60,8 @@ class Ball:
     """The elements at most so many letters from the identity, by their least words, which are numbered from 0.
 
     In `edges` are the pairs of elements that a generator joins, each with the generator; of two inverse generators they
-    are those of the first. `is_whole` says that the group has no other elements.
+    are those of the first. In `letters` are the generators that have edges, in their order. `is_whole` says that the group has
+    no other elements.
     """
 
     def __init__(self, presentation, acceptor, radius, products):
@@ -70,6 +71,7 @@ class Ball:
         self.number = {word: at for at, word in enumerate(self.words)}
         self.is_whole = True
         self.edges = list(self.joined(products))
+        self.letters = sorted({letter for letter, _, _ in self.edges})
 
     def joined(self, products):
         """The edges, and by the way whether one leads out of the ball."""
@@ -94,10 +96,6 @@ class Ball:
         between = "" if max(map(len, self.names)) == 1 else "*"
         return between.join(self.names[letter] for letter in self.words[at]) or "1"
 
-    def used(self):
-        """The generators that have edges, in their order."""
-        return sorted({letter for letter, _, _ in self.edges})
-
     def colour(self, letter):
         """The colour of a generator that has edges."""
-        return COLOURS[self.used().index(letter) % len(COLOURS)]
+        return COLOURS[self.letters.index(letter) % len(COLOURS)]

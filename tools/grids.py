@@ -62,15 +62,14 @@ def spring_places(far, chance):
     """Places in the plane, as complex numbers, whose distances are about these; what is nearer counts more."""
     count = len(far)
     places = [complex(chance.uniform(-1, 1), chance.uniform(-1, 1)) for _ in range(count)]
-    for _ in range(ROUNDS):
-        for at in range(count):
-            pulled = weight = 0
-            for to in range(count):
-                if to != at:
-                    gap, share = places[at] - places[to], far[at][to] ** -2
-                    pulled += share * (places[to] + far[at][to] * gap / (abs(gap) or 1))
-                    weight += share
-            places[at] = pulled / weight
+    for at in [*range(count)] * ROUNDS:
+        pulled = weight = 0
+        for to in range(count):
+            if to != at:
+                gap, share = places[at] - places[to], far[at][to] ** -2
+                pulled += share * (places[to] + far[at][to] * gap / (abs(gap) or 1))
+                weight += share
+        places[at] = pulled / (weight or 1)
     return places
 
 

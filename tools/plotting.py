@@ -90,7 +90,8 @@ def course_picture(text, name):
     live, longest = (Axis(max(values), BOTTOM, HEIGHT - TOP).rounded() for values in found[:2])
     frame(canvas, lines, live, longest)
     for axis, values, colour, width in [(longest, found.longest, LONGEST, 1.6), (live, found.live, LIVE, 2.4)]:
-        points = [(lines.at(line), axis.at(values[line])) for line in thinned(len(values)) if values[line]] or [(LEFT, BOTTOM)]
+        seen = [line for line in thinned(len(values)) if values[line]] or [0]
+        points = [(lines.at(line), axis.at(values[line])) for line in seen]
         canvas.add(f'fill="none" stroke="{colour}" stroke-width="{width}" stroke-linejoin="round"', f"M{'L'.join(map(canvas.place, points))}")
     said = f"{name}: {found.live[-1]:,} of {len(found.live) - 1:,} lines are live at the end"
     canvas.text((LEFT, HEIGHT - 24), said + (", and a pair is open" if found.is_open else ""), 17)

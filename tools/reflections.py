@@ -13,6 +13,7 @@ SPHERE, PLANE, DISC = "sphere", "plane", "disc"
 
 
 def inner(one, other):
+    """The sum of the products of the entries, as far as both have some."""
     return sum(a * b for a, b in zip(one, other))
 
 
@@ -113,6 +114,7 @@ class Reflections:
 
 
 def moved_by(point, times, vector):
+    """A point, moved by a vector so many times."""
     return [a + times * b for a, b in zip(point, vector)]
 
 

@@ -2,17 +2,21 @@
 
 import math
 
+from reflections import inner
+
 EYE = 4.5
 MOST_WORK = 1_500_000
 TURNS, TILTS = 90, (0.12, 0.24, 0.36, 0.0)
 
 
 def normed(vector):
-    length = math.hypot(*vector)
+    """The vector of length one in a direction."""
+    length = math.hypot(*vector) or 1
     return [a / length for a in vector]
 
 
 def cross(one, other):
+    """The vector product."""
     return [one[1] * other[2] - one[2] * other[1], one[2] * other[0] - one[0] * other[2], one[0] * other[1] - one[1] * other[0]]
 
 
@@ -20,9 +24,9 @@ def upright(places):
     """The places turned so that the first one is lowest, and scaled so that none is farther than 1 from the middle."""
     size = max(math.hypot(*place) for place in places)
     axis = normed([-a for a in places[0]])
-    aside = normed(cross(axis, min(((1, 0, 0), (0, 1, 0), (0, 0, 1)), key=lambda unit: abs(sum(a * b for a, b in zip(axis, unit))))))
+    aside = normed(cross(axis, min(((1, 0, 0), (0, 1, 0), (0, 0, 1)), key=lambda unit: abs(inner(axis, unit)))))
     frame = aside, axis, cross(aside, axis)
-    return [[sum(a * b for a, b in zip(place, unit)) / size for unit in frame] for place in places]
+    return [[inner(place, unit) / size for unit in frame] for place in places]
 
 
 def seen(places, turn, tilt):
