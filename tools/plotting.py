@@ -1,14 +1,37 @@
-"""The course of a completion as a plot in SVG: how many lines are made, live, and still to come back."""
+"""The course of a completion as a plot in SVG: how many lines are live, and how long the longest left side is."""
 
+import collections
+import itertools
 import re
 
+from canvas import COLOURS, Canvas
 from readers import Refused
 
-WIDTH, HEIGHT = 760, 430
-LEFT, RIGHT, TOP, BOTTOM = 74, 176, 46, 54
-LINE = re.compile(r"(\d+) (R\d+|M\d+,\d+,\d+|K\d+|S\d+) (\S+) -> (\S+)(?: : \S+ : \S+)?")
-OPEN = re.compile(r"open (?:R\d+|M\d+,\d+,\d+|K\d+|S\d+) (\S+) <> (\S+)(?: : \S+ : \S+)?")
-SERIES = [("lines made", "#0072B2", ""), ("live", "#D55E00", ""), ("taken away, to come back", "#009E73", "6 4")]
+WIDTH, HEIGHT = 760, 400
+LEFT, RIGHT, BOTTOM, TOP = 84, 70, 62, 50
+LIVE, LONGEST = COLOURS[1], COLOURS[0]
+MOST_POINTS = 1200
+
+PAIR = r"(R\d+|M\d+,\d+,\d+|K\d+|S\d+) (\S+)"
+LINE = re.compile(rf"(\d+) {PAIR} -> (\S+)(?: : \S+ : \S+)?")
+OPEN = re.compile(rf"open {PAIR} <> (\S+)(?: : \S+ : \S+)?")
+
+Course = collections.namedtuple("Course", "live longest is_open")
+
+
+def lines_of(text, name):
+    """The origins and left sides of the lines of a log, and whether a pair is open behind them."""
+    head, *rows = text.split("\n")
+    if head not in ("kblog 1", "kblog 2"):
+        raise Refused(f"{name}.kblog is no log: it doesn't begin with the line kblog 2")
+    if not rows or rows.pop():
+        raise Refused(f"{name}.kblog is no log: it doesn't end with a newline")
+    is_open = bool(rows) and bool(OPEN.fullmatch(rows[-1]))
+    found = [LINE.fullmatch(row) for row in rows[: len(rows) - is_open]]
+    for at, row in enumerate(found, 1):
+        if not row or int(row[1]) != at:
+            raise Refused(f"{name}.kblog is no log: its line {at + 1} isn't that of number {at}")
+    return [(row[2], row[3]) for row in found], is_open
 
 
 def letters(word, number):
@@ -17,95 +40,89 @@ def letters(word, number):
 
 
 def course(text, name):
-    """For each line of the log how many lines are made, live, and taken away but not yet back; and whether a pair is open."""
-    number, live, away, points = {}, {}, set(), [(0, 0, 0)]
-    origins, is_open = lines_of(text, name)
-    back = {int(found[2][1:]) for found in origins if found[2][0] == "K"}
-    for found in origins:
-        line, origin, left = int(found[1]), found[2], letters(found[3], number)
-        if origin[0] == "S":
-            live.pop(int(origin[1:]), None)
-        elif origin[0] == "K":
-            away.discard(int(origin[1:]))
-        if origin[0] != "S":
-            for other in [other for other, side in live.items() if left in side]:
-                del live[other]
-                if other in back:
-                    away.add(other)
+    """How many lines are live behind each line of a log, and how many letters the longest of their left sides has."""
+    number, live, lengths = {}, {}, collections.Counter()
+    found = Course([0], [0], False)
+    rows, is_open = lines_of(text, name)
+    for line, (origin, word) in enumerate(rows, 1):
+        left = letters(word, number)
+        gone = [int(origin[1:])] if origin[0] == "S" else [other for other, side in live.items() if left in side]
+        for other in gone:
+            lengths[len(live.pop(other, ""))] -= 1
         live[line] = left
-        points.append((line, len(live), len(away)))
-    return points, is_open
+        lengths[len(left)] += 1
+        found.live.append(len(live))
+        found.longest.append(max(length for length, count in lengths.items() if count > 0))
+    return found._replace(is_open=is_open)
 
 
-def lines_of(text, name):
-    """The lines of the log of this name, and whether a pair is open."""
-    head, *rows = text.split("\n")
-    if head not in ("kblog 1", "kblog 2") or not rows or rows.pop():
-        raise Refused(f"{name}.kblog is no log: it begins with no line 'kblog 2', or doesn't end with a newline")
-    is_open = bool(rows) and bool(OPEN.fullmatch(rows[-1]))
-    lines = [LINE.fullmatch(row) for row in rows[: len(rows) - is_open]]
-    for at, found in enumerate(lines, 1):
-        if not found or int(found[1]) != at:
-            raise Refused(f"{name}.kblog is no log: its line {at + 1} isn't one of a log")
-    return lines, is_open
+def step_of(most):
+    """The least of the numbers 1, 2, 5, 10, 20, .. of which eight steps lead at least so far."""
+    return next(step for power in itertools.count() for step in (10**power, 2 * 10**power, 5 * 10**power) if 8 * step >= most)
 
 
-def ticks(most):
-    """Round numbers from 0 to about the most, three to eight of them."""
-    step = 1
-    while most / step > 7:
-        step = step * 5 // 2 if str(step)[0] == "2" else step * 2
-    return range(0, most + 1, step)
+class Axis:
+    """A scale from 0 to an end, over some pixels."""
+
+    def __init__(self, end, low, high):
+        self.end, self.step = max(end, 1), step_of(end)
+        self.low, self.high = low, high
+
+    def rounded(self):
+        """The axis, up to its next round number."""
+        self.end += -self.end % self.step
+        return self
+
+    def at(self, value):
+        """Where a value is."""
+        return self.low + (self.high - self.low) * value / self.end
+
+    def ticks(self):
+        """The values at which numbers stand."""
+        return range(0, self.end + 1, self.step)
 
 
 def course_picture(text, name):
-    points, is_open = course(text, name)
-    most = max(points[-1][0], 1)
-    wide, high = WIDTH - LEFT - RIGHT, HEIGHT - TOP - BOTTOM
-
-    def place(at, count):
-        return f"{LEFT + wide * at / most:.1f},{TOP + high * (1 - count / most):.1f}"
-
-    lines = [
-        f'<svg xmlns="http://www.w3.org/2000/svg" width="{WIDTH}" height="{HEIGHT}" viewBox="0 0 {WIDTH} {HEIGHT}" '
-        'font-family="Helvetica, Arial, sans-serif" font-size="14">',
-        f'<rect width="{WIDTH}" height="{HEIGHT}" fill="white"/>',
-        f'<text x="{LEFT}" y="26" font-size="16">{name}: {points[-1][0]:,} lines, {points[-1][1]:,} live at the end'
-        f'{", a pair is open" if is_open else ""}</text>',
-    ]
-    for tick in ticks(most):
-        (x, bottom), (_, y) = place(tick, 0).split(","), place(0, tick).split(",")
-        lines += [
-            f'<line x1="{LEFT}" x2="{WIDTH - RIGHT}" y1="{y}" y2="{y}" stroke="#DDDDDD"/>',
-            f'<text x="{LEFT - 8}" y="{float(y) + 5:.1f}" text-anchor="end">{tick:,}</text>',
-            f'<text x="{x}" y="{float(bottom) + 20:.1f}" text-anchor="middle">{tick:,}</text>',
-        ]
-    lines.append(f'<text x="{LEFT + wide / 2}" y="{HEIGHT - 12}" text-anchor="middle">lines of the log</text>')
-    ends = [points[-1][0], points[-1][1], points[-1][2]]
-    labels = label_places([TOP + high * (1 - end / most) + 5 for end in ends])
-    for at, (said, colour, dashes) in enumerate(SERIES):
-        if max(point[at] for point in points) * 50 < most:
-            continue
-        drawn = [(line, (line, live, away)[at]) for line, live, away in points]
-        lines.append(
-            f'<polyline fill="none" stroke="{colour}" stroke-width="2" stroke-dasharray="{dashes}" '
-            f'points="{" ".join(place(*it) for it in thinned(drawn))}"/>'
-        )
-        lines.append(f'<text x="{WIDTH - RIGHT + 8}" y="{labels[at]:.1f}" fill="{colour}">{said}</text>')
-    return "\n".join([*lines, "</svg>", ""])
+    """The text of the picture."""
+    found = course(text, name)
+    canvas = Canvas(WIDTH, HEIGHT)
+    lines = Axis(len(found.live) - 1, LEFT, WIDTH - RIGHT)
+    live, longest = (Axis(max(values), BOTTOM, HEIGHT - TOP).rounded() for values in found[:2])
+    frame(canvas, lines, live, longest)
+    for axis, values, colour, width in [(longest, found.longest, LONGEST, 1.6), (live, found.live, LIVE, 2.4)]:
+        seen = [line for line in thinned(len(values)) if values[line]] or [0]
+        points = [(lines.at(line), axis.at(values[line])) for line in seen]
+        canvas.add(f'fill="none" stroke="{colour}" stroke-width="{width}" stroke-linejoin="round"', f"M{'L'.join(map(canvas.place, points))}")
+    said = f"{name}: {found.live[-1]:,} of {len(found.live) - 1:,} lines are live at the end"
+    canvas.text((LEFT, HEIGHT - 24), said + (", and a pair is open" if found.is_open else ""), 17)
+    return canvas.svg()
 
 
-def label_places(wanted, apart=18):
-    """Heights near those that are wanted, so far apart that texts don't touch; the lowest label has the greatest height."""
-    order = sorted(range(len(wanted)), key=lambda at: -wanted[at])
-    places, last = list(wanted), None
-    for at in order:
-        places[at] = wanted[at] if last is None else min(wanted[at], last - apart)
-        last = places[at]
-    return places
+def frame(canvas, lines, live, longest):
+    """Draws the axes with their names and numbers."""
+    for tick in live.ticks():
+        canvas.line((LEFT, live.at(tick)), (WIDTH - RIGHT, live.at(tick)), "#DDDDDD", 1)
+    for tick in live.ticks():
+        canvas.text((LEFT - 8, live.at(tick) - 5), f"{tick:,}", 14, "end", LIVE)
+    for tick in longest.ticks():
+        canvas.text((WIDTH - RIGHT + 8, longest.at(tick) - 5), f"{tick:,}", 14, "start", LONGEST)
+    for tick in lines.ticks():
+        canvas.line((lines.at(tick), BOTTOM), (lines.at(tick), BOTTOM - 5), "#555555", 1)
+        canvas.text((lines.at(tick), BOTTOM - 21), f"{tick:,}", 14, "middle")
+    canvas.line((LEFT, BOTTOM), (WIDTH - RIGHT, BOTTOM), "#555555", 1)
+    canvas.text(((LEFT + WIDTH - RIGHT) / 2, 12), "lines of the log", 15, "middle")
+    sideways(canvas, 18, "live lines", LIVE)
+    sideways(canvas, WIDTH - 14, "letters of the longest left side", LONGEST)
 
 
-def thinned(points, most=1200):
-    """At most so many points, the last among them."""
-    step = max(1, len(points) // most)
-    return points[::step] + ([points[-1]] if (len(points) - 1) % step else [])
+def sideways(canvas, abscissa, words, colour):
+    """Writes the name of an upright axis."""
+    middle = (BOTTOM + HEIGHT - TOP) / 2
+    turn = f' transform="rotate(-90 {abscissa} {HEIGHT - middle:.0f})"'
+    canvas.text((abscissa, middle), words, 15, "middle", colour, turn)
+
+
+def thinned(count):
+    """Numbers from 0 to the last, not too many."""
+    step = max(1, -(-count // MOST_POINTS))
+    return sorted({*range(0, count, step), count - 1})
