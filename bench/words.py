@@ -1,11 +1,18 @@
 """What is measured of `wordreduce`."""
 
 import os
+import subprocess
 
 import data
 from measuring import MIB, give, measure
 
 LINES = "symmetric-3"
+
+
+def is_confluent(program, file):
+    """Whether `wordreduce` answers words by the relations of the file as they are."""
+    words = [program, "wordreduce", file]
+    return subprocess.run(words, stdin=subprocess.DEVNULL, capture_output=True, check=False).returncode == 0
 
 
 def measure_words(program, room, examples):
@@ -16,9 +23,10 @@ def measure_words(program, room, examples):
         give(lines, content)
         measure(what, [program, "wordreduce", file], given=lines, **how)
 
-    completed = {os.path.splitext(it)[0] for it in os.listdir(f"{examples}/../completed")}
-    for example in sorted(it for it in os.listdir(examples) if "." not in it and it not in completed):
+    for example in sorted(it for it in os.listdir(examples) if "." not in it):
         file = f"{examples}/{example}"
+        if example != "not-confluent" and not is_confluent(program, file):
+            continue
         with open(file, encoding="ascii") as it:
             names = data.generators(it.read())
         wanted = 3 if example == "not-confluent" else 0
